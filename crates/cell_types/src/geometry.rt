@@ -1,0 +1,158 @@
+//! Where the parts of a volume lie.
+//!
+//! With 8 slots and 2 lists on 1,000 cells:
+//!
+//!     0       volume cell            36 to 291    first block of list 0
+//!     1-3     stay blank             292 to 547   first block of list 1
+//!     4-7     slot 0                 548 to 579   root node
+//!     32-35   slot 7                 580 to 999   pool
+ghost use Rattle.std.specs.Prelude.{◌≡◌, ◌<◌, ◌≤◌, ◌↔◌, IsSome, IfSome};
+ghost use Rattle.cell_types.specs.Layout.{IsLayout, PartsAreApart, PartsCoverTheDevice};
+ghost use Rattle.cell_types.specs.Layout as layout;
+
+use std::marker::Model;
+
+/// The greatest number of slots of a volume.
+pub const MAX_SLOTS: u32 = 16_777_216;
+
+/// The greatest number of lists of a volume.
+pub const MAX_LISTS: u16 = 4_096;
+
+/// The greatest number of cells of a device, 32 GiB of them.
+pub const MAX_CELLS: u32 = 2_147_483_648;
+
+/// How many slots, lists and cells a volume has. There is one only where the limits hold and the pool
+/// begins on the device. Contracts see the three numbers.
+#[derive(Clone, Copy, Debug, PartialEq, Eq)]
+pub struct Geometry {
+    slots: u32,
+    lists: u16,
+    cells: u32,
+}
+
+impl Model for Geometry {
+    ghost use Rattle.cell_types.specs.Layout.{Layout, IsLayout};
+
+    ghost Value = { Layout };
+
+    ghost view = { λ g. record { slots = g.slots; lists = g.lists; cells = g.cells } };
+
+    ghost invariant = { λ g. IsLayout (record { slots = g.slots; lists = g.lists; cells = g.cells }) };
+
+    ghost inverse = { λ v. record { slots = v.slots; lists = v.lists; cells = v.cells } };
+}
+
+impl Geometry {
+    /// The geometry of so many slots, lists and cells, or `None` where a limit is passed or the pool
+    /// would begin behind the device's end.
+    pub fn new(slots: u32, lists: u16, cells: u32) -> Option<Geometry>
+        ensures exists { IsSome result ↔ IsLayout (record { slots = slots; lists = lists; cells = cells }) }
+        ensures same { IfSome result (λ g. g ≡ record { slots = slots; lists = lists; cells = cells }) }
+    {
+        todo
+    }
+
+    /// How many slots the volume has.
+    pub fn slots(&self) -> u32
+        ensures slots { result ≡ self.now.slots }
+        ensures exists { IsLayout self.now }
+    {
+        self.slots
+    }
+
+    /// How many lists the volume has.
+    pub fn lists(&self) -> u16
+        ensures lists { result ≡ self.now.lists }
+        ensures exists { IsLayout self.now }
+    {
+        self.lists
+    }
+
+    /// How many cells the device has.
+    pub fn cells(&self) -> u32
+        ensures cells { result ≡ self.now.cells }
+        ensures exists { IsLayout self.now }
+    {
+        self.cells
+    }
+
+    /// The reserve cell of a slot.
+    pub fn reserve_at(&self, n: u32) -> u32
+        requires { n < self.now.slots }
+        ensures at { result ≡ layout.reserve_at n }
+        ensures inside { result < self.now.cells }
+    {
+        4 + 4 * n
+    }
+
+    /// The outcome cell of a slot.
+    pub fn outcome_at(&self, n: u32) -> u32
+        requires { n < self.now.slots }
+        ensures at { result ≡ layout.outcome_at n }
+        ensures inside { result < self.now.cells }
+    {
+        5 + 4 * n
+    }
+
+    /// The done cell of a slot.
+    pub fn done_at(&self, n: u32) -> u32
+        requires { n < self.now.slots }
+        ensures at { result ≡ layout.done_at n }
+        ensures inside { result < self.now.cells }
+    {
+        6 + 4 * n
+    }
+
+    /// The spare cell of a slot.
+    pub fn spare_at(&self, n: u32) -> u32
+        requires { n < self.now.slots }
+        ensures at { result ≡ layout.spare_at n }
+        ensures inside { result < self.now.cells }
+    {
+        7 + 4 * n
+    }
+
+    /// The first cell of the first block of a list.
+    pub fn list_at(&self, l: u16) -> u32
+        requires { l < self.now.lists }
+        ensures at { result ≡ layout.list_at self.now l }
+        ensures inside { result + 256 ≤ self.now.cells }
+    {
+        todo
+    }
+
+    /// The first cell of the root node.
+    pub fn root_at(&self) -> u32
+        ensures at { result ≡ layout.root_at self.now }
+        ensures inside { result + 32 ≤ self.now.cells }
+    {
+        todo
+    }
+
+    /// The first cell of the pool, or the number of cells where the pool has none.
+    pub fn pool_at(&self) -> u32
+        ensures at { result ≡ layout.pool_at self.now }
+        ensures inside { result ≤ self.now.cells }
+    {
+        todo
+    }
+}
+
+/// What a volume cell states: the version of the format, and the geometry.
+#[derive(Clone, Copy, Debug, PartialEq, Eq)]
+pub struct Volume {
+    pub version: u8,
+    pub geometry: Geometry,
+}
+
+/// A law: no cell lies in two parts of a volume.
+pub fn parts_are_apart()
+    ensures { PartsAreApart }
+{
+}
+
+/// A law: each cell of the device lies in a part of the volume, and each part on the device.
+pub fn parts_cover_the_device()
+    ensures { PartsCoverTheDevice }
+{
+}

@@ -1,0 +1,130 @@
+//! Why a call gives no answer.
+ghost use Rattle.std.specs.Prelude.{◌≡◌};
+ghost use Rattle.cell_types.specs.Refusals.{status_of};
+
+use crate::Cell;
+use thiserror::Error;
+
+/// A written cell that breaks a rule: the rule's number, the cell's, and what stands there.
+#[derive(Clone, Copy, Debug, PartialEq, Eq)]
+pub struct Evidence {
+    pub rule: u8,
+    pub cell: u32,
+    pub found: Cell,
+}
+
+/// Why a search of a device gives no answer.
+#[derive(Clone, Copy, Debug, PartialEq, Eq)]
+pub enum Fault {
+    /// A written cell breaks a rule.
+    Tampered(Evidence),
+    /// A read failed.
+    ReadFault,
+}
+
+/// No memory was to be had.
+#[derive(Clone, Copy, Debug, PartialEq, Eq)]
+pub struct NoMemory;
+
+/// Why a command gives no answer. Prints as the line that a program shows for it.
+#[derive(Clone, Copy, Debug, PartialEq, Eq, Error)]
+pub enum Refusal {
+    /// The words are no command.
+    #[error(
+        "usage: worm IMAGE format SLOTS LISTS, ingest ID, find WORD.., lookup ID, audit, recover, replay, exercise N"
+    )]
+    Usage,
+    /// A document with this identifier stands in this slot.
+    #[error("identifier stands in slot {0}")]
+    Duplicate(u32),
+    /// The word is no identifier.
+    #[error("bad identifier")]
+    BadIdentifier,
+    /// The source gave one byte more than a body or a script may have.
+    #[error("input is too long")]
+    TooLong,
+    /// The document has so many distinct tags in this list, and 256 may be.
+    #[error("list {list} gets {count} terms")]
+    TooManyTerms { list: u16, count: u32 },
+    /// The word of this number, from 1, does not hold exactly one term.
+    #[error("word {0} is not one term")]
+    BadWord(u32),
+    /// The event of this number, from 1, is not of the grammar; 0 where the text is no script.
+    #[error("script fault at event {0}")]
+    BadScript(u32),
+    /// So many cells are needed, and so many are free.
+    #[error("needs {need} cells, {free} are free")]
+    Full { need: u32, free: u32 },
+    /// Each slot is used.
+    #[error("no slot is free")]
+    SlotsFull,
+    /// Each bucket on the identifier's path is written.
+    #[error("the path of the identifier is full")]
+    PathFull,
+    /// A written cell breaks a rule.
+    #[error("tampered: rule {} at cell {}: {}", .0.rule, .0.cell, .0.found)]
+    Tampered(Evidence),
+    /// A call of the device failed.
+    #[error("device fault")]
+    DeviceFault,
+    /// A call of the source failed.
+    #[error("source fault")]
+    SourceFault,
+    /// A call of the sink failed.
+    #[error("sink fault")]
+    SinkFault,
+    /// No memory was to be had.
+    #[error("out of memory")]
+    NoMemory,
+    /// Cell 0 is blank.
+    #[error("not formatted")]
+    NotFormatted,
+    /// Cell 0 is written and no volume cell.
+    #[error("not a volume: {0}")]
+    NotAVolume(Cell),
+    /// The volume cell states so many cells, and the device has so many.
+    #[error("volume states {stated} cells, device has {real}")]
+    WrongSize { stated: u32, real: u32 },
+    /// This cell, the least written one, keeps the device from being formatted.
+    #[error("cell {0} is written")]
+    NotBlank(u32),
+    /// The device has no room for so many slots and lists.
+    #[error("device is too small")]
+    TooSmall,
+    /// What this stage of the program cannot do yet, at this cell.
+    #[error("not yet possible at cell {0}")]
+    NotYet(u32),
+    /// No document has the identifier.
+    #[error("absent")]
+    Absent,
+}
+
+impl Refusal {
+    /// The status that a program ends with, 1 to 10.
+    pub fn status(&self) -> u8
+        ensures { result ≡ status_of self.now }
+    {
+        match self {
+            Refusal::Usage => 1,
+            Refusal::Duplicate(_)
+            | Refusal::BadIdentifier
+            | Refusal::TooLong
+            | Refusal::TooManyTerms { .. }
+            | Refusal::BadWord(_)
+            | Refusal::BadScript(_) => 2,
+            Refusal::Full { .. } | Refusal::SlotsFull | Refusal::PathFull => 3,
+            Refusal::Tampered(_) => 4,
+            Refusal::DeviceFault => 5,
+            Refusal::SourceFault => 6,
+            Refusal::SinkFault => 7,
+            Refusal::NoMemory => 8,
+            Refusal::NotFormatted
+            | Refusal::NotAVolume(_)
+            | Refusal::WrongSize { .. }
+            | Refusal::NotBlank(_)
+            | Refusal::TooSmall
+            | Refusal::NotYet(_) => 9,
+            Refusal::Absent => 10,
+        }
+    }
+}
