@@ -1,13 +1,14 @@
-// A library with one function.
+//! Devices whose cells are written once, and views of them.
 #![tactic(auto)]
 
-ghost use Rattle.std.specs.Prelude.{◌≡◌};
-ghost use Rattle.worm_device.specs.Echo.{echo_of};
+#[cfg(test)]
+mod callers;
+mod device;
+mod direct;
+mod laws;
+mod view;
 
-// The `ensures` clause is the contract: what `echo` returns is `echo_of` of its argument, a definition
-// in `specs/Echo.antt`, which a caller's clause can cite too.
-pub fn echo(x: usize) -> usize
-    ensures { result ≡ echo_of x }
-{
-    x
-}
+pub use device::{Device, Failed, Written};
+pub use direct::Direct;
+pub use laws::{a_crash_now, calls_compose, calls_elapse, views_rest};
+pub use view::View;

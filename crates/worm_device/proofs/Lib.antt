@@ -1,0 +1,3 @@
+pub mod Elapsing
+pub mod Images
+pub mod Resting

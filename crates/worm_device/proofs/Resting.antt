@@ -1,0 +1,36 @@
+-- Views while nobody else writes, over one call after another.
+use Rattle.std.proofs.Common.{◌≡◌, ◌≤◌, ◌<◌, ◌^◌, ◌-◌, ℕ, refl, ◌∙◌, arith}
+use Rattle.cell_types.specs.Image.{IsUnchanged}
+use Rattle.worm_device.specs.Counts.{IsStill}
+use Rattle.worm_device.specs.Views.{ViewState, Rests, HasRested, Viewed}
+use Rattle.worm_device.proofs.Images.{unchanged_then}
+
+-- a count that did not rise over two spans did not rise over the first
+still_first : {a b c : ℕ} → a ≤ b → b ≤ c → IsStill a c → IsStill a b
+still_first {a} {b} {c} p q h = record { same = omega (arith, p, q, h.same); below = h.below }
+
+-- nor over the second
+still_second : {a b c : ℕ} → a ≤ b → b ≤ c → IsStill a c → IsStill b c
+still_second {a} {b} {c} p q h = record { same = omega (arith, p, q, h.same); below = omega (arith, p, q, h.same, h.below) }
+
+-- nothing happens
+pub rests_self : (s : ViewState) → Rests s s
+rests_self s = record { later = omega arith; shown = λ still cell. refl; below = λ still cell. refl }
+
+-- one call after another
+pub rests_then : {a b c : ViewState} → Rests a b → Rests b c → Rests a c
+rests_then {a} {b} {c} p q = record {
+  later = omega (arith, p.later, q.later);
+  shown = λ still. unchanged_then (p.shown (still_first p.later q.later still)) (q.shown (still_second p.later q.later still));
+  below = λ still. unchanged_then (p.below (still_first p.later q.later still)) (q.below (still_second p.later q.later still));
+}
+
+-- what a view shows of one call, in the form that Viewed has
+pub rested_since : {old new : ViewState} → Rests old new → (earlier : ViewState) → HasRested earlier old → HasRested earlier new
+unfolding HasRested
+rested_since q earlier p = rests_then p q
+
+-- what a caller reads off Viewed
+pub rests_of : {old new : ViewState} → Viewed old new → Rests old new
+unfolding HasRested
+rests_of {old} viewed = viewed.quiet old (rests_self old)

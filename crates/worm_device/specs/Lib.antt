@@ -1,0 +1,5 @@
+pub mod Calls
+pub mod Counts
+pub mod Laws
+pub mod State
+pub mod Views

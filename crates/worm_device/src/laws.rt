@@ -1,0 +1,25 @@
+//! Laws: what the words of the contracts mean together, over all states. Each is a function that does
+//! nothing and whose contract is the law.
+ghost use Rattle.worm_device.specs.Laws.{CallsCompose, CallsElapse, ViewsRest, ACrashNow};
+
+/// Calls one after another keep what each of them keeps, and a row of no calls keeps it too.
+pub fn calls_compose()
+    ensures { CallsCompose }
+{}
+
+/// Over each row of calls what else a crash could leave has all that was sure before it, and nothing that
+/// does not stand after it; and what a crash could leave before it could still be left.
+pub fn calls_elapse()
+    ensures { CallsElapse }
+{}
+
+/// What a view shows, and what stands below it, is the same after a row of calls in which nobody else wrote.
+pub fn views_rest()
+    ensures { ViewsRest }
+{}
+
+/// A crash at the present moment leaves an image that has all that is sure and nothing that does not stand,
+/// and can leave each such image.
+pub fn a_crash_now()
+    ensures { ACrashNow }
+{}
