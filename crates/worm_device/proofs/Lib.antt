@@ -1,3 +1,4 @@
+pub mod Counting
 pub mod Elapsing
 pub mod Images
 pub mod Resting

@@ -3,15 +3,8 @@ use Rattle.std.proofs.Common.{◌≡◌, ◌≤◌, ◌<◌, ◌^◌, ◌-◌, �
 use Rattle.cell_types.specs.Image.{IsUnchanged}
 use Rattle.worm_device.specs.Counts.{IsStill}
 use Rattle.worm_device.specs.Views.{ViewState, Rests, HasRested, Viewed}
+use Rattle.worm_device.proofs.Counting.{still_first, still_second}
 use Rattle.worm_device.proofs.Images.{unchanged_then}
-
--- a count that did not rise over two spans did not rise over the first
-still_first : {a b c : ℕ} → a ≤ b → b ≤ c → IsStill a c → IsStill a b
-still_first {a} {b} {c} p q h = record { same = omega (arith, p, q, h.same); below = h.below }
-
--- nor over the second
-still_second : {a b c : ℕ} → a ≤ b → b ≤ c → IsStill a c → IsStill b c
-still_second {a} {b} {c} p q h = record { same = omega (arith, p, q, h.same); below = omega (arith, p, q, h.same, h.below) }
 
 -- nothing happens
 pub rests_self : (s : ViewState) → Rests s s
