@@ -4,7 +4,7 @@ use Rattle.cell_types.specs.Bytes.{AreBytes}
 
 -- the cell of these bytes
 abbrev pub content_bytes : List ℕ → List ℕ
-content_bytes bytes = (16 + length bytes ∷ bytes) ++ replicate (15 - length bytes) 0
+content_bytes bytes = ((16 + length bytes) ∷ bytes) ++ replicate (15 - length bytes) 0
 
 -- the cell is the content cell of these bytes, 1 to 15 of them
 pub record IsContentCell (bytes cell : List ℕ) : Type 0 where

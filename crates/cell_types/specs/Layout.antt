@@ -1,6 +1,6 @@
 -- Where the parts of a volume lie: the volume cell, three cells that stay blank, four cells for each
 -- slot, 256 cells for each list's first block, 32 cells for the root node, and the pool to the end.
-use Rattle.std.specs.Prelude.{◌≡◌, ◌<◌, ◌≤◌, ◌+◌, ◌-◌, ◌*◌, ◌^◌, ℕ}
+use Rattle.std.specs.Prelude.{◌≡◌, ◌<◌, ◌≤◌, ◌+◌, ◌-◌, ◌*◌, ℕ}
 use Rattle.cell_types.specs.declared.geometry.TheConstants.{MAX_SLOTS, MAX_LISTS, MAX_CELLS}
 
 -- the numbers of slots and lists of a volume, and of the cells of its device

@@ -1,6 +1,6 @@
 -- Cells that hold a record: the kind in one byte, a body of eleven, and the cell's own number in
 -- four. All numbers are big-endian.
-use Rattle.std.specs.Prelude.{◌≡◌, ◌≢◌, ◌<◌, ◌≤◌, ◌%◌, ◌^◌, ℕ, List, [], ◌∷◌, ◌++◌, length, replicate, ⊤}
+use Rattle.std.specs.Prelude.{◌≡◌, ◌<◌, ◌≤◌, ◌%◌, ◌^◌, ℕ, List, ◌∷◌, ◌++◌, length, replicate, ⊤}
 use Rattle.byteorder.specs.Endian.{big_bytes}
 use Rattle.cell_types.specs.Bytes.{AreBytes}
 use Rattle.cell_types.specs.Contents.{IsContentCell}

@@ -1,5 +1,5 @@
 //! One written cell.
-ghost use Rattle.std.specs.Prelude.{◌≡◌, ◌↔◌, IsNone, IfSome, replicate};
+ghost use Rattle.std.specs.Prelude.{◌≡◌, ◌↔◌, ◌≤◌, IsNone, IfSome, replicate, slice_index};
 ghost use Rattle.cell_types.specs.Bytes.{IsCell};
 
 use std::fmt;
@@ -37,6 +37,14 @@ impl Cell {
             return None;
         }
         Some(Cell { all: bytes })
+    }
+
+    /// The cell of these bytes, the first of which is not zero.
+    pub(crate) fn of_kind(bytes: [u8; 16]) -> Cell
+        requires { 1 ≤ slice_index bytes 0 }
+        ensures { result ≡ bytes }
+    {
+        Cell { all: bytes }
     }
 
     /// The sixteen bytes.

@@ -6,7 +6,7 @@
 //!     1-3     stay blank             292 to 547   first block of list 1
 //!     4-7     slot 0                 548 to 579   root node
 //!     32-35   slot 7                 580 to 999   pool
-ghost use Rattle.std.specs.Prelude.{◌≡◌, ◌<◌, ◌≤◌, ◌↔◌, IsSome, IfSome};
+ghost use Rattle.std.specs.Prelude.{◌≡◌, ◌<◌, ◌≤◌, ◌+◌, ◌↔◌, IsSome, IfSome};
 ghost use Rattle.cell_types.specs.Layout.{IsLayout, PartsAreApart, PartsCoverTheDevice};
 ghost use Rattle.cell_types.specs.Layout as layout;
 
@@ -49,7 +49,17 @@ impl Geometry {
         ensures exists { IsSome result ↔ IsLayout (record { slots = slots; lists = lists; cells = cells }) }
         ensures same { IfSome result (λ g. g ≡ record { slots = slots; lists = lists; cells = cells }) }
     {
-        todo
+        if slots == 0 || slots > MAX_SLOTS || lists == 0 || lists > MAX_LISTS || cells > MAX_CELLS {
+            return None;
+        }
+        if 36 + 4 * slots + 256 * u32::from(lists) > cells {
+            return None;
+        }
+        Some(Geometry {
+            slots,
+            lists,
+            cells,
+        })
     }
 
     /// How many slots the volume has.
@@ -82,6 +92,7 @@ impl Geometry {
         ensures at { result ≡ layout.reserve_at n }
         ensures inside { result < self.now.cells }
     {
+        prove!(n < self.slots);
         4 + 4 * n
     }
 
@@ -91,6 +102,7 @@ impl Geometry {
         ensures at { result ≡ layout.outcome_at n }
         ensures inside { result < self.now.cells }
     {
+        prove!(n < self.slots);
         5 + 4 * n
     }
 
@@ -100,6 +112,7 @@ impl Geometry {
         ensures at { result ≡ layout.done_at n }
         ensures inside { result < self.now.cells }
     {
+        prove!(n < self.slots);
         6 + 4 * n
     }
 
@@ -109,6 +122,7 @@ impl Geometry {
         ensures at { result ≡ layout.spare_at n }
         ensures inside { result < self.now.cells }
     {
+        prove!(n < self.slots);
         7 + 4 * n
     }
 
@@ -118,7 +132,8 @@ impl Geometry {
         ensures at { result ≡ layout.list_at self.now l }
         ensures inside { result + 256 ≤ self.now.cells }
     {
-        todo
+        prove!(l < self.lists);
+        4 + 4 * self.slots + 256 * u32::from(l)
     }
 
     /// The first cell of the root node.
@@ -126,7 +141,7 @@ impl Geometry {
         ensures at { result ≡ layout.root_at self.now }
         ensures inside { result + 32 ≤ self.now.cells }
     {
-        todo
+        4 + 4 * self.slots + 256 * u32::from(self.lists)
     }
 
     /// The first cell of the pool, or the number of cells where the pool has none.
@@ -134,7 +149,7 @@ impl Geometry {
         ensures at { result ≡ layout.pool_at self.now }
         ensures inside { result ≤ self.now.cells }
     {
-        todo
+        36 + 4 * self.slots + 256 * u32::from(self.lists)
     }
 }
 
@@ -148,11 +163,9 @@ pub struct Volume {
 /// A law: no cell lies in two parts of a volume.
 pub fn parts_are_apart()
     ensures { PartsAreApart }
-{
-}
+{}
 
 /// A law: each cell of the device lies in a part of the volume, and each part on the device.
 pub fn parts_cover_the_device()
     ensures { PartsCoverTheDevice }
-{
-}
+{}

@@ -20,17 +20,21 @@
 
 mod cell;
 mod codec;
-mod content;
+mod content_cell;
 mod geometry;
+mod held_bytes;
 mod record_cell;
 mod refusal;
+#[cfg(test)]
+mod tests;
 
 pub use cell::Cell;
 pub use codec::{address_of, decode, encode, no_record_is_content, records_are_one};
-pub use content::{Content, content, content_of};
+pub use content_cell::{content, content_of};
 pub use geometry::{
     Geometry, MAX_CELLS, MAX_LISTS, MAX_SLOTS, Volume, parts_are_apart, parts_cover_the_device,
 };
+pub use held_bytes::Content;
 pub use record_cell::{
     FORMAT_VERSION, MAX_STORED_BYTES, MIN_STORED_BYTES, RecordCell, is_well_formed,
 };

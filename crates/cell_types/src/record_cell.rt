@@ -26,27 +26,62 @@ pub enum RecordCell {
         cells: u32,
     },
     /// Kind 2: a slot reserves `length` cells from cell `start` on.
-    Reserve { start: u32, length: u32 },
+    Reserve {
+        start: u32,
+        length: u32,
+    },
     /// Kind 3: a slot's document has so many stored bytes, and its journal so many cells.
-    Commit { bytes: u32, journal: u32 },
+    Commit {
+        bytes: u32,
+        journal: u32,
+    },
     /// Kind 4: nothing comes of the slot's reservation.
     Abandon,
     /// Kind 5: the slot of this number is done.
-    Done { slot: u32 },
+    Done {
+        slot: u32,
+    },
     /// Kind 6: a term's tag in a slot's document; `key` is 256 times the slot and the tag's ordinal,
     /// and `last` is the greatest ordinal of this document in this list.
-    Posting { key: u32, last: u8, tag: [u8; 6] },
+    Posting {
+        key: u32,
+        last: u8,
+        tag: [u8; 6],
+    },
     /// Kind 7: a posting block leads to the block at `target`.
-    Jump { target: u32 },
+    Jump {
+        target: u32,
+    },
     /// Kind 8: a slot's document stands in the hash tree, by the first bytes of its identifier's digest.
-    Bucket { slot: u32, fingerprint: [u8; 7] },
+    Bucket {
+        slot: u32,
+        fingerprint: [u8; 7],
+    },
     /// Kind 9: a hash node leads to the node at `target`.
-    Child { target: u32 },
+    Child {
+        target: u32,
+    },
 }
 
 /// Whether the record may stand in the cell of this number.
 pub fn is_well_formed(value: &RecordCell, address: u32) -> bool
     ensures { IsTrue result ↔ IsWellFormed value.now address }
 {
-    todo
+    match *value {
+        RecordCell::Volume {
+            version,
+            slots,
+            lists,
+            cells,
+        } => version == FORMAT_VERSION
+            && address == 0
+            && Geometry::new(slots, lists, cells).is_some(),
+        RecordCell::Reserve { length, .. } => length >= 1,
+        RecordCell::Commit { bytes, journal } => {
+            MIN_STORED_BYTES <= bytes && bytes <= MAX_STORED_BYTES && journal == 0
+        }
+        RecordCell::Done { slot } | RecordCell::Bucket { slot, .. } => slot < MAX_SLOTS,
+        RecordCell::Posting { key, last, .. } => key % 256 <= u32::from(last),
+        RecordCell::Abandon | RecordCell::Jump { .. } | RecordCell::Child { .. } => true,
+    }
 }

@@ -30,9 +30,7 @@ pub struct NoMemory;
 #[derive(Clone, Copy, Debug, PartialEq, Eq, Error)]
 pub enum Refusal {
     /// The words are no command.
-    #[error(
-        "usage: worm IMAGE format SLOTS LISTS, ingest ID, find WORD.., lookup ID, audit, recover, replay, exercise N"
-    )]
+    #[error("usage: worm IMAGE format SLOTS LISTS, ingest ID, find WORD.., lookup ID, audit, recover, replay, exercise N")]
     Usage,
     /// A document with this identifier stands in this slot.
     #[error("identifier stands in slot {0}")]

@@ -1,5 +1,5 @@
 -- Time that goes on: what a crash could have left, over one call after another.
-use Rattle.std.proofs.Common.{◌≡◌, ◌≤◌, ◌<◌, ◌⊎◌, ℕ, inl, inr, ⊎_elim, arith}
+use Rattle.std.proofs.Common.{◌≡◌, ◌≤◌, ◌<◌, ◌⊎◌, ℕ, refl, ◌∙◌, inl, inr, ⊎_elim, arith}
 use Rattle.cell_types.specs.Image.{Image, Between}
 use Rattle.worm_device.specs.State.{DeviceState, LeftSince}
 use Rattle.worm_device.specs.Calls.{Elapses, HasElapsed, Called}
@@ -38,3 +38,29 @@ elapsed_since q earlier p = elapses_then p q
 pub elapses_of : {old new : DeviceState} → Called old new → Elapses old new
 unfolding HasElapsed
 elapses_of {old} called = called.crashes old (elapses_self old)
+
+-- a row of no calls
+pub called_self : (s : DeviceState) → Called s s
+called_self s = record {
+  cells = refl;
+  tells = refl;
+  image = extends_self s.image;
+  sure = extends_self s.sure;
+  faults = omega arith;
+  foreign_writes = omega arith;
+  reads = omega arith;
+  crashes = λ earlier h. h;
+}
+
+-- one row of calls after another
+pub called_then : {a b c : DeviceState} → Called a b → Called b c → Called a c
+called_then {a} {b} {c} p q = record {
+  cells = q.cells ∙ p.cells;
+  tells = q.tells ∙ p.tells;
+  image = extends_then p.image q.image;
+  sure = extends_then p.sure q.sure;
+  faults = omega (arith, p.faults, q.faults);
+  foreign_writes = omega (arith, p.foreign_writes, q.foreign_writes);
+  reads = omega (arith, p.reads, q.reads);
+  crashes = λ earlier h. q.crashes earlier (p.crashes earlier h);
+}

@@ -1,0 +1,4 @@
+pub mod Bodies
+pub mod ContentCells
+pub mod Layouts
+pub mod OneRecord

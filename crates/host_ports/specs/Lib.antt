@@ -1,0 +1,4 @@
+pub mod Memories
+pub mod Sinks
+pub mod Sources
+pub mod Standard

@@ -1,0 +1,44 @@
+-- Bytes that move piece by piece, into a sink or out of a source.
+use Rattle.std.proofs.Common.{◌≡◌, ◌≤◌, ◌+◌, ◌-◌, ℕ, List, [], ◌∷◌, ◌++◌, length, take, drop, Option, Some, None, refl, sym, ap, ◌∙◌, append_assoc, arith}
+use Rattle.std.proofs.lemmas.Grind.{common_steps}
+use Rattle.std.proofs.lemmas.List.{append-nil}
+use Rattle.std.proofs.Math.Seq.{take-append-add}
+use Rattle.host_ports.specs.Sinks.{Gets}
+use Rattle.host_ports.specs.Sources.{Gives}
+
+-- a sink that gets one piece and then another gets both
+pub gets_then : (a b c : Option (List ℕ)) (xs ys : List ℕ) → Gets a b xs → Gets b c ys → Gets a c (xs ++ ys)
+gets_then None None None xs ys p q = tt
+gets_then None None (Some c) xs ys p q = q
+gets_then None (Some b) c xs ys p q = absurd p
+gets_then (Some a) None c xs ys p q = absurd p
+gets_then (Some a) (Some b) None xs ys p q = q
+gets_then (Some a) (Some b) (Some c) xs ys p q = q ∙ ap (λ (s : List ℕ). s ++ ys) p ∙ append_assoc a xs ys
+
+-- a sink that gets nothing holds what it held
+pub gets_nothing : (a : Option (List ℕ)) → Gets a a []
+gets_nothing None = tt
+gets_nothing (Some a) = sym (append-nil a)
+
+-- a source that gives one piece and then another gives both
+pub gives_then : (a b c : Option (List ℕ)) (xs ys : List ℕ) → Gives a b xs → Gives b c ys → Gives a c (xs ++ ys)
+gives_then None None None xs ys p q = tt
+gives_then None None (Some c) xs ys p q = q
+gives_then None (Some b) c xs ys p q = absurd p
+gives_then (Some a) None c xs ys p q = absurd p
+gives_then (Some a) (Some b) None xs ys p q = q
+gives_then (Some a) (Some b) (Some c) xs ys p q = p ∙ ap (λ (s : List ℕ). xs ++ s) q ∙ sym (append_assoc xs ys c)
+
+-- a source that gives nothing has what it had
+pub gives_nothing : (a : Option (List ℕ)) → Gives a a []
+gives_nothing None = tt
+gives_nothing (Some a) = refl
+
+-- what has gone and what is left are the whole, after n more bytes too
+pub one_piece_more : (text front rest : List ℕ) (n : ℕ) → text ≡ front ++ rest → n ≤ length rest
+  → text ≡ (front ++ take n rest) ++ take (length rest - n) (drop n rest)
+one_piece_more text front rest n e h = grind (arith, common_steps)
+
+-- what has gone after a part of the next piece is a front of the whole
+pub front_of : (text front rest : List ℕ) (n : ℕ) → text ≡ front ++ rest → take (length front + n) text ≡ front ++ take n rest
+front_of text front rest n e = ap (take (length front + n)) e ∙ take-append-add front rest n

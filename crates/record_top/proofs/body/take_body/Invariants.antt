@@ -1,0 +1,15 @@
+-- The body so far is what the source has given, and no call has failed.
+use Rattle.std.proofs.Common.{◌≡◌, ◌≤◌, ◌+◌, ◌-◌, List, ℕ, length}
+use Rattle.host_ports.specs.Sources.{Gives}
+use Rattle.tamper_rules.specs.Documents.{IsBody}
+use Rattle.tamper_rules.specs.declared.limits.TheConstants.{MAX_BODY_BYTES}
+use Rattle.record_top.proofs.body.take_body.Given as goal
+
+abbrev pub invariant-loop-taken : goal.invariant-loop-taken
+invariant-loop-taken g l =
+    let state = g.S.Source.state in
+    IsBody l.body.items × Gives (state l.fn.source).left (state l.source).left l.body.items
+    × ((state l.source).faults ≡ (state l.fn.source).faults)
+
+abbrev pub decreases-loop-taken : goal.decreases-loop-taken
+decreases-loop-taken g l = MAX_BODY_BYTES + 1 - length l.body.items

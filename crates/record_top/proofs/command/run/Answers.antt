@@ -1,0 +1,12 @@
+-- Where all is as it is to be, each refusal but want of memory would contradict its own cause.
+use Rattle.std.proofs.Common.{◌≡◌, ◌∙◌, List, ℕ, [], ◌∷◌, sym, subst}
+use Rattle.record_top.specs.Run.{Ports, Ingests}
+use Rattle.record_top.proofs.Completing.{complete, same_word}
+use Rattle.record_top.proofs.command.run.Goals as goal
+
+pub returns-clause-complete : goal.returns-clause-complete
+returns-clause-complete g c = λ id body layout asks ready.
+    let old : Ports = record { device = g.D.Device.state c.args.device.now; source = g.S.Source.state c.args.source.now; sink = g.K.Sink.state c.args.sink.now } in
+    let new : Ports = record { device = g.D.Device.state c.ingest.new.device; source = g.S.Source.state c.ingest.new.source; sink = g.K.Sink.state c.ingest.new.sink } in
+    let same : c.in-Some.id.now ≡ id = same_word _ c.in-Some.id.now id c.in-Some.ensures.some asks in
+    complete id body layout old new ready c.ingest.result (subst (λ (i : List ℕ). Ingests i old new c.ingest.result) same c.ingest.ensures)

@@ -1,0 +1,10 @@
+-- The cells so far are those of the front that has gone.
+use Rattle.std.proofs.Common.{ℕ, length}
+use Rattle.record_top.proofs.CellsSoFar.{CellsSoFar}
+use Rattle.record_top.proofs.document.content_cells.Given as goal
+
+abbrev pub invariant-loop-rest : goal.invariant-loop-rest
+invariant-loop-rest l = CellsSoFar l.stored l.cells.items l.rest
+
+abbrev pub decreases-loop-rest : goal.decreases-loop-rest
+decreases-loop-rest l = length l.rest

@@ -1,0 +1,140 @@
+-- What the call does that a program makes with its words: each answer with its cause, and what stays.
+use Rattle.std.specs.Prelude.{◌≡◌, ◌≢◌, ◌<◌, ◌≤◌, ◌+◌, ◌⊎◌, ◌++◌, ℕ, List, codes, length, take, Option, Some, None, Result, Ok, Err, IsTrue, ⊤}
+use Rattle.std.specs.Fmt.{decimal}
+use Rattle.cell_types.specs.Image.{Image}
+use Rattle.cell_types.specs.Layout.{Layout, outcome_at, pool_at}
+use Rattle.cell_types.specs.declared.refusal.Refusal.{Refusal}
+use Rattle.cell_types.specs.declared.refusal.Refusal.TheVariants.{Usage, TooLong, DeviceFault, SourceFault, SinkFault, NoMemory, NotYet}
+use Rattle.host_ports.specs.Sinks.{SinkState, Gets}
+use Rattle.host_ports.specs.Sources.{SourceState, Gives, IsAtEnd}
+use Rattle.tamper_rules.specs.Documents.{IsBody, Spells, Stands, stored_bytes}
+use Rattle.tamper_rules.specs.Slots.{cells_for}
+use Rattle.tamper_rules.specs.Volumes.{IsVolume}
+use Rattle.tamper_rules.specs.declared.limits.TheConstants.{MAX_BODY_BYTES}
+use Rattle.worm_device.specs.Calls.{Called}
+use Rattle.worm_device.specs.Counts.{Rose, IsStill}
+use Rattle.worm_device.specs.State.{DeviceState, LeftSince}
+use Rattle.record_top.specs.Ingest.{AsksToIngest, ChangesAsPlanned, IsPlanned}
+
+-- the text that acknowledges a document in this slot
+abbrev pub acknowledgement : ℕ → List ℕ
+acknowledgement slot = codes "acknowledged " ++ decimal slot ++ codes "\n"
+
+-- the document's cells pass the device's end
+abbrev pub PassesTheEnd : Layout → List ℕ → Type 0
+PassesTheEnd g stored = g.cells < pool_at g + cells_for (length stored)
+
+-- a cell of this document holds another value than it is to hold
+pub record IsTaken (g : Layout) (stored : List ℕ) (device : DeviceState) (at : ℕ) : Type 0 where
+  pub fits : pool_at g + cells_for (length stored) ≤ g.cells
+  pub value : List ℕ
+  pub planned : IsPlanned g stored at value
+  pub found : List ℕ
+  pub stands : device.image at ≡ Some found
+  pub differs : found ≢ value
+
+-- Why a document is not put onto the device yet, by the number that the refusal names: 0 where cell 0 is no volume
+-- cell that states the device's size; the device's size where the document's cells pass its end; and another cell
+-- where that one is taken.
+abbrev pub CannotYet : List ℕ → DeviceState → ℕ → Type 0
+CannotYet stored device at =
+    ((at ≡ 0) × ((g : Layout) → IsVolume device.cells device.image g → ⊥))
+    ⊎ ((g : Layout) × IsVolume device.cells device.image g
+      × (((at ≡ device.cells) × PassesTheEnd g stored) ⊎ IsTaken g stored device at))
+
+-- how putting a document onto a device may end, and why
+abbrev pub PutEnds : List ℕ → List ℕ → DeviceState → DeviceState → Result Unit Refusal → Type 0
+PutEnds id body old new (Ok _) = IsTrue old.tells → Stands new.cells new.sure 0 id body
+PutEnds id body old new (Err DeviceFault) = Rose old.faults new.faults
+PutEnds id body old new (Err (NotYet at)) = IsTrue old.tells → CannotYet (stored_bytes id body) new at
+PutEnds id body old new (Err NoMemory) = ⊤
+PutEnds id body old new (Err refusal) = ⊥
+
+-- the value is planned for the cell, by the layout that the device's cell 0 states
+abbrev pub IsIngestCell : List ℕ → DeviceState → ℕ → List ℕ → Type 0
+IsIngestCell stored device at value = (g : Layout) × IsVolume device.cells device.image g × IsPlanned g stored at value
+
+-- where nobody else writes, nothing but the document's cells is written
+abbrev pub WritesItsCells : List ℕ → DeviceState → DeviceState → Type 0
+WritesItsCells stored old new =
+    IsTrue old.tells → IsStill old.foreign_writes new.foreign_writes → ChangesAsPlanned (IsIngestCell stored new) old.image new.image
+
+-- Where slot 0 had no outcome at old and nobody else wrote since, no crash since then could have left an outcome
+-- without the whole document.
+abbrev pub CrashesLeaveWholeDocuments : List ℕ → DeviceState → DeviceState → Type 0
+CrashesLeaveWholeDocuments stored old new =
+    IsTrue old.tells → IsStill old.foreign_writes new.foreign_writes → old.image (outcome_at 0) ≡ None
+    → (image : Image) → LeftSince new old.moment image
+    → (image (outcome_at 0) ≡ None) ⊎ ((g : Layout) × IsVolume new.cells new.image g × Spells image (pool_at g) stored)
+
+-- what it means that a document was put onto a device, or that this was ended
+pub record PutsDocument (id body : List ℕ) (old new : DeviceState) (result : Result Unit Refusal) : Type 0 where
+  pub called : Called old new
+  pub only : WritesItsCells (stored_bytes id body) old new
+  pub crashes : CrashesLeaveWholeDocuments (stored_bytes id body) old new
+  pub ends : PutEnds id body old new result
+
+-- the device, the source and the sink that a command is given, as they are at one moment
+pub record Ports : Type 0 where
+  pub device : DeviceState
+  pub source : SourceState
+  pub sink : SinkState
+
+-- the body is what the source gave up to its end
+pub record TakesBody (given : List ℕ) (new : Ports) : Type 0 where
+  pub body : IsBody given
+  pub at_end : IsAtEnd new.source.left
+
+-- the document stands in what no crash can take, where the device tells its image
+abbrev pub IsKept : List ℕ → List ℕ → Ports → Ports → Type 0
+IsKept id body old new = IsTrue old.device.tells → Stands new.device.cells new.device.sure 0 id body
+
+-- the sink holds what it held
+abbrev pub KeepsSink : Ports → Ports → Type 0
+KeepsSink old new = new.sink.held ≡ old.sink.held
+
+-- how `ingest` of an identifier may end where the source gave these bytes, and why
+abbrev pub IngestEnds : List ℕ → List ℕ → Ports → Ports → Result Unit Refusal → Type 0
+IngestEnds id given old new (Ok _) =
+    TakesBody given new × IsKept id given old new × Gets old.sink.held new.sink.held (acknowledgement 0)
+IngestEnds id given old new (Err SinkFault) =
+    TakesBody given new × IsKept id given old new × Rose old.sink.faults new.sink.faults
+    × ((n : ℕ) × (n ≤ length (acknowledgement 0)) × Gets old.sink.held new.sink.held (take n (acknowledgement 0)))
+IngestEnds id given old new (Err SourceFault) = IsBody given × Rose old.source.faults new.source.faults × KeepsSink old new
+IngestEnds id given old new (Err TooLong) = (length given ≡ MAX_BODY_BYTES + 1) × KeepsSink old new
+IngestEnds id given old new (Err DeviceFault) =
+    TakesBody given new × Rose old.device.faults new.device.faults × KeepsSink old new
+IngestEnds id given old new (Err (NotYet at)) =
+    TakesBody given new × (IsTrue old.device.tells → CannotYet (stored_bytes id given) new.device at) × KeepsSink old new
+IngestEnds id given old new (Err NoMemory) = (length given ≤ MAX_BODY_BYTES + 1) × KeepsSink old new
+IngestEnds id given old new (Err refusal) = ⊥
+
+-- what `ingest` of an identifier does
+pub record Ingests (id : List ℕ) (old new : Ports) (result : Result Unit Refusal) : Type 0 where
+  -- the bytes that the source gave
+  pub given : List ℕ
+  pub gives : Gives old.source.left new.source.left given
+  pub called : Called old.device new.device
+  pub only : WritesItsCells (stored_bytes id given) old.device new.device
+  pub crashes : CrashesLeaveWholeDocuments (stored_bytes id given) old.device new.device
+  pub ends : IngestEnds id given old new result
+
+-- All is as `ingest` wants it: a source that holds a body, a volume that is blank but for cell 0 and has room for
+-- the document, and nobody else who writes.
+pub record IsReady (id body : List ℕ) (g : Layout) (old new : Ports) : Type 0 where
+  pub is_body : IsBody body
+  pub source : old.source.left ≡ Some body
+  pub tells : IsTrue old.device.tells
+  pub volume : IsVolume old.device.cells old.device.image g
+  pub blank : (cell : ℕ) → 1 ≤ cell → old.device.image cell ≡ None
+  pub fits : pool_at g + cells_for (length (stored_bytes id body)) ≤ g.cells
+  pub alone : IsStill old.device.foreign_writes new.device.foreign_writes
+  pub no_device_fault : IsStill old.device.faults new.device.faults
+  pub no_source_fault : IsStill old.source.faults new.source.faults
+  pub no_sink_fault : IsStill old.sink.faults new.sink.faults
+
+-- the answer is Ok, or want of memory
+abbrev pub IsOkOrNoMemory : Result Unit Refusal → Type 0
+IsOkOrNoMemory (Ok _) = ⊤
+IsOkOrNoMemory (Err NoMemory) = ⊤
+IsOkOrNoMemory (Err refusal) = ⊥

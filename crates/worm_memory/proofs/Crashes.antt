@@ -1,0 +1,83 @@
+-- Time that goes on at a device in memory: what a crash could have left, over a call.
+use Rattle.std.proofs.Common.{◌≡◌, ◌≤◌, ◌<◌, ◌+◌, ⊎_elim, inl, inr, ℕ, List, [], ◌∷◌, ◌++◌, length, take, refl, ap, sym, subst, ◌∙◌, arith}
+use Rattle.std.proofs.Math.Seq.{take-length}
+use Rattle.std.proofs.lemmas.Bool.{cases_lt}
+use Rattle.std.proofs.lemmas.List.{take-append-le, length-append}
+use Rattle.cell_types.specs.Image.{Image, Extends, Between}
+use Rattle.worm_device.specs.State.{Instant, LeftSince}
+use Rattle.worm_device.specs.Calls.{Elapses}
+use Rattle.worm_device.proofs.Images.{extends_self, between_wider}
+use Rattle.worm_memory.specs.declared.change.Change.{Change}
+use Rattle.worm_memory.specs.Worlds.{blank, world}
+use Rattle.worm_memory.specs.Memory.{Memory, device_of, with_change}
+use Rattle.worm_memory.specs.Proper.{sure_stands, blank_stands}
+use Rattle.worm_memory.proofs.Worlds.{after_append, image_grows, sure_grows}
+
+-- counts rise, and the record stays: what a crash could have left stays too
+pub elapses_counted : (m : Memory) (faults reads : ℕ) → Elapses (device_of m) (device_of (record m { faults = faults; reads = reads }))
+elapses_counted m faults reads = record {
+  later = omega arith;
+  image = extends_self (world m.changes).image;
+  sure = extends_self (world m.changes).sure;
+  keeps = λ since image le left. left;
+  adds = λ since image le left. inl left;
+}
+
+-- a crash could have left this image at some instant
+abbrev Left : Image → Instant → Type 0
+Left image now = Between now.sure now.image image
+
+-- what stood at each earlier moment is the same in a longer record
+past_stays : (changes : List Change) (change : Change) (moment : ℕ) → moment ≤ length changes → world (take moment (changes ++ change ∷ [])) ≡ world (take moment changes)
+past_stays changes change moment within = ap world (take-append-le moment changes (change ∷ []) within)
+
+-- and the last of these moments is the one before the change
+past_now : (changes : List Change) (change : Change) (moment : ℕ) → moment ≡ length changes → world (take moment (changes ++ change ∷ [])) ≡ world changes
+past_now changes change moment here =
+    past_stays changes change moment (omega arith) ∙ ap world (ap (λ n. take n changes) here ∙ take-length changes)
+
+one_longer : (changes : List Change) (change : Change) → length (changes ++ change ∷ []) ≡ length changes + 1
+one_longer changes change = simp length-append
+
+-- one more change keeps what stands, and what is sure
+pub image_after : (m : Memory) (change : Change) → Extends (device_of m).image (device_of (with_change m change)).image
+image_after m change =
+    subst (λ (now : Instant). Extends (world m.changes).image now.image) (sym (after_append blank m.changes change)) (image_grows (world m.changes) change)
+
+pub sure_after : (m : Memory) (change : Change) → Extends (device_of m).sure (device_of (with_change m change)).sure
+sure_after m change =
+    subst (λ (now : Instant). Extends (world m.changes).sure now.sure) (sym (after_append blank m.changes change)) (sure_grows (world m.changes) change (sure_stands blank m.changes blank_stands))
+
+-- what could be left before it can still be left: the present has become the last moment of the past
+left_still : (m : Memory) (change : Change) (since : ℕ) (image : Image) → since ≤ length m.changes → LeftSince (device_of m) since image → LeftSince (device_of (with_change m change)) since image
+left_still m change since image le left =
+    let longer : length (m.changes ++ change ∷ []) ≡ length m.changes + 1 = one_longer m.changes change in
+    ⊎_elim
+    (λ now. inr (length m.changes, le, omega arith, subst (Left image) (sym (past_now m.changes change (length m.changes) refl)) now))
+    (λ before. inr (before.0, before.1, omega arith, subst (Left image) (sym (past_stays m.changes change before.0 (omega arith))) before.3))
+    left
+
+-- what could be left at a moment of the longer past could be left before
+left_before : (m : Memory) (change : Change) (since : ℕ) (image : Image) (moment : ℕ) → since ≤ moment → moment < length (m.changes ++ change ∷ []) → Left image (world (take moment (m.changes ++ change ∷ []))) → LeftSince (device_of m) since image
+left_before m change since image moment le within left =
+    let longer : length (m.changes ++ change ∷ []) ≡ length m.changes + 1 = one_longer m.changes change in
+    ⊎_elim
+    (λ earlier. inr (moment, le, earlier, subst (Left image) (past_stays m.changes change moment (omega arith)) left))
+    (λ last. inl (subst (Left image) (past_now m.changes change moment (omega arith)) left))
+    (cases_lt moment (length m.changes))
+
+-- one more change
+pub elapses_changed : (m : Memory) (change : Change) → Elapses (device_of m) (device_of (with_change m change))
+elapses_changed m change =
+    let longer : length (m.changes ++ change ∷ []) ≡ length m.changes + 1 = one_longer m.changes change in
+    record {
+      later = omega arith;
+      image = image_after m change;
+      sure = sure_after m change;
+      keeps = λ since image le left. left_still m change since image le left;
+      adds = λ since image le left.
+          ⊎_elim
+          (λ now. inr (between_wider (sure_after m change) (extends_self (world (m.changes ++ change ∷ [])).image) now))
+          (λ before. inl (left_before m change since image before.0 before.1 before.2 before.3))
+          left;
+    }

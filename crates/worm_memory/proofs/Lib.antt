@@ -1,0 +1,4 @@
+pub mod Calls
+pub mod Cells
+pub mod Crashes
+pub mod Worlds

@@ -1,0 +1,78 @@
+-- What a row of changes keeps, and what one more change adds.
+use Rattle.std.proofs.Common.{◌≡◌, ◌≢◌, ◌<◌, ◌-◌, ℕ, List, [], ◌∷◌, ◌++◌, length, take, suc, Option, Some, None, refl, ap, sym, ◌∙◌, arith}
+use Rattle.std.proofs.lemmas.Bool.Decides.{nat_tests}
+use Rattle.std.specs.List.{slice_get}
+use Rattle.std.proofs.lemmas.Option.{none-some, slice_get_within, get_or_from_slice_get}
+use Rattle.std.proofs.Math.Seq.{take-suc, take-length}
+use Rattle.cell_types.specs.Image.{Image, Extends}
+use Rattle.worm_device.specs.State.{Instant}
+use Rattle.worm_device.proofs.Images.{extends_self}
+use Rattle.worm_memory.specs.declared.change.Change.{Change}
+use Rattle.worm_memory.specs.declared.change.Change.TheVariants.{Wrote, Synced}
+use Rattle.worm_memory.specs.Proper.{kept, sure_stands, blank_stands}
+use Rattle.worm_memory.specs.Worlds.{written, after_change, after_changes, blank, world, AreChanges}
+
+-- the cell that was written holds the value, if it was blank
+pub written_here : (image : Image) (at : ℕ) (value : List ℕ) → image at ≡ None → written image at value at ≡ Some value
+written_here image at value h = grind (arith, nat_tests)
+
+-- each other cell holds what it held
+pub written_elsewhere : (image : Image) (at : ℕ) (value : List ℕ) (cell : ℕ) → cell ≢ at → written image at value cell ≡ image cell
+written_elsewhere image at value cell h = grind (arith, nat_tests)
+
+-- one more change
+pub after_append : (now : Instant) (changes : List Change) (change : Change) → after_changes now (changes ++ change ∷ []) ≡ after_change (after_changes now changes) change
+after_append now [] change = refl
+after_append now (first ∷ changes) change = after_append (after_change now first) changes change
+
+-- what stands in a cell after it
+pub image_is : (changes : List Change) (change : Change) (cell : ℕ) → (world (changes ++ change ∷ [])).image cell ≡ (after_change (world changes) change).image cell
+image_is changes change cell = ap (λ (now : Instant). now.image cell) (after_append blank changes change)
+
+-- one more change is one, where it is one by itself
+pub changes_append : (cells : ℕ) (now : Instant) (changes : List Change) (change : Change) → AreChanges cells now changes → AreChanges cells (after_changes now changes) (change ∷ []) → AreChanges cells now (changes ++ change ∷ [])
+changes_append cells now [] change old one = one
+changes_append cells now (Wrote at value ∷ changes) change old one =
+    (old.0, old.1, old.2, changes_append cells (after_change now (Wrote at value)) changes change old.3 one)
+changes_append cells now (Synced ∷ changes) change old one = changes_append cells (after_change now Synced) changes change old one
+
+-- and the last change of a row is one by itself
+pub last_changes : (cells : ℕ) (now : Instant) (changes : List Change) (change : Change) → AreChanges cells now (changes ++ change ∷ []) → AreChanges cells (after_changes now changes) (change ∷ [])
+last_changes cells now [] change all = all
+last_changes cells now (Wrote at value ∷ changes) change all = last_changes cells (after_change now (Wrote at value)) changes change all.3
+last_changes cells now (Synced ∷ changes) change all = last_changes cells (after_change now Synced) changes change all
+
+-- what stands stays
+pub image_grows : (now : Instant) (change : Change) → Extends now.image (after_change now change).image
+image_grows now (Wrote at value) = kept now.image at value
+image_grows now Synced = extends_self now.image
+
+-- what is sure stays sure
+pub sure_grows : (now : Instant) (change : Change) → Extends now.sure now.image → Extends now.sure (after_change now change).sure
+sure_grows now (Wrote at value) stands = extends_self now.sure
+sure_grows now Synced stands = stands
+
+-- a row whose last change is this one
+pub ends_with : (changes : List Change) (change : Change) → slice_get changes (length changes - 1) ≡ Some change → changes ≡ take (length changes - 1) changes ++ change ∷ []
+ends_with changes change last =
+    let within : length changes - 1 < length changes = slice_get_within changes _ change last in
+    let next : suc (length changes - 1) ≡ length changes = omega arith in
+    cc (take-suc changes (length changes - 1) change within, get_or_from_slice_get changes _ change change last, take-length changes, ap (λ n. take n changes) next)
+
+blank_below : (low high : Option (List ℕ)) → ((value : List ℕ) → low ≡ Some value → high ≡ Some value) → high ≡ None → low ≡ None
+blank_below None high keeps free = refl
+blank_below (Some value) high keeps free = absurd (none-some value (sym free ∙ keeps value refl))
+
+-- after a write its cell is written and not sure
+pub unsure_after_write : (cells : ℕ) (changes : List Change) (at : ℕ) (value : List ℕ) → AreChanges cells blank (changes ++ Wrote at value ∷ [])
+    → ((world (changes ++ Wrote at value ∷ [])).image at ≡ Some value) × ((world (changes ++ Wrote at value ∷ [])).sure at ≡ None)
+unsure_after_write cells changes at value all =
+    let one = last_changes cells blank changes (Wrote at value) all in
+    rw (after_append blank changes (Wrote at value)) (
+      written_here (world changes).image at value one.1,
+      blank_below _ _ ((sure_stands blank changes blank_stands).keeps at) one.1,
+    )
+
+-- after a sync all that stands is sure
+pub sure_after_sync : (changes : List Change) (cell : ℕ) → (world (changes ++ Synced ∷ [])).sure cell ≡ (world (changes ++ Synced ∷ [])).image cell
+sure_after_sync changes cell = rw (after_append blank changes Synced) refl

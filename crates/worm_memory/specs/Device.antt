@@ -1,0 +1,35 @@
+-- What a device in memory tells, read off its fields, and what a call does to it.
+use Rattle.std.specs.Prelude.{◌≡◌, ℕ, ◌+◌, ◌-◌, vec_len, vec_capacity}
+use Rattle.worm_device.specs.State.{DeviceState}
+use Rattle.worm_memory.specs.Memory.{Memory, device_of, with_change, with_fault}
+use Rattle.worm_memory.specs.declared.change.Change.{Change}
+use Rattle.worm_memory.specs.declared.memory_device.MemoryDevice.{MemoryDevice}
+
+-- all that a device tells
+abbrev pub memory_of : MemoryDevice → Memory
+memory_of device = record {
+  cells = vec_len device.cells;
+  changes = device.changes.items;
+  faults = device.faults;
+  reads = device.reads;
+}
+
+-- how many further changes its record has room for
+abbrev pub room_of : MemoryDevice → ℕ
+room_of device = vec_capacity device.changes - vec_len device.changes
+
+-- what a device is as a device
+abbrev pub state_of : MemoryDevice → DeviceState
+state_of device = device_of (memory_of device)
+
+-- nothing has changed
+abbrev pub Stays : MemoryDevice → MemoryDevice → Type 0
+Stays old new = (memory_of new ≡ memory_of old) × (room_of new ≡ room_of old)
+
+-- one more change is in the record, and nothing else but its room has changed
+abbrev pub Records : Change → MemoryDevice → MemoryDevice → Type 0
+Records change old new = (memory_of new ≡ with_change (memory_of old) change) × (room_of new + 1 ≡ room_of old)
+
+-- one more fault is counted, and nothing else has changed
+abbrev pub CountsFault : MemoryDevice → MemoryDevice → Type 0
+CountsFault old new = (memory_of new ≡ with_fault (memory_of old)) × (room_of new ≡ room_of old)

@@ -1,0 +1,49 @@
+-- What a device in memory is for contracts, and what its calls do: its record of changes, from which each
+-- state and each image that a crash could have left follow, and its counts.
+use Rattle.std.specs.Prelude.{◌≡◌, ℕ, true, List, [], ◌∷◌, ◌++◌, length, take, Some, None}
+use Rattle.worm_device.specs.Counts.{next_count}
+use Rattle.worm_device.specs.State.{DeviceState}
+use Rattle.worm_memory.specs.Worlds.{world}
+use Rattle.worm_memory.specs.declared.change.Change.{Change}
+
+-- all that a device in memory tells
+pub record Memory : Type 0 where
+  -- how many cells it has
+  pub cells : ℕ
+  -- its record: what has changed, in order
+  pub changes : List Change
+  -- how many of its calls have failed
+  pub faults : ℕ
+  -- how many reads it was asked for
+  pub reads : ℕ
+
+-- As a device. The moment is the number of changes so far, and nobody else writes.
+abbrev pub device_of : Memory → DeviceState
+device_of m = record {
+  cells = m.cells;
+  tells = true;
+  image = (world m.changes).image;
+  sure = (world m.changes).sure;
+  faults = m.faults;
+  foreign_writes = 0;
+  reads = m.reads;
+  moment = length m.changes;
+  past = λ moment. world (take moment m.changes);
+}
+
+-- a cell is written and not sure
+abbrev pub IsUnsure : Memory → Type 0
+IsUnsure m =
+    (cell : ℕ) × (value : List ℕ) × ((world m.changes).image cell ≡ Some value) × ((world m.changes).sure cell ≡ None)
+
+-- one more change
+abbrev pub with_change : Memory → Change → Memory
+with_change m change = record m { changes = m.changes ++ change ∷ [] }
+
+-- one more fault
+abbrev pub with_fault : Memory → Memory
+with_fault m = record m { faults = next_count m.faults }
+
+-- one more read
+abbrev pub with_read : Memory → Memory
+with_read m = record m { reads = next_count m.reads }

@@ -1,0 +1,58 @@
+-- What a row of changes makes of blank cells: an image, and what of it is sure.
+use Rattle.std.specs.Prelude.{◌≡◌, ◌<◌, ◌==◌, if◌then◌else◌, ℕ, List, [], ◌∷◌, Option, Some, None, ⊤, slice_index_or}
+use Rattle.std.specs.Coded.{Unit-prop}
+use Rattle.std.proofs.Props.{props}
+use Rattle.cell_types.specs.Bytes.{IsCell}
+use Rattle.cell_types.specs.Image.{Image}
+use Rattle.worm_device.specs.State.{Instant}
+use Rattle.worm_memory.specs.declared.change.Change.{Change}
+use Rattle.worm_memory.specs.declared.change.Change.TheVariants.{Wrote, Synced}
+
+-- what stands in a cell after a value is written to it: what stood there, or else the value
+abbrev pub kept_or : Option (List ℕ) → List ℕ → Option (List ℕ)
+kept_or (Some found) value = Some found
+kept_or None value = Some value
+
+-- an image after a write
+abbrev pub written : Image → ℕ → List ℕ → Image
+written image at value = λ cell. if cell == at then kept_or (image cell) value else image cell
+
+-- what one change makes of an instant
+abbrev pub after_change : Instant → Change → Instant
+after_change now (Wrote at value) = record { image = written now.image at value; sure = now.sure }
+after_change now Synced = record { image = now.image; sure = now.image }
+
+-- what a row of changes makes of it
+abbrev pub after_changes : Instant → List Change → Instant
+after_changes now [] = now
+after_changes now (change ∷ changes) = after_changes (after_change now change) changes
+
+-- all cells are blank
+abbrev pub blank : Instant
+blank = record { image = λ cell. None; sure = λ cell. None }
+
+-- what a row of changes makes of blank cells
+abbrev pub world : List Change → Instant
+world changes = after_changes blank changes
+
+-- each change is one: a write puts a written cell's value into a cell of the device that was blank
+abbrev pub AreChanges : ℕ → Instant → List Change → Type 0
+AreChanges cells now [] = ⊤
+AreChanges cells now (Wrote at value ∷ changes) =
+    (at < cells) × (now.image at ≡ None) × IsCell value
+    × AreChanges cells (after_change now (Wrote at value)) changes
+AreChanges cells now (Synced ∷ changes) = AreChanges cells (after_change now Synced) changes
+
+-- a device of blank cells has become this one: each cell holds what the image says
+abbrev pub Holds : List (Option (List ℕ)) → Image → Type 0
+Holds cells image = (cell : ℕ) → slice_index_or cells cell None ≡ image cell
+
+-- there is one proof of each, so that a device can carry it
+pub IsCell-prop : (value : List ℕ) → IsProp (IsCell value)
+IsCell-prop value = Prim.hlevel props
+
+pub AreChanges-prop : (cells : ℕ) (now : Instant) (changes : List Change) → IsProp (AreChanges cells now changes)
+AreChanges-prop cells now [] = Unit-prop
+AreChanges-prop cells now (Wrote at value ∷ changes) =
+    Prim.hlevel (props, AreChanges-prop cells (after_change now (Wrote at value)) changes)
+AreChanges-prop cells now (Synced ∷ changes) = AreChanges-prop cells (after_change now Synced) changes

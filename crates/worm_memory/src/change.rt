@@ -1,0 +1,11 @@
+//! What a device in memory keeps a record of.
+use cell_types::Cell;
+
+/// A change of what stands in the cells, or of what of it is sure.
+#[derive(Clone, Copy, Debug, PartialEq, Eq)]
+pub enum Change {
+    /// A write put this value into a cell that was blank.
+    Wrote { at: u32, value: Cell },
+    /// A sync made each written cell sure.
+    Synced,
+}

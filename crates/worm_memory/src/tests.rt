@@ -1,0 +1,124 @@
+//! A device of eight cells, called as its callers do. What is expected was written by hand.
+ghost use Rattle.std.specs.Prelude.{◌≡◌, ◌<◌, ◌≤◌};
+ghost use Rattle.worm_device.specs.Calls.{Called};
+ghost use Rattle.worm_device.specs.Views.{Viewed};
+ghost use Rattle.worm_memory.specs.Device.{memory_of};
+
+use crate::{Change, MemoryDevice};
+use cell_types::Cell;
+use std::test::Fail;
+use worm_device::{Device, Direct, Failed, View, Written};
+
+/// A cell whose last byte is this one.
+fn cell(last: u8) -> Result<Cell, &'static str> {
+    Cell::from_bytes([0, 0, 0, 0, 0, 0, 0, 0, 0, 0, 0, 0, 0, 0, 0, last]).ok_or("a blank cell")
+}
+
+/// Writes one cell after another until so much room is left.
+fn fill(device: &mut MemoryDevice, value: Cell, left: u32)
+    ensures cells { (memory_of device.new).cells ≡ (memory_of device.old).cells }
+{
+    for at in 0..device.cells() {
+        if device.room() <= left {
+            return;
+        }
+        let _ = device.write(at, value);
+    }
+}
+
+/// Looks at a blank cell, writes it and makes it sure.
+fn drive<D: Device>(device: &mut D, at: u32, value: Cell) -> Result<(Option<Cell>, Written), Failed>
+    requires { at < (D.state device.old).cells }
+    ensures called { Called (D.state device.old) (D.state device.new) }
+{
+    let before = device.read(at)?;
+    let written = device.write(at, value)?;
+    device.sync()?;
+    Ok((before, written))
+}
+
+/// Looks at a cell through a view.
+fn look<V: View>(view: &mut V, at: u32) -> Result<Option<Cell>, Failed>
+    requires { at < (V.seen view.old).cells }
+    ensures viewed { Viewed (V.seen view.old) (V.seen view.new) }
+{
+    view.read(at)
+}
+
+#[test]
+fn a_cell_is_written_once(rt: HostRuntime) -> Result<(), Fail> {
+    let (seven, nine) = (cell(7)?, cell(9)?);
+    let mut device = MemoryDevice::new(rt.alloc(), 8)?;
+    device.reserve(3)?;
+    assert_eq!(rt; device.cells(), 8);
+    assert_eq!(rt; device.read(3), Ok(None));
+    assert_eq!(rt; device.write(3, seven), Ok(Written::Done));
+    assert_eq!(rt; device.write(3, seven), Ok(Written::Taken(seven)));
+    assert_eq!(rt; device.write(3, nine), Ok(Written::Taken(seven)));
+    assert_eq!(rt; device.read(3), Ok(Some(seven)));
+    assert_eq!(rt; device.read(7), Ok(None));
+    assert_eq!(rt; device.sync(), Ok(()));
+    assert_eq!(rt; device.sync(), Ok(()));
+    assert_eq!(rt; device.write(0, nine), Ok(Written::Done));
+    let changes = [
+        Change::Wrote {
+            at: 3,
+            value: seven,
+        },
+        Change::Synced,
+        Change::Wrote { at: 0, value: nine },
+    ];
+    assert_eq!(rt; device.changes(), changes.as_slice());
+    Ok(())
+}
+
+#[test]
+fn a_full_record_takes_no_change(rt: HostRuntime) -> Result<(), Fail> {
+    let (seven, nine) = (cell(7)?, cell(9)?);
+    let mut device = MemoryDevice::new(rt.alloc(), 8)?;
+    assert_eq!(rt; device.room(), 0);
+    assert_eq!(rt; device.write(7, seven), Err(Failed));
+    assert_eq!(rt; device.sync(), Ok(()), "nothing is unsure");
+    device.reserve(2)?;
+    fill(&mut device, seven, 0);
+    assert_eq!(rt; device.room(), 0);
+    assert_eq!(rt; device.sync(), Err(Failed), "the last write is not sure");
+    assert_eq!(rt; device.write(7, nine), Err(Failed));
+    assert_eq!(rt; device.read(7), Ok(None));
+    assert_eq!(rt; device.write(1, nine), Ok(Written::Taken(seven)));
+    device.reserve(1)?;
+    fill(&mut device, seven, 1);
+    assert_eq!(rt; device.sync(), Ok(()));
+    assert_eq!(rt; device.room(), 0);
+    assert_eq!(rt; device.sync(), Ok(()), "nothing is unsure");
+    assert_eq!(rt; device.changes().last(), Some(&Change::Synced));
+    Ok(())
+}
+
+#[test]
+fn a_device_in_memory_is_a_device_and_a_view(rt: HostRuntime) -> Result<(), Fail> {
+    let (seven, nine) = (cell(7)?, cell(9)?);
+    let mut device = MemoryDevice::new(rt.alloc(), 8)?;
+    assert_eq!(rt;
+        drive(&mut device, 5, seven),
+        Err(Failed),
+        "there is no room"
+    );
+    device.reserve(4)?;
+    assert_eq!(rt; drive(&mut device, 5, seven), Ok((None, Written::Done)));
+    assert_eq!(rt;
+        drive(&mut device, 5, nine),
+        Ok((Some(seven), Written::Taken(seven)))
+    );
+    assert_eq!(rt; look(&mut Direct::new(&mut device), 5), Ok(Some(seven)));
+    assert_eq!(rt; look(&mut Direct::new(&mut device), 6), Ok(None));
+    let changes = [
+        Change::Wrote {
+            at: 5,
+            value: seven,
+        },
+        Change::Synced,
+    ];
+    assert_eq!(rt; device.changes(), changes.as_slice());
+    Ok(())
+}
