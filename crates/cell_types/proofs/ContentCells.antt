@@ -1,10 +1,11 @@
 -- A content cell, read back: it is the one that is made of the bytes that it counts.
-use Rattle.std.proofs.Common.{◌≡◌, ◌≤◌, ◌+◌, ◌-◌, ℕ, List, ◌++◌, length, length-drop, take, drop, replicate, inl, inr, ap, ◌∙◌, arith}
+use Rattle.std.proofs.Common.{◌≡◌, ◌≤◌, ◌+◌, ◌-◌, ℕ, List, ◌∷◌, ◌++◌, length, length-drop, take, drop, replicate, inl, inr, sym, ap, ◌∙◌, arith}
 use Rattle.std.proofs.Math.ListN.{get_or-eq_default}
+use Rattle.std.proofs.Math.Seq.{take-append_seam}
 use Rattle.std.proofs.lemmas.List.{get_or-drop, get_or-take, length-take, length-take-le, take_all}
 use Rattle.std.proofs.lemmas.Bool.{cases_lt}
 use Rattle.cell_types.specs.Bytes.{AreBytes, IsCell}
-use Rattle.cell_types.specs.Contents.{IsContentCell, content_bytes}
+use Rattle.cell_types.specs.Contents.{ContentsAreOne, IsContentCell, content_bytes}
 
 -- the first bytes of bytes are bytes
 take_fits : (bytes : List ℕ) (n : ℕ) → AreBytes bytes → AreBytes (take n bytes)
@@ -30,3 +31,13 @@ content_found cell bytes n is copied some most same =
       record { some = omega arith; most = omega arith; fits = take_fits bytes n (behind_fits cell bytes is behind); same = same },
       rw count at end,
     )
+
+tails : (a b : ℕ) (xs ys : List ℕ) → ◌≡◌ {A = List ℕ} (a ∷ xs) (b ∷ ys) → (a ≡ b) × (xs ≡ ys)
+tails a b xs ys e = (cc, cc)
+
+-- a cell holds one row of bytes: its first byte says how many, and they stand behind it
+pub contents_one : ContentsAreOne
+contents_one xs ys cell p q =
+    let parts = tails (16 + length xs) (16 + length ys) (xs ++ replicate (15 - length xs) 0) (ys ++ replicate (15 - length ys) 0) (sym p.same ∙ q.same) in
+    let count : length xs ≡ length ys = omega (arith, parts.0) in
+    sym (take-append_seam xs (replicate (15 - length xs) 0)) ∙ ap (take (length xs)) parts.1 ∙ ap (λ (n : ℕ). take n (ys ++ replicate (15 - length ys) 0)) count ∙ take-append_seam ys (replicate (15 - length ys) 0)

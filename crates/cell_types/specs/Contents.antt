@@ -12,3 +12,7 @@ pub record IsContentCell (bytes cell : List ℕ) : Type 0 where
   pub most : length bytes ≤ 15
   pub fits : AreBytes bytes
   pub same : cell ≡ content_bytes bytes
+
+-- a cell holds one row of bytes
+abbrev pub ContentsAreOne : Type 0
+ContentsAreOne = (xs ys cell : List ℕ) → IsContentCell xs cell → IsContentCell ys cell → xs ≡ ys

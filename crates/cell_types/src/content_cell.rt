@@ -1,6 +1,6 @@
 //! Content cells, which hold the bytes of a document, 1 to 15 in each.
 ghost use Rattle.std.specs.Prelude.{◌≡◌, ◌≤◌, ◌-◌, ◌++◌, ℕ, List, length, replicate, take, IfSome, IfNone};
-ghost use Rattle.cell_types.specs.Contents.{content_bytes, IsContentCell};
+ghost use Rattle.cell_types.specs.Contents.{ContentsAreOne, content_bytes, IsContentCell};
 
 use crate::{Cell, Content};
 
@@ -43,4 +43,10 @@ pub fn content_of(cell: Cell) -> Option<Content>
         return Some(Content { length, bytes });
     }
     None
+}
+
+/// A law: a cell holds one row of bytes.
+pub fn contents_are_one()
+    ensures { ContentsAreOne }
+{
 }

@@ -30,7 +30,7 @@ mod tests;
 
 pub use cell::Cell;
 pub use codec::{address_of, decode, encode, no_record_is_content, records_are_one};
-pub use content_cell::{content, content_of};
+pub use content_cell::{content, content_of, contents_are_one};
 pub use geometry::{
     Geometry, MAX_CELLS, MAX_LISTS, MAX_SLOTS, Volume, parts_are_apart, parts_cover_the_device,
 };

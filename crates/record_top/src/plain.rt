@@ -1,0 +1,94 @@
+//! What stands on a device, read by a plain decoder of its own, which shares nothing with the crates.
+use cell_types::Cell;
+use std::alloc::{AllocError, Global};
+use worm_device::Device;
+use worm_memory::MemoryDevice;
+
+/// The states of a slot.
+#[derive(Clone, Copy, Debug, PartialEq, Eq)]
+pub enum State {
+    Unused,
+    Reserved,
+    Abandoned,
+    Committed,
+    Done,
+    Broken,
+}
+
+/// An identifier and a body.
+#[derive(Debug, Drop, PartialEq)]
+pub struct Document {
+    pub id: Vec<u8>,
+    pub body: Vec<u8>,
+}
+
+/// The bytes of a cell, zeros where it is blank or not on the device.
+fn bytes_at(device: &mut MemoryDevice, at: u32) -> [u8; 16] {
+    if at >= device.cells() {
+        return [0; 16];
+    }
+    match device.read(at) {
+        Ok(Some(cell)) => cell.bytes(),
+        _ => [0; 16],
+    }
+}
+
+/// The number in four bytes of a cell.
+fn number(bytes: [u8; 4]) -> u32 {
+    u32::from_be_bytes(bytes)
+}
+
+/// Whether a cell is blank.
+fn is_blank(cell: [u8; 16]) -> bool {
+    Cell::from_bytes(cell).is_none()
+}
+
+/// The state of slot 0, by the first byte of its cells.
+pub fn state_of_slot_0(device: &mut MemoryDevice) -> State {
+    let [reserve, ..] = bytes_at(device, 4);
+    let [outcome, ..] = bytes_at(device, 5);
+    let [done, ..] = bytes_at(device, 6);
+    match (reserve, outcome, done) {
+        (0, 0, 0) => State::Unused,
+        (2, 0, 0) => State::Reserved,
+        (2, 4, 0) => State::Abandoned,
+        (2, 3, 0) => State::Committed,
+        (2, 3, 5) => State::Done,
+        _ => State::Broken,
+    }
+}
+
+/// The stored bytes of slot 0, one content cell after another, up to a cell that is none.
+fn stored_of_slot_0(alloc: Global, device: &mut MemoryDevice) -> Result<Vec<u8>, AllocError> {
+    let [_, a, b, c, d, ..] = bytes_at(device, 4);
+    let [_, e, f, g, h, ..] = bytes_at(device, 5);
+    let start = number([a, b, c, d]);
+    let count = number([e, f, g, h]);
+    let mut stored = Vec::new(alloc);
+    for k in 0..count.div_ceil(15) {
+        let cell = bytes_at(device, start.saturating_add(k));
+        if is_blank(cell) || cell[0] < 0x11 || cell[0] > 0x1f {
+            return Ok(stored);
+        }
+        let held = usize::from(cell[0] - 0x10);
+        stored.extend_from_slice(&cell[1..1 + held])?;
+    }
+    Ok(stored)
+}
+
+/// The document of slot 0, where its stored bytes have an identifier.
+pub fn document_of_slot_0(alloc: Global, device: &mut MemoryDevice) -> Result<Option<Document>, AllocError> {
+    let stored = stored_of_slot_0(alloc, device)?;
+    let Some((length, rest)) = stored.split_first() else {
+        return Ok(None);
+    };
+    let length = usize::from(*length);
+    if rest.len() < length {
+        return Ok(None);
+    }
+    let mut id = Vec::new(alloc);
+    id.extend_from_slice(&rest[..length])?;
+    let mut body = Vec::new(alloc);
+    body.extend_from_slice(&rest[length..])?;
+    Ok(Some(Document { id, body }))
+}
