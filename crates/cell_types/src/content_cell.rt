@@ -48,5 +48,4 @@ pub fn content_of(cell: Cell) -> Option<Content>
 /// A law: a cell holds one row of bytes.
 pub fn contents_are_one()
     ensures { ContentsAreOne }
-{
-}
+{}

@@ -1,5 +1,5 @@
 -- The content cells of stored bytes, made one after another.
-use Rattle.std.proofs.Common.{◌≡◌, ◌≤◌, ◌<◌, ◌+◌, ◌-◌, ◌*◌, ◌/◌, ◌⊎◌, min, ℕ, List, [], ◌∷◌, ◌++◌, length, take, drop, Some, None, refl, sym, ap, ◌∙◌, subst, inl, inr, ⊎_elim, arith, length-append, length-drop}
+use Rattle.std.proofs.Common.{◌≡◌, ◌≤◌, ◌<◌, ◌+◌, ◌-◌, ◌*◌, ◌/◌, ◌⊎◌, min, ℕ, List, [], ◌∷◌, ◌++◌, length, take, drop, Some, sym, ap, ◌∙◌, ⊎_elim, arith, length-append, length-drop}
 use Rattle.std.specs.Prelude.{slice_get}
 use Rattle.std.proofs.lemmas.Grind.{common_steps}
 use Rattle.std.proofs.lemmas.Option.{gets}
@@ -38,7 +38,7 @@ length_pushed xs x = length-append xs (x ∷ [])
 
 -- one cell more, of the next 15 bytes or of all that are left
 pub cells_more : (stored rest : List ℕ) (cells : List (List ℕ)) (cell : List ℕ) → CellsSoFar stored cells rest → 0 < length rest
-  → cell ≡ content_bytes (take 15 rest) → CellsSoFar stored (cells ++ cell ∷ []) (drop 15 rest)
+    → cell ≡ content_bytes (take 15 rest) → CellsSoFar stored (cells ++ cell ∷ []) (drop 15 rest)
 cells_more stored rest cells cell so_far some is =
     let n = length cells in
     let cell_is : cell ≡ content_at stored n = is ∙ ap (λ (l : List ℕ). content_bytes (take 15 l)) so_far.left in
@@ -46,13 +46,13 @@ cells_more stored rest cells cell so_far some is =
     record {
       left = ap (drop 15) so_far.left ∙ drop-drop 15 (15 * n) stored ∙ ap (λ (m : ℕ). drop m stored) (omega (arith, length_pushed cells cell));
       each = λ k below. ⊎_elim
-        (λ (earlier : k < n). get_before cells cell k earlier ∙ so_far.each k earlier)
-        (λ (here : k ≡ n). get_last cells cell k here ∙ ap Some cell_is ∙ ap (λ (m : ℕ). Some (content_at stored m)) (sym here))
-        (below_or_at k n (omega (arith, below, length_pushed cells cell)));
+          (λ (earlier : k < n). get_before cells cell k earlier ∙ so_far.each k earlier)
+          (λ (here : k ≡ n). get_last cells cell k here ∙ ap Some cell_is ∙ ap (λ (m : ℕ). Some (content_at stored m)) (sym here))
+          (below_or_at k n (omega (arith, below, length_pushed cells cell)));
       within = λ k below. ⊎_elim
-        (λ (earlier : k < n). so_far.within k earlier)
-        (λ (here : k ≡ n). omega (arith, here, room))
-        (below_or_at k n (omega (arith, below, length_pushed cells cell)));
+          (λ (earlier : k < n). so_far.within k earlier)
+          (λ (here : k ≡ n). omega (arith, here, room))
+          (below_or_at k n (omega (arith, below, length_pushed cells cell)));
     }
 
 -- when nothing is left there are so many cells as the bytes take

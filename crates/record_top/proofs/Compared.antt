@@ -1,7 +1,6 @@
 -- What a comparison of two cells says.
 use Rattle.std.proofs.Common.{◌≡◌, ◌≢◌, ℕ, List, Bool, true, false, not, refl, sym, ◌∙◌}
 use Rattle.std.specs.Str.{bytes_eq}
-use Rattle.std.specs.Bool.{Decides}
 use Rattle.std.proofs.lemmas.Bool.Decides.{Decides-not, Decides-at}
 use Rattle.std.proofs.lemmas.Slice.Eq.{bytes_eq-Decides}
 

@@ -1,9 +1,9 @@
 -- Where all is as it is to be, no refusal but want of memory is left.
-use Rattle.std.proofs.Common.{◌≡◌, ◌≢◌, ◌≤◌, ◌<◌, ◌+◌, ◌^◌, ◌⊎◌, ◌++◌, ℕ, List, [], ◌∷◌, length, Option, Some, None, Result, Ok, Err, refl, sym, ap, ◌∙◌, inl, inr, ⊎_elim, subst, arith, length-append}
+use Rattle.std.proofs.Common.{◌≡◌, ◌≤◌, ◌++◌, ℕ, List, [], ◌∷◌, length, Option, Some, None, Result, Ok, Err, sym, ap, ◌∙◌, inl, inr, ⊎_elim, subst, arith, length-append}
 use Rattle.std.specs.Prelude.{codes}
 use Rattle.std.proofs.lemmas.List.{append-nil}
 use Rattle.cell_types.specs.Image.{Image}
-use Rattle.cell_types.specs.Layout.{Layout, reserve_at, outcome_at, done_at, pool_at}
+use Rattle.cell_types.specs.Layout.{Layout}
 use Rattle.cell_types.specs.Records.{IsRecordCell}
 use Rattle.cell_types.specs.declared.record_cell.RecordCell.TheVariants.{Volume}
 use Rattle.cell_types.specs.declared.refusal.Refusal.{Refusal}
@@ -11,11 +11,10 @@ use Rattle.cell_types.specs.declared.refusal.Refusal.TheVariants.{Usage, Duplica
 use Rattle.cell_types.proofs.OneRecord.{one_record}
 use Rattle.host_ports.specs.Sources.{Gives, IsAtEnd}
 use Rattle.tamper_rules.specs.Documents.{stored_bytes, content_at}
-use Rattle.tamper_rules.specs.Slots.{cells_for}
 use Rattle.tamper_rules.specs.Volumes.{IsVolume, volume_record}
 use Rattle.worm_device.proofs.Counting.{rose_or_still}
 use Rattle.record_top.specs.Ingest.{AsksToIngest, IsPlanned}
-use Rattle.record_top.specs.Run.{Ports, Ingests, IngestEnds, IsReady, IsOkOrNoMemory, CannotYet, IsTaken, PassesTheEnd, IsIngestCell}
+use Rattle.record_top.specs.Run.{Ports, Ingests, IsReady, IsOkOrNoMemory, CannotYet, IsTaken, PassesTheEnd, IsIngestCell}
 use Rattle.record_top.proofs.Putting.{volume_later}
 use Rattle.record_top.proofs.StoreSoFar.{some_is}
 
@@ -30,17 +29,17 @@ same_word words a b p q = two_words (codes "ingest") (codes "ingest") a b (sym p
 gives_within : (left : Option (List ℕ)) (body given : List ℕ) (new : Option (List ℕ)) → left ≡ Some body → Gives left new given → length given ≤ length body
 gives_within left body given new e gives = within new (subst (λ (l : Option (List ℕ)). Gives l new given) e gives)
   where
-  within : (new : Option (List ℕ)) → Gives (Some body) new given → length given ≤ length body
-  within None h = absurd h
-  within (Some rest) h = omega (arith, ap length h, length-append given rest)
+    within : (new : Option (List ℕ)) → Gives (Some body) new given → length given ≤ length body
+    within None h = absurd h
+    within (Some rest) h = omega (arith, ap length h, length-append given rest)
 
 -- and at its end it has given all
 gives_all : (left : Option (List ℕ)) (body given : List ℕ) (new : Option (List ℕ)) → left ≡ Some body → Gives left new given → IsAtEnd new → given ≡ body
 gives_all left body given new e gives end = all new (subst (λ (l : Option (List ℕ)). Gives l new given) e gives) end
   where
-  all : (new : Option (List ℕ)) → Gives (Some body) new given → IsAtEnd new → given ≡ body
-  all None h at_end = absurd h
-  all (Some rest) h at_end = sym (append-nil given) ∙ ap (λ (r : List ℕ). given ++ r) (sym at_end) ∙ sym h
+    all : (new : Option (List ℕ)) → Gives (Some body) new given → IsAtEnd new → given ≡ body
+    all None h at_end = absurd h
+    all (Some rest) h at_end = sym (append-nil given) ∙ ap (λ (r : List ℕ). given ++ r) (sym at_end) ∙ sym h
 
 -- the parts of two volume records that are the same
 same_parts : (v s l c v' s' l' c' : ℕ) → Volume v s l c ≡ Volume v' s' l' c' → (s ≡ s') × (l ≡ l') × (c ≡ c')
@@ -92,13 +91,13 @@ module _ (id body : List ℕ) (g : Layout) (old new : Ports) (ready : IsReady id
   not_taken : (result : Result Unit Refusal) (ingests : Ingests id old new result) (at : ℕ) → ingests.given ≡ body → IsTaken g (stored_bytes id body) new.device at → ⊥
   not_taken result ingests at same taken = ⊎_elim
       (λ (unchanged : new.device.image at ≡ old.device.image at).
-        let blank = ready.blank at (planned_past_0 g (stored_bytes id body) at taken.value taken.value taken.planned) in
-        let clash : Some taken.found ≡ None = sym taken.stands ∙ unchanged ∙ blank in absurd cc)
+      let blank = ready.blank at (planned_past_0 g (stored_bytes id body) at taken.value taken.value taken.planned) in
+      let clash : Some taken.found ≡ None = sym taken.stands ∙ unchanged ∙ blank in absurd cc)
       (λ (put : (value : List ℕ) × IsIngestCell (stored_bytes id ingests.given) new.device at value × (old.device.image at ≡ None) × (new.device.image at ≡ Some value)).
-        let layout = layout_is_one new.device.cells new.device.image put.1.0 g put.1.1 (volume_now result ingests) in
-        let planned = subst (λ (b : List ℕ). IsPlanned g (stored_bytes id b) at put.0) same (subst (λ (l : Layout). IsPlanned l (stored_bytes id ingests.given) at put.0) layout put.1.2) in
-        let one = planned_is_one g (stored_bytes id body) at put.0 taken.value planned taken.planned in
-        taken.differs (some_is taken.found put.0 (sym taken.stands ∙ put.3) ∙ one))
+      let layout = layout_is_one new.device.cells new.device.image put.1.0 g put.1.1 (volume_now result ingests) in
+      let planned = subst (λ (b : List ℕ). IsPlanned g (stored_bytes id b) at put.0) same (subst (λ (l : Layout). IsPlanned l (stored_bytes id ingests.given) at put.0) layout put.1.2) in
+      let one = planned_is_one g (stored_bytes id body) at put.0 taken.value planned taken.planned in
+      taken.differs (some_is taken.found put.0 (sym taken.stands ∙ put.3) ∙ one))
       (ingests.only ready.tells ready.alone at)
 
   -- nothing keeps the document from the device

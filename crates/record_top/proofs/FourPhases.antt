@@ -1,5 +1,5 @@
 -- The four phases that store a document: what each has done, and what its end leaves.
-use Rattle.std.proofs.Common.{◌≡◌, ◌≢◌, ◌≤◌, ◌<◌, ◌+◌, ℕ, List, [], ◌∷◌, length, Some, None, Result, Ok, Err, refl, sym, ap, ◌∙◌, subst, arith}
+use Rattle.std.proofs.Common.{◌≡◌, ◌+◌, ℕ, List, [], ◌∷◌, Some, None, Result, Ok, Err, refl, sym, subst, arith}
 use Rattle.std.specs.Prelude.{IsTrue}
 use Rattle.cell_types.specs.Image.{Image, Between}
 use Rattle.cell_types.specs.Layout.{Layout, reserve_at, outcome_at, done_at, pool_at}
@@ -10,7 +10,7 @@ use Rattle.worm_device.specs.Counts.{IsStill}
 use Rattle.worm_device.specs.State.{DeviceState}
 use Rattle.worm_device.proofs.Counting.{still_first, still_second}
 use Rattle.worm_device.proofs.Elapsing.{called_self, called_then}
-use Rattle.record_top.specs.Ingest.{AreCellsOf, PutsCells, reserve_cell, commit_cell, done_cell, IsStored, IsWholeOrUncommitted, Stores}
+use Rattle.record_top.specs.Ingest.{AreCellsOf, PutsCells, reserve_cell, commit_cell, done_cell, IsWholeOrUncommitted, Stores}
 use Rattle.record_top.proofs.StoreSoFar.{StoreSoFar, store_none, store_more, store_ended, store_last, stays_blank, crash_before, crash_after, planned_reserve, planned_document, planned_commit, planned_done}
 
 -- cells that were put, by the numbers and values that they have in the plan
@@ -34,7 +34,7 @@ module _ (g : Layout) (stored : List ℕ) (document : List (List ℕ)) (are : Ar
     reserve_keeps_blank result puts = stays_blank g stored (reserve_at 0) (reserve_cell g stored ∷ []) s0 s1 result puts (λ k below e. omega (arith, e, below))
 
     safe_reserve : (result : Result Unit Refusal) → PutsCells (reserve_at 0) (reserve_cell g stored ∷ []) s0 s1 result
-      → IsTrue s0.tells → IsStill s0.foreign_writes s1.foreign_writes → s0.image (outcome_at 0) ≡ None → (image : Image) → Between s0.sure s1.image image → IsWholeOrUncommitted g stored image
+        → IsTrue s0.tells → IsStill s0.foreign_writes s1.foreign_writes → s0.image (outcome_at 0) ≡ None → (image : Image) → Between s0.sure s1.image image → IsWholeOrUncommitted g stored image
     safe_reserve result puts tells still none image between = crash_before g stored s0.sure s1.image image between (reserve_keeps_blank result puts still none)
 
     -- the first phase
@@ -46,12 +46,12 @@ module _ (g : Layout) (stored : List ℕ) (document : List (List ℕ)) (are : Ar
 
     module _ (u1 : Unit {0}) (first : PutsCells (reserve_at 0) (reserve_cell g stored ∷ []) s0 s1 (Ok u1)) (s2 : DeviceState) where
       safe_document : (result : Result Unit Refusal) → PutsCells (pool_at g) document s1 s2 result
-        → IsTrue s0.tells → IsStill s0.foreign_writes s2.foreign_writes → s0.image (outcome_at 0) ≡ None → (image : Image) → Between s1.sure s2.image image → IsWholeOrUncommitted g stored image
+          → IsTrue s0.tells → IsStill s0.foreign_writes s2.foreign_writes → s0.image (outcome_at 0) ≡ None → (image : Image) → Between s1.sure s2.image image → IsWholeOrUncommitted g stored image
       safe_document result puts tells still none image between =
           crash_before g stored s1.sure s2.image image between
-            (stays_blank g stored (pool_at g) document s1 s2 result puts (λ k below e. omega (arith, e))
-              (still_second first.called.foreign_writes puts.called.foreign_writes still)
-              (reserve_keeps_blank (Ok u1) first (still_first first.called.foreign_writes puts.called.foreign_writes still) none))
+          (stays_blank g stored (pool_at g) document s1 s2 result puts (λ k below e. omega (arith, e))
+          (still_second first.called.foreign_writes puts.called.foreign_writes still)
+          (reserve_keeps_blank (Ok u1) first (still_first first.called.foreign_writes puts.called.foreign_writes still) none))
 
       -- the second phase
       pub document_ended : (refusal : Refusal) → PutsCells (pool_at g) document s1 s2 (Err refusal) → Stores g stored s0 s2 (Err refusal)
@@ -82,14 +82,14 @@ module _ (g : Layout) (stored : List ℕ) (document : List (List ℕ)) (are : Ar
           pub done_last : (result : Result Unit Refusal) → PutsCells (done_at 0) (done_cell ∷ []) s3 s4 result → Stores g stored s0 s4 result
           done_last result puts = store_last g stored (done_at 0) (done_cell ∷ []) (planned_done g stored (done_at 0) done_cell refl refl) s0 s3 s4 (commit_more u3 third) safe_done result puts
               (λ u last tells.
-                let after_2 = called_then third.called last.called in
-                let after_1 = called_then second.called after_2 in
-                let tells_1 = tells_at_1 tells in
-                let tells_2 = subst IsTrue (sym second.called.tells) tells_1 in
-                let tells_3 = subst IsTrue (sym third.called.tells) tells_2 in
-                record {
-                  reserve = one_sure (reserve_at 0) (reserve_cell g stored) s0 s1 s4 u1 first after_1 tells;
-                  document = document_sure s1 s2 s4 u2 second after_2 tells_1;
-                  commit = one_sure (outcome_at 0) (commit_cell stored) s2 s3 s4 u3 third last.called tells_2;
-                  done = one_sure (done_at 0) done_cell s3 s4 s4 u last (called_self s4) tells_3;
-                })
+              let after_2 = called_then third.called last.called in
+              let after_1 = called_then second.called after_2 in
+              let tells_1 = tells_at_1 tells in
+              let tells_2 = subst IsTrue (sym second.called.tells) tells_1 in
+              let tells_3 = subst IsTrue (sym third.called.tells) tells_2 in
+              record {
+                reserve = one_sure (reserve_at 0) (reserve_cell g stored) s0 s1 s4 u1 first after_1 tells;
+                document = document_sure s1 s2 s4 u2 second after_2 tells_1;
+                commit = one_sure (outcome_at 0) (commit_cell stored) s2 s3 s4 u3 third last.called tells_2;
+                done = one_sure (done_at 0) done_cell s3 s4 s4 u last (called_self s4) tells_3;
+              })

@@ -1,5 +1,5 @@
 -- Bytes that move piece by piece, into a sink or out of a source.
-use Rattle.std.proofs.Common.{◌≡◌, ◌≤◌, ◌+◌, ◌-◌, ℕ, List, [], ◌∷◌, ◌++◌, length, take, drop, Option, Some, None, refl, sym, ap, ◌∙◌, append_assoc, arith}
+use Rattle.std.proofs.Common.{◌≡◌, ◌≤◌, ◌+◌, ◌-◌, ℕ, List, [], ◌++◌, length, take, drop, Option, Some, None, refl, sym, ap, ◌∙◌, append_assoc, arith}
 use Rattle.std.proofs.lemmas.Grind.{common_steps}
 use Rattle.std.proofs.lemmas.List.{append-nil}
 use Rattle.std.proofs.Math.Seq.{take-append-add}
@@ -36,7 +36,7 @@ gives_nothing (Some a) = refl
 
 -- what has gone and what is left are the whole, after n more bytes too
 pub one_piece_more : (text front rest : List ℕ) (n : ℕ) → text ≡ front ++ rest → n ≤ length rest
-  → text ≡ (front ++ take n rest) ++ take (length rest - n) (drop n rest)
+    → text ≡ (front ++ take n rest) ++ take (length rest - n) (drop n rest)
 one_piece_more text front rest n e h = grind (arith, common_steps)
 
 -- what has gone after a part of the next piece is a front of the whole

@@ -1,6 +1,6 @@
 -- What storing a document has done when its first phases are over.
-use Rattle.std.proofs.Common.{◌≡◌, ◌≢◌, ◌≤◌, ◌<◌, ◌+◌, ◌⊎◌, ℕ, zero, suc, List, [], ◌∷◌, length, Some, None, Option, Result, Ok, Err, refl, sym, ap, ◌∙◌, inl, inr, ⊎_elim, subst, arith}
-use Rattle.std.specs.Prelude.{slice_get, IsTrue, MatchResult}
+use Rattle.std.proofs.Common.{◌≡◌, ◌≢◌, ◌<◌, ◌+◌, ℕ, zero, suc, List, [], ◌∷◌, length, Some, None, Option, Result, Ok, Err, refl, sym, ap, ◌∙◌, inl, inr, ⊎_elim, subst, arith}
+use Rattle.std.specs.Prelude.{slice_get, IsTrue}
 use Rattle.std.proofs.lemmas.Option.{slice_get_within}
 use Rattle.cell_types.specs.Image.{Image, Between}
 use Rattle.cell_types.specs.Layout.{Layout, reserve_at, outcome_at, done_at, pool_at}
@@ -26,21 +26,21 @@ some_is a b e = cc
 pub among_one : (from : ℕ) (cell : List ℕ) (at : ℕ) (value : List ℕ) → IsAmongCells from (cell ∷ []) at value → (at ≡ from) × (value ≡ cell)
 among_one from cell at value h = one h.0 h.1 h.2
   where
-  one : (k : ℕ) → at ≡ from + k → slice_get (cell ∷ []) k ≡ Some value → (at ≡ from) × (value ≡ cell)
-  one zero e is = (omega (arith, e), let same : Some cell ≡ Some value = is in cc)
-  one (suc k) e is = absurd (let clash : None ≡ Some value = is in cc)
+    one : (k : ℕ) → at ≡ from + k → slice_get (cell ∷ []) k ≡ Some value → (at ≡ from) × (value ≡ cell)
+    one zero e is = (omega (arith, e), let same : Some cell ≡ Some value = is in cc)
+    one (suc k) e is = absurd (let clash : None ≡ Some value = is in cc)
 
 -- a cell that is blank in the higher of two images is blank in each between them
 pub blank_below : (at : ℕ) (low high image : Image) → Between low high image → high at ≡ None → image at ≡ None
 blank_below at low high image between none = blank (image at) refl
   where
-  blank : (found : Option (List ℕ)) → image at ≡ found → image at ≡ None
-  blank None e = e
-  blank (Some v) e = absurd (let clash : None ≡ Some v = sym none ∙ between.below.keeps at v e in cc)
+    blank : (found : Option (List ℕ)) → image at ≡ found → image at ≡ None
+    blank None e = e
+    blank (Some v) e = absurd (let clash : None ≡ Some v = sym none ∙ between.below.keeps at v e in cc)
 
 -- the cells that are encoded are those of the plan
 pub reserve_is : (g : Layout) (stored : List ℕ) (start len at : ℕ) → start ≡ pool_at g → len ≡ cells_for (length stored) → at ≡ reserve_at 0
-  → record_bytes (Reserve start len) at ≡ reserve_cell g stored
+    → record_bytes (Reserve start len) at ≡ reserve_cell g stored
 reserve_is g stored start len at e f h =
     ap (λ (n : ℕ). record_bytes (Reserve n len) at) e
     ∙ ap (λ (n : ℕ). record_bytes (Reserve (pool_at g) n) at) f
@@ -55,7 +55,7 @@ done_is at h = ap (λ (n : ℕ). record_bytes (Done 0) n) h
 
 -- a failed phase, seen from an earlier state
 pub ends_earlier : (P Q : ℕ → List ℕ → Type 0) (old mid new : DeviceState) (refusal : Refusal) → Called old mid → mid.faults ≡ old.faults
-  → ((at : ℕ) (value : List ℕ) → P at value → Q at value) → PhaseEnds P mid new refusal → PhaseEnds Q old new refusal
+    → ((at : ℕ) (value : List ℕ) → P at value → Q at value) → PhaseEnds P mid new refusal → PhaseEnds Q old new refusal
 ends_earlier P Q old mid new DeviceFault called faults wider ends = subst (λ (n : ℕ). Rose n new.faults) faults ends
 ends_earlier P Q old mid new (NotYet at) called faults wider ends = (ends.0, wider at ends.0 ends.1, λ tells. ends.2 (subst IsTrue (sym called.tells) tells))
 ends_earlier P Q old mid new Usage called faults wider ends = ends
@@ -105,14 +105,14 @@ module _ (g : Layout) (stored : List ℕ) where
   }
 
   module _ (from : ℕ) (cells : List (List ℕ)) (wider : (at : ℕ) (value : List ℕ) → IsAmongCells from cells at value → IsPlanned g stored at value) (old mid new : DeviceState) (so_far : StoreSoFar old mid)
-    (safe : IsTrue old.tells → IsStill old.foreign_writes new.foreign_writes → old.image (outcome_at 0) ≡ None → (image : Image) → Between mid.sure new.image image → IsWholeOrUncommitted g stored image) where
+      (safe : IsTrue old.tells → IsStill old.foreign_writes new.foreign_writes → old.image (outcome_at 0) ≡ None → (image : Image) → Between mid.sure new.image image → IsWholeOrUncommitted g stored image) where
     -- what has changed over one phase more
     only_then : (result : Result Unit Refusal) → PutsCells from cells mid new result → IsStill old.foreign_writes new.foreign_writes → ChangesAsPlanned (IsPlanned g stored) old.image new.image
     only_then result puts still =
         planned_then (IsPlanned g stored) old.image mid.image new.image
-          (so_far.only (still_first so_far.called.foreign_writes puts.called.foreign_writes still))
-          (planned_wider (IsAmongCells from cells) (IsPlanned g stored) mid.image new.image wider
-            (puts.only (still_second so_far.called.foreign_writes puts.called.foreign_writes still)))
+        (so_far.only (still_first so_far.called.foreign_writes puts.called.foreign_writes still))
+        (planned_wider (IsAmongCells from cells) (IsPlanned g stored) mid.image new.image wider
+        (puts.only (still_second so_far.called.foreign_writes puts.called.foreign_writes still)))
 
     -- what a crash could have left over one phase more
     crashes_then : (result : Result Unit Refusal) → PutsCells from cells mid new result → CommitsWholeDocuments g stored old new
@@ -143,8 +143,8 @@ module _ (g : Layout) (stored : List ℕ) where
 
     -- the last phase
     pub store_last : (result : Result Unit Refusal) → PutsCells from cells mid new result
-      → ((u : Unit {0}) → PutsCells from cells mid new (Ok u) → IsTrue old.tells → IsStored new.sure g stored)
-      → Stores g stored old new result
+        → ((u : Unit {0}) → PutsCells from cells mid new (Ok u) → IsTrue old.tells → IsStored new.sure g stored)
+        → Stores g stored old new result
     store_last (Ok u) puts all = record {
       called = called_then so_far.called puts.called;
       only = only_then (Ok u) puts;
@@ -157,12 +157,12 @@ module _ (g : Layout) (stored : List ℕ) where
 
   -- A phase that does not write the outcome cell leaves it blank, and so does each crash in it.
   pub stays_blank : (from : ℕ) (cells : List (List ℕ)) (mid new : DeviceState) (result : Result Unit Refusal) → PutsCells from cells mid new result
-    → ((k : ℕ) → k < length cells → outcome_at 0 ≢ from + k)
-    → IsStill mid.foreign_writes new.foreign_writes → mid.image (outcome_at 0) ≡ None → new.image (outcome_at 0) ≡ None
+      → ((k : ℕ) → k < length cells → outcome_at 0 ≢ from + k)
+      → IsStill mid.foreign_writes new.foreign_writes → mid.image (outcome_at 0) ≡ None → new.image (outcome_at 0) ≡ None
   stays_blank from cells mid new result puts elsewhere still none = ⊎_elim
       (λ same. same ∙ none)
       (λ (put : (value : List ℕ) × IsAmongCells from cells (outcome_at 0) value × (mid.image (outcome_at 0) ≡ None) × (new.image (outcome_at 0) ≡ Some value)).
-        absurd (elsewhere put.1.0 (slice_get_within cells put.1.0 put.0 put.1.2) put.1.1))
+      absurd (elsewhere put.1.0 (slice_get_within cells put.1.0 put.0 put.1.2) put.1.1))
       (puts.only still (outcome_at 0))
 
   -- the reserve cell is planned

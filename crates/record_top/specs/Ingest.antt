@@ -1,5 +1,5 @@
 -- What an ingest asks for, which cells it writes, and what its phases do.
-use Rattle.std.specs.Prelude.{◌≡◌, ◌≢◌, ◌<◌, ◌≤◌, ◌+◌, ◌⊎◌, ℕ, List, [], ◌∷◌, length, slice_get, codes, Option, Some, None, Result, Ok, Err, IsTrue, MatchResult, ⊤}
+use Rattle.std.specs.Prelude.{◌≡◌, ◌≢◌, ◌<◌, ◌≤◌, ◌+◌, ◌⊎◌, ℕ, List, [], ◌∷◌, length, slice_get, codes, Some, None, Result, IsTrue, MatchResult, ⊤}
 use Rattle.cell_types.specs.Image.{Image, Extends}
 use Rattle.cell_types.specs.Layout.{Layout, reserve_at, outcome_at, done_at, pool_at}
 use Rattle.cell_types.specs.Records.{record_bytes}

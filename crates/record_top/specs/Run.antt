@@ -1,10 +1,10 @@
 -- What the call does that a program makes with its words: each answer with its cause, and what stays.
-use Rattle.std.specs.Prelude.{◌≡◌, ◌≢◌, ◌<◌, ◌≤◌, ◌+◌, ◌⊎◌, ◌++◌, ℕ, List, codes, length, take, Option, Some, None, Result, Ok, Err, IsTrue, ⊤}
+use Rattle.std.specs.Prelude.{◌≡◌, ◌≢◌, ◌<◌, ◌≤◌, ◌+◌, ◌⊎◌, ◌++◌, ℕ, List, codes, length, take, Some, None, Result, Ok, Err, IsTrue, ⊤}
 use Rattle.std.specs.Fmt.{decimal}
 use Rattle.cell_types.specs.Image.{Image}
 use Rattle.cell_types.specs.Layout.{Layout, outcome_at, pool_at}
 use Rattle.cell_types.specs.declared.refusal.Refusal.{Refusal}
-use Rattle.cell_types.specs.declared.refusal.Refusal.TheVariants.{Usage, TooLong, DeviceFault, SourceFault, SinkFault, NoMemory, NotYet}
+use Rattle.cell_types.specs.declared.refusal.Refusal.TheVariants.{TooLong, DeviceFault, SourceFault, SinkFault, NoMemory, NotYet}
 use Rattle.host_ports.specs.Sinks.{SinkState, Gets}
 use Rattle.host_ports.specs.Sources.{SourceState, Gives, IsAtEnd}
 use Rattle.tamper_rules.specs.Documents.{IsBody, Spells, Stands, stored_bytes}
@@ -14,7 +14,7 @@ use Rattle.tamper_rules.specs.declared.limits.TheConstants.{MAX_BODY_BYTES}
 use Rattle.worm_device.specs.Calls.{Called}
 use Rattle.worm_device.specs.Counts.{Rose, IsStill}
 use Rattle.worm_device.specs.State.{DeviceState, LeftSince}
-use Rattle.record_top.specs.Ingest.{AsksToIngest, ChangesAsPlanned, IsPlanned}
+use Rattle.record_top.specs.Ingest.{ChangesAsPlanned, IsPlanned}
 
 -- the text that acknowledges a document in this slot
 abbrev pub acknowledgement : ℕ → List ℕ
@@ -40,7 +40,7 @@ abbrev pub CannotYet : List ℕ → DeviceState → ℕ → Type 0
 CannotYet stored device at =
     ((at ≡ 0) × ((g : Layout) → IsVolume device.cells device.image g → ⊥))
     ⊎ ((g : Layout) × IsVolume device.cells device.image g
-      × (((at ≡ device.cells) × PassesTheEnd g stored) ⊎ IsTaken g stored device at))
+    × (((at ≡ device.cells) × PassesTheEnd g stored) ⊎ IsTaken g stored device at))
 
 -- how putting a document onto a device may end, and why
 abbrev pub PutEnds : List ℕ → List ℕ → DeviceState → DeviceState → Result Unit Refusal → Type 0

@@ -21,13 +21,11 @@ mod command;
 mod document;
 mod ingest;
 mod phases;
-mod volume;
-mod words;
-
 #[cfg(test)]
 mod plain;
-
 #[cfg(test)]
 mod tests;
+mod volume;
+mod words;
 
 pub use command::{Outcome, run};

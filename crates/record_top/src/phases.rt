@@ -53,8 +53,14 @@ pub fn store<D: Device>(
     let start = geometry.pool_at();
     let length = document.len() as u32;
     let bytes = stored.len() as u32;
-    let reserve = encode(RecordCell::Reserve { start, length }, geometry.reserve_at(0));
-    let commit = encode(RecordCell::Commit { bytes, journal: 0 }, geometry.outcome_at(0));
+    let reserve = encode(
+        RecordCell::Reserve { start, length },
+        geometry.reserve_at(0),
+    );
+    let commit = encode(
+        RecordCell::Commit { bytes, journal: 0 },
+        geometry.outcome_at(0),
+    );
     let done = encode(RecordCell::Done { slot: 0 }, geometry.done_at(0));
     if let Err(refusal) = put_cells(device, geometry.reserve_at(0), &[reserve]) {
         return Err(refusal);

@@ -77,7 +77,10 @@ fn stored_of_slot_0(alloc: Global, device: &mut MemoryDevice) -> Result<Vec<u8>,
 }
 
 /// The document of slot 0, where its stored bytes have an identifier.
-pub fn document_of_slot_0(alloc: Global, device: &mut MemoryDevice) -> Result<Option<Document>, AllocError> {
+pub fn document_of_slot_0(
+    alloc: Global,
+    device: &mut MemoryDevice,
+) -> Result<Option<Document>, AllocError> {
     let stored = stored_of_slot_0(alloc, device)?;
     let Some((length, rest)) = stored.split_first() else {
         return Ok(None);

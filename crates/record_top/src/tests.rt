@@ -107,15 +107,30 @@ fn a_document_is_stored_in_eight_steps(rt: HostRuntime) -> Result<(), Fail> {
     assert_eq!(rt; outcome, Ok(()));
     assert_eq!(rt; put.as_slice(), b"acknowledged 0\n".as_slice());
     let changes = [
-        Change::Wrote { at: 0, value: cell(VOLUME)? },
+        Change::Wrote {
+            at: 0,
+            value: cell(VOLUME)?,
+        },
         Change::Synced,
-        Change::Wrote { at: 4, value: cell(RESERVE)? },
+        Change::Wrote {
+            at: 4,
+            value: cell(RESERVE)?,
+        },
         Change::Synced,
-        Change::Wrote { at: 580, value: cell(DOCUMENT)? },
+        Change::Wrote {
+            at: 580,
+            value: cell(DOCUMENT)?,
+        },
         Change::Synced,
-        Change::Wrote { at: 5, value: cell(COMMIT)? },
+        Change::Wrote {
+            at: 5,
+            value: cell(COMMIT)?,
+        },
         Change::Synced,
-        Change::Wrote { at: 6, value: cell(DONE)? },
+        Change::Wrote {
+            at: 6,
+            value: cell(DONE)?,
+        },
         Change::Synced,
     ];
     assert_eq!(rt; device.changes(), changes.as_slice());
@@ -141,14 +156,20 @@ fn what_was_written_decodes_to_the_document(rt: HostRuntime) -> Result<(), Fail>
         ("a", ""),
         ("a", "hello world"),
         ("ab", "hello there!"),
-        ("2024-03-07/0001", "Invoice 4711 paid, and a good deal more than one cell holds"),
+        (
+            "2024-03-07/0001",
+            "Invoice 4711 paid, and a good deal more than one cell holds",
+        ),
     ] {
         let mut device = formatted(alloc, 1_000, 64)?;
         let words = format!(in alloc; "ingest|{id}")?;
         let (outcome, _) = outcome_of(alloc, words.as_str(), &mut device, body.as_bytes())?;
         assert_eq!(rt; outcome, Ok(()));
         let found = document_of_slot_0(alloc, &mut device)?.ok_or("no document")?;
-        let Document { id: found_id, body: found_body } = found;
+        let Document {
+            id: found_id,
+            body: found_body,
+        } = found;
         assert_eq!(rt; found_id.as_slice(), id.as_bytes());
         assert_eq!(rt; found_body.as_slice(), body.as_bytes());
     }

@@ -32,7 +32,13 @@ pub fn read_volume<D: Device>(device: &mut D) -> Result<Geometry, Refusal>
     let Some(stated) = decode(cell, 0) else {
         return Err(Refusal::NotYet(0));
     };
-    let RecordCell::Volume { slots, lists, cells, .. } = stated else {
+    let RecordCell::Volume {
+        slots,
+        lists,
+        cells,
+        ..
+    } = stated
+    else {
         return Err(Refusal::NotYet(0));
     };
     if cells != device.cells() {

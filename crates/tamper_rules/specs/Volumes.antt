@@ -1,5 +1,5 @@
 -- What it means that a cell holds a record, and that a device holds a volume.
-use Rattle.std.specs.Prelude.{◌≡◌, ◌≤◌, ◌+◌, ℕ, List, Option, Some, None}
+use Rattle.std.specs.Prelude.{◌≡◌, ℕ, List, Some}
 use Rattle.cell_types.specs.Image.{Image}
 use Rattle.cell_types.specs.Layout.{Layout}
 use Rattle.cell_types.specs.Records.{IsRecordCell}

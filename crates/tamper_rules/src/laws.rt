@@ -5,5 +5,4 @@ ghost use Rattle.tamper_rules.specs.Documents.{StandsHoldsOn};
 /// A document that stands in an image stands in each image that extends it.
 pub fn stands_holds_on()
     ensures { StandsHoldsOn }
-{
-}
+{}

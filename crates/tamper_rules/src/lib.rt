@@ -16,6 +16,5 @@
 mod laws;
 mod limits;
 
-
 pub use laws::stands_holds_on;
 pub use limits::{MAX_BODY_BYTES, MAX_IDENTIFIER_BYTES};

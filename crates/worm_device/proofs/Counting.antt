@@ -1,6 +1,6 @@
 -- Counts over one span of time after another.
-use Rattle.std.proofs.Common.{◌≡◌, ◌≤◌, ◌<◌, ◌^◌, ◌-◌, ◌+◌, ℕ, min, sym, subst, arith}
-use Rattle.worm_device.specs.Counts.{next_count, Rose, IsStill}
+use Rattle.std.proofs.Common.{◌≡◌, ◌≤◌, ℕ, subst, arith}
+use Rattle.worm_device.specs.Counts.{Rose, IsStill}
 
 -- a count that did not rise over two spans did not rise over the first
 pub still_first : {a b c : ℕ} → a ≤ b → b ≤ c → IsStill a c → IsStill a b

@@ -1,7 +1,6 @@
 -- Time that goes on: what a crash could have left, over one call after another.
-use Rattle.std.proofs.Common.{◌≡◌, ◌≤◌, ◌<◌, ◌⊎◌, ℕ, refl, ◌∙◌, inl, inr, ⊎_elim, arith}
-use Rattle.cell_types.specs.Image.{Image, Between}
-use Rattle.worm_device.specs.State.{DeviceState, LeftSince}
+use Rattle.std.proofs.Common.{refl, ◌∙◌, inl, inr, ⊎_elim, arith}
+use Rattle.worm_device.specs.State.{DeviceState}
 use Rattle.worm_device.specs.Calls.{Elapses, HasElapsed, Called}
 use Rattle.worm_device.proofs.Images.{extends_self, extends_then, between_wider}
 

@@ -1,5 +1,5 @@
 -- How images that grow one after another compare.
-use Rattle.std.proofs.Common.{◌≡◌, ◌∙◌}
+use Rattle.std.proofs.Common.{◌∙◌}
 use Rattle.cell_types.specs.Image.{Image, Extends, Between, IsUnchanged}
 
 -- an image extends itself

@@ -1,7 +1,5 @@
 -- Views while nobody else writes, over one call after another.
-use Rattle.std.proofs.Common.{◌≡◌, ◌≤◌, ◌<◌, ◌^◌, ◌-◌, ℕ, refl, ◌∙◌, arith}
-use Rattle.cell_types.specs.Image.{IsUnchanged}
-use Rattle.worm_device.specs.Counts.{IsStill}
+use Rattle.std.proofs.Common.{refl, arith}
 use Rattle.worm_device.specs.Views.{ViewState, Rests, HasRested, Viewed}
 use Rattle.worm_device.proofs.Counting.{still_first, still_second}
 use Rattle.worm_device.proofs.Images.{unchanged_then}

@@ -1,6 +1,6 @@
 -- What the sink has got is what had gone before this turn, and what this call took.
-use Rattle.std.proofs.Common.{◌≡◌, ◌≤◌, ◌+◌, length, take, ◌++◌, ◌∙◌, sym, subst, List, ℕ, arith, length-append}
-use Rattle.host_ports.specs.Sinks.{Gets, PutsSome, PutsPart}
+use Rattle.std.proofs.Common.{◌≤◌, ◌+◌, length, take, ◌++◌, ◌∙◌, sym, subst, List, ℕ, arith, length-append}
+use Rattle.host_ports.specs.Sinks.{Gets}
 use Rattle.record_top.proofs.Pieces.{gets_then, one_piece_more, front_of}
 use Rattle.record_top.proofs.acknowledge.put_text.Goals as goal
 

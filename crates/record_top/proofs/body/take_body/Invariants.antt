@@ -1,5 +1,5 @@
 -- The body so far is what the source has given, and no call has failed.
-use Rattle.std.proofs.Common.{◌≡◌, ◌≤◌, ◌+◌, ◌-◌, List, ℕ, length}
+use Rattle.std.proofs.Common.{◌≡◌, ◌+◌, ◌-◌, length}
 use Rattle.host_ports.specs.Sources.{Gives}
 use Rattle.tamper_rules.specs.Documents.{IsBody}
 use Rattle.tamper_rules.specs.declared.limits.TheConstants.{MAX_BODY_BYTES}

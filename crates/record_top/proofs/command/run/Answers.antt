@@ -1,5 +1,5 @@
 -- Where all is as it is to be, each refusal but want of memory would contradict its own cause.
-use Rattle.std.proofs.Common.{◌≡◌, ◌∙◌, List, ℕ, [], ◌∷◌, sym, subst}
+use Rattle.std.proofs.Common.{◌≡◌, List, ℕ, subst}
 use Rattle.record_top.specs.Run.{Ports, Ingests}
 use Rattle.record_top.proofs.Completing.{complete, same_word}
 use Rattle.record_top.proofs.command.run.Goals as goal

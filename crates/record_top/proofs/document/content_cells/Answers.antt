@@ -1,7 +1,7 @@
 -- Each turn makes the cell of the next 15 bytes, or of all that are left.
-use Rattle.std.proofs.Common.{◌≡◌, ◌<◌, ◌++◌, ◌∷◌, [], ℕ, List, length, take, drop, ◌∙◌, ap, sym, subst, refl, arith, rules}
+use Rattle.std.proofs.Common.{◌≡◌, ◌<◌, ℕ, length, take, drop, ◌∙◌, ap, rules}
 use Rattle.cell_types.specs.Contents.{content_bytes}
-use Rattle.record_top.proofs.CellsSoFar.{CellsSoFar, cells_more, cells_all, take_min, drop_min}
+use Rattle.record_top.proofs.CellsSoFar.{cells_more, cells_all, take_min, drop_min}
 use Rattle.record_top.proofs.document.content_cells.Goals as goal
 
 pub loop-rest-preserved : goal.loop-rest-preserved

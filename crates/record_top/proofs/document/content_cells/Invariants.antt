@@ -1,5 +1,5 @@
 -- The cells so far are those of the front that has gone.
-use Rattle.std.proofs.Common.{ℕ, length}
+use Rattle.std.proofs.Common.{length}
 use Rattle.record_top.proofs.CellsSoFar.{CellsSoFar}
 use Rattle.record_top.proofs.document.content_cells.Given as goal
 

@@ -1,6 +1,6 @@
 -- Each call puts the cells of its phase.
 use Rattle.std.proofs.Common.{◌≡◌, ◌∙◌, [], ◌∷◌, ℕ, List, length, Err, refl, ap}
-use Rattle.record_top.specs.Ingest.{PutsCells, reserve_cell, commit_cell, done_cell}
+use Rattle.record_top.specs.Ingest.{reserve_cell, commit_cell, done_cell}
 use Rattle.record_top.proofs.StoreSoFar.{reserve_is, commit_is, done_is}
 use Rattle.record_top.proofs.FourPhases.{as_planned, reserve_ended, document_ended, commit_ended, done_last}
 use Rattle.record_top.proofs.phases.store.Goals as goal
@@ -12,7 +12,7 @@ returns-in-Err g c =
     let document = c.args.document.now in
     let reserve : c.encode-reserve.result ≡ reserve_cell layout stored = c.encode-reserve.ensures.same ∙ reserve_is layout stored c.pool_at-start.result (length document) c.reserve_at.result c.pool_at-start.ensures.at c.requires.content.count c.reserve_at.ensures.at in
     reserve_ended layout stored document c.requires.content _ _ c.in-Err.refusal
-      (as_planned _ _ _ _ _ _ (Err c.in-Err.refusal) c.reserve_at-2.ensures.at (ap (λ (v : List ℕ). v ∷ []) reserve) c.in-Err.ensures)
+    (as_planned _ _ _ _ _ _ (Err c.in-Err.refusal) c.reserve_at-2.ensures.at (ap (λ (v : List ℕ). v ∷ []) reserve) c.in-Err.ensures)
 
 pub returns-in-Err-put_cells : goal.returns-in-Err-put_cells
 returns-in-Err-put_cells g c =

@@ -1,5 +1,5 @@
 -- A volume cell that stands there would be the cell that was read, which decodes to no record.
-use Rattle.std.proofs.Common.{◌≡◌, ◌∙◌, List, ℕ, Some, sym, subst}
+use Rattle.std.proofs.Common.{◌∙◌, List, ℕ, sym, subst}
 use Rattle.cell_types.specs.Records.{IsRecordCell}
 use Rattle.tamper_rules.specs.Volumes.{volume_record}
 use Rattle.record_top.proofs.StoreSoFar.{some_is}
