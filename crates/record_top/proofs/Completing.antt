@@ -13,10 +13,12 @@ use Rattle.host_ports.specs.Sources.{Gives, IsAtEnd}
 use Rattle.tamper_rules.specs.Documents.{stored_bytes, content_at}
 use Rattle.tamper_rules.specs.Volumes.{IsVolume, volume_record}
 use Rattle.worm_device.proofs.Counting.{rose_or_still}
-use Rattle.record_top.specs.Ingest.{AsksToIngest, IsPlanned}
-use Rattle.record_top.specs.Run.{Ports, Ingests, IsReady, IsOkOrNoMemory, CannotYet, IsTaken, PassesTheEnd, IsIngestCell}
-use Rattle.record_top.proofs.Putting.{volume_later}
-use Rattle.record_top.proofs.StoreSoFar.{some_is}
+use Rattle.ingest_engine.specs.Ingest.{IsPlanned}
+use Rattle.record_top.specs.Words.{AsksToIngest}
+use Rattle.record_top.specs.Run.{Ports, Ingests, IsReady, IsOkOrNoMemory}
+use Rattle.ingest_engine.specs.Puts.{CannotYet, IsTaken, PassesTheEnd, IsIngestCell}
+use Rattle.ingest_engine.proofs.Putting.{volume_later}
+use Rattle.ingest_engine.proofs.StoreSoFar.{some_is}
 
 two_words : (a b x y : List ℕ) → ◌≡◌ {A = List (List ℕ)} (a ∷ x ∷ []) (b ∷ y ∷ []) → x ≡ y
 two_words a b x y e = cc

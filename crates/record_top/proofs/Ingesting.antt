@@ -10,9 +10,10 @@ use Rattle.tamper_rules.specs.declared.limits.TheConstants.{MAX_BODY_BYTES}
 use Rattle.worm_device.specs.Counts.{Rose}
 use Rattle.worm_device.specs.State.{DeviceState}
 use Rattle.worm_device.proofs.Elapsing.{called_self}
-use Rattle.record_top.specs.Run.{Ports, TakesBody, IsKept, IngestEnds, Ingests, IsIngestCell, PutsDocument, PutEnds, acknowledgement}
-use Rattle.record_top.proofs.Planned.{planned_none}
-use Rattle.record_top.proofs.Putting.{blank_crash}
+use Rattle.record_top.specs.Run.{Ports, TakesBody, IsKept, IngestEnds, Ingests, acknowledgement}
+use Rattle.ingest_engine.specs.Puts.{IsIngestCell, PutsDocument, PutEnds}
+use Rattle.ingest_engine.proofs.Planned.{planned_none}
+use Rattle.ingest_engine.proofs.Putting.{blank_crash}
 
 module _ (id given : List ℕ) (device : DeviceState) (old_source new_source : SourceState) (old_sink new_sink : SinkState) (gives : Gives old_source.left new_source.left given) where
   -- the device was not asked for anything

@@ -1,11 +1,4 @@
-pub mod CellsSoFar
-pub mod Compared
 pub mod Completing
-pub mod FourPhases
 pub mod Ingesting
 pub mod Pieces
-pub mod Planned
-pub mod PutSoFar
-pub mod Putting
-pub mod StoreSoFar
 pub mod Taken

@@ -1,3 +1,3 @@
-pub mod Ingest
 pub mod Run
 pub mod Taking
+pub mod Words

@@ -4,15 +4,15 @@ ghost use Rattle.std.specs.String.{string_bytes};
 ghost use Rattle.cell_types.specs.Layout.{Layout};
 ghost use Rattle.tamper_rules.specs.Documents.{IsIdentifier};
 ghost use Rattle.worm_device.specs.Calls.{Called};
-ghost use Rattle.record_top.specs.Ingest.{AsksToIngest};
+ghost use Rattle.record_top.specs.Words.{AsksToIngest};
 ghost use Rattle.record_top.specs.Run.{Ports, Ingests, IsReady, IsOkOrNoMemory};
 
 use crate::acknowledge::put_text;
 use crate::body::take_body;
-use crate::ingest::put_document;
 use crate::words::identifier_to_ingest;
 use cell_types::Refusal;
 use host_ports::{Sink, Source};
+use ingest_engine::put_document;
 use std::alloc::Global;
 use worm_device::Device;
 

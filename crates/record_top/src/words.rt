@@ -2,7 +2,7 @@
 ghost use Rattle.std.specs.Prelude.{◌≡◌, ◌<◌, ◌≤◌, ◌↔◌, ℕ, List, map, length, IsTrue, IfSome, IfNone};
 ghost use Rattle.std.specs.String.{string_bytes};
 ghost use Rattle.tamper_rules.specs.Documents.{IsIdentifier};
-ghost use Rattle.record_top.specs.Ingest.{AsksToIngest};
+ghost use Rattle.record_top.specs.Words.{AsksToIngest};
 
 use tamper_rules::MAX_IDENTIFIER_BYTES;
 

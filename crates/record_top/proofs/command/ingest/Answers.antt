@@ -1,6 +1,7 @@
 -- Each exit, by how far `ingest` came.
 use Rattle.std.proofs.Common.{◌≡◌, ◌∙◌, ℕ, List, Ok, Err, refl, ap, subst, arith}
-use Rattle.record_top.specs.Run.{PutsDocument, acknowledgement}
+use Rattle.record_top.specs.Run.{acknowledgement}
+use Rattle.ingest_engine.specs.Puts.{PutsDocument}
 use Rattle.record_top.proofs.Ingesting.{not_taken, ended_early, not_put, put, text_ends}
 use Rattle.record_top.proofs.command.ingest.Goals as goal
 

@@ -3,7 +3,7 @@ use Rattle.std.proofs.Common.{◌≡◌, ℕ, List, [], ◌∷◌, length, get_o
 use Rattle.std.specs.Prelude.{codes}
 use Rattle.std.specs.String.{string_bytes}
 use Rattle.tamper_rules.specs.Documents.{IsIdentifier}
-use Rattle.record_top.proofs.Compared.{alike}
+use Rattle.ingest_engine.proofs.Compared.{alike}
 use Rattle.record_top.proofs.words.identifier_to_ingest.Goals as goal
 
 two : {A : Type 0} (xs : List A) (x y : A) → length xs ≡ 2 → x ≡ get_or xs 0 x → y ≡ get_or xs 1 y → xs ≡ x ∷ y ∷ []

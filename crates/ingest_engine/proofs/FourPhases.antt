@@ -10,8 +10,8 @@ use Rattle.worm_device.specs.Counts.{IsStill}
 use Rattle.worm_device.specs.State.{DeviceState}
 use Rattle.worm_device.proofs.Counting.{still_first, still_second}
 use Rattle.worm_device.proofs.Elapsing.{called_self, called_then}
-use Rattle.record_top.specs.Ingest.{AreCellsOf, PutsCells, reserve_cell, commit_cell, done_cell, IsWholeOrUncommitted, Stores}
-use Rattle.record_top.proofs.StoreSoFar.{StoreSoFar, store_none, store_more, store_ended, store_last, stays_blank, crash_before, crash_after, planned_reserve, planned_document, planned_commit, planned_done}
+use Rattle.ingest_engine.specs.Ingest.{AreCellsOf, PutsCells, reserve_cell, commit_cell, done_cell, IsWholeOrUncommitted, Stores}
+use Rattle.ingest_engine.proofs.StoreSoFar.{StoreSoFar, store_none, store_more, store_ended, store_last, stays_blank, crash_before, crash_after, planned_reserve, planned_document, planned_commit, planned_done}
 
 -- cells that were put, by the numbers and values that they have in the plan
 pub as_planned : (from from' : ℕ) (cells cells' : List (List ℕ)) (old new : DeviceState) (result : Result Unit Refusal) → from ≡ from' → cells ≡ cells' → PutsCells from cells old new result → PutsCells from' cells' old new result

@@ -9,8 +9,8 @@ use Rattle.worm_device.specs.declared.device.Written.{Written}
 use Rattle.worm_device.specs.declared.device.Written.TheVariants.{Done, Taken}
 use Rattle.worm_device.proofs.Counting.{still_first, still_second}
 use Rattle.worm_device.proofs.Elapsing.{called_then}
-use Rattle.record_top.specs.Ingest.{ChangesAsPlanned, IsAmongCells}
-use Rattle.record_top.proofs.Planned.{planned_then, planned_one}
+use Rattle.ingest_engine.specs.Ingest.{ChangesAsPlanned, IsAmongCells}
+use Rattle.ingest_engine.proofs.Planned.{planned_then, planned_one}
 
 -- the first n of these cells stand, nothing else was written by this call, and no call has failed
 pub record PutSoFar (from : ℕ) (cells : List (List ℕ)) (n : ℕ) (old now : DeviceState) : Type 0 where

@@ -6,7 +6,7 @@ ghost use Rattle.worm_device.specs.Calls.{Called};
 ghost use Rattle.worm_device.specs.Counts.{Rose, IsStill};
 ghost use Rattle.cell_types.specs.Layout.{IsLayout, pool_at};
 ghost use Rattle.cell_types.specs.declared.record_cell.TheConstants.{MIN_STORED_BYTES, MAX_STORED_BYTES};
-ghost use Rattle.record_top.specs.Ingest.{AreCellsOf, PutsCells, Stores};
+ghost use Rattle.ingest_engine.specs.Ingest.{AreCellsOf, PutsCells, Stores};
 
 use cell_types::{Cell, Geometry, RecordCell, Refusal, encode};
 use worm_device::{Device, Written};

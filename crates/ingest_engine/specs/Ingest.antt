@@ -1,21 +1,16 @@
--- What an ingest asks for, which cells it writes, and what its phases do.
-use Rattle.std.specs.Prelude.{◌≡◌, ◌≢◌, ◌<◌, ◌≤◌, ◌+◌, ◌⊎◌, ℕ, List, [], ◌∷◌, length, slice_get, codes, Some, None, Result, IsTrue, MatchResult, ⊤}
+-- Which cells an ingest writes, and what its phases do.
+use Rattle.std.specs.Prelude.{◌≡◌, ◌≢◌, ◌<◌, ◌≤◌, ◌+◌, ◌⊎◌, ℕ, List, length, slice_get, Some, None, Result, IsTrue, MatchResult, ⊤}
 use Rattle.cell_types.specs.Image.{Image, Extends}
 use Rattle.cell_types.specs.Layout.{Layout, reserve_at, outcome_at, done_at, pool_at}
 use Rattle.cell_types.specs.Records.{record_bytes}
 use Rattle.cell_types.specs.declared.record_cell.RecordCell.TheVariants.{Reserve, Commit, Done}
 use Rattle.cell_types.specs.declared.refusal.Refusal.{Refusal}
 use Rattle.cell_types.specs.declared.refusal.Refusal.TheVariants.{NotYet, DeviceFault}
-use Rattle.tamper_rules.specs.Documents.{IsIdentifier, Spells, content_at}
+use Rattle.tamper_rules.specs.Documents.{Spells, content_at}
 use Rattle.tamper_rules.specs.Slots.{cells_for}
 use Rattle.worm_device.specs.Calls.{Called}
 use Rattle.worm_device.specs.Counts.{Rose, IsStill}
 use Rattle.worm_device.specs.State.{DeviceState, LeftSince}
-
--- the words are `ingest` and this identifier
-pub record AsksToIngest (words : List (List ℕ)) (id : List ℕ) : Type 0 where
-  pub asked : words ≡ codes "ingest" ∷ id ∷ []
-  pub identifier : IsIdentifier id
 
 -- the cells are the content cells of these stored bytes, in order
 pub record AreCellsOf (stored : List ℕ) (cells : List (List ℕ)) : Type 0 where

@@ -14,10 +14,10 @@ use Rattle.worm_device.specs.Counts.{IsStill, Rose}
 use Rattle.worm_device.specs.State.{DeviceState, LeftSince}
 use Rattle.worm_device.proofs.Counting.{still_first, still_second}
 use Rattle.worm_device.proofs.Elapsing.{called_then, elapses_of}
-use Rattle.record_top.specs.Ingest.{IsPlanned, IsStored, IsWholeOrUncommitted, PhaseEnds, Stores}
-use Rattle.record_top.specs.Run.{PutEnds, IsIngestCell, PutsDocument}
-use Rattle.record_top.proofs.Planned.{planned_same, planned_then, planned_wider}
-use Rattle.record_top.proofs.StoreSoFar.{blank_below}
+use Rattle.ingest_engine.specs.Ingest.{IsPlanned, IsStored, IsWholeOrUncommitted, PhaseEnds, Stores}
+use Rattle.ingest_engine.specs.Puts.{PutEnds, IsIngestCell, PutsDocument}
+use Rattle.ingest_engine.proofs.Planned.{planned_same, planned_then, planned_wider}
+use Rattle.ingest_engine.proofs.StoreSoFar.{blank_below}
 
 -- a volume stays one on the device, over calls
 pub volume_later : (old new : DeviceState) (g : Layout) → Called old new → IsVolume old.cells old.image g → IsVolume new.cells new.image g

@@ -16,8 +16,8 @@ use Rattle.worm_device.specs.State.{DeviceState, LeftSince}
 use Rattle.worm_device.proofs.Counting.{still_first, still_second}
 use Rattle.worm_device.proofs.Elapsing.{called_self, called_then, elapses_of}
 use Rattle.worm_device.proofs.Images.{extends_then}
-use Rattle.record_top.specs.Ingest.{AreCellsOf, ChangesAsPlanned, IsAmongCells, PhaseEnds, PutsCells, IsPlanned, reserve_cell, commit_cell, done_cell, IsStored, IsWholeOrUncommitted, CommitsWholeDocuments, Stores}
-use Rattle.record_top.proofs.Planned.{planned_none, planned_then, planned_wider}
+use Rattle.ingest_engine.specs.Ingest.{AreCellsOf, ChangesAsPlanned, IsAmongCells, PhaseEnds, PutsCells, IsPlanned, reserve_cell, commit_cell, done_cell, IsStored, IsWholeOrUncommitted, CommitsWholeDocuments, Stores}
+use Rattle.ingest_engine.proofs.Planned.{planned_none, planned_then, planned_wider}
 
 pub some_is : (a b : List ℕ) → Some a ≡ Some b → a ≡ b
 some_is a b e = cc

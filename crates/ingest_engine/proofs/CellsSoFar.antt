@@ -7,7 +7,7 @@ use Rattle.std.proofs.lemmas.List.{drop-drop}
 use Rattle.cell_types.specs.Contents.{content_bytes}
 use Rattle.tamper_rules.specs.Documents.{content_at}
 use Rattle.tamper_rules.specs.Slots.{cells_for}
-use Rattle.record_top.specs.Ingest.{AreCellsOf}
+use Rattle.ingest_engine.specs.Ingest.{AreCellsOf}
 
 -- the cells are the first ones of these stored bytes, and rest is what they leave
 pub record CellsSoFar (stored : List ℕ) (cells : List (List ℕ)) (rest : List ℕ) : Type 0 where

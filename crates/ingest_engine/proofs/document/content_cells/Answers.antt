@@ -1,8 +1,8 @@
 -- Each turn makes the cell of the next 15 bytes, or of all that are left.
 use Rattle.std.proofs.Common.{◌≡◌, ◌<◌, ℕ, length, take, drop, ◌∙◌, ap, rules}
 use Rattle.cell_types.specs.Contents.{content_bytes}
-use Rattle.record_top.proofs.CellsSoFar.{cells_more, cells_all, take_min, drop_min}
-use Rattle.record_top.proofs.document.content_cells.Goals as goal
+use Rattle.ingest_engine.proofs.CellsSoFar.{cells_more, cells_all, take_min, drop_min}
+use Rattle.ingest_engine.proofs.document.content_cells.Goals as goal
 
 pub loop-rest-preserved : goal.loop-rest-preserved
 loop-rest-preserved c =

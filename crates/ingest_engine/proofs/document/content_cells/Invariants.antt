@@ -1,7 +1,7 @@
 -- The cells so far are those of the front that has gone.
 use Rattle.std.proofs.Common.{length}
-use Rattle.record_top.proofs.CellsSoFar.{CellsSoFar}
-use Rattle.record_top.proofs.document.content_cells.Given as goal
+use Rattle.ingest_engine.proofs.CellsSoFar.{CellsSoFar}
+use Rattle.ingest_engine.proofs.document.content_cells.Given as goal
 
 abbrev pub invariant-loop-rest : goal.invariant-loop-rest
 invariant-loop-rest l = CellsSoFar l.stored l.cells.items l.rest

@@ -1,9 +1,9 @@
 -- Each call puts the cells of its phase.
 use Rattle.std.proofs.Common.{◌≡◌, ◌∙◌, [], ◌∷◌, ℕ, List, length, Err, refl, ap}
-use Rattle.record_top.specs.Ingest.{reserve_cell, commit_cell, done_cell}
-use Rattle.record_top.proofs.StoreSoFar.{reserve_is, commit_is, done_is}
-use Rattle.record_top.proofs.FourPhases.{as_planned, reserve_ended, document_ended, commit_ended, done_last}
-use Rattle.record_top.proofs.phases.store.Goals as goal
+use Rattle.ingest_engine.specs.Ingest.{reserve_cell, commit_cell, done_cell}
+use Rattle.ingest_engine.proofs.StoreSoFar.{reserve_is, commit_is, done_is}
+use Rattle.ingest_engine.proofs.FourPhases.{as_planned, reserve_ended, document_ended, commit_ended, done_last}
+use Rattle.ingest_engine.proofs.phases.store.Goals as goal
 
 pub returns-in-Err : goal.returns-in-Err
 returns-in-Err g c =

@@ -5,12 +5,12 @@ use Rattle.std.proofs.lemmas.Option.{slice_get_read, slice_get_within}
 use Rattle.worm_device.proofs.Counting.{still_first, still_second}
 use Rattle.worm_device.proofs.Elapsing.{called_then}
 use Rattle.worm_device.proofs.Images.{extends_then}
-use Rattle.record_top.specs.Ingest.{IsAmongCells}
-use Rattle.record_top.proofs.Compared.{differ, alike}
-use Rattle.record_top.proofs.Planned.{planned_then, planned_same}
-use Rattle.record_top.proofs.PutSoFar.{only_more, put_more, next_planned, taken_stands, done_stands}
-use Rattle.record_top.proofs.phases.put_cells.Goals as goal
-use Rattle.record_top.proofs.phases.put_cells.Goals.{in-Taken+else-ne, in_default-written}
+use Rattle.ingest_engine.specs.Ingest.{IsAmongCells}
+use Rattle.ingest_engine.proofs.Compared.{differ, alike}
+use Rattle.ingest_engine.proofs.Planned.{planned_then, planned_same}
+use Rattle.ingest_engine.proofs.PutSoFar.{only_more, put_more, next_planned, taken_stands, done_stands}
+use Rattle.ingest_engine.proofs.phases.put_cells.Goals as goal
+use Rattle.ingest_engine.proofs.phases.put_cells.Goals.{in-Taken+else-ne, in_default-written}
 
 pub returns-then-ne : goal.returns-then-ne
 returns-then-ne g c =

@@ -2,8 +2,8 @@
 use Rattle.std.proofs.Common.{◌∙◌, List, ℕ, sym, subst}
 use Rattle.cell_types.specs.Records.{IsRecordCell}
 use Rattle.tamper_rules.specs.Volumes.{volume_record}
-use Rattle.record_top.proofs.StoreSoFar.{some_is}
-use Rattle.record_top.proofs.volume.read_volume.Goals as goal
+use Rattle.ingest_engine.proofs.StoreSoFar.{some_is}
+use Rattle.ingest_engine.proofs.volume.read_volume.Goals as goal
 
 pub returns-in_default-decode-clause-no_volume : goal.returns-in_default-decode-clause-no_volume
 returns-in_default-decode-clause-no_volume g c = λ e tells layout volume.

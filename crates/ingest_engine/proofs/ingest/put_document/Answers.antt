@@ -3,10 +3,10 @@ use Rattle.std.proofs.Common.{◌≡◌, ◌≤◌, ◌+◌, ◌∙◌, ℕ, Lis
 use Rattle.cell_types.specs.Layout.{pool_at}
 use Rattle.tamper_rules.specs.Documents.{stored_bytes}
 use Rattle.tamper_rules.specs.Slots.{cells_for}
-use Rattle.record_top.specs.Ingest.{AreCellsOf, Stores}
-use Rattle.record_top.specs.Run.{PassesTheEnd}
-use Rattle.record_top.proofs.Putting.{put_refused, put_stored, volume_refused}
-use Rattle.record_top.proofs.ingest.put_document.Goals as goal
+use Rattle.ingest_engine.specs.Ingest.{AreCellsOf, Stores}
+use Rattle.ingest_engine.specs.Puts.{PassesTheEnd}
+use Rattle.ingest_engine.proofs.Putting.{put_refused, put_stored, volume_refused}
+use Rattle.ingest_engine.proofs.ingest.put_document.Goals as goal
 
 pub returns-in-Err : goal.returns-in-Err
 returns-in-Err g c =

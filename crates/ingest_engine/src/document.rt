@@ -1,7 +1,7 @@
 //! A document as its cells.
 ghost use Rattle.std.specs.Prelude.{◌≡◌, ◌<◌, ◌^◌, length, IfOk};
 ghost use Rattle.tamper_rules.specs.Documents.{IsIdentifier, stored_bytes};
-ghost use Rattle.record_top.specs.Ingest.{AreCellsOf};
+ghost use Rattle.ingest_engine.specs.Ingest.{AreCellsOf};
 
 use cell_types::{Cell, content};
 use std::alloc::{AllocError, Global};

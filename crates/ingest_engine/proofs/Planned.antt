@@ -1,7 +1,7 @@
 -- Cells that are put one after another: what has changed, and where each value stands.
 use Rattle.std.proofs.Common.{◌≡◌, ℕ, List, Some, None, refl, sym, ◌∙◌, inl, inr, ⊎_elim, subst}
 use Rattle.cell_types.specs.Image.{Image, IsUnchanged, ChangesOnly}
-use Rattle.record_top.specs.Ingest.{ChangesAsPlanned}
+use Rattle.ingest_engine.specs.Ingest.{ChangesAsPlanned}
 
 module _ (IsPlanned : ℕ → List ℕ → Type 0) where
   -- nothing has changed

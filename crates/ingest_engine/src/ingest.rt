@@ -1,9 +1,8 @@
 //! A document, put onto a device.
 ghost use Rattle.std.specs.Prelude.{◌≡◌};
 ghost use Rattle.tamper_rules.specs.Documents.{IsIdentifier, IsBody};
-ghost use Rattle.record_top.specs.Run.{PutsDocument};
+ghost use Rattle.ingest_engine.specs.Puts.{PutsDocument};
 
-use crate::Outcome;
 use crate::document::{content_cells, stored_document};
 use crate::phases::store;
 use crate::volume::read_volume;
@@ -12,7 +11,7 @@ use std::alloc::Global;
 use worm_device::Device;
 
 /// Puts the document into slot 0. All memory is taken before the first cell is written.
-pub fn put_document<D: Device>(alloc: Global, id: &[u8], body: &[u8], device: &mut D) -> Outcome
+pub fn put_document<D: Device>(alloc: Global, id: &[u8], body: &[u8], device: &mut D) -> Result<(), Refusal>
     requires identifier { IsIdentifier id.now }
     requires body { IsBody body.now }
     ensures { PutsDocument id.now body.now (D.state device.old) (D.state device.new) result }

@@ -1,0 +1,2 @@
+pub mod Ingest
+pub mod Puts
