@@ -4,4 +4,5 @@ pub mod FourPhases
 pub mod Planned
 pub mod PutSoFar
 pub mod Putting
+pub mod SeenBlank
 pub mod StoreSoFar

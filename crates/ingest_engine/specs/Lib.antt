@@ -1,2 +1,3 @@
+pub mod Formats
 pub mod Ingest
 pub mod Puts

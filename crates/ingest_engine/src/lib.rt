@@ -16,8 +16,10 @@
 #![tactic(auto)]
 
 mod document;
+mod format;
 mod ingest;
 mod phases;
 mod volume;
 
+pub use format::format_volume;
 pub use ingest::put_document;

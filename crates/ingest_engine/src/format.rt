@@ -1,0 +1,53 @@
+//! A volume, made on a blank device.
+ghost use Rattle.worm_device.specs.State.{DeviceState};
+ghost use Rattle.ingest_engine.specs.Formats.{Formats, Looks};
+
+use cell_types::{FORMAT_VERSION, Geometry, RecordCell, Refusal, encode};
+use worm_device::{Device, Written};
+
+/// Makes the device a volume of so many slots and lists: reads every cell, writes cell 0, and syncs. Takes no
+/// memory.
+pub fn format_volume<D: Device>(device: &mut D, slots: u32, lists: u16) -> Result<(), Refusal>
+    ensures { Formats (record { slots = slots; lists = lists; cells = (D.state device.old).cells })
+        (D.state device.old) (D.state device.new) result }
+{
+    let cells = device.cells();
+    if Geometry::new(slots, lists, cells).is_none() {
+        return Err(Refusal::TooSmall);
+    }
+    if let Err(refusal) = look_for_written_cells(device) {
+        return Err(refusal);
+    }
+    let volume = RecordCell::Volume {
+        version: FORMAT_VERSION,
+        slots,
+        lists,
+        cells,
+    };
+    let Ok(written) = device.write(0, encode(volume, 0)) else {
+        return Err(Refusal::DeviceFault);
+    };
+    // Cell 0 was blank a moment ago. Somebody else has written it since, whatever stands there.
+    let Written::Done = written else {
+        return Err(Refusal::NotBlank(0));
+    };
+    let Ok(()) = device.sync() else {
+        return Err(Refusal::DeviceFault);
+    };
+    Ok(())
+}
+
+/// Reads every cell, up to the first that is written.
+fn look_for_written_cells<D: Device>(device: &mut D) -> Result<(), Refusal>
+    ensures { Looks (D.state device.old) (D.state device.new) result }
+{
+    for at in 0..device.cells() {
+        let Ok(found) = device.read(at) else {
+            return Err(Refusal::DeviceFault);
+        };
+        if found.is_some() {
+            return Err(Refusal::NotBlank(at));
+        }
+    }
+    Ok(())
+}
