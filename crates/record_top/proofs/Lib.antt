@@ -1,4 +1,5 @@
 pub mod Completing
 pub mod Ingesting
+pub mod Listed
 pub mod Pieces
 pub mod Taken

@@ -1,8 +1,8 @@
 -- What the call does that a program makes with its words: each answer with its cause, and what stays.
 use Rattle.std.specs.Prelude.{◌≡◌, ◌≢◌, ◌<◌, ◌≤◌, ◌+◌, ◌⊎◌, ◌++◌, ℕ, List, codes, length, take, Some, None, Result, Ok, Err, IsTrue, ⊤}
 use Rattle.std.specs.Fmt.{decimal}
-use Rattle.cell_types.specs.Image.{Image}
-use Rattle.cell_types.specs.Layout.{Layout, outcome_at, pool_at}
+use Rattle.cell_types.specs.Image.{ChangesOnly}
+use Rattle.cell_types.specs.Layout.{IsLayout, Layout, outcome_at, pool_at}
 use Rattle.cell_types.specs.declared.refusal.Refusal.{Refusal}
 use Rattle.cell_types.specs.declared.refusal.Refusal.TheVariants.{TooLong, DeviceFault, SourceFault, SinkFault, NoMemory, NotYet}
 use Rattle.host_ports.specs.Sinks.{SinkState, Gets}
@@ -11,9 +11,11 @@ use Rattle.tamper_rules.specs.Documents.{IsBody, Spells, Stands, stored_bytes}
 use Rattle.tamper_rules.specs.Slots.{cells_for}
 use Rattle.tamper_rules.specs.Volumes.{IsVolume}
 use Rattle.tamper_rules.specs.declared.limits.TheConstants.{MAX_BODY_BYTES}
+use Rattle.record_top.specs.Words.{AsksToFormat, AsksToIngest}
 use Rattle.worm_device.specs.Calls.{Called}
 use Rattle.worm_device.specs.Counts.{Rose, IsStill}
 use Rattle.worm_device.specs.State.{DeviceState, LeftSince}
+use Rattle.ingest_engine.specs.Formats.{FormatEnds, volume_cell}
 use Rattle.ingest_engine.specs.Puts.{CannotYet, CrashesLeaveWholeDocuments, WritesItsCells}
 
 -- the text that acknowledges a document in this slot
@@ -78,6 +80,38 @@ pub record IsReady (id body : List ℕ) (g : Layout) (old new : Ports) : Type 0 
   pub no_device_fault : IsStill old.device.faults new.device.faults
   pub no_source_fault : IsStill old.source.faults new.source.faults
   pub no_sink_fault : IsStill old.sink.faults new.sink.faults
+
+-- the words are no command
+pub record IsNoCommand (words : List (List ℕ)) : Type 0 where
+  pub no_ingest : (id : List ℕ) → AsksToIngest words id → ⊥
+  pub no_format : (slots lists : ℕ) → AsksToFormat words slots lists → ⊥
+
+-- the text that tells of a new volume
+abbrev pub formatted : List ℕ
+formatted = codes "formatted\n"
+
+-- how `format` of a layout may end, and why
+abbrev pub FormatAnswers : Layout → DeviceState → DeviceState → SinkState → SinkState → Result Unit Refusal → Type 0
+FormatAnswers g old new sink sink' (Ok u) = FormatEnds g old new (Ok u) × Gets sink.held sink'.held formatted
+FormatAnswers g old new sink sink' (Err SinkFault) =
+    FormatEnds g old new (Ok tt) × Rose sink.faults sink'.faults
+    × ((n : ℕ) × (n ≤ length formatted) × Gets sink.held sink'.held (take n formatted))
+FormatAnswers g old new sink sink' (Err refusal) = FormatEnds g old new (Err refusal) × (sink'.held ≡ sink.held)
+
+-- what `format` of a layout does
+pub record FormatsVolume (g : Layout) (old new : DeviceState) (sink sink' : SinkState) (result : Result Unit Refusal) : Type 0 where
+  pub called : Called old new
+  pub only : IsStill old.foreign_writes new.foreign_writes → ChangesOnly 0 (volume_cell g) old.image new.image
+  pub ends : FormatAnswers g old new sink sink' result
+
+-- All is as `format` wants it: a blank device that has room for the layout, and nobody else who writes.
+pub record IsBlankDevice (g : Layout) (old new : DeviceState) (sink sink' : SinkState) : Type 0 where
+  pub layout : IsLayout g
+  pub tells : IsTrue old.tells
+  pub blank : (cell : ℕ) → old.image cell ≡ None
+  pub alone : IsStill old.foreign_writes new.foreign_writes
+  pub no_device_fault : IsStill old.faults new.faults
+  pub no_sink_fault : IsStill sink.faults sink'.faults
 
 -- the answer is Ok, or want of memory
 abbrev pub IsOkOrNoMemory : Result Unit Refusal → Type 0

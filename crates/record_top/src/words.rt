@@ -1,10 +1,14 @@
 //! The words of a command, read in place.
-ghost use Rattle.std.specs.Prelude.{◌≡◌, ◌<◌, ◌≤◌, ◌↔◌, ℕ, List, map, length, IsTrue, IfSome, IfNone};
+ghost use Rattle.std.specs.Prelude.{◌≡◌, ◌≢◌, ◌<◌, ◌≤◌, ◌↔◌, ℕ, List, map, length, slice_index, IsTrue, IfSome, IfNone};
 ghost use Rattle.std.specs.String.{string_bytes};
 ghost use Rattle.tamper_rules.specs.Documents.{IsIdentifier};
-ghost use Rattle.record_top.specs.Words.{AsksToIngest};
+ghost use Rattle.record_top.specs.Words.{AsksToFormat, AsksToIngest, IsNumberUpTo};
 
+use cell_types::{MAX_LISTS, MAX_SLOTS};
 use tamper_rules::MAX_IDENTIFIER_BYTES;
+
+/// The greatest number of digits of a number.
+const MAX_DIGITS: usize = 10;
 
 /// Whether the bytes are an identifier: 1 to 200 of them, each a printing ASCII character and no space.
 pub fn is_identifier(bytes: &[u8]) -> bool
@@ -15,7 +19,7 @@ pub fn is_identifier(bytes: &[u8]) -> bool
         && bytes.iter().all(|byte| byte.is_ascii_graphic())
 }
 
-/// The identifier, where the words are `ingest` and one identifier.
+/// The identifier, where the words are `ingest` and one identifier that begins with no hyphen.
 pub fn identifier_to_ingest(words: &[String]) -> Option<&[u8]>
     ensures some { IfSome result (λ id. AsksToIngest (map string_bytes words.now) id.now) }
     ensures none { IfNone result ((id : List ℕ) → AsksToIngest (map string_bytes words.now) id → ⊥) }
@@ -23,8 +27,50 @@ pub fn identifier_to_ingest(words: &[String]) -> Option<&[u8]>
     let [command, id] = words else {
         return None;
     };
-    if command.as_str() != "ingest" || !is_identifier(id.as_bytes()) {
+    let id = id.as_bytes();
+    if command.as_str() != "ingest" || !is_identifier(id) || id[0] == b'-' {
         return None;
     }
-    Some(id.as_bytes())
+    Some(id)
+}
+
+/// The numbers of slots and lists, where the words are `format` and two numbers in range.
+pub fn layout_to_format(words: &[String]) -> Option<(u32, u16)>
+    ensures some { IfSome result (λ n. AsksToFormat (map string_bytes words.now) n.0 n.1) }
+    ensures none { IfNone result ((slots lists : ℕ) → AsksToFormat (map string_bytes words.now) slots lists → ⊥) }
+{
+    let [command, slots, lists] = words else {
+        return None;
+    };
+    if command.as_str() != "format" {
+        return None;
+    }
+    let Some(slots) = number_up_to(MAX_SLOTS, slots.as_bytes()) else {
+        return None;
+    };
+    let Some(lists) = number_up_to(u32::from(MAX_LISTS), lists.as_bytes()) else {
+        return None;
+    };
+    Some((slots, lists as u16))
+}
+
+/// The number that the word stands for, where it is 1 to 10 digits and the number from 1 to the most.
+fn number_up_to(most: u32, word: &[u8]) -> Option<u32>
+    ensures some { IfSome result (IsNumberUpTo most word.now) }
+    ensures none { IfNone result ((n : ℕ) → IsNumberUpTo most word.now n → ⊥) }
+{
+    if word.is_empty() || word.len() > MAX_DIGITS {
+        return None;
+    }
+    let mut n: u64 = 0;
+    for digit in word {
+        if !digit.is_ascii_digit() {
+            return None;
+        }
+        n = 10 * n + u64::from(*digit - b'0');
+    }
+    if n == 0 || n > u64::from(most) {
+        return None;
+    }
+    Some(n as u32)
 }

@@ -4,21 +4,16 @@ use Rattle.std.specs.Prelude.{codes}
 use Rattle.std.specs.String.{string_bytes}
 use Rattle.tamper_rules.specs.Documents.{IsIdentifier}
 use Rattle.ingest_engine.proofs.Compared.{alike}
+use Rattle.record_top.proofs.Listed.{two}
 use Rattle.record_top.proofs.words.identifier_to_ingest.Goals as goal
-
-two : {A : Type 0} (xs : List A) (x y : A) → length xs ≡ 2 → x ≡ get_or xs 0 x → y ≡ get_or xs 1 y → xs ≡ x ∷ y ∷ []
-two (a ∷ b ∷ []) x y n p q = let e : a ≡ x = sym p in let f : b ≡ y = sym q in cc
-two [] x y n p q = absurd (omega arith)
-two (a ∷ []) x y n p q = absurd (omega arith)
-two (a ∷ b ∷ d ∷ xs) x y n p q = absurd (omega arith)
 
 pub returns-clause-some : goal.returns-clause-some
 returns-clause-some c =
     let command : string_bytes c.command-item.result ≡ codes "ingest" = sym c.as_str.ensures.value ∙ alike c.as_str.result.now (codes "ingest") c.ne.result c.ne.ensures c.if-ne.false in
-    let id : string_bytes c.id-item.result ≡ c.as_bytes-2.result.now = sym c.as_bytes-2.ensures.value in
-    let both : ◌≡◌ {A = List (List ℕ)} (string_bytes c.command-item.result ∷ string_bytes c.id-item.result ∷ []) (codes "ingest" ∷ c.as_bytes-2.result.now ∷ []) = cc in
-    let is : IsIdentifier c.as_bytes.result.now = c.is_identifier.ensures.0 (search rules) in
+    let id : string_bytes c.id-item.result ≡ c.as_bytes-id.result.now = sym c.as_bytes-id.ensures.value in
+    let both : ◌≡◌ {A = List (List ℕ)} (string_bytes c.command-item.result ∷ string_bytes c.id-item.result ∷ []) (codes "ingest" ∷ c.as_bytes-id.result.now ∷ []) = cc in
     record {
       asked = ap (map string_bytes) (two c.args.words.now c.command-item.result c.id-item.result (omega arith) c.command-item.is c.id-item.is) ∙ both;
-      identifier = subst IsIdentifier (c.as_bytes.ensures.value ∙ id) is;
+      identifier = c.is_identifier.ensures.0 (search rules);
+      no_hyphen = search rules;
     }
