@@ -1,5 +1,5 @@
 -- What formatting a device does.
-use Rattle.std.specs.Prelude.{◌≡◌, ◌<◌, ◌≤◌, ℕ, List, Some, None, Result, Ok, Err, IsTrue, ⊤}
+use Rattle.std.specs.Prelude.{◌≡◌, ◌<◌, ℕ, List, Some, None, Result, Ok, Err, IsTrue}
 use Rattle.cell_types.specs.Image.{Image, ChangesOnly, IsUnchanged}
 use Rattle.cell_types.specs.Layout.{Layout, IsLayout}
 use Rattle.cell_types.specs.Records.{record_bytes}

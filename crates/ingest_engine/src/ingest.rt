@@ -11,7 +11,12 @@ use std::alloc::Global;
 use worm_device::Device;
 
 /// Puts the document into slot 0. All memory is taken before the first cell is written.
-pub fn put_document<D: Device>(alloc: Global, id: &[u8], body: &[u8], device: &mut D) -> Result<(), Refusal>
+pub fn put_document<D: Device>(
+    alloc: Global,
+    id: &[u8],
+    body: &[u8],
+    device: &mut D,
+) -> Result<(), Refusal>
     requires identifier { IsIdentifier id.now }
     requires body { IsBody body.now }
     ensures { PutsDocument id.now body.now (D.state device.old) (D.state device.new) result }

@@ -48,12 +48,7 @@ fn ingest<D: Device, S: Source, K: Sink>(
 }
 
 /// Makes the device a volume, and says so.
-fn format<D: Device, K: Sink>(
-    slots: u32,
-    lists: u16,
-    device: &mut D,
-    sink: &mut K,
-) -> Outcome
+fn format<D: Device, K: Sink>(slots: u32, lists: u16, device: &mut D, sink: &mut K) -> Outcome
     ensures { FormatsVolume (record { slots = slots; lists = lists; cells = (D.state device.old).cells })
         (D.state device.old) (D.state device.new) (K.state sink.old) (K.state sink.new) result }
 {
@@ -81,11 +76,11 @@ pub fn run<D: Device, S: Source, K: Sink>(
     // What `format` does, and why it ends as it does. On a blank device with room it is Ok.
     ensures formats { (slots lists : ℕ) → AsksToFormat (map string_bytes words.now) slots lists →
         FormatsVolume (record { slots = slots; lists = lists; cells = (D.state device.old).cells })
-            (D.state device.old) (D.state device.new) (K.state sink.old) (K.state sink.new) result
+        (D.state device.old) (D.state device.new) (K.state sink.old) (K.state sink.new) result
         × (S.state source.new ≡ S.state source.old) }
     ensures complete_format { (slots lists : ℕ) → AsksToFormat (map string_bytes words.now) slots lists →
         IsBlankDevice (record { slots = slots; lists = lists; cells = (D.state device.old).cells })
-            (D.state device.old) (D.state device.new) (K.state sink.old) (K.state sink.new) → IsOk result }
+        (D.state device.old) (D.state device.new) (K.state sink.old) (K.state sink.new) → IsOk result }
 
     // What `ingest` does, and why it ends as it does. Where all is as it is to be, it is Ok or want of memory.
     ensures ingests { (id : List ℕ) → AsksToIngest (map string_bytes words.now) id → Ingests id

@@ -177,6 +177,62 @@ fn what_was_written_decodes_to_the_document(rt: HostRuntime) -> Result<(), Fail>
 }
 
 #[test]
+fn format_writes_cell_0_alone(rt: HostRuntime) -> Result<(), Fail> {
+    let alloc = rt.alloc();
+    for words in ["format|8|2", "format|08|2"] {
+        let mut device = blank(alloc, 1_000, 8)?;
+        let (outcome, put) = outcome_of(alloc, words, &mut device, b"")?;
+        assert_eq!(rt; outcome, Ok(()), "{words}");
+        assert_eq!(rt; put.as_slice(), b"formatted\n".as_slice());
+        let written = Change::Wrote {
+            at: 0,
+            value: cell(VOLUME)?,
+        };
+        let changes = [written, Change::Synced];
+        assert_eq!(rt; device.changes(), changes.as_slice());
+
+        // Again, it finds its own cell.
+        let (outcome, put) = outcome_of(alloc, words, &mut device, b"")?;
+        assert_eq!(rt; outcome, Err(Refusal::NotBlank(0)));
+        assert_eq!(rt; put.len(), 0);
+        assert_eq!(rt; device.changes().len(), 2);
+    }
+    let mut device = blank(alloc, 1_000, 8)?;
+    for at in [999, 7] {
+        if at < device.cells() {
+            let _ = device.write(at, cell(DONE)?)?;
+            let (outcome, _) = outcome_of(alloc, "format|8|2", &mut device, b"")?;
+            assert_eq!(rt; outcome, Err(Refusal::NotBlank(at)));
+        }
+    }
+    Ok(())
+}
+
+#[test]
+fn a_volume_has_a_least_size(rt: HostRuntime) -> Result<(), Fail> {
+    let alloc = rt.alloc();
+    for (cells, want) in [(580, Ok(())), (579, Err(Refusal::TooSmall))] {
+        let mut device = blank(alloc, cells, 8)?;
+        let (outcome, _) = outcome_of(alloc, "format|8|2", &mut device, b"")?;
+        assert_eq!(rt; outcome, want, "{cells}");
+    }
+    Ok(())
+}
+
+#[test]
+fn format_has_no_room_for_its_cell(rt: HostRuntime) -> Result<(), Fail> {
+    let alloc = rt.alloc();
+    let mut device = blank(alloc, 1_000, 0)?;
+    let (outcome, put) = outcome_of(alloc, "format|8|2", &mut device, b"")?;
+    assert_eq!(rt; outcome, Err(Refusal::DeviceFault));
+    assert_eq!(rt; put.len(), 0);
+    for at in 0..device.cells() {
+        assert_eq!(rt; device.read(at)?, None);
+    }
+    Ok(())
+}
+
+#[test]
 fn words_that_are_no_command_are_usage(rt: HostRuntime) -> Result<(), Fail> {
     let alloc = rt.alloc();
     let mut device = formatted(alloc, 1_000, 64)?;
@@ -189,6 +245,16 @@ fn words_that_are_no_command_are_usage(rt: HostRuntime) -> Result<(), Fail> {
         "ingest|",
         "ingest|a b",
         "ingest|M\u{fc}ller",
+        "ingest|-a",
+        "format|0|2",
+        "format|8|4097",
+        "format|16777217|1",
+        "format|00000000008|2",
+        "format|8",
+        "format|8|2|9",
+        "format|-8|2",
+        "format|+8|2",
+        "format|8|",
     ] {
         let (outcome, put) = outcome_of(alloc, words, &mut device, b"hello world")?;
         assert_eq!(rt; outcome, Err(Refusal::Usage), "{words}");

@@ -18,5 +18,5 @@ returns-clause-some c =
       asked = ap (map string_bytes) words ∙ ap (λ (w : List ℕ). w ∷ string_bytes c.slots-item.result ∷ string_bytes c.lists-item.result ∷ []) command;
       slots_word = subst (λ (w : List ℕ). IsNumberUpTo MAX_SLOTS w c.in-Some.slots) c.as_bytes.ensures.value c.in-Some.ensures.some;
       lists_word = subst (λ (w : List ℕ). IsNumberUpTo MAX_LISTS w c.in-Some-number_up_to.lists) c.as_bytes-2.ensures.value
-        (subst (λ (most : ℕ). IsNumberUpTo most c.as_bytes-2.result.now c.in-Some-number_up_to.lists) c.from.ensures c.in-Some-number_up_to.ensures.some);
+          (subst (λ (most : ℕ). IsNumberUpTo most c.as_bytes-2.result.now c.in-Some-number_up_to.lists) c.from.ensures c.in-Some-number_up_to.ensures.some);
     }
