@@ -1,20 +1,20 @@
 -- What the call does that a program makes with its words: each answer with its cause, and what stays.
-use Rattle.std.specs.Prelude.{◌≡◌, ◌≢◌, ◌<◌, ◌≤◌, ◌+◌, ◌⊎◌, ◌++◌, ℕ, List, codes, length, take, Some, None, Result, Ok, Err, IsTrue, ⊤}
+use Rattle.std.specs.Prelude.{◌≡◌, ◌≤◌, ◌+◌, ◌++◌, ℕ, List, codes, length, take, Some, None, Result, Ok, Err, IsTrue, ⊤}
 use Rattle.std.specs.Fmt.{decimal}
 use Rattle.cell_types.specs.Image.{ChangesOnly}
-use Rattle.cell_types.specs.Layout.{IsLayout, Layout, outcome_at, pool_at}
+use Rattle.cell_types.specs.Layout.{IsLayout, Layout, pool_at}
 use Rattle.cell_types.specs.declared.refusal.Refusal.{Refusal}
 use Rattle.cell_types.specs.declared.refusal.Refusal.TheVariants.{TooLong, DeviceFault, SourceFault, SinkFault, NoMemory, NotYet}
 use Rattle.host_ports.specs.Sinks.{SinkState, Gets}
 use Rattle.host_ports.specs.Sources.{SourceState, Gives, IsAtEnd}
-use Rattle.tamper_rules.specs.Documents.{IsBody, Spells, Stands, stored_bytes}
+use Rattle.tamper_rules.specs.Documents.{IsBody, Stands, stored_bytes}
 use Rattle.tamper_rules.specs.Slots.{cells_for}
 use Rattle.tamper_rules.specs.Volumes.{IsVolume}
 use Rattle.tamper_rules.specs.declared.limits.TheConstants.{MAX_BODY_BYTES}
 use Rattle.record_top.specs.Words.{AsksToFormat, AsksToIngest}
 use Rattle.worm_device.specs.Calls.{Called}
 use Rattle.worm_device.specs.Counts.{Rose, IsStill}
-use Rattle.worm_device.specs.State.{DeviceState, LeftSince}
+use Rattle.worm_device.specs.State.{DeviceState}
 use Rattle.ingest_engine.specs.Formats.{FormatEnds, volume_cell}
 use Rattle.ingest_engine.specs.Puts.{CannotYet, CrashesLeaveWholeDocuments, WritesItsCells}
 

@@ -1,8 +1,7 @@
 -- There are two words, and they are the two that were read.
-use Rattle.std.proofs.Common.{◌≡◌, ℕ, List, [], ◌∷◌, length, get_or, map, sym, ap, subst, ◌∙◌, arith, rules}
+use Rattle.std.proofs.Common.{◌≡◌, ℕ, List, [], ◌∷◌, map, sym, ap, ◌∙◌, arith, rules}
 use Rattle.std.specs.Prelude.{codes}
 use Rattle.std.specs.String.{string_bytes}
-use Rattle.tamper_rules.specs.Documents.{IsIdentifier}
 use Rattle.ingest_engine.proofs.Compared.{alike}
 use Rattle.record_top.proofs.Listed.{two}
 use Rattle.record_top.proofs.words.identifier_to_ingest.Goals as goal
