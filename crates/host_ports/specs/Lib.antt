@@ -1,4 +1,7 @@
+pub mod Files
 pub mod Memories
+pub mod Proper
 pub mod Sinks
 pub mod Sources
 pub mod Standard
+pub mod Untold

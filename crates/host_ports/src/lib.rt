@@ -24,6 +24,8 @@
 
 #[cfg(test)]
 mod callers;
+mod file_calls;
+mod file_device;
 mod memory;
 mod schedule;
 mod sink;
@@ -32,6 +34,7 @@ mod standard;
 #[cfg(test)]
 mod tests;
 
+pub use file_device::{FileDevice, OpenFault};
 pub use memory::{MemorySink, MemorySource};
 pub use sink::Sink;
 pub use source::Source;
