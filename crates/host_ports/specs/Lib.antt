@@ -1,5 +1,6 @@
 pub mod Files
 pub mod Memories
+pub mod PageCells
 pub mod Proper
 pub mod Sinks
 pub mod Sources

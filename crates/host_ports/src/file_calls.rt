@@ -9,7 +9,7 @@ ghost use Rattle.host_ports.specs.Files.{state_over};
 ghost use Rattle.host_ports.specs.Proper.{is_device};
 ghost use Rattle.host_ports.specs.Untold.{with_fault, with_read};
 
-use crate::{Failed, FileDevice};
+use crate::{Failed, FileDevice, Pages};
 use cell_types::Cell;
 use std::fs::OpenFile;
 use std::io;
@@ -30,12 +30,23 @@ fn write_cell<F: Write + Seek>(file: &mut F, at: u32, value: Cell) -> io::Result
     file.write_all(&value.bytes())
 }
 
-/// Writes a cell where it is blank.
-fn write_blank<F: Read + Write + Seek>(file: &mut F, at: u32, value: Cell) -> io::Result<Written> {
+/// Writes a cell where it is blank in the file, whatever the pages hold. What stands there then stands on its page.
+fn write_blank<F: Read + Write + Seek>(
+    file: &mut F,
+    pages: &mut Pages,
+    at: u32,
+    value: Cell,
+) -> io::Result<Written> {
     if let Some(found) = read_cell(file, at)? {
+        pages.put(at, found);
         return Ok(Written::Taken(found));
     }
-    write_cell(file, at, value)?;
+    if let Err(error) = write_cell(file, at, value) {
+        // Some of the bytes may have got there.
+        pages.forget(at);
+        return Err(error);
+    }
+    pages.put(at, value);
     Ok(Written::Done)
 }
 
@@ -55,7 +66,7 @@ impl<F: Read + Write + Seek + OpenFile> Device for FileDevice<F> {
         ensures failed { OnErr result (state_over self.new ≡ with_fault (with_read (state_over self.old))) }
     {
         self.count_read();
-        let found = read_cell(&mut self.file, at);
+        let found = self.pages.read(&mut self.file, self.cells, at);
         self.answer(found)
     }
 
@@ -65,7 +76,7 @@ impl<F: Read + Write + Seek + OpenFile> Device for FileDevice<F> {
         ensures counted { OnOk result (state_over self.new ≡ state_over self.old) }
         ensures failed { OnErr result (state_over self.new ≡ with_fault (state_over self.old)) }
     {
-        let written = write_blank(&mut self.file, at, value);
+        let written = write_blank(&mut self.file, &mut self.pages, at, value);
         self.answer(written)
     }
 

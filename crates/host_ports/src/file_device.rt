@@ -11,7 +11,7 @@
 ghost use Rattle.std.specs.Prelude.{◌≡◌, ◌<◌, ◌≤◌, ◌⊎◌, ◌/◌, ℕ, Err, IfOk, IfErr};
 ghost use Rattle.cell_types.specs.declared.geometry.TheConstants.{MAX_CELLS};
 
-use crate::Failed;
+use crate::{Failed, Pages};
 use cell_types::MAX_CELLS;
 use std::fs::{OpenFile, OpenOptions};
 use std::io;
@@ -43,6 +43,7 @@ fn cells_of(bytes: u64) -> Result<u32, u64>
 pub struct FileDevice<F> {
     pub(crate) file: F,
     pub(crate) cells: u32,
+    pub(crate) pages: Pages,
     faults: u64,
     reads: u64,
     ghost some_cells: { 1 ≤ cells },
@@ -51,24 +52,44 @@ pub struct FileDevice<F> {
 
 impl<F: OpenFile + Drop> FileDevice<F> {
     ghost use Rattle.host_ports.specs.Files.{state_over};
+    ghost use Rattle.host_ports.specs.Untold.{untold};
     ghost use Rattle.host_ports.specs.declared.file_device.OpenFault.TheVariants.{Size};
 
     /// Opens a file that exists, for reading and writing. It neither makes nor empties one.
-    pub fn open<R: Files<File = F>>(rt: &R, path: &str) -> Result<FileDevice<F>, OpenFault>
-        ensures counts { IfOk result (λ device.
-            ((state_over device).faults ≡ 0) × ((state_over device).reads ≡ 0)) }
+    pub fn open<R: Files<File = F>>(
+        rt: &R,
+        path: &str,
+        pages: Pages,
+    ) -> Result<FileDevice<F>, OpenFault>
+        ensures fresh { IfOk result (λ device. state_over device ≡ untold (state_over device).cells 0 0) }
         ensures size { (cells : ℕ) → result ≡ Err (Size cells) → (cells ≡ 0) ⊎ (MAX_CELLS < cells) }
     {
         let Ok(file) = OpenOptions::new().read(true).write(true).open(rt, path) else {
             return Err(OpenFault::Host);
         };
-        let Ok(about) = file.metadata() else {
-            return Err(OpenFault::Host);
-        };
-        match cells_of(about.len()) {
+        match file.metadata() {
+            Ok(about) => FileDevice::over(file, about.len(), pages),
+            Err(_) => Err(OpenFault::Host),
+        }
+    }
+}
+
+impl<F: Drop> FileDevice<F> {
+    ghost use Rattle.host_ports.specs.Files.{state_over};
+    ghost use Rattle.host_ports.specs.Untold.{untold};
+    ghost use Rattle.host_ports.specs.declared.file_device.OpenFault.TheVariants.{Size};
+
+    /// A file of so many bytes as a device.
+    pub(crate) fn over(file: F, bytes: u64, pages: Pages) -> Result<FileDevice<F>, OpenFault>
+        ensures made { IfOk result (λ device. state_over device ≡ untold (bytes / 16) 0 0) }
+        ensures refused { IfErr result (λ fault. (fault ≡ Size (bytes / 16))
+            × ((bytes / 16 ≡ 0) ⊎ (MAX_CELLS < bytes / 16))) }
+    {
+        match cells_of(bytes) {
             Ok(cells) => Ok(FileDevice {
                 file,
                 cells,
+                pages,
                 faults: 0,
                 reads: 0,
             }),

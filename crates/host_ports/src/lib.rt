@@ -27,6 +27,8 @@ mod callers;
 mod file_calls;
 mod file_device;
 mod memory;
+mod page;
+mod pages;
 mod schedule;
 mod sink;
 mod source;
@@ -36,6 +38,7 @@ mod tests;
 
 pub use file_device::{FileDevice, OpenFault};
 pub use memory::{MemorySink, MemorySource};
+pub use pages::Pages;
 pub use sink::Sink;
 pub use source::Source;
 pub use standard::{StdSink, StdSource};
