@@ -13,26 +13,19 @@ use crate::{Failed, FileDevice, Pages};
 use cell_types::Cell;
 use std::fs::OpenFile;
 use std::io;
-use std::io::{Read, Seek, SeekFrom, Write};
+use std::os::unix::fs::FileExt;
 use worm_device::{Device, Written};
 
 /// Reads a cell: `None` where it is blank.
-fn read_cell<F: Read + Seek>(file: &mut F, at: u32) -> io::Result<Option<Cell>> {
+fn read_cell<F: FileExt>(file: &F, at: u32) -> io::Result<Option<Cell>> {
     let mut bytes = [0; 16];
-    file.seek(SeekFrom::Start(u64::from(at) * 16))?;
-    file.read_exact(&mut bytes)?;
+    file.read_exact_at(&mut bytes, u64::from(at) * 16)?;
     Ok(Cell::from_bytes(bytes))
 }
 
-/// Writes a cell over what stands there.
-fn write_cell<F: Write + Seek>(file: &mut F, at: u32, value: Cell) -> io::Result<()> {
-    file.seek(SeekFrom::Start(u64::from(at) * 16))?;
-    file.write_all(&value.bytes())
-}
-
 /// Writes a cell where it is blank in the file, whatever the pages hold. What stands there then stands on its page.
-fn write_blank<F: Read + Write + Seek>(
-    file: &mut F,
+fn write_blank<F: FileExt>(
+    file: &F,
     pages: &mut Pages,
     at: u32,
     value: Cell,
@@ -41,7 +34,7 @@ fn write_blank<F: Read + Write + Seek>(
         pages.put(at, found);
         return Ok(Written::Taken(found));
     }
-    if let Err(error) = write_cell(file, at, value) {
+    if let Err(error) = file.write_all_at(&value.bytes(), u64::from(at) * 16) {
         // Some of the bytes may have got there.
         pages.forget(at);
         return Err(error);
@@ -50,7 +43,7 @@ fn write_blank<F: Read + Write + Seek>(
     Ok(Written::Done)
 }
 
-impl<F: Read + Write + Seek + OpenFile> Device for FileDevice<F> {
+impl<F: FileExt + OpenFile> Device for FileDevice<F> {
     ghost state = { state_over };
 
     fn cells(&self) -> u32
@@ -66,7 +59,7 @@ impl<F: Read + Write + Seek + OpenFile> Device for FileDevice<F> {
         ensures failed { OnErr result (state_over self.new ≡ with_fault (with_read (state_over self.old))) }
     {
         self.count_read();
-        let found = self.pages.read(&mut self.file, self.cells, at);
+        let found = self.pages.read(&self.file, self.cells, at);
         self.answer(found)
     }
 
@@ -76,7 +69,7 @@ impl<F: Read + Write + Seek + OpenFile> Device for FileDevice<F> {
         ensures counted { OnOk result (state_over self.new ≡ state_over self.old) }
         ensures failed { OnErr result (state_over self.new ≡ with_fault (state_over self.old)) }
     {
-        let written = write_blank(&mut self.file, &mut self.pages, at, value);
+        let written = write_blank(&self.file, &mut self.pages, at, value);
         self.answer(written)
     }
 

@@ -13,7 +13,7 @@ use crate::page::{PAGE_BYTES, cell_at, put_at};
 use cell_types::{Cell, NoMemory};
 use std::alloc::Global;
 use std::io;
-use std::io::{Read, Seek, SeekFrom};
+use std::os::unix::fs::FileExt;
 
 /// How many pages are held.
 const PAGES: usize = 16;
@@ -76,7 +76,7 @@ impl Pages {
     }
 
     /// Reads a page of a file of so many cells, and answers where it is held.
-    fn fill<F: Read + Seek>(&mut self, file: &mut F, cells: u32, number: u32) -> io::Result<usize>
+    fn fill<F: FileExt>(&mut self, file: &F, cells: u32, number: u32) -> io::Result<usize>
         requires { 256 * number < cells }
         ensures { IfOk result (λ frame. frame < 16) }
     {
@@ -86,16 +86,16 @@ impl Pages {
         // A read that fails may have changed some of the bytes, so they are no page until it is done.
         page.number = None;
         page.used = 0;
-        file.seek(SeekFrom::Start(u64::from(number) * PAGE_BYTES as u64))?;
-        file.read_exact(&mut page.bytes[..16 * held as usize])?;
+        let from = u64::from(number) * PAGE_BYTES as u64;
+        file.read_exact_at(&mut page.bytes[..16 * held as usize], from)?;
         page.number = Some(number);
         Ok(frame)
     }
 
     /// What stands in a cell of a file of so many cells, from its page: `None` where it is blank.
-    pub(crate) fn read<F: Read + Seek>(
+    pub(crate) fn read<F: FileExt>(
         &mut self,
-        file: &mut F,
+        file: &F,
         cells: u32,
         at: u32,
     ) -> io::Result<Option<Cell>>
