@@ -26,6 +26,8 @@
 mod callers;
 mod file_calls;
 mod file_device;
+#[cfg(test)]
+mod file_tests;
 mod memory;
 mod page;
 mod pages;
