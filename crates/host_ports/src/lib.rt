@@ -24,7 +24,13 @@
 
 #[cfg(test)]
 mod callers;
+mod file_calls;
+mod file_device;
+#[cfg(test)]
+mod file_tests;
 mod memory;
+mod page;
+mod pages;
 mod schedule;
 mod sink;
 mod source;
@@ -32,7 +38,9 @@ mod standard;
 #[cfg(test)]
 mod tests;
 
+pub use file_device::{FileDevice, OpenFault};
 pub use memory::{MemorySink, MemorySource};
+pub use pages::Pages;
 pub use sink::Sink;
 pub use source::Source;
 pub use standard::{StdSink, StdSource};

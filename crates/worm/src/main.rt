@@ -1,40 +1,80 @@
-//! The program `worm`: the command's words, standard input and standard output, handed to `run`.
+//! The program: `worm IMAGE COMMAND ..`. It opens the device, and hands it to `run` with the words of the command,
+//! standard input and standard output.
 //!
-//! For now its device is one in memory, with the volume of 8 slots and 2 lists on 1,000 cells, so what is stored
-//! is gone when the program ends.
+//!     worm volume.img format 8 2
+//!     worm volume.img ingest invoice-4711 < invoice.txt
+//!
+//! IMAGE is the path of a file that exists; a new device is a file of zeros. Where IMAGE is `-`, the device is one
+//! in memory that holds a small volume, so what is stored there is gone when the program ends.
+//!
+//! Where the command is not done, one line on standard error says why, and the status tells it too: 0 is done, 1 is
+//! words that are no command, 5 a file that cannot be opened, and every other is that of `run`'s refusal.
 #![tactic(auto)]
 
-use cell_types::{RecordCell, Refusal, encode};
-use host_ports::{StdSink, StdSource};
-use record_top::{Outcome, run};
+mod small;
+
+use crate::small::small_volume;
+use cell_types::Refusal;
+use host_ports::{FileDevice, Pages, StdSink, StdSource};
+use record_top::run;
 use std::alloc::Global;
+use std::os::unix::fs::FileExt;
 use std::process::ExitCode;
-use std::rt::Env;
+use std::rt::{Env, Files};
 use std::{env, io};
+use thiserror::Error;
 use worm_device::Device;
-use worm_memory::MemoryDevice;
 
-/// How many cells the device has.
-const CELLS: u32 = 1_000;
+/// Why a command was not done.
+#[derive(Clone, Copy, Debug, Error)]
+enum Fault {
+    #[error("image cannot be opened")]
+    Image,
+    #[error("{0}")]
+    Refused(Refusal),
+}
 
-fn main(rt: HostRuntime) -> ExitCode {
-    match carry_out(&rt) {
-        Ok(()) => ExitCode::SUCCESS,
-        Err(refusal) => {
-            // Where the line cannot be shown, the status still tells.
-            let _ = eprintln!(rt; "{refusal}");
-            ExitCode::from(refusal.status())
+impl Fault {
+    /// The status that the program ends with.
+    fn status(&self) -> u8 {
+        match self {
+            Fault::Image => Refusal::DeviceFault.status(),
+            Fault::Refused(refusal) => refusal.status(),
         }
     }
 }
 
-/// Carries out the command that the words behind the program's name ask for.
-fn carry_out(rt: &(impl Env + Input + Print + AllocGlobal)) -> Outcome {
-    let words = words(rt)?;
-    let mut device = small_volume(rt.alloc())?;
+fn main(rt: HostRuntime) -> ExitCode {
+    match carry_out(&rt) {
+        Ok(()) => ExitCode::SUCCESS,
+        Err(fault) => {
+            // Where the line cannot be shown, the status still tells.
+            let _ = eprintln!(rt; "{fault}");
+            ExitCode::from(fault.status())
+        }
+    }
+}
+
+/// Opens the device that the first word names, and carries out the command that the others ask for.
+fn carry_out(
+    rt: &(impl Env + Files<File: FileExt> + Input + Print + AllocGlobal),
+) -> Result<(), Fault> {
+    let words = words(rt).map_err(Fault::Refused)?;
+    let Some((image, command)) = words.split_first() else {
+        return Err(Fault::Refused(Refusal::Usage));
+    };
+    let alloc = rt.alloc();
     let mut source = StdSource::new(rt.reader());
     let mut sink = StdSink::new(io::writer(rt));
-    run(rt.alloc(), &words, &mut device, &mut source, &mut sink)
+    let outcome = if image.as_str() == "-" {
+        let mut device = small_volume(alloc).map_err(Fault::Refused)?;
+        run(alloc, command, &mut device, &mut source, &mut sink)
+    } else {
+        let pages = Pages::new(alloc).map_err(|_| Fault::Refused(Refusal::NoMemory))?;
+        let mut device = FileDevice::open(rt, image.as_str(), pages).map_err(|_| Fault::Image)?;
+        run(alloc, command, &mut device, &mut source, &mut sink)
+    };
+    outcome.map_err(Fault::Refused)
 }
 
 /// The words behind the program's name. Words that are no UTF-8 are no command.
@@ -46,22 +86,4 @@ fn words(rt: &(impl Env + AllocGlobal)) -> Result<Vec<String>, Refusal> {
     };
     let _ = all.next();
     all.collect(rt.alloc()).map_err(|_| Refusal::NoMemory)
-}
-
-/// A device in memory that holds a volume.
-fn small_volume(alloc: Global) -> Result<MemoryDevice, Refusal> {
-    let mut device = MemoryDevice::new(alloc, CELLS).map_err(|_| Refusal::NoMemory)?;
-    device.reserve(2 * CELLS).map_err(|_| Refusal::NoMemory)?;
-    let volume = RecordCell::Volume {
-        version: 1,
-        slots: 8,
-        lists: 2,
-        cells: CELLS,
-    };
-    let written = device.write(0, encode(volume, 0));
-    let synced = device.sync();
-    if written.is_err() || synced.is_err() {
-        return Err(Refusal::DeviceFault);
-    }
-    Ok(device)
 }

@@ -1,0 +1,2 @@
+pub mod PageCells
+pub mod Untold
