@@ -5,8 +5,9 @@ ghost use Rattle.cell_types.specs.declared.geometry.TheConstants.{MAX_CELLS};
 use crate::plain::{Document, State, document_of_slot_0, state_of_slot_0};
 use crate::{Outcome, run};
 use cell_types::{Cell, Refusal};
-use host_ports::{MemorySink, MemorySource};
+use host_ports::{FileDevice, MemorySink, MemorySource, Pages};
 use std::alloc::Global;
+use std::fs;
 use std::test::Fail;
 use tamper_rules::{MAX_BODY_BYTES, MAX_IDENTIFIER_BYTES};
 use worm_device::{Device, Written};
@@ -83,10 +84,10 @@ fn sink(alloc: Global) -> Result<MemorySink, Fail> {
 }
 
 /// Carries out the words over this body, and answers the outcome and what was put out.
-fn outcome_of(
+fn outcome_of<D: Device>(
     alloc: Global,
     words: &str,
-    device: &mut MemoryDevice,
+    device: &mut D,
     body: &[u8],
 ) -> Result<(Outcome, Vec<u8>), Fail> {
     let words = words_of(alloc, words)?;
@@ -205,6 +206,41 @@ fn format_writes_cell_0_alone(rt: HostRuntime) -> Result<(), Fail> {
             assert_eq!(rt; outcome, Err(Refusal::NotBlank(at)));
         }
     }
+    Ok(())
+}
+
+#[test]
+fn a_file_holds_the_cells_one_behind_the_other(rt: HostRuntime) -> Result<(), Fail> {
+    let alloc = rt.alloc();
+    let path = "a_file_holds_the_cells_one_behind_the_other.img";
+    fs::write(&rt, path, vec![in alloc; 0u8; 16_007]?)?;
+    for (words, body, text) in [
+        ("format|8|2", "", "formatted\n"),
+        ("ingest|a", "hello world", "acknowledged 0\n"),
+    ] {
+        let pages = Pages::new(alloc)?;
+        let Ok(mut device) = FileDevice::open(&rt, path, pages) else {
+            panic!(rt; "the file is there");
+        };
+        let (outcome, put) = outcome_of(alloc, words, &mut device, body.as_bytes())?;
+        assert_eq!(rt; outcome, Ok(()), "{words}");
+        assert_eq!(rt; put.as_slice(), text.as_bytes());
+    }
+    let mut bytes = Vec::new(alloc);
+    for at in 0..1_000 {
+        let cell = match at {
+            0 => VOLUME,
+            4 => RESERVE,
+            5 => COMMIT,
+            6 => DONE,
+            580 => DOCUMENT,
+            _ => [0; 16],
+        };
+        bytes.extend_from_slice(&cell)?;
+    }
+    bytes.extend_from_slice(&[0; 7])?;
+    assert_eq!(rt; fs::read(&rt, path)?, bytes);
+    fs::remove_file(&rt, path)?;
     Ok(())
 }
 
