@@ -1,8 +1,8 @@
 -- What tells nothing goes through each call as a device does: of its state only counts change.
-use Rattle.std.specs.Prelude.{◌≡◌, ◌<◌, ◌≤◌, ◌+◌, ◌-◌, ◌^◌, min, ℕ, List, Option, Result, Ok, Err, OnOk, OnErr}
+use Rattle.std.specs.Prelude.{◌≡◌, ◌<◌, ◌≤◌, ◌^◌, ℕ, List, Option, Result, Ok, Err, OnOk, OnErr}
 use Rattle.std.proofs.lemmas.Bool.{false≢true}
 use Rattle.std.proofs.Common.{refl, ap, ◌∙◌, arith, inl}
-use Rattle.worm_device.specs.Calls.{Elapses, HasElapsed, Called, Reads, Writes, Syncs}
+use Rattle.worm_device.specs.Calls.{HasElapsed, Called, Reads, Writes, Syncs}
 use Rattle.worm_device.specs.Counts.{next_count}
 use Rattle.worm_device.specs.State.{DeviceState}
 use Rattle.worm_device.specs.declared.device.Failed.{Failed}

@@ -1,5 +1,5 @@
 -- Why what tells nothing is a device. It stands here and not among the proofs, since a device's law cites it.
-use Rattle.std.specs.Prelude.{◌≡◌, ◌≤◌, ℕ}
+use Rattle.std.specs.Prelude.{◌≤◌, ℕ}
 use Rattle.std.proofs.lemmas.Option.{none-some}
 use Rattle.cell_types.specs.declared.geometry.TheConstants.{MAX_CELLS}
 use Rattle.worm_device.specs.State.{IsDevice}

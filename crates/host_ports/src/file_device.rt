@@ -99,7 +99,7 @@ impl<F: Drop> FileDevice<F> {
 }
 
 impl<F> FileDevice<F> {
-    ghost use Rattle.std.specs.Prelude.{◌^◌, ◌<◌, OnErr, OnOk};
+    ghost use Rattle.std.specs.Prelude.{◌^◌, ◌<◌, Ok, IsErr, OnErr, OnOk};
     ghost use Rattle.host_ports.specs.Files.{state_over};
     ghost use Rattle.host_ports.specs.Untold.{with_fault, with_read};
 
@@ -113,6 +113,8 @@ impl<F> FileDevice<F> {
 
     /// What a call answers. An error of the file is one fault.
     pub(crate) fn answer<T>(&mut self, done: io::Result<T>) -> Result<T, Failed>
+        ensures same { IfOk done (λ value. result ≡ Ok value) }
+        ensures fails { IsErr done → IsErr result }
         ensures ok { OnOk result (state_over self.new ≡ state_over self.old) }
         ensures err { OnErr result (state_over self.new ≡ with_fault (state_over self.old)) }
         ensures fits { (state_over self.old).faults < 2 ^ 64 }
