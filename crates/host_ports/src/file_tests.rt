@@ -122,6 +122,24 @@ fn what_was_written_stands_in_the_file(rt: HostRuntime) -> Result<(), Fail> {
 }
 
 #[test]
+fn a_write_asks_the_file_and_not_its_page(rt: HostRuntime) -> Result<(), Fail> {
+    let path = "a_write_asks_the_file_and_not_its_page.img";
+    fs::write(&rt, path, vec![in rt.alloc(); 0u8; 16_007]?)?;
+    let seven = some_cell(&rt, 7);
+    let nine = some_cell(&rt, 9);
+    let mut device = opened(&rt, path);
+    assert_eq!(rt; read(&rt, &mut device, 3), Ok(None));
+    // Somebody else writes cell 3 of the file, which the page does not show.
+    fs::write(&rt, path, two_written(rt.alloc())?)?;
+    assert_eq!(rt; read(&rt, &mut device, 3), Ok(None));
+    assert_eq!(rt; write(&rt, &mut device, 3, nine), Ok(Written::Taken(seven)));
+    assert_eq!(rt; read(&rt, &mut device, 3), Ok(Some(seven)));
+    assert_eq!(rt; fs::read(&rt, path)?, two_written(rt.alloc())?);
+    fs::remove_file(&rt, path)?;
+    Ok(())
+}
+
+#[test]
 fn cells_are_found_on_more_pages_than_are_held(rt: HostRuntime) -> Result<(), Fail> {
     let path = "cells_are_found_on_more_pages_than_are_held.img";
     let cells = 20 * 256 + 100;
