@@ -245,6 +245,25 @@ fn a_file_holds_the_cells_one_behind_the_other(rt: HostRuntime) -> Result<(), Fa
 }
 
 #[test]
+fn a_file_that_was_cut_short_is_a_device_fault(rt: HostRuntime) -> Result<(), Fail> {
+    let alloc = rt.alloc();
+    let path = "a_file_that_was_cut_short_is_a_device_fault.img";
+    for words in ["format|8|2", "ingest|a"] {
+        fs::write(&rt, path, vec![in alloc; 0u8; 16_000]?)?;
+        let Ok(mut device) = FileDevice::open(&rt, path, Pages::new(alloc)?) else {
+            panic!(rt; "the file is there");
+        };
+        fs::write(&rt, path, [0; 15])?;
+        let (outcome, put) = outcome_of(alloc, words, &mut device, b"hello world")?;
+        assert_eq!(rt; outcome, Err(Refusal::DeviceFault), "{words}");
+        assert_eq!(rt; put.len(), 0);
+        assert_eq!(rt; fs::read(&rt, path)?.as_slice(), [0; 15].as_slice());
+    }
+    fs::remove_file(&rt, path)?;
+    Ok(())
+}
+
+#[test]
 fn a_volume_has_a_least_size(rt: HostRuntime) -> Result<(), Fail> {
     let alloc = rt.alloc();
     for (cells, want) in [(580, Ok(())), (579, Err(Refusal::TooSmall))] {

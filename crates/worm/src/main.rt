@@ -30,8 +30,8 @@ use worm_device::Device;
 enum Fault {
     #[error("image cannot be opened")]
     Image,
-    #[error("{0}")]
-    Refused(Refusal),
+    #[error(transparent)]
+    Refused(#[from] Refusal),
 }
 
 impl Fault {
@@ -59,22 +59,20 @@ fn main(rt: HostRuntime) -> ExitCode {
 fn carry_out(
     rt: &(impl Env + Files<File: FileExt> + Input + Print + AllocGlobal),
 ) -> Result<(), Fault> {
-    let words = words(rt).map_err(Fault::Refused)?;
-    let Some((image, command)) = words.split_first() else {
-        return Err(Fault::Refused(Refusal::Usage));
-    };
+    let words = words(rt)?;
+    let (image, command) = words.split_first().ok_or(Refusal::Usage)?;
     let alloc = rt.alloc();
     let mut source = StdSource::new(rt.reader());
     let mut sink = StdSink::new(io::writer(rt));
-    let outcome = if image.as_str() == "-" {
-        let mut device = small_volume(alloc).map_err(Fault::Refused)?;
-        run(alloc, command, &mut device, &mut source, &mut sink)
+    if image.as_str() == "-" {
+        let mut device = small_volume(alloc)?;
+        run(alloc, command, &mut device, &mut source, &mut sink)?;
     } else {
-        let pages = Pages::new(alloc).map_err(|_| Fault::Refused(Refusal::NoMemory))?;
+        let pages = Pages::new(alloc).map_err(|_| Refusal::NoMemory)?;
         let mut device = FileDevice::open(rt, image.as_str(), pages).map_err(|_| Fault::Image)?;
-        run(alloc, command, &mut device, &mut source, &mut sink)
-    };
-    outcome.map_err(Fault::Refused)
+        run(alloc, command, &mut device, &mut source, &mut sink)?;
+    }
+    Ok(())
 }
 
 /// The words behind the program's name. Words that are no UTF-8 are no command.
