@@ -79,8 +79,8 @@ impl<F: Drop> FileDevice<F> {
     ghost use Rattle.host_ports.specs.Untold.{untold};
     ghost use Rattle.host_ports.specs.declared.file_device.OpenFault.TheVariants.{Size};
 
-    /// A file of so many bytes as a device.
-    pub(crate) fn over(file: F, bytes: u64, pages: Pages) -> Result<FileDevice<F>, OpenFault>
+    /// A device over a file that is open already, for reading and writing, and has so many bytes.
+    pub fn over(file: F, bytes: u64, pages: Pages) -> Result<FileDevice<F>, OpenFault>
         ensures made { IfOk result (λ device. state_over device ≡ untold (bytes / 16) 0 0) }
         ensures refused { IfErr result (λ fault. (fault ≡ Size (bytes / 16))
             × ((bytes / 16 ≡ 0) ⊎ (MAX_CELLS < bytes / 16))) }
