@@ -44,13 +44,12 @@ Fits (Jump target) = target < 2 ^ 32
 Fits (Bucket slot fingerprint) = (slot < 2 ^ 32) × IsBytes 7 fingerprint
 Fits (Child target) = target < 2 ^ 32
 
--- A record may stand in the cell of this number. Journals are no part of the format yet, so a commit
--- cell counts none.
+-- A record may stand in the cell of this number. A commit cell counts any number of journal cells.
 abbrev pub IsWellFormed : RecordCell → ℕ → Type 0
 IsWellFormed (Volume version slots lists cells) address =
     (version ≡ FORMAT_VERSION) × IsLayout (record { slots = slots; lists = lists; cells = cells }) × (address ≡ 0)
 IsWellFormed (Reserve start length) address = 1 ≤ length
-IsWellFormed (Commit bytes journal) address = (MIN_STORED_BYTES ≤ bytes) × (bytes ≤ MAX_STORED_BYTES) × (journal ≡ 0)
+IsWellFormed (Commit bytes journal) address = (MIN_STORED_BYTES ≤ bytes) × (bytes ≤ MAX_STORED_BYTES)
 IsWellFormed Abandon address = ⊤
 IsWellFormed (Done slot) address = slot < MAX_SLOTS
 IsWellFormed (Posting key last tag) address = key % 256 ≤ last

@@ -40,12 +40,12 @@ fn the_records_of_a_volume_are_read_and_written(rt: HostRuntime) {
     };
     let commit = RecordCell::Commit {
         bytes: 13,
-        journal: 0,
+        journal: 3,
     };
     for (at, digits, value) in [
         (0, 0x01_01_00000008_0002_000003e8_00000000, volume),
         (4, 0x02_00000244_00000004_000000_00000004, reserve),
-        (5, 0x03_0000000d_00000000_000000_00000005, commit),
+        (5, 0x03_0000000d_00000003_000000_00000005, commit),
         (
             6,
             0x05_00000000_00000000000000_00000006,
@@ -109,12 +109,12 @@ fn each_rule_of_a_record_has_its_edge(rt: HostRuntime) {
         (5, 0x02_00000244_00000001_000000_00000004, false),
         (4, 0x02_00000244_00000001_010000_00000004, false),
         (4, 0x02_00000244_00000001_000001_00000004, false),
-        // the bytes and the journal of a commit
+        // the bytes of a commit, any journal, and its three zeros
         (5, 0x03_00000001_00000000_000000_00000005, false),
         (5, 0x03_00000002_00000000_000000_00000005, true),
         (5, 0x03_001000c9_00000000_000000_00000005, true),
         (5, 0x03_001000ca_00000000_000000_00000005, false),
-        (5, 0x03_0000000d_00000001_000000_00000005, false),
+        (5, 0x03_0000000d_ffffffff_000000_00000005, true),
         (5, 0x03_0000000d_00000000_000001_00000005, false),
         // the zeros of an abandon cell
         (5, 0x04_0100000000000000000000_00000005, false),

@@ -7,6 +7,7 @@ use Rattle.worm_device.specs.Counts.{next_count}
 use Rattle.worm_device.specs.State.{DeviceState}
 use Rattle.worm_device.specs.declared.device.Failed.{Failed}
 use Rattle.worm_device.specs.declared.device.Written.{Written}
+use Rattle.worm_device.proofs.Elapsing.{leaves_all}
 use Rattle.host_ports.specs.Untold.{untold, with_fault, with_read}
 
 -- What a crash could leave is read off all but the counts, so time has gone on where counts alone rise.
@@ -26,6 +27,7 @@ called_untold : (cells f g r s : ℕ) → f ≤ g → r ≤ s → Called (untold
 called_untold cells f g r s faults reads = record {
   cells = refl;
   tells = refl;
+  begun = refl;
   image = record { keeps = λ cell value stands. stands };
   sure = record { keeps = λ cell value stands. stands };
   faults = faults;
@@ -42,6 +44,7 @@ pub reads_untold : (at cells f r : ℕ) (counted new : DeviceState) (result : Re
     → Reads at (untold cells f r) new result
 reads_untold at cells f r counted new (Ok found) count fits_r fits_f ok err = rw (ok ∙ count) (record {
   called = called_untold cells f f r (next_count r) (omega arith) (omega arith);
+  leaves = leaves_all _ _ (λ image between. inl between);
   only = λ still cell. refl;
   answer = λ told. absurd (false≢true told);
   cause = refl;
@@ -51,6 +54,7 @@ reads_untold at cells f r counted new (Err failed) count fits_r fits_f ok err =
     let fits : f < 2 ^ 64 = rw count at fits_f
     in rw (err ∙ ap with_fault count) (record {
       called = called_untold cells f (next_count f) r (next_count r) (omega arith) (omega arith);
+      leaves = leaves_all _ _ (λ image between. inl between);
       only = λ still cell. refl;
       answer = λ told. absurd (false≢true told);
       cause = omega arith;
@@ -65,6 +69,7 @@ pub writes_untold : (at : ℕ) (value : List ℕ) (cells f r : ℕ) (new : Devic
     → Writes at value (untold cells f r) new result
 writes_untold at value cells f r new (Ok written) fits ok err = rw ok (record {
   called = called_untold cells f f r r (omega arith) (omega arith);
+  leaves = leaves_all _ _ (λ image between. inl between);
   only = λ still cell. inl refl;
   answer = λ told. absurd (false≢true told);
   cause = refl;
@@ -72,6 +77,7 @@ writes_untold at value cells f r new (Ok written) fits ok err = rw ok (record {
 })
 writes_untold at value cells f r new (Err failed) fits ok err = rw err (record {
   called = called_untold cells f (next_count f) r r (omega arith) (omega arith);
+  leaves = leaves_all _ _ (λ image between. inl between);
   only = λ still cell. inl refl;
   answer = λ told. absurd (false≢true told);
   cause = omega arith;
@@ -86,6 +92,7 @@ pub syncs_untold : (cells f r : ℕ) (new : DeviceState) (result : Result Unit F
     → Syncs (untold cells f r) new result
 syncs_untold cells f r new (Ok done) fits ok err = rw ok (record {
   called = called_untold cells f f r r (omega arith) (omega arith);
+  leaves = leaves_all _ _ (λ image between. inl between);
   only = λ still cell. refl;
   answer = λ told. absurd (false≢true told);
   cause = refl;
@@ -93,6 +100,7 @@ syncs_untold cells f r new (Ok done) fits ok err = rw ok (record {
 })
 syncs_untold cells f r new (Err failed) fits ok err = rw err (record {
   called = called_untold cells f (next_count f) r r (omega arith) (omega arith);
+  leaves = leaves_all _ _ (λ image between. inl between);
   only = λ still cell. refl;
   answer = λ told. absurd (false≢true told);
   cause = omega arith;

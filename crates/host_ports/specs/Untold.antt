@@ -1,5 +1,5 @@
 -- A device that tells nothing: what stands as its image, its sure image and its past is blank, and says nothing.
-use Rattle.std.specs.Prelude.{ℕ, false, None}
+use Rattle.std.specs.Prelude.{ℕ, false, None, []}
 use Rattle.cell_types.specs.Image.{Image}
 use Rattle.worm_device.specs.Counts.{next_count}
 use Rattle.worm_device.specs.State.{DeviceState}
@@ -18,6 +18,7 @@ untold cells faults reads = record {
   faults = faults;
   foreign_writes = 0;
   reads = reads;
+  begun = [];
   moment = 0;
   past = λ moment. record { image = blank; sure = blank };
 }

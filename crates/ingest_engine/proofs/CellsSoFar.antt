@@ -5,8 +5,8 @@ use Rattle.std.proofs.lemmas.Grind.{common_steps}
 use Rattle.std.proofs.lemmas.Option.{gets}
 use Rattle.std.proofs.lemmas.List.{drop-drop}
 use Rattle.cell_types.specs.Contents.{content_bytes}
-use Rattle.tamper_rules.specs.Documents.{content_at}
-use Rattle.tamper_rules.specs.Slots.{cells_for}
+use Rattle.stored_documents.specs.Documents.{content_at}
+use Rattle.stored_documents.specs.Slots.{cells_for}
 use Rattle.ingest_engine.specs.Ingest.{AreCellsOf}
 
 -- the cells are the first ones of these stored bytes, and rest is what they leave

@@ -4,7 +4,7 @@ use Rattle.std.specs.Prelude.{IsTrue}
 use Rattle.cell_types.specs.Image.{Image, Between}
 use Rattle.cell_types.specs.Layout.{Layout, reserve_at, outcome_at, done_at, pool_at}
 use Rattle.cell_types.specs.declared.refusal.Refusal.{Refusal}
-use Rattle.tamper_rules.specs.Documents.{content_at, Spells}
+use Rattle.stored_documents.specs.Documents.{content_at, Spells}
 use Rattle.worm_device.specs.Calls.{Called}
 use Rattle.worm_device.specs.Counts.{IsStill}
 use Rattle.worm_device.specs.State.{DeviceState}

@@ -5,15 +5,16 @@ use Rattle.cell_types.specs.Image.{Image, Between, IsUnchanged}
 use Rattle.cell_types.specs.Layout.{Layout, IsLayout, outcome_at, pool_at}
 use Rattle.cell_types.specs.declared.refusal.Refusal.{Refusal}
 use Rattle.cell_types.specs.declared.refusal.Refusal.TheVariants.{Usage, Duplicate, BadIdentifier, TooLong, TooManyTerms, BadWord, BadScript, Full, SlotsFull, PathFull, Tampered, DeviceFault, SourceFault, SinkFault, NoMemory, NotFormatted, NotAVolume, WrongSize, NotBlank, TooSmall, NotYet, Absent}
-use Rattle.tamper_rules.specs.Documents.{IsIdentifier, IsBody, Spells, Stands, document_at, stored_bytes}
-use Rattle.tamper_rules.specs.Slots.{cells_for}
-use Rattle.tamper_rules.specs.Volumes.{IsVolume}
-use Rattle.tamper_rules.proofs.Extending.{volume_on}
+use Rattle.stored_documents.specs.Documents.{IsIdentifier, IsBody, Spells, Stands, document_at, stored_bytes}
+use Rattle.stored_documents.specs.Slots.{cells_for}
+use Rattle.stored_documents.specs.Volumes.{IsVolume}
+use Rattle.stored_documents.proofs.Extending.{volume_on}
 use Rattle.worm_device.specs.Calls.{Called}
 use Rattle.worm_device.specs.Counts.{IsStill, Rose}
 use Rattle.worm_device.specs.State.{DeviceState, LeftSince}
 use Rattle.worm_device.proofs.Counting.{still_first, still_second}
 use Rattle.worm_device.proofs.Elapsing.{called_then, elapses_of}
+use Rattle.worm_device.proofs.Images.{extends_then}
 use Rattle.ingest_engine.specs.Ingest.{IsPlanned, IsStored, IsWholeOrUncommitted, PhaseEnds, Stores}
 use Rattle.ingest_engine.specs.Puts.{PutEnds, IsIngestCell, PutsDocument}
 use Rattle.ingest_engine.proofs.Planned.{planned_same, planned_then, planned_wider}
@@ -102,7 +103,7 @@ module _ (id body : List ℕ) (s0 s1 s2 : DeviceState) (g : Layout) (is_id : IsI
   refused (NotYet at) later ends = λ tells.
       let taken = ends.2 (subst IsTrue (sym called.tells) tells) in
       inr (g, volume_at_end later tells, inr (record { fits = fits; value = ends.0; planned = ends.1; found = taken.0; stands = taken.1; differs = taken.2 }))
-  refused NoMemory later ends = tt
+  refused NoMemory later ends = absurd ends
   refused Usage later ends = ends
   refused (Duplicate n) later ends = ends
   refused BadIdentifier later ends = ends
@@ -126,8 +127,8 @@ module _ (id body : List ℕ) (s0 s1 s2 : DeviceState) (g : Layout) (is_id : IsI
   ends_at : (result : Result Unit Refusal) → Stores g (stored_bytes id body) s1 s2 result → PutEnds id body s0 s2 result
   ends_at (Ok u) stores = λ tells.
       let tells_1 = subst IsTrue (sym called.tells) tells in
-      stored_stands id body s2.cells s2.sure g is_id is_body is_layout
-      (subst (λ (n : ℕ). IsVolume n s2.sure g) (sym stores.called.cells) (volume_on (stores.synced tells_1) (volume tells))) fits (stores.sure tells_1)
+      (stored_stands id body s2.cells s2.sure g is_id is_body is_layout
+      (subst (λ (n : ℕ). IsVolume n s2.sure g) (sym stores.called.cells) (volume_on (stores.synced tells_1) (volume tells))) fits (stores.sure tells_1), extends_then called.image (stores.synced tells_1))
   ends_at (Err refusal) stores = refused refusal stores.called stores.ends
 
   -- the document was put, or putting it was ended at a cell

@@ -11,5 +11,5 @@ use Rattle.ingest_engine.specs.Formats.{IsBlankBelow}
 pub record SeenBlank (n : ℕ) (old now : DeviceState) : Type 0 where
   pub called : Called old now
   pub only : IsStill old.foreign_writes now.foreign_writes → IsUnchanged old.image now.image
-  pub blank : IsTrue old.tells → IsStill old.foreign_writes now.foreign_writes → IsBlankBelow n old.image
+  pub blank : IsTrue old.tells → IsBlankBelow n old.image
   pub faults : now.faults ≡ old.faults

@@ -8,8 +8,8 @@ use Rattle.cell_types.specs.Records.{record_bytes}
 use Rattle.cell_types.specs.declared.record_cell.RecordCell.TheVariants.{Reserve, Commit, Done}
 use Rattle.cell_types.specs.declared.refusal.Refusal.{Refusal}
 use Rattle.cell_types.specs.declared.refusal.Refusal.TheVariants.{Usage, Duplicate, BadIdentifier, TooLong, TooManyTerms, BadWord, BadScript, Full, SlotsFull, PathFull, Tampered, DeviceFault, SourceFault, SinkFault, NoMemory, NotFormatted, NotAVolume, WrongSize, NotBlank, TooSmall, NotYet, Absent}
-use Rattle.tamper_rules.specs.Documents.{content_at, Spells}
-use Rattle.tamper_rules.specs.Slots.{cells_for}
+use Rattle.stored_documents.specs.Documents.{content_at, Spells}
+use Rattle.stored_documents.specs.Slots.{cells_for}
 use Rattle.worm_device.specs.Calls.{Called}
 use Rattle.worm_device.specs.Counts.{IsStill, Rose}
 use Rattle.worm_device.specs.State.{DeviceState, LeftSince}

@@ -5,7 +5,7 @@ use Rattle.cell_types.specs.Layout.{Layout, IsLayout}
 use Rattle.cell_types.specs.Records.{record_bytes}
 use Rattle.cell_types.specs.declared.refusal.Refusal.{Refusal}
 use Rattle.cell_types.specs.declared.refusal.Refusal.TheVariants.{DeviceFault, NotBlank, TooSmall}
-use Rattle.tamper_rules.specs.Volumes.{volume_record}
+use Rattle.stored_documents.specs.Volumes.{volume_record}
 use Rattle.worm_device.specs.Calls.{Called}
 use Rattle.worm_device.specs.Counts.{Rose, IsStill}
 use Rattle.worm_device.specs.State.{DeviceState}
@@ -23,12 +23,12 @@ pub record IsLeastWritten (at : ℕ) (old new : DeviceState) : Type 0 where
   pub found : List ℕ
   pub stands : new.image at ≡ Some found
   pub stood : IsStill old.foreign_writes new.foreign_writes → old.image at ≡ Some found
-  pub least : IsStill old.foreign_writes new.foreign_writes → IsBlankBelow at old.image
+  pub least : IsBlankBelow at old.image
 
 -- how a look for written cells may end, and why
 abbrev pub LookEnds : DeviceState → DeviceState → Result Unit Refusal → Type 0
 LookEnds old new (Ok _) =
-    (IsTrue old.tells → IsStill old.foreign_writes new.foreign_writes → IsBlankBelow old.cells old.image)
+    (IsTrue old.tells → IsBlankBelow old.cells old.image)
     × (new.faults ≡ old.faults)
 LookEnds old new (Err DeviceFault) = Rose old.faults new.faults
 LookEnds old new (Err (NotBlank at)) = IsTrue old.tells → IsLeastWritten at old new
@@ -44,10 +44,12 @@ pub record Looks (old new : DeviceState) (result : Result Unit Refusal) : Type 0
 abbrev pub FormatEnds : Layout → DeviceState → DeviceState → Result Unit Refusal → Type 0
 FormatEnds g old new (Ok _) =
     IsLayout g × (IsTrue old.tells → new.sure 0 ≡ Some (volume_cell g))
-    × (IsTrue old.tells → IsStill old.foreign_writes new.foreign_writes → IsBlankBelow old.cells old.image)
-FormatEnds g old new (Err TooSmall) = IsLayout g → ⊥
+    × (IsTrue old.tells → IsBlankBelow old.cells old.image)
+FormatEnds g old new (Err TooSmall) = (IsLayout g → ⊥) × (new ≡ old)
 FormatEnds g old new (Err DeviceFault) = IsLayout g × Rose old.faults new.faults
-FormatEnds g old new (Err (NotBlank at)) = IsLayout g × (IsTrue old.tells → IsLeastWritten at old new)
+FormatEnds g old new (Err (NotBlank at)) =
+    IsLayout g × (IsTrue old.tells → IsLeastWritten at old new)
+    × (IsTrue old.tells → IsStill old.foreign_writes new.foreign_writes → IsUnchanged old.image new.image)
 FormatEnds g old new (Err refusal) = ⊥
 
 -- what it means that a device was formatted, or that this was ended

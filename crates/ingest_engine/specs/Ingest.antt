@@ -6,8 +6,8 @@ use Rattle.cell_types.specs.Records.{record_bytes}
 use Rattle.cell_types.specs.declared.record_cell.RecordCell.TheVariants.{Reserve, Commit, Done}
 use Rattle.cell_types.specs.declared.refusal.Refusal.{Refusal}
 use Rattle.cell_types.specs.declared.refusal.Refusal.TheVariants.{NotYet, DeviceFault}
-use Rattle.tamper_rules.specs.Documents.{Spells, content_at}
-use Rattle.tamper_rules.specs.Slots.{cells_for}
+use Rattle.stored_documents.specs.Documents.{Spells, content_at}
+use Rattle.stored_documents.specs.Slots.{cells_for}
 use Rattle.worm_device.specs.Calls.{Called}
 use Rattle.worm_device.specs.Counts.{Rose, IsStill}
 use Rattle.worm_device.specs.State.{DeviceState, LeftSince}

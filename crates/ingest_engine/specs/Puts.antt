@@ -1,12 +1,12 @@
 -- What it means that a document is put onto a device, or that putting it was ended.
 use Rattle.std.specs.Prelude.{◌≡◌, ◌≢◌, ◌<◌, ◌≤◌, ◌+◌, ◌⊎◌, ℕ, List, length, Some, None, Result, Ok, Err, IsTrue, ⊤}
-use Rattle.cell_types.specs.Image.{Image}
+use Rattle.cell_types.specs.Image.{Image, Extends, IsUnchanged}
 use Rattle.cell_types.specs.Layout.{Layout, outcome_at, pool_at}
 use Rattle.cell_types.specs.declared.refusal.Refusal.{Refusal}
 use Rattle.cell_types.specs.declared.refusal.Refusal.TheVariants.{DeviceFault, NoMemory, NotYet}
-use Rattle.tamper_rules.specs.Documents.{Spells, Stands, stored_bytes}
-use Rattle.tamper_rules.specs.Slots.{cells_for}
-use Rattle.tamper_rules.specs.Volumes.{IsVolume}
+use Rattle.stored_documents.specs.Documents.{Spells, Stands, stored_bytes}
+use Rattle.stored_documents.specs.Slots.{cells_for}
+use Rattle.stored_documents.specs.Volumes.{IsVolume}
 use Rattle.worm_device.specs.Calls.{Called}
 use Rattle.worm_device.specs.Counts.{Rose, IsStill}
 use Rattle.worm_device.specs.State.{DeviceState, LeftSince}
@@ -36,10 +36,10 @@ CannotYet stored device at =
 
 -- how putting a document onto a device may end, and why
 abbrev pub PutEnds : List ℕ → List ℕ → DeviceState → DeviceState → Result Unit Refusal → Type 0
-PutEnds id body old new (Ok _) = IsTrue old.tells → Stands new.cells new.sure 0 id body
+PutEnds id body old new (Ok _) = IsTrue old.tells → Stands new.cells new.sure 0 id body × Extends old.image new.sure
 PutEnds id body old new (Err DeviceFault) = Rose old.faults new.faults
 PutEnds id body old new (Err (NotYet at)) = IsTrue old.tells → CannotYet (stored_bytes id body) new at
-PutEnds id body old new (Err NoMemory) = ⊤
+PutEnds id body old new (Err NoMemory) = IsStill old.foreign_writes new.foreign_writes → IsUnchanged old.image new.image
 PutEnds id body old new (Err refusal) = ⊥
 
 -- the value is planned for the cell, by the layout that the device's cell 0 states

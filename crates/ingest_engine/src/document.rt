@@ -1,6 +1,6 @@
 //! A document as its cells.
 ghost use Rattle.std.specs.Prelude.{◌≡◌, ◌<◌, ◌^◌, length, IfOk};
-ghost use Rattle.tamper_rules.specs.Documents.{IsIdentifier, stored_bytes};
+ghost use Rattle.stored_documents.specs.Documents.{IsIdentifier, stored_bytes};
 ghost use Rattle.ingest_engine.specs.Ingest.{AreCellsOf};
 
 use cell_types::{Cell, content};

@@ -1,6 +1,6 @@
 //! A document, put onto a device.
 ghost use Rattle.std.specs.Prelude.{◌≡◌};
-ghost use Rattle.tamper_rules.specs.Documents.{IsIdentifier, IsBody};
+ghost use Rattle.stored_documents.specs.Documents.{IsIdentifier, IsBody};
 ghost use Rattle.ingest_engine.specs.Puts.{PutsDocument};
 
 use crate::document::{content_cells, stored_document};

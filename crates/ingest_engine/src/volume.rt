@@ -2,7 +2,7 @@
 ghost use Rattle.std.specs.Prelude.{◌≡◌, ◌≤◌, ◌⊎◌, IfOk, IfErr, IsErrOf, IsTrue};
 ghost use Rattle.cell_types.specs.Image.{IsUnchanged};
 ghost use Rattle.cell_types.specs.Layout.{Layout, IsLayout};
-ghost use Rattle.tamper_rules.specs.Volumes.{IsVolume};
+ghost use Rattle.stored_documents.specs.Volumes.{IsVolume};
 ghost use Rattle.worm_device.specs.Calls.{Called};
 ghost use Rattle.worm_device.specs.Counts.{Rose, IsStill};
 

@@ -10,8 +10,8 @@ use Rattle.cell_types.specs.declared.refusal.Refusal.{Refusal}
 use Rattle.cell_types.specs.declared.refusal.Refusal.TheVariants.{Usage, Duplicate, BadIdentifier, TooLong, TooManyTerms, BadWord, BadScript, Full, SlotsFull, PathFull, Tampered, DeviceFault, SourceFault, SinkFault, NoMemory, NotFormatted, NotAVolume, WrongSize, NotBlank, TooSmall, NotYet, Absent}
 use Rattle.cell_types.proofs.OneRecord.{one_record}
 use Rattle.host_ports.specs.Sources.{Gives, IsAtEnd}
-use Rattle.tamper_rules.specs.Documents.{stored_bytes, content_at}
-use Rattle.tamper_rules.specs.Volumes.{IsVolume, volume_record}
+use Rattle.stored_documents.specs.Documents.{stored_bytes, content_at}
+use Rattle.stored_documents.specs.Volumes.{IsVolume, volume_record}
 use Rattle.worm_device.proofs.Counting.{rose_or_still}
 use Rattle.ingest_engine.specs.Ingest.{IsPlanned}
 use Rattle.record_top.specs.Words.{AsksToIngest}

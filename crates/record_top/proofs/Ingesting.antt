@@ -5,8 +5,8 @@ use Rattle.cell_types.specs.declared.refusal.Refusal.{Refusal}
 use Rattle.cell_types.specs.declared.refusal.Refusal.TheVariants.{Usage, Duplicate, BadIdentifier, TooLong, TooManyTerms, BadWord, BadScript, Full, SlotsFull, PathFull, Tampered, DeviceFault, SourceFault, SinkFault, NoMemory, NotFormatted, NotAVolume, WrongSize, NotBlank, TooSmall, NotYet, Absent}
 use Rattle.host_ports.specs.Sinks.{SinkState, Gets}
 use Rattle.host_ports.specs.Sources.{SourceState, Gives, IsAtEnd}
-use Rattle.tamper_rules.specs.Documents.{IsBody, stored_bytes}
-use Rattle.tamper_rules.specs.declared.limits.TheConstants.{MAX_BODY_BYTES}
+use Rattle.stored_documents.specs.Documents.{IsBody, stored_bytes}
+use Rattle.stored_documents.specs.declared.limits.TheConstants.{MAX_BODY_BYTES}
 use Rattle.worm_device.specs.Counts.{Rose}
 use Rattle.worm_device.specs.State.{DeviceState}
 use Rattle.worm_device.proofs.Elapsing.{called_self}
@@ -34,7 +34,7 @@ module _ (id given : List ℕ) (device : DeviceState) (old_source new_source : S
         → IngestEnds id given (record { device = device; source = old_source; sink = old_sink }) (record { device = later; source = new_source; sink = new_sink }) (Err refusal)
     refused DeviceFault ends same = (record { body = body; at_end = at_end }, ends, same)
     refused (NotYet at) ends same = (record { body = body; at_end = at_end }, ends, same)
-    refused NoMemory ends same = (omega (arith, body.most), same)
+    refused NoMemory ends same = (omega (arith, body.most), ends, same)
     refused Usage ends same = absurd ends
     refused (Duplicate n) ends same = absurd ends
     refused BadIdentifier ends same = absurd ends
@@ -105,11 +105,11 @@ not_taken id device old_source new_source sink refusal too_long source_fault no_
     let new : Ports = record { device = device; source = new_source; sink = sink } in
     ⊎_elim
     (λ (e : refusal ≡ TooLong). let h = too_long e in
-    subst (λ (r : Refusal). Ingests id old new (Err r)) (sym e) (ended_early id h.0 device old_source new_source sink sink h.2 (Err TooLong) (h.1, refl)))
+    subst (λ (r : Refusal). Ingests id old new (Err r)) (sym e) (ended_early id h.0 device old_source new_source sink sink h.2 (Err TooLong) (h.1, refl, refl)))
     (λ (other : (refusal ≡ SourceFault) ⊎ (refusal ≡ NoMemory)). ⊎_elim
     (λ (e : refusal ≡ SourceFault). let h = source_fault e in
-    subst (λ (r : Refusal). Ingests id old new (Err r)) (sym e) (ended_early id h.0 device old_source new_source sink sink h.2 (Err SourceFault) (h.1, h.3, refl)))
+    subst (λ (r : Refusal). Ingests id old new (Err r)) (sym e) (ended_early id h.0 device old_source new_source sink sink h.2 (Err SourceFault) (h.1, h.3, refl, refl)))
     (λ (e : refusal ≡ NoMemory). let h = no_memory e in
-    subst (λ (r : Refusal). Ingests id old new (Err r)) (sym e) (ended_early id h.0 device old_source new_source sink sink h.2 (Err NoMemory) (h.1, refl)))
+    subst (λ (r : Refusal). Ingests id old new (Err r)) (sym e) (ended_early id h.0 device old_source new_source sink sink h.2 (Err NoMemory) (h.1, λ still cell. refl, refl)))
     other)
     which

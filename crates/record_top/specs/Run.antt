@@ -1,16 +1,16 @@
 -- What the call does that a program makes with its words: each answer with its cause, and what stays.
 use Rattle.std.specs.Prelude.{◌≡◌, ◌≤◌, ◌+◌, ◌++◌, ℕ, List, codes, length, take, Some, None, Result, Ok, Err, IsTrue, ⊤}
 use Rattle.std.specs.Fmt.{decimal}
-use Rattle.cell_types.specs.Image.{ChangesOnly}
+use Rattle.cell_types.specs.Image.{ChangesOnly, Extends, IsUnchanged}
 use Rattle.cell_types.specs.Layout.{IsLayout, Layout, pool_at}
 use Rattle.cell_types.specs.declared.refusal.Refusal.{Refusal}
 use Rattle.cell_types.specs.declared.refusal.Refusal.TheVariants.{TooLong, DeviceFault, SourceFault, SinkFault, NoMemory, NotYet}
 use Rattle.host_ports.specs.Sinks.{SinkState, Gets}
 use Rattle.host_ports.specs.Sources.{SourceState, Gives, IsAtEnd}
-use Rattle.tamper_rules.specs.Documents.{IsBody, Stands, stored_bytes}
-use Rattle.tamper_rules.specs.Slots.{cells_for}
-use Rattle.tamper_rules.specs.Volumes.{IsVolume}
-use Rattle.tamper_rules.specs.declared.limits.TheConstants.{MAX_BODY_BYTES}
+use Rattle.stored_documents.specs.Documents.{IsBody, Stands, stored_bytes}
+use Rattle.stored_documents.specs.Slots.{cells_for}
+use Rattle.stored_documents.specs.Volumes.{IsVolume}
+use Rattle.stored_documents.specs.declared.limits.TheConstants.{MAX_BODY_BYTES}
 use Rattle.record_top.specs.Words.{AsksToFormat, AsksToIngest}
 use Rattle.worm_device.specs.Calls.{Called}
 use Rattle.worm_device.specs.Counts.{Rose, IsStill}
@@ -35,7 +35,8 @@ pub record TakesBody (given : List ℕ) (new : Ports) : Type 0 where
 
 -- the document stands in what no crash can take, where the device tells its image
 abbrev pub IsKept : List ℕ → List ℕ → Ports → Ports → Type 0
-IsKept id body old new = IsTrue old.device.tells → Stands new.device.cells new.device.sure 0 id body
+IsKept id body old new =
+    IsTrue old.device.tells → Stands new.device.cells new.device.sure 0 id body × Extends old.device.image new.device.sure
 
 -- the sink holds what it held
 abbrev pub KeepsSink : Ports → Ports → Type 0
@@ -48,13 +49,16 @@ IngestEnds id given old new (Ok _) =
 IngestEnds id given old new (Err SinkFault) =
     TakesBody given new × IsKept id given old new × Rose old.sink.faults new.sink.faults
     × ((n : ℕ) × (n ≤ length (acknowledgement 0)) × Gets old.sink.held new.sink.held (take n (acknowledgement 0)))
-IngestEnds id given old new (Err SourceFault) = IsBody given × Rose old.source.faults new.source.faults × KeepsSink old new
-IngestEnds id given old new (Err TooLong) = (length given ≡ MAX_BODY_BYTES + 1) × KeepsSink old new
+IngestEnds id given old new (Err SourceFault) =
+    IsBody given × Rose old.source.faults new.source.faults × (new.device ≡ old.device) × KeepsSink old new
+IngestEnds id given old new (Err TooLong) = (length given ≡ MAX_BODY_BYTES + 1) × (new.device ≡ old.device) × KeepsSink old new
 IngestEnds id given old new (Err DeviceFault) =
     TakesBody given new × Rose old.device.faults new.device.faults × KeepsSink old new
 IngestEnds id given old new (Err (NotYet at)) =
     TakesBody given new × (IsTrue old.device.tells → CannotYet (stored_bytes id given) new.device at) × KeepsSink old new
-IngestEnds id given old new (Err NoMemory) = (length given ≤ MAX_BODY_BYTES + 1) × KeepsSink old new
+IngestEnds id given old new (Err NoMemory) =
+    (length given ≤ MAX_BODY_BYTES + 1)
+    × (IsStill old.device.foreign_writes new.device.foreign_writes → IsUnchanged old.device.image new.device.image) × KeepsSink old new
 IngestEnds id given old new (Err refusal) = ⊥
 
 -- what `ingest` of an identifier does

@@ -1,7 +1,7 @@
 -- Which words are a command.
 use Rattle.std.specs.Prelude.{◌≡◌, ◌≢◌, ◌<◌, ◌≤◌, ◌+◌, ◌-◌, ◌*◌, ℕ, List, [], ◌∷◌, codes, fold, length, slice_index}
 use Rattle.cell_types.specs.declared.geometry.TheConstants.{MAX_LISTS, MAX_SLOTS}
-use Rattle.tamper_rules.specs.Documents.{IsIdentifier}
+use Rattle.stored_documents.specs.Documents.{IsIdentifier}
 
 -- The words are `ingest` and this identifier. No word begins with a hyphen.
 pub record AsksToIngest (words : List (List ℕ)) (id : List ℕ) : Type 0 where

@@ -3,13 +3,13 @@ ghost use Rattle.std.specs.Prelude.{◌≡◌, ◌≤◌, ◌+◌, ◌<◌, ℕ,
 ghost use Rattle.host_ports.specs.Sources.{Gives, IsAtEnd};
 ghost use Rattle.record_top.specs.Taking.{PieceEnds};
 ghost use Rattle.worm_device.specs.Counts.{Rose};
-ghost use Rattle.tamper_rules.specs.Documents.{IsBody};
-ghost use Rattle.tamper_rules.specs.declared.limits.TheConstants.{MAX_BODY_BYTES};
+ghost use Rattle.stored_documents.specs.Documents.{IsBody};
+ghost use Rattle.stored_documents.specs.declared.limits.TheConstants.{MAX_BODY_BYTES};
 
 use cell_types::Refusal;
 use host_ports::Source;
 use std::alloc::Global;
-use tamper_rules::MAX_BODY_BYTES;
+use stored_documents::MAX_BODY_BYTES;
 
 /// How many bytes a source is asked for at once.
 const PIECE_BYTES: usize = 4_096;

@@ -2,7 +2,7 @@
 ghost use Rattle.std.specs.Prelude.{◌≡◌, ◌↔◌, ℕ, List, map, IsOk};
 ghost use Rattle.std.specs.String.{string_bytes};
 ghost use Rattle.cell_types.specs.Layout.{Layout};
-ghost use Rattle.tamper_rules.specs.Documents.{IsIdentifier};
+ghost use Rattle.stored_documents.specs.Documents.{IsIdentifier};
 ghost use Rattle.worm_device.specs.Calls.{Called};
 ghost use Rattle.record_top.specs.Words.{AsksToFormat, AsksToIngest};
 ghost use Rattle.record_top.specs.Run.{FormatsVolume, Ingests, IsBlankDevice, IsNoCommand, IsOkOrNoMemory, IsReady};

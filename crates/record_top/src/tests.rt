@@ -11,7 +11,7 @@ use std::fs::{Metadata, OpenFile};
 use std::os::unix::fs::FileExt;
 use std::test::Fail;
 use std::{cell, fs, io};
-use tamper_rules::{MAX_BODY_BYTES, MAX_IDENTIFIER_BYTES};
+use stored_documents::{MAX_BODY_BYTES, MAX_IDENTIFIER_BYTES};
 use worm_device::{Device, Written};
 use worm_memory::{Change, MemoryDevice};
 

@@ -1,11 +1,11 @@
 //! The words of a command, read in place.
 ghost use Rattle.std.specs.Prelude.{◌≡◌, ◌≢◌, ◌<◌, ◌≤◌, ◌↔◌, ℕ, List, map, length, slice_index, IsTrue, IfSome, IfNone};
 ghost use Rattle.std.specs.String.{string_bytes};
-ghost use Rattle.tamper_rules.specs.Documents.{IsIdentifier};
+ghost use Rattle.stored_documents.specs.Documents.{IsIdentifier};
 ghost use Rattle.record_top.specs.Words.{AsksToFormat, AsksToIngest, IsNumberUpTo};
 
 use cell_types::{MAX_LISTS, MAX_SLOTS};
-use tamper_rules::MAX_IDENTIFIER_BYTES;
+use stored_documents::MAX_IDENTIFIER_BYTES;
 
 /// The greatest number of digits of a number.
 const MAX_DIGITS: usize = 10;

@@ -1,1 +1,13 @@
-pub mod Extending
+pub mod Between
+pub mod DocumentLists
+pub mod GivenUp
+pub mod GivenUpRules
+pub mod GoingOn
+pub mod Images
+pub mod Keeps
+pub mod OneAfter
+pub mod SameDocuments
+pub mod Settled
+pub mod SettledLaws
+pub mod SettlingGoesOn
+pub mod Writing

@@ -1,3 +1,4 @@
-pub mod Documents
-pub mod Slots
-pub mod Volumes
+pub mod Journals
+pub mod Rules
+pub mod Settling
+pub mod SettlingLaws

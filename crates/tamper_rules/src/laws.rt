@@ -1,8 +1,43 @@
 //! Laws: what the definitions mean together, over all images. Each is a function that does nothing and whose
 //! contract is the law.
-ghost use Rattle.tamper_rules.specs.Documents.{StandsHoldsOn};
+ghost use Rattle.tamper_rules.specs.SettlingLaws.{AfterIsOne, DocumentsExist, EdgeIsOne, FormattedIsSettled, SettledIsUnbroken, SettledKeeps, SettlingGoesOn, SteadyHoldsTwo};
 
-/// A document that stands in an image stands in each image that extends it.
-pub fn stands_holds_on()
-    ensures { StandsHoldsOn }
+/// A settled image has one horizon and one edge.
+pub fn edge_is_one()
+    ensures { EdgeIsOne }
+{}
+
+/// A settled image keeps its documents.
+pub fn settled_keeps()
+    ensures { SettledKeeps }
+{}
+
+/// Settling, cut short anywhere, is made up for by settling again.
+pub fn settling_goes_on()
+    ensures { SettlingGoesOn }
+{}
+
+/// Settling makes one image of an image.
+pub fn after_is_one()
+    ensures { AfterIsOne }
+{}
+
+/// No rule is broken in a settled image.
+pub fn settled_is_unbroken()
+    ensures { SettledIsUnbroken }
+{}
+
+/// A volume cell alone is settled.
+pub fn formatted_is_settled()
+    ensures { FormattedIsSettled }
+{}
+
+/// A settled image has a list of its documents.
+pub fn documents_exist()
+    ensures { DocumentsExist }
+{}
+
+/// Where each image that a crash may leave is sound, it holds the documents of the least or those of the greatest.
+pub fn steady_holds_two()
+    ensures { SteadyHoldsTwo }
 {}

@@ -1,7 +1,8 @@
 -- Time that goes on: what a crash could have left, over one call after another.
 use Rattle.std.proofs.Common.{refl, ◌∙◌, inl, inr, ⊎_elim, arith}
-use Rattle.worm_device.specs.State.{DeviceState}
-use Rattle.worm_device.specs.Calls.{Elapses, HasElapsed, Called}
+use Rattle.cell_types.specs.Image.{Image, Between}
+use Rattle.worm_device.specs.State.{DeviceState, LeftSince}
+use Rattle.worm_device.specs.Calls.{Elapses, HasElapsed, LeavesAll, Called}
 use Rattle.worm_device.proofs.Images.{extends_self, extends_then, between_wider}
 
 -- no time goes by
@@ -43,6 +44,7 @@ pub called_self : (s : DeviceState) → Called s s
 called_self s = record {
   cells = refl;
   tells = refl;
+  begun = refl;
   image = extends_self s.image;
   sure = extends_self s.sure;
   faults = omega arith;
@@ -56,6 +58,7 @@ pub called_then : {a b c : DeviceState} → Called a b → Called b c → Called
 called_then {a} {b} {c} p q = record {
   cells = q.cells ∙ p.cells;
   tells = q.tells ∙ p.tells;
+  begun = q.begun ∙ p.begun;
   image = extends_then p.image q.image;
   sure = extends_then p.sure q.sure;
   faults = omega (arith, p.faults, q.faults);
@@ -63,3 +66,25 @@ called_then {a} {b} {c} p q = record {
   reads = omega (arith, p.reads, q.reads);
   crashes = λ earlier h. q.crashes earlier (p.crashes earlier h);
 }
+
+-- what a crash in a row of calls could leave
+pub crash_between : (a b : DeviceState) (image : Image) → Called a b → LeftSince b a.moment image → Between a.sure b.image image
+crash_between a b image called left =
+    let later = elapses_of called in
+    ⊎_elim
+    (λ (before : LeftSince a a.moment image). ⊎_elim
+    (λ (now : Between a.sure a.image image). between_wider (extends_self a.sure) later.image now)
+    (λ past. absurd (omega (arith, past.1, past.2)))
+    before)
+    (λ (now : Between a.sure b.image image). now)
+    (later.adds a.moment image (omega arith) left)
+
+-- what a device shows of a crash in the middle of one call, in the form that its contract has
+pub leaves_all : (old new : DeviceState) → ((image : Image) → Between old.sure new.image image → LeftSince new old.moment image) → LeavesAll old new
+unfolding LeavesAll
+leaves_all old new h = h
+
+-- and what a caller reads off it
+pub leaves_of : (old new : DeviceState) → LeavesAll old new → (image : Image) → Between old.sure new.image image → LeftSince new old.moment image
+unfolding LeavesAll
+leaves_of old new h = h

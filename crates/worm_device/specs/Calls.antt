@@ -22,11 +22,13 @@ pub record Elapses (old new : DeviceState) : Type 0 where
 unfoldable pub HasElapsed : DeviceState → DeviceState → Type 0
 HasElapsed old new = Elapses old new
 
--- What every call keeps, and so every row of calls: the device stays what it is, what is written and what is
--- sure stays so, and no count falls. crashes says Elapses of old and new, from each earlier state on.
+-- What every call keeps, and so every row of calls: the device stays what it is, and what it keeps from a command's
+-- beginning on; what is written and what is sure stays so, and no count falls. crashes says Elapses of old and new,
+-- from each earlier state on.
 pub record Called (old new : DeviceState) : Type 0 where
   pub cells : new.cells ≡ old.cells
   pub tells : new.tells ≡ old.tells
+  pub begun : new.begun ≡ old.begun
   pub image : Extends old.image new.image
   pub sure : Extends old.sure new.sure
   pub faults : old.faults ≤ new.faults
@@ -38,9 +40,15 @@ pub record Called (old new : DeviceState) : Type 0 where
 abbrev pub HasCause : {X : Type 0} → DeviceState → DeviceState → Result X Failed → Type 0
 HasCause old new result = MatchResult result (λ _. new.faults ≡ old.faults) (λ _. Rose old.faults new.faults)
 
+-- A crash in the middle of a call may leave each image that has what was sure at its entry, and nothing that does
+-- not stand at its exit. The name is one that proofs don't look into; the law `a_crash_in_a_call` says what it means.
+unfoldable pub LeavesAll : DeviceState → DeviceState → Type 0
+LeavesAll old new = (image : Image) → Between old.sure new.image image → LeftSince new old.moment image
+
 -- A read answers what stands in the cell at its exit, and counts as one read, also where it fails.
 pub record Reads (at : ℕ) (old new : DeviceState) (result : Result (Option (List ℕ)) Failed) : Type 0 where
   pub called : Called old new
+  pub leaves : LeavesAll old new
   pub only : IsStill old.foreign_writes new.foreign_writes → IsUnchanged old.image new.image
   pub answer : IsTrue old.tells → MatchResult result (λ found. found ≡ new.image at) (λ _. ⊤)
   pub cause : HasCause old new result
@@ -55,6 +63,7 @@ WriteAnswers at value old new (Taken found) =
 -- A write changes a blank cell alone. One that failed may have been done or not.
 pub record Writes (at : ℕ) (value : List ℕ) (old new : DeviceState) (result : Result Written Failed) : Type 0 where
   pub called : Called old new
+  pub leaves : LeavesAll old new
   pub only : IsStill old.foreign_writes new.foreign_writes → ChangesOnly at value old.image new.image
   pub answer : IsTrue old.tells → MatchResult result (WriteAnswers at value old new) (λ _. ⊤)
   pub cause : HasCause old new result
@@ -63,6 +72,7 @@ pub record Writes (at : ℕ) (value : List ℕ) (old new : DeviceState) (result 
 -- A sync that answers has made sure all that stood at its entry.
 pub record Syncs (old new : DeviceState) (result : Result Unit Failed) : Type 0 where
   pub called : Called old new
+  pub leaves : LeavesAll old new
   pub only : IsStill old.foreign_writes new.foreign_writes → IsUnchanged old.image new.image
   pub answer : IsTrue old.tells → MatchResult result (λ _. Extends old.image new.sure) (λ _. ⊤)
   pub cause : HasCause old new result

@@ -2,7 +2,7 @@
 use Rattle.std.specs.Prelude.{◌↔◌}
 use Rattle.cell_types.specs.Image.{Image, Between}
 use Rattle.worm_device.specs.State.{DeviceState, LeftSince}
-use Rattle.worm_device.specs.Calls.{Called, Elapses}
+use Rattle.worm_device.specs.Calls.{Called, Elapses, LeavesAll}
 use Rattle.worm_device.specs.Views.{ViewState, Viewed, Rests}
 
 -- Called holds of no call, and of one row of calls after another
@@ -13,6 +13,21 @@ CallsCompose =
 -- Called says Elapses
 abbrev pub CallsElapse : Type 0
 CallsElapse = (a b : DeviceState) → Called a b → Elapses a b
+
+-- A crash at any moment of a row of calls leaves all that was sure before it, and nothing that does not stand
+-- after it, whoever else wrote.
+abbrev pub CrashesKeepWhatWasSure : Type 0
+CrashesKeepWhatWasSure =
+    (a b : DeviceState) (image : Image) → Called a b → LeftSince b a.moment image → Between a.sure b.image image
+
+-- LeavesAll says that each image from what was sure at a call's entry to what stands at its exit may be left
+abbrev pub ACrashInACall : Type 0
+ACrashInACall = (a b : DeviceState) (image : Image) → LeavesAll a b → Between a.sure b.image image → LeftSince b a.moment image
+
+-- Viewed holds of no call, and of one row of calls after another
+abbrev pub ViewsCompose : Type 0
+ViewsCompose =
+    ((a : ViewState) → Viewed a a) × ((a b c : ViewState) → Viewed a b → Viewed b c → Viewed a c)
 
 -- Viewed says Rests
 abbrev pub ViewsRest : Type 0

@@ -27,6 +27,9 @@ pub record DeviceState : Type 0 where
   pub foreign_writes : ℕ
   -- how many reads it was asked for
   pub reads : ℕ
+  -- what it keeps from the beginning of a command on, as its record so far and its plan, in rows of numbers of the
+  -- device's own; no call changes it
+  pub begun : List (List ℕ)
   -- the present moment: a number that does not fall
   pub moment : ℕ
   -- what stood at each moment before the present one

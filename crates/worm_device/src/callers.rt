@@ -79,6 +79,8 @@ impl<V> Counted<V> {
 impl<V: View> View for Counted<V> {
     ghost seen = { λ held. V.seen held.view };
 
+    ghost proper = { λ held. V.proper held.view };
+
     fn cells(&self) -> u32 {
         self.view.cells()
     }

@@ -24,8 +24,11 @@ impl<'a, D: Device> Direct<'a, D> {
 
 impl<'a, D: Device> View for Direct<'a, D> {
     ghost use Rattle.worm_device.specs.Views.{seen_directly};
+    ghost use Rattle.worm_device.specs.Directly.{device_is_view};
 
     ghost seen = { λ v. seen_directly (D.state v.device.now) v.device.ghost_name };
+
+    ghost proper = { λ v. device_is_view (D.state v.device.now) v.device.ghost_name (D.proper v.device.now) };
 
     fn cells(&self) -> u32 {
         self.device.cells()

@@ -1,6 +1,6 @@
 //! Laws: what the words of the contracts mean together, over all states. Each is a function that does
 //! nothing and whose contract is the law.
-ghost use Rattle.worm_device.specs.Laws.{CallsCompose, CallsElapse, ViewsRest, ACrashNow};
+ghost use Rattle.worm_device.specs.Laws.{ACrashInACall, ACrashNow, CallsCompose, CallsElapse, CrashesKeepWhatWasSure, ViewsCompose, ViewsRest};
 
 /// Calls one after another keep what each of them keeps, and a row of no calls keeps it too.
 pub fn calls_compose()
@@ -11,6 +11,23 @@ pub fn calls_compose()
 /// does not stand after it; and what a crash could leave before it could still be left.
 pub fn calls_elapse()
     ensures { CallsElapse }
+{}
+
+/// A crash at any moment of a row of calls leaves all that was sure before it, and nothing that does not stand
+/// after it, whoever else wrote.
+pub fn crashes_keep_what_was_sure()
+    ensures { CrashesKeepWhatWasSure }
+{}
+
+/// A crash in the middle of a call may leave each image that has what was sure at its entry, and nothing that does
+/// not stand at its exit.
+pub fn a_crash_in_a_call()
+    ensures { ACrashInACall }
+{}
+
+/// Reads through a view one after another keep what each of them keeps, and a row of no reads keeps it too.
+pub fn views_compose()
+    ensures { ViewsCompose }
 {}
 
 /// What a view shows, and what stands below it, is the same after a row of calls in which nobody else wrote.

@@ -1,14 +1,15 @@
 //! A view: what may be read of a device, or of what is planned for one.
 ghost use Rattle.std.specs.Prelude.{◌≡◌, ◌<◌};
-ghost use Rattle.worm_device.specs.Views.{ViewState, ViewReads};
+ghost use Rattle.worm_device.specs.Views.{ViewState, ViewReads, IsView};
 
 use crate::Failed;
 use cell_types::Cell;
 
 /// Cells that can be read.
 ///
-/// A view stands over a device, directly or over other views. A type that holds a view of type `V` by value
-/// passes on `(V.seen held).base` and `.loans`; one that holds a `&mut V` puts the loan's own name in front.
+/// A view stands over a device, directly or over other views. A holder may show planned cells over those below: what
+/// these are stays through each read, whatever stands below. A type that holds a view of type `V` by value passes on
+/// `(V.seen held).base` and `.loans`; one that holds a `&mut V` puts the loan's own name in front.
 pub trait View {
     /// What the view is, for contracts.
     ghost seen: { Self → ViewState };
@@ -17,8 +18,11 @@ pub trait View {
     fn cells(&self) -> u32
         ensures cells { result ≡ (seen self.now).cells };
 
-    /// What the view shows in a cell, `None` where it is blank.
+    /// What the view shows in a cell, `None` where it is blank. It costs the device below one read at most.
     fn read(&mut self, at: u32) -> Result<Option<Cell>, Failed>
         requires { at < (seen self.old).cells }
         ensures { ViewReads at (seen self.old) (seen self.new) result };
+
+    /// What holds of every view.
+    ghost proper: { (view : Self) → IsView (seen view) };
 }

@@ -1,5 +1,5 @@
 -- What the calls of a device in memory do, over all that it tells.
-use Rattle.std.proofs.Common.{◌≡◌, ◌≤◌, ◌<◌, ◌^◌, ⊎_elim, inl, inr, ℕ, List, Option, Some, None, Ok, Err, refl, ap, sym, subst, ◌∙◌, arith}
+use Rattle.std.proofs.Common.{◌≡◌, ◌≤◌, ◌<◌, ◌^◌, ⊎_elim, inl, inr, ℕ, List, [], ◌∷◌, ◌++◌, length, Option, Some, None, Ok, Err, refl, ap, sym, subst, ◌∙◌, arith}
 use Rattle.std.proofs.lemmas.Bool.Decides.{eqb_tells}
 use Rattle.cell_types.specs.Image.{Extends, ChangesOnly}
 use Rattle.worm_device.specs.State.{Instant}
@@ -8,45 +8,50 @@ use Rattle.worm_device.specs.Counts.{next_count}
 use Rattle.worm_device.specs.declared.device.Failed.{Failed}
 use Rattle.worm_device.specs.declared.device.Written.TheVariants.{Done, Taken}
 use Rattle.worm_device.proofs.Images.{extends_self}
-use Rattle.worm_device.proofs.Elapsing.{elapsed_since}
+use Rattle.worm_device.proofs.Elapsing.{elapsed_since, called_self, called_then, leaves_all}
 use Rattle.worm_memory.specs.declared.change.Change.{Change}
-use Rattle.worm_memory.specs.declared.change.Change.TheVariants.{Wrote, Synced}
+use Rattle.worm_memory.specs.declared.change.Change.TheVariants.{Wrote, Foreign, Synced}
+use Rattle.worm_memory.specs.Device.{ForeignWrites}
+use Rattle.worm_memory.proofs.Worlds.{Adds}
 use Rattle.worm_memory.specs.Worlds.{blank, world}
-use Rattle.worm_memory.specs.Memory.{Memory, device_of, with_change, with_fault, with_read, IsUnsure}
+use Rattle.worm_memory.specs.Memory.{Memory, device_of, with_change, with_foreign, with_fault, with_read, IsUnsure}
 use Rattle.worm_memory.specs.Proper.{sure_stands, blank_stands}
 use Rattle.worm_memory.proofs.Worlds.{after_append, image_is, written_here, written_elsewhere}
-use Rattle.worm_memory.proofs.Crashes.{elapses_counted, elapses_changed, image_after, sure_after}
+use Rattle.worm_memory.proofs.Crashes.{left_still, elapses_counted, elapses_changed, image_after, sure_after}
 
 -- what every call keeps, where only counts rise
 called_counted : (m : Memory) (faults reads : ℕ) → m.faults ≤ faults → m.reads ≤ reads → Called (device_of m) (device_of (record m { faults = faults; reads = reads }))
 called_counted m faults reads more_faults more_reads = record {
   cells = refl;
   tells = refl;
+  begun = refl;
   image = extends_self (world m.changes).image;
   sure = extends_self (world m.changes).sure;
   faults = more_faults;
   foreign_writes = omega arith;
   reads = more_reads;
-  crashes = elapsed_since (elapses_counted m faults reads);
+  crashes = elapsed_since (elapses_counted m faults reads m.foreign_writes);
 }
 
 -- and where something changes
-called_changed : (m : Memory) (change : Change) → Called (device_of m) (device_of (with_change m change))
-called_changed m change = record {
+called_changed : (m : Memory) (change : Change) → Adds change → Called (device_of m) (device_of (with_change m change))
+called_changed m change adds = record {
   cells = refl;
   tells = refl;
-  image = image_after m change;
+  begun = refl;
+  image = image_after m change adds;
   sure = sure_after m change;
   faults = omega arith;
   foreign_writes = omega arith;
   reads = omega arith;
-  crashes = elapsed_since (elapses_changed m change);
+  crashes = elapsed_since (elapses_changed m change adds);
 }
 
 -- a read answers what stands
 pub reads_of : (m : Memory) (at : ℕ) → m.reads < 2 ^ 64 → Reads at (device_of m) (device_of (with_read m)) (Ok ((world m.changes).image at))
 reads_of m at fits = record {
   called = called_counted m m.faults (next_count m.reads) (omega arith) (omega arith);
+  leaves = leaves_all _ _ (λ image between. inl between);
   only = λ still cell. refl;
   answer = λ tells. refl;
   cause = refl;
@@ -68,7 +73,8 @@ changes_one m at value free = λ cell.
 -- a blank cell is written
 pub writes_done : (m : Memory) (at : ℕ) (value : List ℕ) → (world m.changes).image at ≡ None → Writes at value (device_of m) (device_of (with_change m (Wrote at value))) (Ok Done)
 writes_done m at value free = record {
-  called = called_changed m (Wrote at value);
+  called = called_changed m (Wrote at value) tt;
+  leaves = leaves_all _ _ (λ image between. inl (record { above = subst (λ (now : Instant). Extends now.sure image) (sym (after_append blank m.changes (Wrote at value))) between.above; below = between.below }));
   only = λ still. changes_one m at value free;
   answer = λ tells. (free, value_stands m at value free);
   cause = refl;
@@ -79,6 +85,7 @@ writes_done m at value free = record {
 pub writes_taken : (m : Memory) (at : ℕ) (value found : List ℕ) → (world m.changes).image at ≡ Some found → Writes at value (device_of m) (device_of m) (Ok (Taken found))
 writes_taken m at value found stands = record {
   called = called_counted m m.faults m.reads (omega arith) (omega arith);
+  leaves = leaves_all _ _ (λ image between. inl between);
   only = λ still cell. inl refl;
   answer = λ tells. (stands, λ still. stands);
   cause = refl;
@@ -89,6 +96,7 @@ writes_taken m at value found stands = record {
 pub writes_failed : (m : Memory) (at : ℕ) (value : List ℕ) (failed : Failed) → m.faults < 2 ^ 64 → Writes at value (device_of m) (device_of (with_fault m)) (Err failed)
 writes_failed m at value failed fits = record {
   called = called_counted m (next_count m.faults) m.reads (omega arith) (omega arith);
+  leaves = leaves_all _ _ (λ image between. inl between);
   only = λ still cell. inl refl;
   answer = λ tells. tt;
   cause = omega arith;
@@ -98,7 +106,8 @@ writes_failed m at value failed fits = record {
 -- a sync makes sure what stands
 pub syncs_done : (m : Memory) → Syncs (device_of m) (device_of (with_change m Synced)) (Ok tt)
 syncs_done m = record {
-  called = called_changed m Synced;
+  called = called_changed m Synced tt;
+  leaves = leaves_all _ _ (λ image between. left_still m Synced (length m.changes) image (omega arith) (inl (record { above = between.above; below = record { keeps = λ cell value h. sym (image_is m.changes Synced cell) ∙ between.below.keeps cell value h } })));
   only = λ still cell. image_is m.changes Synced cell;
   answer = λ tells.
       subst (λ (now : Instant). Extends (world m.changes).image now.sure) (sym (after_append blank m.changes Synced)) (extends_self (world m.changes).image);
@@ -114,6 +123,7 @@ sure_too (Some found) high value keeps stands some = sym (keeps found refl) ∙ 
 pub syncs_idle : (m : Memory) → (IsUnsure m → ⊥) → Syncs (device_of m) (device_of m) (Ok tt)
 syncs_idle m all_sure = record {
   called = called_counted m m.faults m.reads (omega arith) (omega arith);
+  leaves = leaves_all _ _ (λ image between. inl between);
   only = λ still cell. refl;
   answer = λ tells. record {
     keeps = λ cell value h.
@@ -127,8 +137,32 @@ syncs_idle m all_sure = record {
 pub syncs_failed : (m : Memory) (failed : Failed) → m.faults < 2 ^ 64 → Syncs (device_of m) (device_of (with_fault m)) (Err failed)
 syncs_failed m failed fits = record {
   called = called_counted m (next_count m.faults) m.reads (omega arith) (omega arith);
+  leaves = leaves_all _ _ (λ image between. inl between);
   only = λ still cell. refl;
   answer = λ tells. tt;
   cause = omega arith;
   count = refl;
 }
+
+-- somebody else writes a blank cell: first the record grows, and then the count
+pub foreign_done : (m : Memory) (at : ℕ) (value : List ℕ) → m.foreign_writes < 2 ^ 64 → ForeignWrites (device_of m) (device_of (with_foreign m at value))
+foreign_done m at value fits = record {
+  called = called_then (called_changed m (Foreign at value) tt) (record {
+    cells = refl;
+    tells = refl;
+    begun = refl;
+    image = extends_self (world (m.changes ++ Foreign at value ∷ [])).image;
+    sure = extends_self (world (m.changes ++ Foreign at value ∷ [])).sure;
+    faults = omega arith;
+    foreign_writes = omega arith;
+    reads = omega arith;
+    crashes = elapsed_since (elapses_counted (with_change m (Foreign at value)) m.faults m.reads (next_count m.foreign_writes));
+  });
+  quiet = λ still. absurd (omega (arith, still.same, still.below));
+}
+
+pub foreign_taken : (m : Memory) → ForeignWrites (device_of m) (device_of m)
+foreign_taken m = record { called = called_self (device_of m); quiet = λ still cell. refl }
+
+pub foreign_failed : (m : Memory) → m.faults < 2 ^ 64 → ForeignWrites (device_of m) (device_of (with_fault m))
+foreign_failed m fits = record { called = called_counted m (next_count m.faults) m.reads (omega arith) (omega arith); quiet = λ still cell. refl }

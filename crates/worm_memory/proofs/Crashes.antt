@@ -11,11 +11,11 @@ use Rattle.worm_memory.specs.declared.change.Change.{Change}
 use Rattle.worm_memory.specs.Worlds.{blank, world}
 use Rattle.worm_memory.specs.Memory.{Memory, device_of, with_change}
 use Rattle.worm_memory.specs.Proper.{sure_stands, blank_stands}
-use Rattle.worm_memory.proofs.Worlds.{after_append, image_grows, sure_grows}
+use Rattle.worm_memory.proofs.Worlds.{after_append, Adds, image_grows, sure_grows}
 
 -- counts rise, and the record stays: what a crash could have left stays too
-pub elapses_counted : (m : Memory) (faults reads : ℕ) → Elapses (device_of m) (device_of (record m { faults = faults; reads = reads }))
-elapses_counted m faults reads = record {
+pub elapses_counted : (m : Memory) (faults reads foreign_writes : ℕ) → Elapses (device_of m) (device_of (record m { faults = faults; reads = reads; foreign_writes = foreign_writes }))
+elapses_counted m faults reads foreign_writes = record {
   later = omega arith;
   image = extends_self (world m.changes).image;
   sure = extends_self (world m.changes).sure;
@@ -40,16 +40,16 @@ one_longer : (changes : List Change) (change : Change) → length (changes ++ ch
 one_longer changes change = simp length-append
 
 -- one more change keeps what stands, and what is sure
-pub image_after : (m : Memory) (change : Change) → Extends (device_of m).image (device_of (with_change m change)).image
-image_after m change =
-    subst (λ (now : Instant). Extends (world m.changes).image now.image) (sym (after_append blank m.changes change)) (image_grows (world m.changes) change)
+pub image_after : (m : Memory) (change : Change) → Adds change → Extends (device_of m).image (device_of (with_change m change)).image
+image_after m change adds =
+    subst (λ (now : Instant). Extends (world m.changes).image now.image) (sym (after_append blank m.changes change)) (image_grows (world m.changes) change adds)
 
 pub sure_after : (m : Memory) (change : Change) → Extends (device_of m).sure (device_of (with_change m change)).sure
 sure_after m change =
     subst (λ (now : Instant). Extends (world m.changes).sure now.sure) (sym (after_append blank m.changes change)) (sure_grows (world m.changes) change (sure_stands blank m.changes blank_stands))
 
 -- what could be left before it can still be left: the present has become the last moment of the past
-left_still : (m : Memory) (change : Change) (since : ℕ) (image : Image) → since ≤ length m.changes → LeftSince (device_of m) since image → LeftSince (device_of (with_change m change)) since image
+pub left_still : (m : Memory) (change : Change) (since : ℕ) (image : Image) → since ≤ length m.changes → LeftSince (device_of m) since image → LeftSince (device_of (with_change m change)) since image
 left_still m change since image le left =
     let longer : length (m.changes ++ change ∷ []) ≡ length m.changes + 1 = one_longer m.changes change in
     ⊎_elim
@@ -67,12 +67,12 @@ left_before m change since image moment le within left =
     (cases_lt moment (length m.changes))
 
 -- one more change
-pub elapses_changed : (m : Memory) (change : Change) → Elapses (device_of m) (device_of (with_change m change))
-elapses_changed m change =
+pub elapses_changed : (m : Memory) (change : Change) → Adds change → Elapses (device_of m) (device_of (with_change m change))
+elapses_changed m change adds =
     let longer : length (m.changes ++ change ∷ []) ≡ length m.changes + 1 = one_longer m.changes change in
     record {
       later = omega arith;
-      image = image_after m change;
+      image = image_after m change adds;
       sure = sure_after m change;
       keeps = λ since image le left. left_still m change since image le left;
       adds = λ since image le left.

@@ -1,4 +1,5 @@
 pub mod Calls
 pub mod Cells
+pub mod Losing
 pub mod Crashes
 pub mod Worlds

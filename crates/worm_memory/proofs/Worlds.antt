@@ -2,15 +2,16 @@
 use Rattle.std.proofs.Common.{◌≡◌, ◌≢◌, ◌<◌, ◌-◌, ℕ, List, [], ◌∷◌, ◌++◌, length, take, suc, Option, Some, None, refl, ap, sym, ◌∙◌, arith}
 use Rattle.std.proofs.lemmas.Bool.Decides.{nat_tests}
 use Rattle.std.specs.List.{slice_get}
-use Rattle.std.proofs.lemmas.Option.{none-some, slice_get_within, get_or_from_slice_get}
+use Rattle.std.proofs.lemmas.Grind.{common_steps}
+use Rattle.std.proofs.lemmas.Option.{gets, none-some, slice_get_within, get_or_from_slice_get}
 use Rattle.std.proofs.Math.Seq.{take-suc, take-length}
 use Rattle.cell_types.specs.Image.{Image, Extends}
 use Rattle.worm_device.specs.State.{Instant}
 use Rattle.worm_device.proofs.Images.{extends_self}
 use Rattle.worm_memory.specs.declared.change.Change.{Change}
-use Rattle.worm_memory.specs.declared.change.Change.TheVariants.{Wrote, Synced}
+use Rattle.worm_memory.specs.declared.change.Change.TheVariants.{Wrote, Foreign, Synced, Lost, Crashed}
 use Rattle.worm_memory.specs.Proper.{kept, sure_stands, blank_stands}
-use Rattle.worm_memory.specs.Worlds.{written, after_change, after_changes, blank, world, AreChanges}
+use Rattle.worm_memory.specs.Worlds.{written, after_change, after_changes, blank, world, AreChanges, EndsWithNoLoss, fallen}
 
 -- the cell that was written holds the value, if it was blank
 pub written_here : (image : Image) (at : ℕ) (value : List ℕ) → image at ≡ None → written image at value at ≡ Some value
@@ -34,23 +35,44 @@ pub changes_append : (cells : ℕ) (now : Instant) (changes : List Change) (chan
 changes_append cells now [] change old one = one
 changes_append cells now (Wrote at value ∷ changes) change old one =
     (old.0, old.1, old.2, changes_append cells (after_change now (Wrote at value)) changes change old.3 one)
+changes_append cells now (Foreign at value ∷ changes) change old one =
+    (old.0, old.1, old.2, changes_append cells (after_change now (Foreign at value)) changes change old.3 one)
 changes_append cells now (Synced ∷ changes) change old one = changes_append cells (after_change now Synced) changes change old one
+changes_append cells now (Lost at ∷ changes) change old one = changes_append cells (after_change now (Lost at)) changes change old one
+changes_append cells now (Crashed ∷ changes) change old one = changes_append cells (after_change now Crashed) changes change old one
 
 -- and the last change of a row is one by itself
 pub last_changes : (cells : ℕ) (now : Instant) (changes : List Change) (change : Change) → AreChanges cells now (changes ++ change ∷ []) → AreChanges cells (after_changes now changes) (change ∷ [])
 last_changes cells now [] change all = all
 last_changes cells now (Wrote at value ∷ changes) change all = last_changes cells (after_change now (Wrote at value)) changes change all.3
+last_changes cells now (Foreign at value ∷ changes) change all = last_changes cells (after_change now (Foreign at value)) changes change all.3
 last_changes cells now (Synced ∷ changes) change all = last_changes cells (after_change now Synced) changes change all
+last_changes cells now (Lost at ∷ changes) change all = last_changes cells (after_change now (Lost at)) changes change all
+last_changes cells now (Crashed ∷ changes) change all = last_changes cells (after_change now Crashed) changes change all
+
+-- a change that only adds: every one but a loss
+abbrev pub Adds : Change → Type 0
+Adds (Wrote at value) = Unit {0}
+Adds (Foreign at value) = Unit {0}
+Adds Synced = Unit {0}
+Adds (Lost at) = ⊥
+Adds Crashed = Unit {0}
 
 -- what stands stays
-pub image_grows : (now : Instant) (change : Change) → Extends now.image (after_change now change).image
-image_grows now (Wrote at value) = kept now.image at value
-image_grows now Synced = extends_self now.image
+pub image_grows : (now : Instant) (change : Change) → Adds change → Extends now.image (after_change now change).image
+image_grows now (Wrote at value) adds = kept now.image at value
+image_grows now (Foreign at value) adds = kept now.image at value
+image_grows now Synced adds = extends_self now.image
+image_grows now (Lost at) adds = absurd adds
+image_grows now Crashed adds = extends_self now.image
 
 -- what is sure stays sure
 pub sure_grows : (now : Instant) (change : Change) → Extends now.sure now.image → Extends now.sure (after_change now change).sure
 sure_grows now (Wrote at value) stands = extends_self now.sure
+sure_grows now (Foreign at value) stands = extends_self now.sure
 sure_grows now Synced stands = stands
+sure_grows now (Lost at) stands = extends_self now.sure
+sure_grows now Crashed stands = stands
 
 -- a row whose last change is this one
 pub ends_with : (changes : List Change) (change : Change) → slice_get changes (length changes - 1) ≡ Some change → changes ≡ take (length changes - 1) changes ++ change ∷ []
@@ -73,6 +95,41 @@ unsure_after_write cells changes at value all =
       blank_below _ _ ((sure_stands blank changes blank_stands).keeps at) one.1,
     )
 
+-- after a write its cell is written and not sure
+pub unsure_after_other : (cells : ℕ) (changes : List Change) (at : ℕ) (value : List ℕ) → AreChanges cells blank (changes ++ Foreign at value ∷ [])
+    → ((world (changes ++ Foreign at value ∷ [])).image at ≡ Some value) × ((world (changes ++ Foreign at value ∷ [])).sure at ≡ None)
+unsure_after_other cells changes at value all =
+    let one = last_changes cells blank changes (Foreign at value) all in
+    rw (after_append blank changes (Foreign at value)) (
+      written_here (world changes).image at value one.1,
+      blank_below _ _ ((sure_stands blank changes blank_stands).keeps at) one.1,
+    )
+
 -- after a sync all that stands is sure
 pub sure_after_sync : (changes : List Change) (cell : ℕ) → (world (changes ++ Synced ∷ [])).sure cell ≡ (world (changes ++ Synced ∷ [])).image cell
 sure_after_sync changes cell = rw (after_append blank changes Synced) refl
+
+pub sure_after_crash : (changes : List Change) (cell : ℕ) → (world (changes ++ Crashed ∷ [])).sure cell ≡ (world (changes ++ Crashed ∷ [])).image cell
+sure_after_crash changes cell = rw (after_append blank changes Crashed) refl
+
+get_last : (changes : List Change) (change : Change) → slice_get (changes ++ change ∷ []) (length (changes ++ change ∷ []) - 1) ≡ Some change
+get_last changes change = grind (arith, common_steps, gets)
+
+change_is : (a b : Change) → Some a ≡ Some b → a ≡ b
+change_is a b e = cc
+
+-- a row that ends with another change ends with no loss
+pub no_loss_after : (changes : List Change) (change : Change) → ((at : ℕ) → change ≡ Lost at → ⊥) → EndsWithNoLoss (changes ++ change ∷ [])
+no_loss_after changes change none = λ at last. none at (change_is change (Lost at) (sym (get_last changes change) ∙ last))
+
+pub wrote_no_loss : (at : ℕ) (value : List ℕ) (other : ℕ) → Wrote at value ≡ Lost other → ⊥
+wrote_no_loss at value other e = cc
+
+pub foreign_no_loss : (at : ℕ) (value : List ℕ) (other : ℕ) → Foreign at value ≡ Lost other → ⊥
+foreign_no_loss at value other e = cc
+
+pub synced_no_loss : (other : ℕ) → Synced ≡ Lost other → ⊥
+synced_no_loss other e = cc
+
+pub crashed_no_loss : (other : ℕ) → Crashed ≡ Lost other → ⊥
+crashed_no_loss other e = cc

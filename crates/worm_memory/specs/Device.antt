@@ -1,7 +1,10 @@
 -- What a device in memory tells, read off its fields, and what a call does to it.
-use Rattle.std.specs.Prelude.{◌≡◌, ℕ, ◌+◌, ◌-◌, vec_len, vec_capacity}
+use Rattle.std.specs.Prelude.{◌≡◌, List, ℕ, ◌+◌, ◌-◌, vec_len, vec_capacity}
+use Rattle.cell_types.specs.Image.{IsUnchanged}
+use Rattle.worm_device.specs.Calls.{Called}
+use Rattle.worm_device.specs.Counts.{IsStill}
 use Rattle.worm_device.specs.State.{DeviceState}
-use Rattle.worm_memory.specs.Memory.{Memory, device_of, with_change, with_fault}
+use Rattle.worm_memory.specs.Memory.{Memory, device_of, with_change, with_fault, with_foreign}
 use Rattle.worm_memory.specs.declared.change.Change.{Change}
 use Rattle.worm_memory.specs.declared.memory_device.MemoryDevice.{MemoryDevice}
 
@@ -12,6 +15,7 @@ memory_of device = record {
   changes = device.changes.items;
   faults = device.faults;
   reads = device.reads;
+  foreign_writes = device.foreign_writes;
 }
 
 -- how many further changes its record has room for
@@ -33,3 +37,12 @@ Records change old new = (memory_of new ≡ with_change (memory_of old) change) 
 -- one more fault is counted, and nothing else has changed
 abbrev pub CountsFault : MemoryDevice → MemoryDevice → Type 0
 CountsFault old new = (memory_of new ≡ with_fault (memory_of old)) × (room_of new ≡ room_of old)
+
+-- one more foreign write is in the record and in the count, and nothing else but the room has changed
+abbrev pub RecordsForeign : ℕ → List ℕ → MemoryDevice → MemoryDevice → Type 0
+RecordsForeign at value old new = (memory_of new ≡ with_foreign (memory_of old) at value) × (room_of new + 1 ≡ room_of old)
+
+-- what others do is a call as any, and shows in the count
+pub record ForeignWrites (old new : DeviceState) : Type 0 where
+  pub called : Called old new
+  pub quiet : IsStill old.foreign_writes new.foreign_writes → IsUnchanged old.image new.image

@@ -1,4 +1,5 @@
 pub mod Device
+pub mod Losses
 pub mod Memory
 pub mod Proper
 pub mod Worlds

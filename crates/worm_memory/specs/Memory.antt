@@ -5,6 +5,7 @@ use Rattle.worm_device.specs.Counts.{next_count}
 use Rattle.worm_device.specs.State.{DeviceState}
 use Rattle.worm_memory.specs.Worlds.{world}
 use Rattle.worm_memory.specs.declared.change.Change.{Change}
+use Rattle.worm_memory.specs.declared.change.Change.TheVariants.{Foreign}
 
 -- all that a device in memory tells
 pub record Memory : Type 0 where
@@ -16,8 +17,10 @@ pub record Memory : Type 0 where
   pub faults : ℕ
   -- how many reads it was asked for
   pub reads : ℕ
+  -- how many cells somebody else has written
+  pub foreign_writes : ℕ
 
--- As a device. The moment is the number of changes so far, and nobody else writes.
+-- As a device. The moment is the number of changes so far.
 abbrev pub device_of : Memory → DeviceState
 device_of m = record {
   cells = m.cells;
@@ -25,8 +28,9 @@ device_of m = record {
   image = (world m.changes).image;
   sure = (world m.changes).sure;
   faults = m.faults;
-  foreign_writes = 0;
+  foreign_writes = m.foreign_writes;
   reads = m.reads;
+  begun = [];
   moment = length m.changes;
   past = λ moment. world (take moment m.changes);
 }
@@ -39,6 +43,10 @@ IsUnsure m =
 -- one more change
 abbrev pub with_change : Memory → Change → Memory
 with_change m change = record m { changes = m.changes ++ change ∷ [] }
+
+-- one more foreign write
+abbrev pub with_foreign : Memory → ℕ → List ℕ → Memory
+with_foreign m at value = record m { changes = m.changes ++ Foreign at value ∷ []; foreign_writes = next_count m.foreign_writes }
 
 -- one more fault
 abbrev pub with_fault : Memory → Memory

@@ -1,12 +1,12 @@
 -- What a row of changes makes of blank cells: an image, and what of it is sure.
-use Rattle.std.specs.Prelude.{◌≡◌, ◌<◌, ◌==◌, if◌then◌else◌, ℕ, List, [], ◌∷◌, Option, Some, None, ⊤, slice_index_or}
+use Rattle.std.specs.Prelude.{◌≡◌, ◌<◌, ◌==◌, if◌then◌else◌, ℕ, List, [], ◌∷◌, Option, Some, None, ⊤, length, slice_get, ◌-◌, slice_index_or}
 use Rattle.std.specs.Coded.{Unit-prop}
 use Rattle.std.proofs.Props.{props}
 use Rattle.cell_types.specs.Bytes.{IsCell}
 use Rattle.cell_types.specs.Image.{Image}
 use Rattle.worm_device.specs.State.{Instant}
 use Rattle.worm_memory.specs.declared.change.Change.{Change}
-use Rattle.worm_memory.specs.declared.change.Change.TheVariants.{Wrote, Synced}
+use Rattle.worm_memory.specs.declared.change.Change.TheVariants.{Wrote, Foreign, Synced, Lost, Crashed}
 
 -- what stands in a cell after a value is written to it: what stood there, or else the value
 abbrev pub kept_or : Option (List ℕ) → List ℕ → Option (List ℕ)
@@ -17,10 +17,17 @@ kept_or None value = Some value
 abbrev pub written : Image → ℕ → List ℕ → Image
 written image at value = λ cell. if cell == at then kept_or (image cell) value else image cell
 
+-- an image after a crash took one cell: what is sure there still stands
+abbrev pub fallen : Image → Image → ℕ → Image
+fallen image sure at = λ cell. if cell == at then sure cell else image cell
+
 -- what one change makes of an instant
 abbrev pub after_change : Instant → Change → Instant
 after_change now (Wrote at value) = record { image = written now.image at value; sure = now.sure }
+after_change now (Foreign at value) = record { image = written now.image at value; sure = now.sure }
 after_change now Synced = record { image = now.image; sure = now.image }
+after_change now (Lost at) = record { image = fallen now.image now.sure at; sure = now.sure }
+after_change now Crashed = record { image = now.image; sure = now.image }
 
 -- what a row of changes makes of it
 abbrev pub after_changes : Instant → List Change → Instant
@@ -41,7 +48,12 @@ AreChanges cells now [] = ⊤
 AreChanges cells now (Wrote at value ∷ changes) =
     (at < cells) × (now.image at ≡ None) × IsCell value
     × AreChanges cells (after_change now (Wrote at value)) changes
+AreChanges cells now (Foreign at value ∷ changes) =
+    (at < cells) × (now.image at ≡ None) × IsCell value
+    × AreChanges cells (after_change now (Foreign at value)) changes
 AreChanges cells now (Synced ∷ changes) = AreChanges cells (after_change now Synced) changes
+AreChanges cells now (Lost at ∷ changes) = AreChanges cells (after_change now (Lost at)) changes
+AreChanges cells now (Crashed ∷ changes) = AreChanges cells (after_change now Crashed) changes
 
 -- a device of blank cells has become this one: each cell holds what the image says
 abbrev pub Holds : List (Option (List ℕ)) → Image → Type 0
@@ -55,4 +67,12 @@ pub AreChanges-prop : (cells : ℕ) (now : Instant) (changes : List Change) → 
 AreChanges-prop cells now [] = Unit-prop
 AreChanges-prop cells now (Wrote at value ∷ changes) =
     Prim.hlevel (props, AreChanges-prop cells (after_change now (Wrote at value)) changes)
+AreChanges-prop cells now (Foreign at value ∷ changes) =
+    Prim.hlevel (props, AreChanges-prop cells (after_change now (Foreign at value)) changes)
 AreChanges-prop cells now (Synced ∷ changes) = AreChanges-prop cells (after_change now Synced) changes
+AreChanges-prop cells now (Lost at ∷ changes) = AreChanges-prop cells (after_change now (Lost at)) changes
+AreChanges-prop cells now (Crashed ∷ changes) = AreChanges-prop cells (after_change now Crashed) changes
+
+-- no loss is the last change
+abbrev pub EndsWithNoLoss : List Change → Type 0
+EndsWithNoLoss changes = (at : ℕ) → slice_get changes (length changes - 1) ≡ Some (Lost at) → ⊥

@@ -21,6 +21,7 @@
 mod callers;
 mod change;
 mod device;
+mod losses;
 mod memory_device;
 #[cfg(test)]
 mod tests;

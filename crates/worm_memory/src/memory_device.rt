@@ -2,12 +2,12 @@
 ghost use Rattle.std.specs.Prelude.{◌≤◌, vec_len};
 ghost use Rattle.cell_types.specs.declared.geometry.TheConstants.{MAX_CELLS};
 ghost use Rattle.std.proofs.Props.{props};
-ghost use Rattle.worm_memory.specs.Worlds.{blank, world, AreChanges, AreChanges-prop, Holds};
+ghost use Rattle.worm_memory.specs.Worlds.{blank, world, AreChanges, AreChanges-prop, EndsWithNoLoss, Holds};
 
 use crate::Change;
 use cell_types::{Cell, NoMemory};
 use std::alloc::Global;
-use worm_device::Failed;
+use worm_device::{Failed, Written};
 
 /// A device in memory. Contracts see the words of `Memory`: `memory_of` for all that it tells, and `room_of`
 /// for how many further changes its record has room for.
@@ -17,24 +17,27 @@ pub struct MemoryDevice {
     changes: Vec<Change>,
     faults: u64,
     reads: u64,
+    foreign_writes: u64,
     ghost some_cells: { 1 ≤ vec_len cells },
     ghost most_cells: { vec_len cells ≤ MAX_CELLS },
     ghost are_changes: { AreChanges (vec_len cells) blank changes.items } by { AreChanges-prop (vec_len cells) blank changes.items },
+    ghost no_loss: { EndsWithNoLoss changes.items } by { Prim.hlevel props },
     ghost holds: { Holds cells.items (world changes.items).image } by { Prim.hlevel props },
 }
 
 impl MemoryDevice {
-    ghost use Rattle.std.specs.Prelude.{◌≡◌, ◌≤◌, ◌<◌, ◌↔◌, ◌^◌, ◌-◌, min, [], length, slice_get, None, IsTrue, IsOk, IfOk, OnOk, OnErr};
+    ghost use Rattle.std.specs.Prelude.{◌≡◌, ◌≤◌, ◌<◌, ◌↔◌, ◌^◌, ◌-◌, min, [], ℕ, List, length, slice_get, None, Ok, IsTrue, IsOk, IsErr, IfOk, OnOk, OnErr};
     ghost use Rattle.worm_memory.specs.Memory.{Memory, with_read, IsUnsure};
     ghost use Rattle.worm_memory.specs.declared.change.Change.TheVariants.{Wrote, Synced};
-    ghost use Rattle.worm_memory.specs.Device.{memory_of, room_of, state_of, Records, CountsFault};
+    ghost use Rattle.worm_memory.specs.Device.{memory_of, room_of, state_of, Records, CountsFault, RecordsForeign, ForeignWrites, Stays};
+    ghost use Rattle.worm_device.specs.declared.device.Written.TheVariants.{Done, Taken};
 
     /// A device of so many blank cells, 1 to 2,147,483,648. Its record has no room yet.
     pub fn new(alloc: Global, cells: u32) -> Result<MemoryDevice, NoMemory>
         requires some { 1 ≤ cells }
         requires most { cells ≤ MAX_CELLS }
         ensures blank { IfOk result (λ device.
-            memory_of device ≡ record { cells = cells; changes = []; faults = 0; reads = 0 }) }
+            memory_of device ≡ record { cells = cells; changes = []; faults = 0; reads = 0; foreign_writes = 0 }) }
         ensures room { IfOk result (λ device. room_of device ≡ 0) }
     {
         let Ok(blank) = vec![in alloc; None; cells as usize] else {
@@ -45,6 +48,7 @@ impl MemoryDevice {
             changes: Vec::new(alloc),
             faults: 0,
             reads: 0,
+            foreign_writes: 0,
         })
     }
 
@@ -98,7 +102,10 @@ impl MemoryDevice {
     {
         match self.last_change() {
             Some(Change::Wrote { .. }) => true,
+            Some(Change::Foreign { .. }) => true,
             Some(Change::Synced) => false,
+            Some(Change::Lost { .. }) => false,
+            Some(Change::Crashed) => false,
             None => false,
         }
     }
@@ -148,5 +155,39 @@ impl MemoryDevice {
         ensures { Records Synced self.old self.new }
     {
         self.changes.push_reserved(Change::Synced);
+    }
+
+    /// Somebody else writes a cell. A written one stays as it is, and that counts for nothing.
+    pub fn foreign(&mut self, at: u32, value: Cell) -> Result<Written, Failed>
+        requires { at < (memory_of self.old).cells }
+        ensures writes { ForeignWrites (state_of self.old) (state_of self.new) }
+        ensures fails { IsErr result ↔ (((state_of self.old).image at ≡ None) × (room_of self.old ≡ 0)) }
+        ensures done { result ≡ Ok Done → RecordsForeign at value self.old self.new }
+        ensures taken { (found : List ℕ) → result ≡ Ok (Taken found) → Stays self.old self.new }
+        ensures failed { OnErr result (CountsFault self.old self.new) }
+    {
+        if let Some(found) = self.found(at) {
+            return Ok(Written::Taken(found));
+        }
+        if self.room() == 0 {
+            return Err(self.fail());
+        }
+        self.record_foreign(at, value);
+        Ok(Written::Done)
+    }
+
+    /// Somebody else writes a blank cell, where the record has room.
+    fn record_foreign(&mut self, at: u32, value: Cell)
+        requires inside { at < (memory_of self.old).cells }
+        requires free { (state_of self.old).image at ≡ None }
+        requires room { 1 ≤ room_of self.old }
+        ensures recorded { RecordsForeign at value self.old self.new }
+        ensures fits { (memory_of self.old).foreign_writes < 2 ^ 64 }
+    {
+        // That the value is one of a written cell is known to those who ask for its bytes.
+        let _bytes = value.bytes();
+        self.foreign_writes = self.foreign_writes.saturating_add(1);
+        self.cells[at as usize] = Some(value);
+        self.changes.push_reserved(Change::Foreign { at, value });
     }
 }

@@ -1,8 +1,8 @@
 -- Up to the phases nothing is written; what follows is the phases'.
 use Rattle.std.proofs.Common.{◌≡◌, ◌≤◌, ◌+◌, ◌∙◌, ℕ, List, length, Err, ap, inl, inr, subst, arith}
 use Rattle.cell_types.specs.Layout.{pool_at}
-use Rattle.tamper_rules.specs.Documents.{stored_bytes}
-use Rattle.tamper_rules.specs.Slots.{cells_for}
+use Rattle.stored_documents.specs.Documents.{stored_bytes}
+use Rattle.stored_documents.specs.Slots.{cells_for}
 use Rattle.ingest_engine.specs.Ingest.{AreCellsOf, Stores}
 use Rattle.ingest_engine.specs.Puts.{PassesTheEnd}
 use Rattle.ingest_engine.proofs.Putting.{put_refused, put_stored, volume_refused}
@@ -17,10 +17,10 @@ returns-in-Err g c =
     (λ e. c.in-Err.ensures.no_volume (ap Err e)) (λ e. c.in-Err.ensures.device_fault (ap Err e)))
 
 pub returns-in_default : goal.returns-in_default
-returns-in_default g c = put_refused c.args.id.now c.args.body.now _ _ _ c.read_volume.ensures.called c.read_volume.ensures.only tt
+returns-in_default g c = put_refused c.args.id.now c.args.body.now _ _ _ c.read_volume.ensures.called c.read_volume.ensures.only c.read_volume.ensures.only
 
 pub returns-in_default-content_cells : goal.returns-in_default-content_cells
-returns-in_default-content_cells g c = put_refused c.args.id.now c.args.body.now _ _ _ c.read_volume.ensures.called c.read_volume.ensures.only tt
+returns-in_default-content_cells g c = put_refused c.args.id.now c.args.body.now _ _ _ c.read_volume.ensures.called c.read_volume.ensures.only c.read_volume.ensures.only
 
 -- how many cells the document takes
 count_is : (stored spelled : List ℕ) (cells : List (List ℕ)) → spelled ≡ stored → AreCellsOf spelled cells → length cells ≡ cells_for (length stored)

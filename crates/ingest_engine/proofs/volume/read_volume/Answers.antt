@@ -1,7 +1,7 @@
 -- A volume cell that stands there would be the cell that was read, which decodes to no record.
 use Rattle.std.proofs.Common.{◌∙◌, List, ℕ, sym, subst}
 use Rattle.cell_types.specs.Records.{IsRecordCell}
-use Rattle.tamper_rules.specs.Volumes.{volume_record}
+use Rattle.stored_documents.specs.Volumes.{volume_record}
 use Rattle.ingest_engine.proofs.StoreSoFar.{some_is}
 use Rattle.ingest_engine.proofs.volume.read_volume.Goals as goal
 

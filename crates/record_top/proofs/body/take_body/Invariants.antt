@@ -1,8 +1,8 @@
 -- The body so far is what the source has given, and no call has failed.
 use Rattle.std.proofs.Common.{◌≡◌, ◌+◌, ◌-◌, length}
 use Rattle.host_ports.specs.Sources.{Gives}
-use Rattle.tamper_rules.specs.Documents.{IsBody}
-use Rattle.tamper_rules.specs.declared.limits.TheConstants.{MAX_BODY_BYTES}
+use Rattle.stored_documents.specs.Documents.{IsBody}
+use Rattle.stored_documents.specs.declared.limits.TheConstants.{MAX_BODY_BYTES}
 use Rattle.record_top.proofs.body.take_body.Given as goal
 
 abbrev pub invariant-loop-taken : goal.invariant-loop-taken

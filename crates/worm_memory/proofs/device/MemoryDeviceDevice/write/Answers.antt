@@ -1,11 +1,11 @@
 -- A write into a cell that was blank, done or failed.
-use Rattle.std.proofs.Common.{◌≡◌, None, Ok, Err, sym, subst, rules}
+use Rattle.std.proofs.Common.{◌≡◌, Some, None, Ok, Err, sym, subst, rules}
 use Rattle.worm_device.specs.Calls.{Writes}
 use Rattle.worm_device.specs.declared.device.Written.TheVariants.{Done}
 use Rattle.worm_memory.specs.Worlds.{world}
 use Rattle.worm_memory.specs.Memory.{device_of}
 use Rattle.worm_memory.specs.Device.{memory_of}
-use Rattle.worm_memory.proofs.Calls.{writes_done, writes_failed}
+use Rattle.worm_memory.proofs.Calls.{writes_done, writes_taken, writes_failed}
 use Rattle.worm_memory.proofs.device.MemoryDeviceDevice.write.Goals as goal
 
 pub returns-then-room-eq0-clause-writes : goal.returns-then-room-eq0-clause-writes
@@ -20,3 +20,9 @@ returns-clause-writes c =
     let free : (world old.changes).image c.args.at ≡ None = search rules in
     subst (λ m. Writes c.args.at c.args.value (device_of old) (device_of m) (Ok Done)) (sym c.record_write.ensures.0)
     (writes_done old c.args.at c.args.value free)
+
+pub returns-in-Some-clause-writes : goal.returns-in-Some-clause-writes
+returns-in-Some-clause-writes c =
+    let old = memory_of c.args.self.now in
+    let stands : (world old.changes).image c.args.at ≡ Some c.in-Some.found = search rules in
+    writes_taken old c.args.at c.args.value c.in-Some.found stands

@@ -1,0 +1,6 @@
+pub mod Fronts
+pub mod HashTrails
+pub mod KeepingLaws
+pub mod Spans
+pub mod TrailListLaws
+pub mod Trails

@@ -1,0 +1,8 @@
+pub mod BlockLaws
+pub mod Blocks
+pub mod HashLaws
+pub mod HashPaths
+pub mod Keeping
+pub mod Nodes
+pub mod TrailLists
+pub mod Words

@@ -1,0 +1,24 @@
+//! Laws: what the definitions mean together, over all images. Each is a function that does nothing and whose
+//! contract is the law.
+ghost use Rattle.stored_documents.specs.Documents.{DocumentsAreOne, DocumentsHoldOn, StandsHoldsOn};
+ghost use Rattle.stored_documents.specs.Laws.{SeenFurther};
+
+/// A document that stands in an image stands in each image that extends it.
+pub fn stands_holds_on()
+    ensures { StandsHoldsOn }
+{}
+
+/// A document of the volume in an image is one in each image that extends it.
+pub fn documents_hold_on()
+    ensures { DocumentsHoldOn }
+{}
+
+/// What was seen of slots between two images was seen between any that lie further apart.
+pub fn seen_further()
+    ensures { SeenFurther }
+{}
+
+/// A slot has one document.
+pub fn documents_are_one()
+    ensures { DocumentsAreOne }
+{}

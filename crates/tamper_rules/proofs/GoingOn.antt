@@ -1,0 +1,79 @@
+-- What is said of journals, blocks and nodes goes on holding in each image that extends the first.
+use Rattle.std.proofs.Common.{◌≡◌, ◌<◌, ◌≤◌, ◌+◌, ◌⊎◌, ⊎_elim, inl, inr, ℕ, List, Some, None, refl, sym, ◌∙◌, subst, ap, arith}
+use Rattle.cell_types.specs.Image.{Image, Extends}
+use Rattle.cell_types.specs.Layout.{Layout, done_at}
+use Rattle.cell_types.specs.Records.{IsRecordCell}
+use Rattle.cell_types.specs.declared.record_cell.RecordCell.{RecordCell}
+use Rattle.cell_types.proofs.OneRecord.{one_record}
+use Rattle.index_paths.specs.Blocks.{Leads, arrived, onwards}
+use Rattle.tamper_rules.specs.Journals.{journal_at, Copies, LiesInBlocks, IsIndexCell, of_list, of_root, of_slot, IsNamed, IsInOrder}
+use Rattle.index_paths.specs.Nodes.{IsOnPath, root, under}
+use Rattle.stored_documents.specs.Slots.{Stores}
+use Rattle.stored_documents.specs.Volumes.{IsWritten}
+use Rattle.stored_documents.proofs.Extending.{holds_on, commits_on, done_on}
+use Rattle.stored_documents.proofs.Holding.{some_is}
+
+pub copies_on : {old new : Image} {start length journal place target : ℕ} {r : RecordCell} → Extends old new
+    → Copies old start length journal place target r → Copies new start length journal place target r
+copies_on e c = record { below = c.below; entry = c.entry; stands = e.keeps _ _ c.stands; index = c.index; address = c.address; is = c.is }
+
+-- a place whose cell is written was copied from where it is written
+pub copies_back : {old new : Image} {start length journal place target : ℕ} {r : RecordCell} → Extends old new
+    → IsWritten old (journal_at start length journal + place) → Copies new start length journal place target r → Copies old start length journal place target r
+copies_back {old} {new} {start} {length} {journal} {place} e w c =
+    let same : w.found ≡ c.entry = some_is w.found c.entry (sym (e.keeps _ _ w.stands) ∙ c.stands) in
+    record { below = c.below; entry = c.entry; stands = w.stands ∙ ap (λ (v : List ℕ). Some v) same; index = c.index; address = c.address; is = c.is }
+
+-- a place of a journal has one target
+pub one_copy : (image : Image) (start length journal place t u : ℕ) (r s : RecordCell)
+    → (a : Copies image start length journal place t r) → (b : Copies image start length journal place u s) → (r ≡ s) × (t ≡ u) × (a.entry ≡ b.entry)
+one_copy image start length journal place t u r s a b =
+    let same : a.entry ≡ b.entry = some_is a.entry b.entry (sym a.stands ∙ b.stands) in
+    let one = one_record r s t u b.entry a.address b.address (subst (λ (v : List ℕ). IsRecordCell r t v) same a.is) b.is in
+    (one.0, one.1, same)
+
+-- a slot that is committed or done is so, where its done cell is not written in between by another value
+pub stores_on : {g : Layout} {old new : Image} {n start length bytes journal : ℕ} → Extends old new → (old (done_at n) ≡ None → new (done_at n) ≡ None)
+    → Stores g old n start length bytes journal → Stores g new n start length bytes journal
+stores_on {g} {old} {new} {n} e blank s = record {
+  commits = commits_on e s.commits;
+  done = ⊎_elim (λ none. inl (blank none)) (λ holds. inr (holds_on e holds)) s.done;
+}
+
+module _ {g : Layout} {old new : Image} (e : Extends old new) (blank : (n : ℕ) → n < g.slots → old (done_at n) ≡ None → new (done_at n) ≡ None) where
+  pub stores_go_on : {n start length bytes journal : ℕ} → Stores g old n start length bytes journal → Stores g new n start length bytes journal
+  stores_go_on {n} s = stores_on e (blank n s.commits.reserves.slot) s
+
+  pub blocks_on : {m cell : ℕ} → LiesInBlocks g old m cell → LiesInBlocks g new m cell
+  blocks_on b = record { start = b.start; length = b.length; bytes = b.bytes; journal = b.journal; stores = stores_go_on b.stores; from = b.from; below = b.below }
+
+  pub index_on : {n cell : ℕ} → IsIndexCell g old n cell → IsIndexCell g new n cell
+  index_on (of_list l lies) = of_list l lies
+  index_on (of_root lies) = of_root lies
+  index_on (of_slot m le b) = of_slot m le (blocks_on b)
+
+  pub in_order_on : {n start length bytes journal place : ℕ} → IsInOrder g old n start length bytes journal place → IsInOrder g new n start length bytes journal place
+  in_order_on {n} {start} {length} {bytes} {journal} {place} o = record {
+    target = o.target;
+    copied = o.copied;
+    copies = copies_on e o.copies;
+    rises = ⊎_elim inl (λ (h : (before : ℕ) × (lower : ℕ) × (other : RecordCell) × (place ≡ before + 1) × Copies old start length journal before lower other × (lower < o.target)).
+        inr (h.0, h.1, h.2, h.3, copies_on e h.4, h.5)) o.rises;
+    before_document = o.before_document;
+    index = index_on o.index;
+  }
+
+pub named_on : {g : Layout} {old new : Image} {cell : ℕ} → Extends old new → IsNamed g old cell → IsNamed g new cell
+named_on e h = record {
+  m = h.m; start = h.start; length = h.length; bytes = h.bytes; journal = h.journal;
+  done = done_on e h.done;
+  place = h.place; copied = h.copied; copies = copies_on e h.copies;
+}
+
+pub leads_to_on : {old new : Image} {from to last block : ℕ} → Extends old new → Leads old from to last block → Leads new from to last block
+leads_to_on e (arrived block is) = arrived block is
+leads_to_on e (onwards block level digit target l s d jump f t rest) = onwards block level digit target l s d (holds_on e jump) f t (leads_to_on e rest)
+
+pub on_path_on : {g : Layout} {old new : Image} {digest : List ℕ} {level node : ℕ} → Extends old new → IsOnPath g old digest level node → IsOnPath g new digest level node
+on_path_on e (root level node is at) = root level node is at
+on_path_on e (under level node v above is rest less child f t) = under level node v above is (on_path_on e rest) less (holds_on e child) f t

@@ -1,0 +1,11 @@
+pub mod Filled
+pub mod InPhase
+pub mod IngestLeaves
+pub mod Ingests
+pub mod ListShapes
+pub mod OneWay
+pub mod PlanAdds
+pub mod PlanLeaves
+pub mod PlanSettled
+pub mod SettledShapes
+pub mod TreeShapes

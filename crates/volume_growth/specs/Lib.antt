@@ -1,0 +1,5 @@
+pub mod Filling
+pub mod Ingesting
+pub mod ListShapes
+pub mod SettledShapes
+pub mod TreeShapes

@@ -1,0 +1,16 @@
+-- A foreign write into a cell that was blank, done or failed.
+use Rattle.std.proofs.Common.{sym, subst}
+use Rattle.worm_memory.specs.Memory.{device_of}
+use Rattle.worm_memory.specs.Device.{memory_of, ForeignWrites}
+use Rattle.worm_memory.proofs.Calls.{foreign_done, foreign_taken, foreign_failed}
+use Rattle.worm_memory.proofs.memory_device.MemoryDevice.foreign.Goals as goal
+
+pub returns-then-room-eq0-clause-writes : goal.returns-then-room-eq0-clause-writes
+returns-then-room-eq0-clause-writes c =
+    let old = memory_of c.args.self.now in
+    subst (λ m. ForeignWrites (device_of old) (device_of m)) (sym c.fail.ensures.counted.0) (foreign_failed old c.fail.ensures.fits)
+
+pub returns-clause-writes : goal.returns-clause-writes
+returns-clause-writes c =
+    let old = memory_of c.args.self.now in
+    subst (λ m. ForeignWrites (device_of old) (device_of m)) (sym c.record_foreign.ensures.recorded.0) (foreign_done old c.args.at c.args.value c.record_foreign.ensures.fits)
