@@ -2,5 +2,4 @@ pub mod Fronts
 pub mod HashTrails
 pub mod KeepingLaws
 pub mod Spans
-pub mod TrailListLaws
 pub mod Trails

@@ -7,7 +7,7 @@ use Rattle.index_paths.specs.Blocks.{PostingFields, Trail}
 use Rattle.stored_documents.specs.Documents.{Document, Stands}
 use Rattle.index_paths.specs.HashPaths.{Sought, HashTrail}
 use Rattle.stored_documents.specs.Volumes.{IsVolume}
-use Rattle.index_paths.specs.Words.{IsPostingOf, HasPostings}
+use Rattle.index_paths.specs.Postings.{IsPostingOf, HasPostings}
 
 -- an identifier as the hash tree of this volume looks for it
 abbrev pub sought_in : ℕ → Layout → List ℕ → Sought

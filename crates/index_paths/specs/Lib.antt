@@ -4,5 +4,4 @@ pub mod HashLaws
 pub mod HashPaths
 pub mod Keeping
 pub mod Nodes
-pub mod TrailLists
-pub mod Words
+pub mod Postings

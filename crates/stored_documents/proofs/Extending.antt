@@ -67,8 +67,8 @@ pub taken_on : {old new : Image} (n : ℕ) → Extends old new → AreTaken old 
 taken_on n e taken = λ m below. written_on e (taken m below)
 
 module _ {before before' after after' : Image} (e : Extends before' before) (f : Extends after after') where
-  pub unused_further : {n : ℕ} → IsUnused before n → IsUnused before' n
-  unused_further u = record { reserve = blank_before e u.reserve; outcome = blank_before e u.outcome; done = blank_before e u.done }
+  pub unused_further : {g : Layout} {n : ℕ} → IsUnused g before n → IsUnused g before' n
+  unused_further u = record { slot = u.slot; reserve = blank_before e u.reserve; outcome = blank_before e u.outcome; done = blank_before e u.done }
 
   pub reserved_further : {g : Layout} {n start length : ℕ} → IsReserved g before after n start length → IsReserved g before' after' n start length
   reserved_further r = record { reserves = reserves_on f r.reserves; outcome = blank_before e r.outcome; done = blank_before e r.done }

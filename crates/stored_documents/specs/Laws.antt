@@ -6,7 +6,7 @@ use Rattle.stored_documents.specs.Slots.{IsUnused, IsReserved, IsAbandoned, IsCo
 
 -- What was seen between two images was seen between any that lie further apart.
 pub record SeenFurther : Type 0 where
-  pub unused : (before before' : Image) (n : ℕ) → Extends before' before → IsUnused before n → IsUnused before' n
+  pub unused : (g : Layout) (before before' : Image) (n : ℕ) → Extends before' before → IsUnused g before n → IsUnused g before' n
   pub reserved : (g : Layout) (before before' after after' : Image) (n start length : ℕ) → Extends before' before → Extends after after'
       → IsReserved g before after n start length → IsReserved g before' after' n start length
   pub abandoned : (g : Layout) (before before' after after' : Image) (n start length : ℕ) → Extends before' before → Extends after after'

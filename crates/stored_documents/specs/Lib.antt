@@ -2,3 +2,4 @@ pub mod Documents
 pub mod Laws
 pub mod Slots
 pub mod Volumes
+pub mod Words

@@ -32,7 +32,8 @@ pub record Commits (g : Layout) (image : Image) (n start length bytes journal : 
   pub fits : cells_for bytes + journal ≤ length
 
 -- nothing has come of slot n
-pub record IsUnused (before : Image) (n : ℕ) : Type 0 where
+pub record IsUnused (g : Layout) (before : Image) (n : ℕ) : Type 0 where
+  pub slot : n < g.slots
   pub reserve : before (reserve_at n) ≡ None
   pub outcome : before (outcome_at n) ≡ None
   pub done : before (done_at n) ≡ None

@@ -2,6 +2,7 @@
 //! contract is the law.
 ghost use Rattle.stored_documents.specs.Documents.{DocumentsAreOne, DocumentsHoldOn, StandsHoldsOn};
 ghost use Rattle.stored_documents.specs.Laws.{SeenFurther};
+ghost use Rattle.stored_documents.specs.Words.{WordsAreOne};
 
 /// A document that stands in an image stands in each image that extends it.
 pub fn stands_holds_on()
@@ -21,4 +22,9 @@ pub fn seen_further()
 /// A slot has one document.
 pub fn documents_are_one()
     ensures { DocumentsAreOne }
+{}
+
+/// A body has one list of words, and reading it from its first byte on gives it.
+pub fn words_are_one()
+    ensures { WordsAreOne }
 {}

@@ -79,7 +79,7 @@ in_log g image s u h m inside w = ⊎_elim
 -- in a settled image a slot with a commit cell is done
 pub commit_done : (g : Layout) (image : Image) → IsSettled g image → (m bytes journal : ℕ) → m < g.slots → Holds image (outcome_at m) (Commit bytes journal) → IsDoneSlot g image m
 commit_done g image s m bytes journal inside h =
-    let o : OutcomeRule image m = s.met Rules.Outcome (outcome_at m) (record { found = h.cell; stands = h.stands }) m inside refl in
+    let o : OutcomeRule image m = s.met Rules.OutcomeCells (outcome_at m) (record { found = h.cell; stands = h.stands }) m inside refl in
     let u = some_horizon g image s in
     ⊎_elim
     (λ (a : IsAbandonedSlot g image image m). absurd (no_abandon bytes journal (one_record_holds image (outcome_at m) (Commit bytes journal) Abandon h a.abandoned.abandons.outcome)))
@@ -117,7 +117,7 @@ module _ {cells : ℕ} {low high : Image} (e : Extends low high) (steady : (imag
         (λ x. absurd (
             let k = after_keeps low_sound.is in
             let s = settled_at low (record { keeps = λ cell value is. is }) low_sound in
-            let r : DoneRule low_sound.after m = s.met Rules.Finished (done_at m) (record { found = x.0; stands = k.keeps (done_at m) x.0 x.1 }) m inside refl in
+            let r : DoneRule low_sound.after m = s.met Rules.DoneCells (done_at m) (record { found = x.0; stands = k.keeps (done_at m) x.0 x.1 }) m inside refl in
             let c = commit_stood low_sound.is m r.bytes r.journal g inside v r.commit in
             none-some _ (sym none ∙ c.stands)))
         (look low (done_at m))

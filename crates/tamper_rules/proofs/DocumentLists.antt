@@ -45,7 +45,7 @@ module _ {g : Layout} {image : Image} (v : IsVolume g.cells image g) (s : IsSett
 
   pub done_stands : {k : ℕ} → IsDoneSlot g image k → (id : List ℕ) × (body : List ℕ) × Stands g.cells image k id body
   done_stands {k} e =
-      let r : DocumentRule g image k = s.met Rules.Spelled (outcome_at k) (record { found = e.done.commits.outcome.cell; stands = e.done.commits.outcome.stands }) k e.done.commits.reserves.slot refl in
+      let r : DocumentRule g image k = s.met Rules.Documents (outcome_at k) (record { found = e.done.commits.outcome.cell; stands = e.done.commits.outcome.stands }) k e.done.commits.reserves.slot refl in
       let d : HasDocument image (document_at e.start e.length e.bytes e.journal) e.bytes = r e.start e.length e.bytes e.journal (record { commits = e.done.commits; done = inr e.done.done }) in
       (d.id, d.body, record {
         layout = g; start = e.start; reserved = e.length; journal = e.journal; volume = v; slot = e.done.commits.reserves.slot;

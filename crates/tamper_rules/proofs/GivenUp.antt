@@ -9,7 +9,7 @@ use Rattle.cell_types.specs.declared.record_cell.RecordCell.TheVariants.{Reserve
 use Rattle.index_paths.specs.Blocks.{Leads, arrived, onwards, pointer_at}
 use Rattle.stored_documents.specs.Documents.{Stands, Spells, document_at}
 use Rattle.index_paths.specs.Nodes.{IsBlockOf, IsNode, root, under}
-use Rattle.tamper_rules.specs.Rules.{Pointer, Childed, LeadsWell, LeadsDownWell}
+use Rattle.tamper_rules.specs.Rules.{Pointers, Children, LeadsWell, LeadsDownWell}
 use Rattle.tamper_rules.specs.Settling.{IsSettled, IsGivenUp, IsOf, of_reserve, of_outcome, of_range}
 use Rattle.stored_documents.specs.Slots.{cells_for, Reserves, Commits, Stores, IsAbandonedSlot, IsDoneSlot, IsDone, HasEnded, IsHorizon, EndsBelow, IsEdge}
 use Rattle.stored_documents.specs.Volumes.{Holds, IsWritten, IsVolume, volume_record}
@@ -164,7 +164,7 @@ module _ {g : Layout} {old new : Image} {n start size : ℕ} (s : IsSettled g ol
       → pool_at g ≤ target → target + 256 ≤ g.cells → IsOldBlock l target
   old_target {l} {block} {level} {digit} {target} b ls d1 d2 jump from to =
       let jump' : Holds old (pointer_at block level digit) (Jump target) = held (omega (arith, b.low)) (omega (arith, b.high)) jump in
-      let rule : LeadsWell g old l block level digit = s.met Pointer (pointer_at block level digit) (record { found = jump'.cell; stands = jump'.stands }) l block level digit b.is ls d1 d2 refl in
+      let rule : LeadsWell g old l block level digit = s.met Pointers (pointer_at block level digit) (record { found = jump'.cell; stands = jump'.stands }) l block level digit b.is ls d1 d2 refl in
       let same : target ≡ rule.target = jumps target rule.target (one_record_holds old (pointer_at block level digit) (Jump target) (Jump rule.target) jump' rule.jump) in
       let edge : rule.target + 256 ≤ start = rule.edge start old_edge in
       record {
@@ -195,7 +195,7 @@ module _ {g : Layout} {old new : Image} {n start size : ℕ} (s : IsSettled g ol
   node_was (under v node w above x is rest xs less child from to) =
       let a = node_was rest in
       let child' : Holds old (above + 16 + x) (Child node) = held (omega (arith, a.low)) (omega (arith, a.high)) child in
-      let rule : LeadsDownWell g old w above x = s.met Childed (above + 16 + x) (record { found = child'.cell; stands = child'.stands }) w above x a.is xs refl in
+      let rule : LeadsDownWell g old w above x = s.met Children (above + 16 + x) (record { found = child'.cell; stands = child'.stands }) w above x a.is xs refl in
       let same : node ≡ rule.target = children node rule.target (one_record_holds old (above + 16 + x) (Child node) (Child rule.target) child' rule.child) in
       let edge : rule.target + 32 ≤ start = rule.edge start old_edge in
       record { is = under v node w above x is a.is xs less child' from to; low = omega arith; high = omega arith }

@@ -11,13 +11,14 @@ use Rattle.index_paths.specs.Blocks.{PostingFields, posting_record}
 use Rattle.stored_documents.specs.Documents.{Stands, stored_bytes, document_at}
 use Rattle.tamper_rules.specs.Journals.{journal_at, Copies}
 use Rattle.tamper_rules.specs.Rules
-use Rattle.tamper_rules.specs.Rules.{Rule, IsMet, ReserveRule, OutcomeRule, DoneRule, DocumentRule, HasDocument, JournalRule, RedoneRule, BlankRule, IsDoneIndexCell, HoldsInOrder, EntryRule, IsTrue, PostingRule, LeadsWell, PointerRule, IsTrueBucket, BucketRule, LeadsDownWell, ChildRule, TrailRule, PathRule, HasJump, HasChild, IsSize, Tile, TilingRule}
+use Rattle.tamper_rules.specs.Rules.{Rule, IsMet, ReserveRule, OutcomeRule, DoneRule, DocumentRule, HasDocument, JournalRule, RedoneRule, BlankRule, IsDoneIndexCell, HoldsInOrder, EntryRule, IsTruePosting, PostingRule, LeadsWell, PointerRule, IsTrueBucket, BucketRule, LeadsDownWell, ChildRule, TrailRule, PathRule, HasJump, HasChild, IsSize, Tile, TilingRule}
 use Rattle.tamper_rules.specs.Settling.{IsSettled, IsGivenUp, IsOf, of_reserve, of_outcome, of_range}
 use Rattle.stored_documents.specs.Slots.{Commits, IsCommitted, IsAbandonedSlot, IsDoneSlot, IsDone, HasEnded, IsHorizon, IsLive}
 use Rattle.stored_documents.specs.Volumes.{Holds, IsWritten, IsVolume}
 use Rattle.stored_documents.proofs.Extending.{holds_on, written_on, blank_before, volume_on, reserves_on, ends_on, live_on, spells_on, stands_on}
 use Rattle.stored_documents.proofs.Holding.{one_record_holds}
 use Rattle.index_paths.proofs.Fronts.{front_on}
+use Rattle.tamper_rules.proofs.FullFronts.{ends_full, full_ends}
 use Rattle.tamper_rules.proofs.GivenUp.{no_abandon, log_was, held, stood, reserve_was, reserve_held, done_blank, stores_back, done_back, ended_on, ends, horizon_is, edge_is, old_edge, block_was, node_was, spells_back, one_layout}
 use Rattle.tamper_rules.proofs.GoingOn.{copies_on, copies_back, blocks_on, in_order_on, named_on, on_path_on, stores_go_on}
 use Rattle.index_paths.proofs.HashTrails.{hash_trail_on}
@@ -29,7 +30,7 @@ module _ {g : Layout} {old new : Image} {n start size : ℕ} (v : IsVolume g.cel
   rule_1 : (m : ℕ) → m < g.slots → IsWritten new (reserve_at m) → ReserveRule g new m
   rule_1 m inside w = ⊎_elim
       (λ same. subst (λ (k : ℕ). ReserveRule g new k) (sym same) mine)
-      (λ differ. let r : ReserveRule g old m = s.met Rules.Reserved (reserve_at m) (reserve_was s u inside (λ same. ⊎_elim (λ less. omega arith) (λ above. omega arith) differ) w) m inside refl in
+      (λ differ. let r : ReserveRule g old m = s.met Rules.ReserveCells (reserve_at m) (reserve_was s u inside (λ same. ⊎_elim (λ less. omega arith) (λ above. omega arith) differ) w) m inside refl in
           record {
             start = r.start; length = r.length;
             reserves = reserves_on u.keeps r.reserves;
@@ -52,7 +53,7 @@ module _ {g : Layout} {old new : Image} {n start size : ℕ} (v : IsVolume g.cel
       (λ differ.
           let other : m ≡ n → ⊥ = λ same. ⊎_elim (λ less. omega arith) (λ above. omega arith) differ in
           let before : IsWritten old (outcome_at m) = record { found = w.found; stands = log_was s u (outcome_at m) w.found (omega arith) (λ same. omega arith) (λ same. other (omega arith)) w.stands } in
-          let r : OutcomeRule old m = s.met Rules.Outcome (outcome_at m) before m inside refl in
+          let r : OutcomeRule old m = s.met Rules.OutcomeCells (outcome_at m) before m inside refl in
           record {
             reserve = written_on u.keeps r.reserve;
             outcome = ⊎_elim (λ h. inl (holds_on u.keeps h))
@@ -64,13 +65,13 @@ module _ {g : Layout} {old new : Image} {n start size : ℕ} (v : IsVolume g.cel
   rule_3 : (m : ℕ) → m < g.slots → IsWritten new (done_at m) → DoneRule new m
   rule_3 m inside w =
       let before : IsWritten old (done_at m) = record { found = w.found; stands = log_was s u (done_at m) w.found (omega arith) (λ same. omega arith) (λ same. omega arith) w.stands } in
-      let r : DoneRule old m = s.met Rules.Finished (done_at m) before m inside refl in
+      let r : DoneRule old m = s.met Rules.DoneCells (done_at m) before m inside refl in
       record { done = holds_on u.keeps r.done; bytes = r.bytes; journal = r.journal; commit = holds_on u.keeps r.commit }
 
   rule_4 : (m : ℕ) → DocumentRule g new m
   rule_4 m from reserved bytes journal c =
       let b = stores_back s u c in
-      let r : DocumentRule g old m = s.met Rules.Spelled (outcome_at m) (record { found = b.commits.outcome.cell; stands = b.commits.outcome.stands }) m b.commits.reserves.slot refl in
+      let r : DocumentRule g old m = s.met Rules.Documents (outcome_at m) (record { found = b.commits.outcome.cell; stands = b.commits.outcome.stands }) m b.commits.reserves.slot refl in
       let d : HasDocument old (document_at from reserved bytes journal) bytes = r from reserved bytes journal b in
       record { id = d.id; body = d.body; count = d.count; spells = spells_on _ _ u.keeps d.spells; is_identifier = d.is_identifier; is_body = d.is_body }
 
@@ -80,12 +81,12 @@ module _ {g : Layout} {old new : Image} {n start size : ℕ} (v : IsVolume g.cel
         let b = stores_back s u c in
         let e = ends s u b.commits.reserves in
         let before : IsWritten old cell = stood s u (omega (arith, at, b.commits.fits, b.commits.reserves.from)) (omega (arith, at, e, below, b.commits.fits)) w in
-        let r : JournalRule g old cell = s.met Rules.Journaled cell before in
+        let r : JournalRule g old cell = s.met Rules.Journals cell before in
         in_order_on u.keeps (done_blank s u) (r.entry m from reserved bytes journal place b below at);
     commit = λ m from reserved bytes journal place c below at.
         let b = stores_back s u c in
         let before : IsWritten old (outcome_at m) = record { found = b.commits.outcome.cell; stands = b.commits.outcome.stands } in
-        let r : JournalRule g old (outcome_at m) = s.met Rules.Journaled (outcome_at m) before in
+        let r : JournalRule g old (outcome_at m) = s.met Rules.Journals (outcome_at m) before in
         written_on u.keeps (r.commit m from reserved bytes journal place b below refl);
   }
 
@@ -113,7 +114,7 @@ module _ {g : Layout} {old new : Image} {n start size : ℕ} (v : IsVolume g.cel
         let b = done_back s u d in
         let c = copies_was b.commits k in
         let here : old cell ≡ Some c.entry = ap old at ∙ c.stands in
-        let r : RedoneRule g old cell = s.met Rules.Redone cell (record { found = c.entry; stands = here }) in
+        let r : RedoneRule g old cell = s.met Rules.Targets cell (record { found = c.entry; stands = here }) in
         let same : old target ≡ old cell = r.done m from reserved bytes journal place target copied b c at in
         u.keeps.keeps _ _ (same ∙ here) ∙ sym (u.keeps.keeps _ _ here);
     committed = λ m from reserved bytes journal place target copied d k at.
@@ -151,17 +152,17 @@ module _ {g : Layout} {old new : Image} {n start size : ℕ} (v : IsVolume g.cel
     kept_blank = λ one. ⊎_elim
         (λ less.
             let before : IsWritten old cell = record { found = w.found; stands = log_was s u cell w.found (omega arith) (λ same. omega arith) (λ same. omega arith) w.stands } in
-            let r : BlankRule g old cell = s.met Rules.Blank cell before in
+            let r : BlankRule g old cell = s.met Rules.StrayCells cell before in
             r.kept_blank one)
         (λ le. le)
         (cases_lt cell 4);
     spare = λ m inside same.
         let before : IsWritten old cell = record { found = w.found; stands = log_was s u cell w.found (omega arith) (λ is. omega arith) (λ is. omega arith) w.stands } in
-        let r : BlankRule g old cell = s.met Rules.Blank cell before in
+        let r : BlankRule g old cell = s.met Rules.StrayCells cell before in
         r.spare m inside same;
     named = λ i.
         let k = index_was i in
-        let r : BlankRule g old cell = s.met Rules.Blank cell (stood s u k.low k.high w) in
+        let r : BlankRule g old cell = s.met Rules.StrayCells cell (stood s u k.low k.high w) in
         named_on u.keeps (r.named k.is);
     edge = λ at e pool. in_range at (edge_is s u at e) pool (u.only cell w.found w.stands);
   }
@@ -173,7 +174,7 @@ module _ {g : Layout} {old new : Image} {n start size : ℕ} (v : IsVolume g.cel
       in_range : (at : ℕ) → at ≡ start + size → pool_at g ≤ cell → (old cell ≡ Some w.found) ⊎ IsOf n start size cell → cell < at
       in_range at is pool h = ⊎_elim
           (λ before.
-              let r : BlankRule g old cell = s.met Rules.Blank cell (record { found = w.found; stands = before }) in
+              let r : BlankRule g old cell = s.met Rules.StrayCells cell (record { found = w.found; stands = before }) in
               let less : cell < start = r.edge start (old_edge s u) pool in omega arith)
           (of_new at is pool)
           h
@@ -182,7 +183,7 @@ module _ {g : Layout} {old new : Image} {n start size : ℕ} (v : IsVolume g.cel
   rule_8 cell w = record {
     entry = λ l block place b below at.
         let k = block_was s u b in
-        let r : EntryRule g old cell = s.met Rules.Entry cell (stood s u (omega (arith, k.low)) (omega (arith, k.high)) w) in
+        let r : EntryRule g old cell = s.met Rules.Entries cell (stood s u (omega (arith, k.low)) (omega (arith, k.high)) w) in
         let h : HoldsInOrder old block place = r.entry l block place k.is below at in
         record {
           p = h.p; holds = holds_on u.keeps h.holds;
@@ -193,7 +194,7 @@ module _ {g : Layout} {old new : Image} {n start size : ℕ} (v : IsVolume g.cel
         };
     blank = λ l block place b from to at.
         let k = block_was s u b in
-        let r : EntryRule g old cell = s.met Rules.Entry cell (stood s u (omega (arith, k.low)) (omega (arith, k.high)) w) in
+        let r : EntryRule g old cell = s.met Rules.Entries cell (stood s u (omega (arith, k.low)) (omega (arith, k.high)) w) in
         r.blank l block place k.is from to at;
   }
 
@@ -205,15 +206,18 @@ module _ {g : Layout} {old new : Image} {n start size : ℕ} (v : IsVolume g.cel
       let k = block_was s u b in
       let low : list_at g 0 ≤ cell = omega (arith, k.low) in
       let high : cell < start = omega (arith, k.high) in
-      let r : PostingRule g old cell = s.met Rules.Fake cell (stood s u low high w) in
-      let t : IsTrue g old l p = r l block place p k.is below at (held s u low high h) in
+      let r : PostingRule g old cell = s.met Rules.Postings cell (stood s u low high w) in
+      let t : IsTruePosting g old l p = r l block place p k.is below at (held s u low high h) in
       record { live = live t.live; id = t.id; body = t.body; stands = stands_on u.keeps t.stands; postings = t.postings; is = t.is }
 
   rule_10 : (cell : ℕ) → IsWritten new cell → PointerRule g new cell
   rule_10 cell w l block level digit b ls d1 d2 at =
       let k = block_was s u b in
-      let r : PointerRule g old cell = s.met Rules.Pointer cell (stood s u (omega (arith, k.low)) (omega (arith, k.high)) w) in
+      let r : PointerRule g old cell = s.met Rules.Pointers cell (stood s u (omega (arith, k.low)) (omega (arith, k.high)) w) in
       let t : LeadsWell g old l block level digit = r l block level digit k.is ls d1 d2 at in
+      let entries : (place : ℕ) → place < 128 → HoldsInOrder old block place = λ place below.
+          let e : EntryRule g old (block + place) = s.met Rules.Entries (block + place) (t.full place below) in
+          e.entry l block place k.is below refl in
       record {
         target = t.target;
         jump = holds_on u.keeps t.jump;
@@ -225,7 +229,7 @@ module _ {g : Layout} {old new : Image} {n start size : ℕ} (v : IsVolume g.cel
         first = blocks_on u.keeps (done_blank s u) t.first;
         last = blocks_on u.keeps (done_blank s u) t.last;
         greatest = t.greatest;
-        is_full = front_on u.keeps t.is_full;
+        ends = full_ends (front_on u.keeps (ends_full entries t.ends));
         place = t.place;
         some = t.some;
         in_places = t.in_places;
@@ -238,7 +242,7 @@ module _ {g : Layout} {old new : Image} {n start size : ℕ} (v : IsVolume g.cel
   rule_11 : (cell : ℕ) → IsWritten new cell → BucketRule g new cell
   rule_11 cell w level node x o less at =
       let k = node_was s u o in
-      let r : BucketRule g old cell = s.met Rules.Bucketed cell (stood s u (omega (arith, k.low)) (omega (arith, k.high)) w) in
+      let r : BucketRule g old cell = s.met Rules.Buckets cell (stood s u (omega (arith, k.low)) (omega (arith, k.high)) w) in
       let t : IsTrueBucket g old node x = r level node x k.is less at in
       record {
         slot = t.slot; fingerprint = t.fingerprint;
@@ -255,7 +259,7 @@ module _ {g : Layout} {old new : Image} {n start size : ℕ} (v : IsVolume g.cel
   rule_12 : (cell : ℕ) → IsWritten new cell → ChildRule g new cell
   rule_12 cell w level node x o less at =
       let k = node_was s u o in
-      let r : ChildRule g old cell = s.met Rules.Childed cell (stood s u (omega (arith, k.low)) (omega (arith, k.high)) w) in
+      let r : ChildRule g old cell = s.met Rules.Children cell (stood s u (omega (arith, k.low)) (omega (arith, k.high)) w) in
       let t : LeadsDownWell g old level node x = r level node x k.is less at in
       record {
         target = t.target;
@@ -300,18 +304,18 @@ module _ {g : Layout} {old new : Image} {n start size : ℕ} (v : IsVolume g.cel
   rule_13 : (m : ℕ) (id body : List ℕ) → Stands g.cells new m id body → TrailRule g new m body
   rule_13 m id body t =
       let b = stands_back t in
-      let r : TrailRule g old m body = s.met Rules.Trailed (done_at m) (done_written b) m id body refl b in
+      let r : TrailRule g old m body = s.met Rules.Trails (done_at m) (done_written b) m id body refl b in
       record { postings = r.postings; trails = λ l p below is. let k = r.trails l p below is in (k.0, trail_on u.keeps k.1) }
 
   rule_14 : (m : ℕ) (id body : List ℕ) → Stands g.cells new m id body → PathRule g new m id
   rule_14 m id body t =
       let b = stands_back t in
-      let r : PathRule g old m id = s.met Rules.Pathed (done_at m) (done_written b) m id body refl b in
+      let r : PathRule g old m id = s.met Rules.Paths (done_at m) (done_written b) m id body refl b in
       record { path = hash_trail_on u.keeps r.path; first = λ k other less there. r.first k other less (stands_back there) }
 
   rule_15 : (m from reserved bytes journal : ℕ) → IsDone g new m from reserved bytes journal → TilingRule new from reserved bytes journal
   rule_15 m from reserved bytes journal d =
-      let r : TilingRule old from reserved bytes journal = s.met Rules.Tiled (outcome_at m) (record { found = b.commits.outcome.cell; stands = b.commits.outcome.stands }) m from reserved bytes journal refl b in
+      let r : TilingRule old from reserved bytes journal = s.met Rules.Tilings (outcome_at m) (record { found = b.commits.outcome.cell; stands = b.commits.outcome.stands }) m from reserved bytes journal refl b in
       record {
         targets = r.targets;
         each = λ target. (
@@ -338,21 +342,21 @@ module _ {g : Layout} {old new : Image} {n start size : ℕ} (v : IsVolume g.cel
       tile_on (target ∷ targets) low high t = (t.0, t.1, size_on t.2, tile_on targets (low + t.1) high t.3)
 
   all_met : (rule : Rule) (cell : ℕ) → IsWritten new cell → IsMet g new rule cell
-  all_met Rules.Reserved cell w = λ m inside at. rule_1 m inside (subst (λ (c : ℕ). IsWritten new c) at w)
-  all_met Rules.Outcome cell w = λ m inside at. rule_2 m inside (subst (λ (c : ℕ). IsWritten new c) at w)
-  all_met Rules.Finished cell w = λ m inside at. rule_3 m inside (subst (λ (c : ℕ). IsWritten new c) at w)
-  all_met Rules.Spelled cell w = λ m inside at. rule_4 m
-  all_met Rules.Journaled cell w = rule_5 cell w
-  all_met Rules.Redone cell w = rule_6 cell w
-  all_met Rules.Blank cell w = rule_7 cell w
-  all_met Rules.Entry cell w = rule_8 cell w
-  all_met Rules.Fake cell w = rule_9 cell w
-  all_met Rules.Pointer cell w = rule_10 cell w
-  all_met Rules.Bucketed cell w = rule_11 cell w
-  all_met Rules.Childed cell w = rule_12 cell w
-  all_met Rules.Trailed cell w = λ m id body at t. rule_13 m id body t
-  all_met Rules.Pathed cell w = λ m id body at t. rule_14 m id body t
-  all_met Rules.Tiled cell w = λ m from reserved bytes journal at d. rule_15 m from reserved bytes journal d
+  all_met Rules.ReserveCells cell w = λ m inside at. rule_1 m inside (subst (λ (c : ℕ). IsWritten new c) at w)
+  all_met Rules.OutcomeCells cell w = λ m inside at. rule_2 m inside (subst (λ (c : ℕ). IsWritten new c) at w)
+  all_met Rules.DoneCells cell w = λ m inside at. rule_3 m inside (subst (λ (c : ℕ). IsWritten new c) at w)
+  all_met Rules.Documents cell w = λ m inside at. rule_4 m
+  all_met Rules.Journals cell w = rule_5 cell w
+  all_met Rules.Targets cell w = rule_6 cell w
+  all_met Rules.StrayCells cell w = rule_7 cell w
+  all_met Rules.Entries cell w = rule_8 cell w
+  all_met Rules.Postings cell w = rule_9 cell w
+  all_met Rules.Pointers cell w = rule_10 cell w
+  all_met Rules.Buckets cell w = rule_11 cell w
+  all_met Rules.Children cell w = rule_12 cell w
+  all_met Rules.Trails cell w = λ m id body at t. rule_13 m id body t
+  all_met Rules.Paths cell w = λ m id body at t. rule_14 m id body t
+  all_met Rules.Tilings cell w = λ m from reserved bytes journal at d. rule_15 m from reserved bytes journal d
 
   pub given_up_is_settled : IsSettled g new
   given_up_is_settled = record { met = all_met; ended = all_ended }
@@ -366,8 +370,8 @@ module _ {g : Layout} {old new : Image} {n start size : ℕ} (v : IsVolume g.cel
           nothing_done : old (done_at n) ≡ None
           nothing_done = ⊎_elim (λ none. none)
               (λ h.
-                  let r : DoneRule old n = s.met Rules.Finished (done_at n) (record { found = h.0; stands = h.1 }) n u.reserves.slot refl in
-                  let o : OutcomeRule old n = s.met Rules.Outcome (outcome_at n) (record { found = r.commit.cell; stands = r.commit.stands }) n u.reserves.slot refl in
+                  let r : DoneRule old n = s.met Rules.DoneCells (done_at n) (record { found = h.0; stands = h.1 }) n u.reserves.slot refl in
+                  let o : OutcomeRule old n = s.met Rules.OutcomeCells (outcome_at n) (record { found = r.commit.cell; stands = r.commit.stands }) n u.reserves.slot refl in
                   absurd (none-some _ (sym (u.horizon.free u.reserves.slot) ∙ o.reserve.stands)))
               (look old (done_at n))
       all_ended : (k m : ℕ) → IsHorizon g new new k → m < k → HasEnded g new new m

@@ -5,15 +5,15 @@ use Rattle.cell_types.specs.Image.{Image}
 use Rattle.cell_types.specs.Layout.{Layout, done_at}
 use Rattle.stored_documents.specs.Documents.{Document, AreDocuments, IsDocument}
 use Rattle.index_paths.specs.Keeping.{IsKept, Kept}
-use Rattle.tamper_rules.specs.Rules.{Trailed, Pathed, TrailRule, PathRule}
+use Rattle.tamper_rules.specs.Rules.{Trails, Paths, TrailRule, PathRule}
 use Rattle.tamper_rules.specs.Settling.{IsSettled, Settled}
 use Rattle.stored_documents.specs.Volumes.{IsWritten}
 
 pub keeps_one : (g : Layout) (image : Image) (d : Document) → IsSettled g image → IsDocument g.cells image d.slot d.id d.body → IsKept g.cells image g d
 keeps_one g image d s is =
     let w : IsWritten image (done_at d.slot) = record { found = is.stands.done.done.cell; stands = is.stands.done.done.stands } in
-    let trails : TrailRule g image d.slot d.body = s.met Trailed (done_at d.slot) w d.slot d.id d.body refl is.stands in
-    let path : PathRule g image d.slot d.id = s.met Pathed (done_at d.slot) w d.slot d.id d.body refl is.stands in
+    let trails : TrailRule g image d.slot d.body = s.met Trails (done_at d.slot) w d.slot d.id d.body refl is.stands in
+    let path : PathRule g image d.slot d.id = s.met Paths (done_at d.slot) w d.slot d.id d.body refl is.stands in
     record { stands = is.stands; postings = trails.postings; trails = trails.trails; path = path.path }
 
 pub keeps_all : (cells : ℕ) (image : Image) (documents : List Document) → Settled cells image → AreDocuments cells image documents → Kept cells image documents

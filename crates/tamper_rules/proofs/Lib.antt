@@ -1,5 +1,6 @@
 pub mod Between
 pub mod DocumentLists
+pub mod FullFronts
 pub mod GivenUp
 pub mod GivenUpRules
 pub mod GoingOn

@@ -5,7 +5,7 @@ use Rattle.std.proofs.lemmas.Bool.{cases_order, cases_lt}
 use Rattle.cell_types.specs.Image.{Image}
 use Rattle.cell_types.specs.Layout.{Layout, reserve_at, outcome_at, done_at, pool_at}
 use Rattle.cell_types.specs.declared.record_cell.RecordCell.TheVariants.{Reserve, Commit, Abandon, Done}
-use Rattle.tamper_rules.specs.Rules.{Reserved, ReserveRule}
+use Rattle.tamper_rules.specs.Rules.{ReserveCells, ReserveRule}
 use Rattle.tamper_rules.specs.Settling.{IsSettled}
 use Rattle.stored_documents.specs.Slots.{Reserves, IsAbandonedSlot, IsDoneSlot, HasEnded, AreTaken, IsHorizon, EndsBelow, IsEdge}
 use Rattle.stored_documents.specs.Volumes.{Holds, IsWritten}
@@ -44,7 +44,7 @@ module _ (g : Layout) (image : Image) (s : IsSettled g image) where
   pub taken_below : (n : ℕ) → n < g.slots → IsWritten image (reserve_at n) → AreTaken image n
   taken_below zero inside w m below = absurd (omega arith)
   taken_below (suc n) inside w m below =
-      let rule : ReserveRule g image (suc n) = s.met Reserved (reserve_at (suc n)) w (suc n) inside refl in
+      let rule : ReserveRule g image (suc n) = s.met ReserveCells (reserve_at (suc n)) w (suc n) inside refl in
       let ended = ended_reserves (rule.before n (omega arith)) in
       let here : IsWritten image (reserve_at n) = written ended.2 in
       ⊎_elim
@@ -85,7 +85,7 @@ module _ (g : Layout) (image : Image) (s : IsSettled g image) where
               omega (arith, both.0, both.1, w.5))
           (λ differ. ⊎_elim
               (λ lower.
-                  let rule : ReserveRule g image k = s.met Reserved (reserve_at k) (written last) k last.slot refl in
+                  let rule : ReserveRule g image k = s.met ReserveCells (reserve_at k) (written last) k last.slot refl in
                   let before : start + length ≤ rule.start = ends_before k rule.start rule.begins m start length lower r in
                   let both = reserves w.1 w.2 rule.start rule.length (one_record_holds image (reserve_at k) (Reserve w.1 w.2) (Reserve rule.start rule.length) last.reserve rule.reserves.reserve) in
                   omega (arith, both.0, w.5))
@@ -128,7 +128,7 @@ module _ (g : Layout) (image : Image) (s : IsSettled g image) where
   pub some_edge : (u : ℕ) → IsHorizon g image image u → (at : ℕ) × IsEdge g image image at × EndsBelow g image u at
   some_edge zero h = (pool_at g, record { u = zero; most = h.most; free = h.free; ends = inl (refl, refl) }, inl (refl, refl))
   some_edge (suc m) h =
-      let rule : ReserveRule g image m = s.met Reserved (reserve_at m) (h.below m (omega arith)) m (omega (arith, h.most)) refl in
+      let rule : ReserveRule g image m = s.met ReserveCells (reserve_at m) (h.below m (omega arith)) m (omega (arith, h.most)) refl in
       let ends : EndsBelow g image (suc m) (rule.start + rule.length) = inr (m, rule.start, rule.length, omega arith, rule.reserves, refl) in
       (rule.start + rule.length, record { u = suc m; most = h.most; free = h.free; ends = ends }, ends)
 

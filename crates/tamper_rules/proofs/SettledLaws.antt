@@ -47,35 +47,35 @@ module _ {cells : ℕ} {image : Image} {g : Layout} (l : IsLayout g) (v : IsVolu
   no_index (Rules.IsDoneIndexCell.of_slot m from reserved bytes journal d low high) = no_slot d.commits.reserves
 
   met_0 : (rule : Rule) → IsMet g image rule 0
-  met_0 Rules.Reserved = λ m inside at. absurd (omega arith)
-  met_0 Rules.Outcome = λ m inside at. absurd (omega arith)
-  met_0 Rules.Finished = λ m inside at. absurd (omega arith)
-  met_0 Rules.Spelled = λ m inside at. absurd (omega arith)
-  met_0 Rules.Journaled = record {
+  met_0 Rules.ReserveCells = λ m inside at. absurd (omega arith)
+  met_0 Rules.OutcomeCells = λ m inside at. absurd (omega arith)
+  met_0 Rules.DoneCells = λ m inside at. absurd (omega arith)
+  met_0 Rules.Documents = λ m inside at. absurd (omega arith)
+  met_0 Rules.Journals = record {
     entry = λ n from reserved bytes journal place c below at. absurd (no_slot c.commits.reserves);
     commit = λ n from reserved bytes journal place c below at. absurd (no_slot c.commits.reserves);
   }
-  met_0 Rules.Redone = record {
+  met_0 Rules.Targets = record {
     done = λ n from reserved bytes journal place target copied d c at. absurd (no_slot d.commits.reserves);
     committed = λ n from reserved bytes journal place target copied d c at. absurd (no_slot d.commits.reserves);
   }
-  met_0 Rules.Blank = record {
+  met_0 Rules.StrayCells = record {
     kept_blank = λ one. absurd (omega arith);
     spare = λ n inside at. omega arith;
     named = λ i. absurd (no_index i);
     edge = λ at e pool. absurd (omega arith);
   }
-  met_0 Rules.Entry = record {
+  met_0 Rules.Entries = record {
     entry = λ k block place b below at. absurd (let far = far_block b.leads (omega arith) in omega arith);
     blank = λ k block place b from to at. let far = far_block b.leads (omega arith) in omega arith;
   }
-  met_0 Rules.Fake = λ k block place p b below at h. absurd (let far = far_block b.leads (omega arith) in omega arith)
-  met_0 Rules.Pointer = λ k block level digit b ls d1 d2 at. absurd (let far = far_block b.leads (omega arith) in omega arith)
-  met_0 Rules.Bucketed = λ level node x o less at. absurd (let far = far_node o in omega arith)
-  met_0 Rules.Childed = λ level node x o less at. absurd (let far = far_node o in omega arith)
-  met_0 Rules.Trailed = λ m id body at t. absurd (omega arith)
-  met_0 Rules.Pathed = λ m id body at t. absurd (omega arith)
-  met_0 Rules.Tiled = λ m from reserved bytes journal at d. absurd (omega arith)
+  met_0 Rules.Postings = λ k block place p b below at h. absurd (let far = far_block b.leads (omega arith) in omega arith)
+  met_0 Rules.Pointers = λ k block level digit b ls d1 d2 at. absurd (let far = far_block b.leads (omega arith) in omega arith)
+  met_0 Rules.Buckets = λ level node x o less at. absurd (let far = far_node o in omega arith)
+  met_0 Rules.Children = λ level node x o less at. absurd (let far = far_node o in omega arith)
+  met_0 Rules.Trails = λ m id body at t. absurd (omega arith)
+  met_0 Rules.Paths = λ m id body at t. absurd (omega arith)
+  met_0 Rules.Tilings = λ m from reserved bytes journal at d. absurd (omega arith)
 
   no_horizon : (u m : ℕ) → IsHorizon g image image u → m < u → ⊥
   no_horizon zero m h less = omega arith

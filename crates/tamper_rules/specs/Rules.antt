@@ -13,8 +13,9 @@ use Rattle.tamper_rules.specs.Journals.{journal_at, Copies, LiesInBlocks, IsName
 use Rattle.index_paths.specs.Keeping.{sought_in}
 use Rattle.index_paths.specs.Nodes.{IsBlockOf, IsNode, IsOnPath, AreApart}
 use Rattle.stored_documents.specs.Slots.{cells_for, Reserves, Stores, IsCommitted, IsDone, HasEnded, EndsBelow, IsEdge, IsLive}
+use Rattle.tamper_rules.specs.declared.numbers.TheConstants.{RESERVE_CELL, OUTCOME_CELL, DONE_CELL, BROKEN_DOCUMENT, BROKEN_JOURNAL, OTHER_TARGET, STRAY_CELL, BLOCK_OUT_OF_ORDER, FAKE_POSTING, LOST_POINTER, FAKE_BUCKET, LOST_CHILD, MISSING_TRAIL, MISSING_PATH, UNTILED_BLOCKS}
 use Rattle.stored_documents.specs.Volumes.{Holds, IsWritten, IsVolume}
-use Rattle.index_paths.specs.Words.{IsPostingOf, HasPostings}
+use Rattle.index_paths.specs.Postings.{IsPostingOf, HasPostings}
 
 -- Rule 1, at the reserve cell of slot n: it reserves cells of the pool, which begin where those of the slot before
 -- end, or where the pool begins; and the slot before is abandoned or done.
@@ -101,7 +102,7 @@ pub record EntryRule (g : Layout) (image : Image) (cell : ℕ) : Type 0 where
   pub blank : (l block place : ℕ) → IsBlockOf g image l block → 248 ≤ place → place < 256 → cell ≢ block + place
 
 -- slot n is live, and the posting is one of its document's in list l
-pub record IsTrue (g : Layout) (image : Image) (l : ℕ) (p : PostingFields) : Type 0 where
+pub record IsTruePosting (g : Layout) (image : Image) (l : ℕ) (p : PostingFields) : Type 0 where
   pub live : IsLive g image (p.key / 256)
   pub id : List ℕ
   pub body : List ℕ
@@ -113,7 +114,14 @@ pub record IsTrue (g : Layout) (image : Image) (l : ℕ) (p : PostingFields) : T
 abbrev pub PostingRule : Layout → Image → ℕ → Type 0
 PostingRule g image cell =
     (l block place : ℕ) (p : PostingFields) → IsBlockOf g image l block → place < 128 → cell ≡ block + place
-    → Holds image cell (posting_record p) → IsTrue g image l p
+    → Holds image cell (posting_record p) → IsTruePosting g image l p
+
+-- the front of the block ends with this posting, its greatest
+pub record EndsFront (image : Image) (block : ℕ) (greatest : PostingFields) : Type 0 where
+  pub place : ℕ
+  pub in_places : place < 128
+  pub in_front : InFront image block place greatest
+  pub ends : place + 1 < 128 → (next : PostingFields) → InFront image block (place + 1) next → ⊥
 
 -- Rule 10, at a pointer place of a block of list l: it is a jump cell; each entry place of its block is written; the
 -- target's cells lie in the pool, before each edge, and in the block part of one slot that is committed or done; some
@@ -130,7 +138,7 @@ pub record LeadsWell (g : Layout) (image : Image) (l block level digit : ℕ) : 
   pub first : LiesInBlocks g image owner target
   pub last : LiesInBlocks g image owner (target + 255)
   pub greatest : PostingFields
-  pub is_full : IsFull image block greatest
+  pub ends : EndsFront image block greatest
   pub place : ℕ
   pub some : PostingFields
   pub in_places : place < 128
@@ -234,57 +242,57 @@ pub record TilingRule (image : Image) (start reserved bytes journal : ℕ) : Typ
 
 -- the rules
 pub data Rule : Type 0 where
-  Reserved : Rule
-  Outcome : Rule
-  Finished : Rule
-  Spelled : Rule
-  Journaled : Rule
-  Redone : Rule
-  Blank : Rule
-  Entry : Rule
-  Fake : Rule
-  Pointer : Rule
-  Bucketed : Rule
-  Childed : Rule
-  Trailed : Rule
-  Pathed : Rule
-  Tiled : Rule
+  ReserveCells : Rule
+  OutcomeCells : Rule
+  DoneCells : Rule
+  Documents : Rule
+  Journals : Rule
+  Targets : Rule
+  StrayCells : Rule
+  Entries : Rule
+  Postings : Rule
+  Pointers : Rule
+  Buckets : Rule
+  Children : Rule
+  Trails : Rule
+  Paths : Rule
+  Tilings : Rule
 
 -- their numbers
 abbrev pub number_of : Rule → ℕ
-number_of Reserved = 1
-number_of Outcome = 2
-number_of Finished = 3
-number_of Spelled = 4
-number_of Journaled = 5
-number_of Redone = 6
-number_of Blank = 7
-number_of Entry = 8
-number_of Fake = 9
-number_of Pointer = 10
-number_of Bucketed = 11
-number_of Childed = 12
-number_of Trailed = 13
-number_of Pathed = 14
-number_of Tiled = 15
+number_of ReserveCells = RESERVE_CELL
+number_of OutcomeCells = OUTCOME_CELL
+number_of DoneCells = DONE_CELL
+number_of Documents = BROKEN_DOCUMENT
+number_of Journals = BROKEN_JOURNAL
+number_of Targets = OTHER_TARGET
+number_of StrayCells = STRAY_CELL
+number_of Entries = BLOCK_OUT_OF_ORDER
+number_of Postings = FAKE_POSTING
+number_of Pointers = LOST_POINTER
+number_of Buckets = FAKE_BUCKET
+number_of Children = LOST_CHILD
+number_of Trails = MISSING_TRAIL
+number_of Paths = MISSING_PATH
+number_of Tilings = UNTILED_BLOCKS
 
 -- the rule is kept at this cell
 abbrev pub IsMet : Layout → Image → Rule → ℕ → Type 0
-IsMet g image Reserved cell = (n : ℕ) → n < g.slots → cell ≡ reserve_at n → ReserveRule g image n
-IsMet g image Outcome cell = (n : ℕ) → n < g.slots → cell ≡ outcome_at n → OutcomeRule image n
-IsMet g image Finished cell = (n : ℕ) → n < g.slots → cell ≡ done_at n → DoneRule image n
-IsMet g image Spelled cell = (n : ℕ) → n < g.slots → cell ≡ outcome_at n → DocumentRule g image n
-IsMet g image Journaled cell = JournalRule g image cell
-IsMet g image Redone cell = RedoneRule g image cell
-IsMet g image Blank cell = BlankRule g image cell
-IsMet g image Entry cell = EntryRule g image cell
-IsMet g image Fake cell = PostingRule g image cell
-IsMet g image Pointer cell = PointerRule g image cell
-IsMet g image Bucketed cell = BucketRule g image cell
-IsMet g image Childed cell = ChildRule g image cell
-IsMet g image Trailed cell = (n : ℕ) (id body : List ℕ) → cell ≡ done_at n → Stands g.cells image n id body → TrailRule g image n body
-IsMet g image Pathed cell = (n : ℕ) (id body : List ℕ) → cell ≡ done_at n → Stands g.cells image n id body → PathRule g image n id
-IsMet g image Tiled cell =
+IsMet g image ReserveCells cell = (n : ℕ) → n < g.slots → cell ≡ reserve_at n → ReserveRule g image n
+IsMet g image OutcomeCells cell = (n : ℕ) → n < g.slots → cell ≡ outcome_at n → OutcomeRule image n
+IsMet g image DoneCells cell = (n : ℕ) → n < g.slots → cell ≡ done_at n → DoneRule image n
+IsMet g image Documents cell = (n : ℕ) → n < g.slots → cell ≡ outcome_at n → DocumentRule g image n
+IsMet g image Journals cell = JournalRule g image cell
+IsMet g image Targets cell = RedoneRule g image cell
+IsMet g image StrayCells cell = BlankRule g image cell
+IsMet g image Entries cell = EntryRule g image cell
+IsMet g image Postings cell = PostingRule g image cell
+IsMet g image Pointers cell = PointerRule g image cell
+IsMet g image Buckets cell = BucketRule g image cell
+IsMet g image Children cell = ChildRule g image cell
+IsMet g image Trails cell = (n : ℕ) (id body : List ℕ) → cell ≡ done_at n → Stands g.cells image n id body → TrailRule g image n body
+IsMet g image Paths cell = (n : ℕ) (id body : List ℕ) → cell ≡ done_at n → Stands g.cells image n id body → PathRule g image n id
+IsMet g image Tilings cell =
     (n start reserved bytes journal : ℕ) → cell ≡ outcome_at n → IsDone g image n start reserved bytes journal
     → TilingRule image start reserved bytes journal
 
@@ -297,21 +305,21 @@ IsOfPool g cell = (pool_at g ≤ cell) × (cell < g.cells)
 
 -- where a rule can have its evidence, on a volume of this layout
 abbrev pub IsPlace : Layout → Rule → ℕ → Type 0
-IsPlace g Reserved cell = IsOfSlot g reserve_at cell
-IsPlace g Outcome cell = IsOfSlot g outcome_at cell
-IsPlace g Finished cell = IsOfSlot g done_at cell
-IsPlace g Spelled cell = IsOfSlot g outcome_at cell
-IsPlace g Journaled cell = IsOfSlot g outcome_at cell ⊎ IsOfPool g cell
-IsPlace g Redone cell = IsOfPool g cell
-IsPlace g Blank cell = ((1 ≤ cell) × (cell ≤ 3)) ⊎ IsOfSlot g spare_at cell ⊎ ((list_at g 0 ≤ cell) × (cell < g.cells))
-IsPlace g Entry cell = ((l : ℕ) × LiesIn g (FirstBlock l) cell) ⊎ IsOfPool g cell
-IsPlace g Fake cell = ((l : ℕ) × LiesIn g (FirstBlock l) cell) ⊎ IsOfPool g cell
-IsPlace g Pointer cell = ((l : ℕ) × LiesIn g (FirstBlock l) cell) ⊎ IsOfPool g cell
-IsPlace g Bucketed cell = LiesIn g Root cell ⊎ IsOfPool g cell
-IsPlace g Childed cell = LiesIn g Root cell ⊎ IsOfPool g cell
-IsPlace g Trailed cell = IsOfSlot g done_at cell
-IsPlace g Pathed cell = IsOfSlot g done_at cell
-IsPlace g Tiled cell = IsOfSlot g outcome_at cell
+IsPlace g ReserveCells cell = IsOfSlot g reserve_at cell
+IsPlace g OutcomeCells cell = IsOfSlot g outcome_at cell
+IsPlace g DoneCells cell = IsOfSlot g done_at cell
+IsPlace g Documents cell = IsOfSlot g outcome_at cell
+IsPlace g Journals cell = IsOfSlot g outcome_at cell ⊎ IsOfPool g cell
+IsPlace g Targets cell = IsOfPool g cell
+IsPlace g StrayCells cell = ((1 ≤ cell) × (cell ≤ 3)) ⊎ IsOfSlot g spare_at cell ⊎ ((list_at g 0 ≤ cell) × (cell < g.cells))
+IsPlace g Entries cell = ((l : ℕ) × LiesIn g (FirstBlock l) cell) ⊎ IsOfPool g cell
+IsPlace g Postings cell = ((l : ℕ) × LiesIn g (FirstBlock l) cell) ⊎ IsOfPool g cell
+IsPlace g Pointers cell = ((l : ℕ) × LiesIn g (FirstBlock l) cell) ⊎ IsOfPool g cell
+IsPlace g Buckets cell = LiesIn g Root cell ⊎ IsOfPool g cell
+IsPlace g Children cell = LiesIn g Root cell ⊎ IsOfPool g cell
+IsPlace g Trails cell = IsOfSlot g done_at cell
+IsPlace g Paths cell = IsOfSlot g done_at cell
+IsPlace g Tilings cell = IsOfSlot g outcome_at cell
 
 -- the rule of this number is broken at the cell: the cell is written and one of the rule's places, and the rule is
 -- not kept there

@@ -139,7 +139,7 @@ module _ {g : Layout} {old new : Image} {p : Plan} (u : IsFilled g old new p) wh
   -- slot n was unused
   outcome_blank : old (outcome_at p.slot) ≡ None
   outcome_blank = ⊎_elim (λ none. none)
-      (λ h. let o : OutcomeRule old p.slot = u.before.met Rules.Outcome (outcome_at p.slot) (record { found = h.0; stands = h.1 }) p.slot free refl in
+      (λ h. let o : OutcomeRule old p.slot = u.before.met Rules.OutcomeCells (outcome_at p.slot) (record { found = h.0; stands = h.1 }) p.slot free refl in
           absurd (none-some _ (sym (u.horizon.free free) ∙ o.reserve.stands)))
       (look old (outcome_at p.slot))
 
@@ -210,7 +210,7 @@ module _ {g : Layout} {old new : Image} {p : Plan} (u : IsFilled g old new p) wh
   pub rule_1 : (m : ℕ) → m < g.slots → IsWritten new (reserve_at m) → ReserveRule g new m
   rule_1 m inside w = ⊎_elim
       (λ same. subst (λ (k : ℕ). ReserveRule g new k) (sym same) here)
-      (λ other. let r : ReserveRule g old m = u.before.met Rules.Reserved (reserve_at m) (log_stood (omega arith) (no_reserve other) w) m inside refl in
+      (λ other. let r : ReserveRule g old m = u.before.met Rules.ReserveCells (reserve_at m) (log_stood (omega arith) (no_reserve other) w) m inside refl in
           record {
             start = r.start; length = r.length;
             reserves = reserves_on keeps r.reserves;
@@ -231,7 +231,7 @@ module _ {g : Layout} {old new : Image} {p : Plan} (u : IsFilled g old new p) wh
   rule_2 m inside w = ⊎_elim
       (λ same. subst (λ (k : ℕ). OutcomeRule new k) (sym same) here)
       (λ other.
-          let r : OutcomeRule old m = u.before.met Rules.Outcome (outcome_at m) (log_stood (omega arith) (no_outcome other) w) m inside refl in
+          let r : OutcomeRule old m = u.before.met Rules.OutcomeCells (outcome_at m) (log_stood (omega arith) (no_outcome other) w) m inside refl in
           record {
             reserve = written_on keeps r.reserve;
             outcome = ⊎_elim (λ h. inl (holds_on keeps h))
@@ -252,7 +252,7 @@ module _ {g : Layout} {old new : Image} {p : Plan} (u : IsFilled g old new p) wh
   rule_3 m inside w = ⊎_elim
       (λ same. subst (λ (k : ℕ). DoneRule new k) (sym same) (record { done = u.done; bytes = length (stored_of p); journal = length p.entries; commit = u.commit }))
       (λ other.
-          let r : DoneRule old m = u.before.met Rules.Finished (done_at m) (log_stood (omega arith) (no_done other) w) m inside refl in
+          let r : DoneRule old m = u.before.met Rules.DoneCells (done_at m) (log_stood (omega arith) (no_done other) w) m inside refl in
           record { done = holds_on keeps r.done; bytes = r.bytes; journal = r.journal; commit = holds_on keeps r.commit })
       (same_or_not m p.slot)
 
@@ -261,7 +261,7 @@ module _ {g : Layout} {old new : Image} {p : Plan} (u : IsFilled g old new p) wh
       (λ same. by_plan (λ m from reserved bytes journal. HasDocument new (document_at from reserved bytes journal) bytes) c.commits same here)
       (λ other.
           let b = stores_back other c in
-          let r : DocumentRule g old m = u.before.met Rules.Spelled (outcome_at m) (record { found = b.commits.outcome.cell; stands = b.commits.outcome.stands }) m b.commits.reserves.slot refl in
+          let r : DocumentRule g old m = u.before.met Rules.Documents (outcome_at m) (record { found = b.commits.outcome.cell; stands = b.commits.outcome.stands }) m b.commits.reserves.slot refl in
           let d : HasDocument old (document_at from reserved bytes journal) bytes = r from reserved bytes journal b in
           record { id = d.id; body = d.body; count = d.count; spells = spells_on _ _ keeps d.spells; is_identifier = d.is_identifier; is_body = d.is_body })
       (same_or_not m p.slot)
@@ -276,7 +276,7 @@ module _ {g : Layout} {old new : Image} {p : Plan} (u : IsFilled g old new p) wh
   -- each journal cell of an old slot stood, and was in order
   old_entry : {m from reserved bytes journal : ℕ} → Stores g old m from reserved bytes journal → (place : ℕ) → place < journal → IsWritten old (journal_at from reserved journal + place)
   old_entry {m} {from} {reserved} {bytes} {journal} b place below =
-      let r : JournalRule g old (outcome_at m) = u.before.met Rules.Journaled (outcome_at m) (record { found = b.commits.outcome.cell; stands = b.commits.outcome.stands }) in
+      let r : JournalRule g old (outcome_at m) = u.before.met Rules.Journals (outcome_at m) (record { found = b.commits.outcome.cell; stands = b.commits.outcome.stands }) in
       r.commit m from reserved bytes journal place b below refl
 
   copies_was : {m from reserved bytes journal place target : ℕ} {r : RecordCell} → Stores g old m from reserved bytes journal
@@ -307,7 +307,7 @@ module _ {g : Layout} {old new : Image} {p : Plan} (u : IsFilled g old new p) wh
         (λ other.
             let b = stores_back other c in
             let before = old_entry b place below in
-            let r : JournalRule g old (journal_at from reserved journal + place) = u.before.met Rules.Journaled (journal_at from reserved journal + place) before in
+            let r : JournalRule g old (journal_at from reserved journal + place) = u.before.met Rules.Journals (journal_at from reserved journal + place) before in
             in_order_on' (r.entry m from reserved bytes journal place b below refl))
         (same_or_not m p.slot);
     commit = λ m from reserved bytes journal place c below at. ⊎_elim
@@ -329,7 +329,7 @@ module _ {g : Layout} {old new : Image} {p : Plan} (u : IsFilled g old new p) wh
             let b = done_back other d in
             let c = copies_was (record { commits = b.commits; done = inr b.done }) k in
             let here : old cell ≡ Some c.entry = ap old at ∙ c.stands in
-            let r : RedoneRule g old cell = u.before.met Rules.Redone cell (record { found = c.entry; stands = here }) in
+            let r : RedoneRule g old cell = u.before.met Rules.Targets cell (record { found = c.entry; stands = here }) in
             let same : old target ≡ old cell = r.done m from reserved bytes journal place target copied b c at in
             keeps.keeps _ _ (same ∙ here) ∙ sym (keeps.keeps _ _ here))
         (same_or_not m p.slot);
@@ -384,7 +384,7 @@ module _ {g : Layout} {old new : Image} {p : Plan} (u : IsFilled g old new p) wh
   -- an old cell of the pool lies before the old edge
   pub old_low : (cell : ℕ) (value : List ℕ) → old cell ≡ Some value → pool_at g ≤ cell → cell < p.start
   old_low cell value is pool =
-      let r : BlankRule g old cell = u.before.met Rules.Blank cell (record { found = value; stands = is }) in
+      let r : BlankRule g old cell = u.before.met Rules.StrayCells cell (record { found = value; stands = is }) in
       r.edge p.start old_edge pool
 
   -- an index cell of the new image that is old was one of the old
@@ -455,7 +455,7 @@ module _ {g : Layout} {old new : Image} {p : Plan} (u : IsFilled g old new p) wh
   pub rule_7 : (cell : ℕ) → IsWritten new cell → BlankRule g new cell
   rule_7 cell w = ⊎_elim
       (λ was.
-          let r : BlankRule g old cell = u.before.met Rules.Blank cell (record { found = w.found; stands = was }) in
+          let r : BlankRule g old cell = u.before.met Rules.StrayCells cell (record { found = w.found; stands = was }) in
           record {
             kept_blank = r.kept_blank;
             spare = r.spare;
@@ -481,7 +481,7 @@ module _ {g : Layout} {old new : Image} {p : Plan} (u : IsFilled g old new p) wh
       old_tiles : IsDone g old m from reserved bytes journal → TilingRule new from reserved bytes journal
       old_tiles b =
           let st : Stores g old m from reserved bytes journal = record { commits = b.commits; done = inr b.done } in
-          let r : TilingRule old from reserved bytes journal = u.before.met Rules.Tiled (outcome_at m) (record { found = b.commits.outcome.cell; stands = b.commits.outcome.stands }) m from reserved bytes journal refl b in
+          let r : TilingRule old from reserved bytes journal = u.before.met Rules.Tilings (outcome_at m) (record { found = b.commits.outcome.cell; stands = b.commits.outcome.stands }) m from reserved bytes journal refl b in
           record {
             targets = r.targets;
             each = λ target. (
@@ -512,7 +512,7 @@ module _ {g : Layout} {old new : Image} {p : Plan} (u : IsFilled g old new p) wh
       let d : IsDone g new m t.start t.reserved (length (stored_bytes id body)) t.journal =
           subst (λ (h : Layout). IsDone h new m t.start t.reserved (length (stored_bytes id body)) t.journal) same t.done in
       let b = done_back other d in
-      let r : DocumentRule g old m = u.before.met Rules.Spelled (outcome_at m) (record { found = b.commits.outcome.cell; stands = b.commits.outcome.stands }) m b.commits.reserves.slot refl in
+      let r : DocumentRule g old m = u.before.met Rules.Documents (outcome_at m) (record { found = b.commits.outcome.cell; stands = b.commits.outcome.stands }) m b.commits.reserves.slot refl in
       let k : HasDocument old (document_at t.start t.reserved (length (stored_bytes id body)) t.journal) (length (stored_bytes id body)) =
           r t.start t.reserved (length (stored_bytes id body)) t.journal (record { commits = b.commits; done = inr b.done }) in
       record {

@@ -30,7 +30,7 @@ pub data IsLogCell (n cell : ℕ) : Type 0 where
 -- the two images
 module _ {g : Layout} {old new : Image} {p : Plan} (i : IsIngest g old new p) where
   pub begins : ReserveRule g new p.slot
-  begins = i.after.met Rules.Reserved (reserve_at p.slot) (record { found = i.reserve.cell; stands = i.reserve.stands }) p.slot i.free refl
+  begins = i.after.met Rules.ReserveCells (reserve_at p.slot) (record { found = i.reserve.cell; stands = i.reserve.stands }) p.slot i.free refl
 
   pub same_start : (p.start ≡ begins.start) × (p.reserved ≡ begins.length)
   same_start = reserves _ _ _ _ (one_record_holds new (reserve_at p.slot) (Reserve p.start p.reserved) (Reserve begins.start begins.length) i.reserve begins.reserves.reserve)
@@ -41,7 +41,7 @@ module _ {g : Layout} {old new : Image} {p : Plan} (i : IsIngest g old new p) wh
 
   pub slot_commits : Commits g new p.slot p.start p.reserved (length (stored_of p)) (length p.entries)
   slot_commits =
-      let r : OutcomeRule new p.slot = i.after.met Rules.Outcome (outcome_at p.slot) (record { found = i.commit.cell; stands = i.commit.stands }) p.slot i.free refl in
+      let r : OutcomeRule new p.slot = i.after.met Rules.OutcomeCells (outcome_at p.slot) (record { found = i.commit.cell; stands = i.commit.stands }) p.slot i.free refl in
       record {
         reserves = slot_reserves;
         outcome = i.commit;
@@ -62,9 +62,9 @@ module _ {g : Layout} {old new : Image} {p : Plan} (i : IsIngest g old new p) wh
 
   pub in_order : (place : ℕ) → place < length p.entries → IsInOrder g new p.slot p.start p.reserved (length (stored_of p)) (length p.entries) place
   in_order place below =
-      let c : JournalRule g new (outcome_at p.slot) = i.after.met Rules.Journaled (outcome_at p.slot) (record { found = i.commit.cell; stands = i.commit.stands }) in
+      let c : JournalRule g new (outcome_at p.slot) = i.after.met Rules.Journals (outcome_at p.slot) (record { found = i.commit.cell; stands = i.commit.stands }) in
       let w : IsWritten new (journal_at p.start p.reserved (length p.entries) + place) = c.commit p.slot p.start p.reserved (length (stored_of p)) (length p.entries) place slot_stores below refl in
-      let r : JournalRule g new (journal_at p.start p.reserved (length p.entries) + place) = i.after.met Rules.Journaled (journal_at p.start p.reserved (length p.entries) + place) w in
+      let r : JournalRule g new (journal_at p.start p.reserved (length p.entries) + place) = i.after.met Rules.Journals (journal_at p.start p.reserved (length p.entries) + place) w in
       r.entry p.slot p.start p.reserved (length (stored_of p)) (length p.entries) place slot_stores below refl
 
   -- a cell that a journal cell names holds the same
@@ -72,7 +72,7 @@ module _ {g : Layout} {old new : Image} {p : Plan} (i : IsIngest g old new p) wh
       → new (journal_at p.start p.reserved (length p.entries) + place) ≡ Some value → new target ≡ Some value
   redone place target copied value c is =
       let r : RedoneRule g new (journal_at p.start p.reserved (length p.entries) + place) =
-          i.after.met Rules.Redone (journal_at p.start p.reserved (length p.entries) + place) (record { found = value; stands = is }) in
+          i.after.met Rules.Targets (journal_at p.start p.reserved (length p.entries) + place) (record { found = value; stands = is }) in
       r.done p.slot p.start p.reserved (length (stored_of p)) (length p.entries) place target copied slot_done c refl ∙ is
 
   -- what is applied is copied in the journal, and lies behind the log
@@ -120,13 +120,13 @@ module _ {g : Layout} {old new : Image} {p : Plan} (i : IsIngest g old new p) wh
   -- slot n was unused
   pub outcome_blank : old (outcome_at p.slot) ≡ None
   outcome_blank = ⊎_elim (λ none. none)
-      (λ h. let o : OutcomeRule old p.slot = i.before.met Rules.Outcome (outcome_at p.slot) (record { found = h.0; stands = h.1 }) p.slot i.free refl in
+      (λ h. let o : OutcomeRule old p.slot = i.before.met Rules.OutcomeCells (outcome_at p.slot) (record { found = h.0; stands = h.1 }) p.slot i.free refl in
           absurd (none-some _ (sym (i.horizon.free i.free) ∙ o.reserve.stands)))
       (look old (outcome_at p.slot))
 
   pub done_blank : old (done_at p.slot) ≡ None
   done_blank = ⊎_elim (λ none. none)
-      (λ h. let r : DoneRule old p.slot = i.before.met Rules.Finished (done_at p.slot) (record { found = h.0; stands = h.1 }) p.slot i.free refl in
+      (λ h. let r : DoneRule old p.slot = i.before.met Rules.DoneCells (done_at p.slot) (record { found = h.0; stands = h.1 }) p.slot i.free refl in
           absurd (none-some _ (sym outcome_blank ∙ r.commit.stands)))
       (look old (done_at p.slot))
 

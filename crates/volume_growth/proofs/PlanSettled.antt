@@ -16,14 +16,15 @@ use Rattle.volume_growth.specs.ListShapes.{PointsWell}
 use Rattle.index_paths.specs.Nodes.{IsBlockOf, IsNode, under}
 use Rattle.volume_growth.specs.TreeShapes.{ChildWell}
 use Rattle.tamper_rules.specs.Rules
-use Rattle.tamper_rules.specs.Rules.{Rule, IsMet, EntryRule, IsTrue, PostingRule, PointerRule, IsTrueBucket, BucketRule, LeadsDownWell, ChildRule, TrailRule, PathRule}
+use Rattle.tamper_rules.specs.Rules.{Rule, IsMet, EntryRule, IsTruePosting, PostingRule, PointerRule, IsTrueBucket, BucketRule, LeadsDownWell, ChildRule, TrailRule, PathRule}
 use Rattle.tamper_rules.specs.Settling.{IsSettled}
 use Rattle.stored_documents.specs.Slots.{Stores, IsLive}
 use Rattle.stored_documents.specs.Volumes.{Holds, IsWritten}
-use Rattle.index_paths.specs.Words.{IsPostingOf}
+use Rattle.index_paths.specs.Postings.{IsPostingOf}
 use Rattle.stored_documents.proofs.Extending.{holds_on, written_on, volume_on, live_on, stands_on}
 use Rattle.volume_growth.proofs.Filled.{free, keeps, mine, edge_is, stands_back, all_ended, old_low, blocks_from, blocks_to, stored_from, entry_copies, applied_entry, stores_on', rule_1, rule_2, rule_3, rule_4, rule_5, rule_6, rule_7, rule_15}
 use Rattle.stored_documents.proofs.Holding.{one_record_holds}
+use Rattle.tamper_rules.proofs.FullFronts.{full_ends}
 use Rattle.tamper_rules.proofs.GivenUp.{children, leads_further}
 use Rattle.tamper_rules.proofs.GoingOn.{on_path_on}
 use Rattle.volume_growth.proofs.TreeShapes.{node_place}
@@ -93,9 +94,9 @@ module _ {g : Layout} {old new : Image} {p : Plan} (w : IsWellPlanned g old new 
           })
       (λ x. ⊎_elim
           (λ was.
-              let r : PostingRule g old cell = u.before.met Rules.Fake cell (record { found = x.0; stands = x.1 }) in
+              let r : PostingRule g old cell = u.before.met Rules.Postings cell (record { found = x.0; stands = x.1 }) in
               let held : Holds old cell (posting_record q) = record { cell = h.cell; stands = x.1 ∙ sym (same x.0 x.1) ∙ refl; is = h.is } in
-              let t : IsTrue g old l q = r l block place q was below at held in
+              let t : IsTruePosting g old l q = r l block place q was below at held in
               record { live = live_on (keeps u) (keeps u) t.live; id = t.id; body = t.body; stands = stands_on (keeps u) t.stands; postings = t.postings; is = t.is })
           (λ fresh. absurd (
               let inside : pool_at g ≤ cell = omega (arith, fresh, at, u.reserves.from) in
@@ -123,7 +124,7 @@ module _ {g : Layout} {old new : Image} {p : Plan} (w : IsWellPlanned g old new 
         from = k.inside_from; to = to;
         edge = λ at e. let same = edge_is u at e in let b = blocks_to u in omega (arith, k.inside_to);
         owner = o.0; first = o.1; last = o.2;
-        greatest = k.greatest; is_full = k.is_full;
+        greatest = k.greatest; ends = full_ends k.is_full;
         place = k.place; some = k.some; in_places = k.in_places; in_front = k.in_front; in_span = k.in_span;
         blocks = λ j other x. w.apart l j k.target other t x;
         nodes = λ v node x. w.apart_nodes l k.target v node t x;
@@ -140,7 +141,7 @@ module _ {g : Layout} {old new : Image} {p : Plan} (w : IsWellPlanned g old new 
               (record { postings = w.has_postings; trails = w.trails })))
       (λ other.
           let b = stands_back u other t in
-          let r : TrailRule g old m body = u.before.met Rules.Trailed (done_at m) (record { found = b.done.done.cell; stands = b.done.done.stands }) m id body refl b in
+          let r : TrailRule g old m body = u.before.met Rules.Trails (done_at m) (record { found = b.done.done.cell; stands = b.done.done.stands }) m id body refl b in
           record { postings = r.postings; trails = λ l q below is. let k = r.trails l q below is in (k.0, trail_on (keeps u) k.1) })
       (same_or_not m p.slot)
 
@@ -152,7 +153,7 @@ module _ {g : Layout} {old new : Image} {p : Plan} (w : IsWellPlanned g old new 
               (record { path = w.path; first = λ k other less there. w.absent k other (stands_back u (λ is. omega arith) there) })))
       (λ differ.
           let b = stands_back u differ t in
-          let r : PathRule g old m id = u.before.met Rules.Pathed (done_at m) (record { found = b.done.done.cell; stands = b.done.done.stands }) m id body refl b in
+          let r : PathRule g old m id = u.before.met Rules.Paths (done_at m) (record { found = b.done.done.cell; stands = b.done.done.stands }) m id body refl b in
           record {
             path = hash_trail_on (keeps u) r.path;
             first = λ k other less there. ⊎_elim
@@ -190,7 +191,7 @@ module _ {g : Layout} {old new : Image} {p : Plan} (w : IsWellPlanned g old new 
           })
       (λ z.
           let o = old_node {i = x} z.0 n (omega arith) z.1 in
-          let r : BucketRule g old (node + x) = u.before.met Rules.Bucketed (node + x) (record { found = z.0; stands = z.1 }) in
+          let r : BucketRule g old (node + x) = u.before.met Rules.Buckets (node + x) (record { found = z.0; stands = z.1 }) in
           let t : IsTrueBucket g old node x = r v node x o xs refl in
           record {
             slot = t.slot; fingerprint = t.fingerprint;
@@ -244,7 +245,7 @@ module _ {g : Layout} {old new : Image} {p : Plan} (w : IsWellPlanned g old new 
   old_owner : (v node x : ℕ) (value : List ℕ) → IsNode g new v node → x < 16 → (c : ChildWell g new (blocks_end p) v node x) → old (node + 16 + x) ≡ Some value → ChildOwner (node + 16 + x) c.target
   old_owner v node x value n xs c was =
       let o = old_node {i = 16 + x} value n (omega arith) (ap old (let z : node + (16 + x) ≡ node + 16 + x = omega arith in z) ∙ was) in
-      let r : ChildRule g old (node + 16 + x) = u.before.met Rules.Childed (node + 16 + x) (record { found = value; stands = was }) in
+      let r : ChildRule g old (node + 16 + x) = u.before.met Rules.Children (node + 16 + x) (record { found = value; stands = was }) in
       let t : LeadsDownWell g old v node x = r v node x o xs refl in
       let same : t.target ≡ c.target = children t.target c.target (one_record_holds new (node + 16 + x) (Child t.target) (Child c.target) (holds_on (keeps u) t.child) c.child) in
       record {
@@ -273,21 +274,21 @@ module _ {g : Layout} {old new : Image} {p : Plan} (w : IsWellPlanned g old new 
       }
 
   all_met : (rule : Rule) (cell : ℕ) → IsWritten new cell → IsMet g new rule cell
-  all_met Rules.Reserved cell is = λ m inside at. rule_1 u m inside (subst (λ (c : ℕ). IsWritten new c) at is)
-  all_met Rules.Outcome cell is = λ m inside at. rule_2 u m inside (subst (λ (c : ℕ). IsWritten new c) at is)
-  all_met Rules.Finished cell is = λ m inside at. rule_3 u m inside (subst (λ (c : ℕ). IsWritten new c) at is)
-  all_met Rules.Spelled cell is = λ m inside at. rule_4 u m
-  all_met Rules.Journaled cell is = rule_5 u cell is
-  all_met Rules.Redone cell is = rule_6 u cell is
-  all_met Rules.Blank cell is = rule_7 u cell is
-  all_met Rules.Entry cell is = rule_8 cell is
-  all_met Rules.Fake cell is = rule_9 cell is
-  all_met Rules.Pointer cell is = rule_10 cell is
-  all_met Rules.Bucketed cell is = rule_11 cell is
-  all_met Rules.Childed cell is = rule_12 cell is
-  all_met Rules.Trailed cell is = λ m id body at t. rule_13 m id body t
-  all_met Rules.Pathed cell is = λ m id body at t. rule_14 m id body t
-  all_met Rules.Tiled cell is = λ m from reserved bytes journal at d. rule_15 u m from reserved bytes journal d
+  all_met Rules.ReserveCells cell is = λ m inside at. rule_1 u m inside (subst (λ (c : ℕ). IsWritten new c) at is)
+  all_met Rules.OutcomeCells cell is = λ m inside at. rule_2 u m inside (subst (λ (c : ℕ). IsWritten new c) at is)
+  all_met Rules.DoneCells cell is = λ m inside at. rule_3 u m inside (subst (λ (c : ℕ). IsWritten new c) at is)
+  all_met Rules.Documents cell is = λ m inside at. rule_4 u m
+  all_met Rules.Journals cell is = rule_5 u cell is
+  all_met Rules.Targets cell is = rule_6 u cell is
+  all_met Rules.StrayCells cell is = rule_7 u cell is
+  all_met Rules.Entries cell is = rule_8 cell is
+  all_met Rules.Postings cell is = rule_9 cell is
+  all_met Rules.Pointers cell is = rule_10 cell is
+  all_met Rules.Buckets cell is = rule_11 cell is
+  all_met Rules.Children cell is = rule_12 cell is
+  all_met Rules.Trails cell is = λ m id body at t. rule_13 m id body t
+  all_met Rules.Paths cell is = λ m id body at t. rule_14 m id body t
+  all_met Rules.Tilings cell is = λ m from reserved bytes journal at d. rule_15 u m from reserved bytes journal d
 
   pub plan_is_settled : IsSettled g new × Stands g.cells new p.slot p.id p.body
   plan_is_settled = (record { met = all_met; ended = all_ended u }, mine_stands)

@@ -15,6 +15,7 @@ use Rattle.stored_documents.specs.Slots.{Reserves, IsEdge}
 use Rattle.volume_growth.specs.TreeShapes.{IsWellRooted}
 use Rattle.stored_documents.specs.Volumes.{Holds, IsWritten}
 use Rattle.stored_documents.proofs.Holding.{one_record_holds}
+use Rattle.tamper_rules.proofs.FullFronts.{ends_full}
 use Rattle.tamper_rules.proofs.GivenUp.{jumps, children, leads_further}
 use Rattle.tamper_rules.proofs.Images.{look}
 
@@ -63,7 +64,7 @@ module _ {g : Layout} {image : Image} {at l : ℕ} (layout : IsLayout g) (s : Is
 
   rule_of : {block level digit : ℕ} {cell : List ℕ} → IsBlockOf g image l block → level < 8 → 1 ≤ digit → digit ≤ 15 → image (pointer_at block level digit) ≡ Some cell → LeadsWell g image l block level digit
   rule_of {block} {level} {digit} {cell} b ls d1 d2 is =
-      let r : PointerRule g image (pointer_at block level digit) = s.met Rules.Pointer (pointer_at block level digit) (record { found = cell; stands = is }) in
+      let r : PointerRule g image (pointer_at block level digit) = s.met Rules.Pointers (pointer_at block level digit) (record { found = cell; stands = is }) in
       r l block level digit b ls d1 d2 refl
 
   far_apart : {a b : ℕ} → LastHop a → IsBlockOf g image l b → (a ≡ b) ⊎ AreApart a 256 b 256
@@ -85,14 +86,18 @@ module _ {g : Layout} {image : Image} {at l : ℕ} (layout : IsLayout g) (s : Is
   settled_listed = record {
     before = omega arith;
     entries = λ block place b below w.
-        let r : EntryRule g image (block + place) = s.met Rules.Entry (block + place) w in
+        let r : EntryRule g image (block + place) = s.met Rules.Entries (block + place) w in
         r.entry l block place (block_of b) below refl;
     blank = λ block place b low high. ⊎_elim (λ none. none)
-        (λ h. let r : EntryRule g image (block + place) = s.met Rules.Entry (block + place) (record { found = h.0; stands = h.1 }) in
+        (λ h. let r : EntryRule g image (block + place) = s.met Rules.Entries (block + place) (record { found = h.0; stands = h.1 }) in
             absurd (r.blank l block place (block_of b) low high refl))
         (look image (block + place));
     pointers = λ block level digit b ls d1 d2 w. let r = rule_of (block_of b) ls d1 d2 w.stands in record {
-      target = r.target; jump = r.jump; greatest = r.greatest; is_full = r.is_full; inside_from = r.from; inside_to = r.edge at e;
+      target = r.target; jump = r.jump; greatest = r.greatest;
+      is_full = ends_full (λ place below.
+          let e : EntryRule g image (block + place) = s.met Rules.Entries (block + place) (r.full place below) in
+          e.entry l block place (block_of b) below refl) r.ends;
+      inside_from = r.from; inside_to = r.edge at e;
       place = r.place; some = r.some; in_places = r.in_places; in_front = r.in_front; in_span = r.in_span;
     };
     apart = λ a b x y. blocks_apart (block_of x) (block_of y);
@@ -101,7 +106,7 @@ module _ {g : Layout} {image : Image} {at l : ℕ} (layout : IsLayout g) (s : Is
 module _ {g : Layout} {image : Image} {at : ℕ} (layout : IsLayout g) (s : IsSettled g image) (e : IsEdge g image image at) where
   child_rule : {v node x : ℕ} → IsNode g image v node → x < 16 → IsWritten image (node + 16 + x) → LeadsDownWell g image v node x
   child_rule {v} {node} {x} n xs w =
-      let r : ChildRule g image (node + 16 + x) = s.met Rules.Childed (node + 16 + x) w in
+      let r : ChildRule g image (node + 16 + x) = s.met Rules.Children (node + 16 + x) w in
       r v node x n xs refl
 
   nodes_apart : {v u node other : ℕ} → IsNode g image v node → IsNode g image u other → (node ≡ other) ⊎ AreApart node 32 other 32

@@ -13,7 +13,7 @@ use Rattle.index_paths.specs.Keeping.{sought_in}
 use Rattle.volume_growth.specs.ListShapes.{IsWellListed}
 use Rattle.index_paths.specs.Nodes.{IsBlockOf, IsNode, IsOnPath, AreApart}
 use Rattle.volume_growth.specs.TreeShapes.{IsWellRooted}
-use Rattle.index_paths.specs.Words.{IsPostingOf, HasPostings}
+use Rattle.index_paths.specs.Postings.{IsPostingOf, HasPostings}
 use Rattle.volume_growth.specs.Ingesting.{Plan, Phase, stored_of, AnyRow, IsLeftIn, LeavesSound}
 use Rattle.tamper_rules.specs.Journals.{IsIndexRecord, IsIndexCell, LiesInBlocks}
 use Rattle.tamper_rules.specs.Rules.{TilingRule}

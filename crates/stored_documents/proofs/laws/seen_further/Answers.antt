@@ -4,7 +4,7 @@ use Rattle.stored_documents.proofs.laws.seen_further.Goals as goal
 
 pub returns : goal.returns
 returns c = record {
-  unused = λ before before' n e u. unused_further e e u;
+  unused = λ g before before' n e u. unused_further e e u;
   reserved = λ g before before' after after' n start length e f r. reserved_further e f r;
   abandoned = λ g before before' after after' n start length e f r. abandoned_further e f r;
   committed = λ g before before' after after' n start length bytes journal e f r. committed_further e f r;

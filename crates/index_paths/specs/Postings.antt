@@ -1,0 +1,45 @@
+-- The postings of a document: each distinct tag of its words, in the tag's list.
+--
+--     hello    SHA-256 begins 2c f2 4d ba 5f b0 a3 0e 26 e8: tag 2cf24dba5fb0, and a30e26e8 modulo the number of lists
+--              is its list
+use Rattle.std.specs.Prelude.{◌≡◌, ◌<◌, ◌≤◌, ◌+◌, ◌*◌, ◌%◌, ℕ, List, length, take, drop, slice_get, Some, Contains}
+use Rattle.byteorder.specs.Endian.{big_number}
+use Rattle.sha2.specs.Sha256.{sha256}
+use Rattle.stored_documents.specs.Words.{HasWord}
+use Rattle.index_paths.specs.Blocks.{PostingFields}
+
+-- a word's tag: the first six bytes of its digest
+abbrev pub tag_of : List ℕ → List ℕ
+tag_of word = take 6 (sha256 word)
+
+-- its list of so many: the number in the next four, modulo theirs
+abbrev pub list_of : ℕ → List ℕ → ℕ
+list_of lists word = big_number 4 (drop 6 (sha256 word)) % lists
+
+-- some word of the body has this list and this tag
+pub record HasTag (lists : ℕ) (body : List ℕ) (l : ℕ) (tag : List ℕ) : Type 0 where
+  pub word : List ℕ
+  pub among : HasWord body word
+  pub list : list_of lists word ≡ l
+  pub same : tag_of word ≡ tag
+
+-- The distinct tags of a body in a list, in rising byte order: big-endian numbers of six bytes rise as these do.
+pub record AreTags (lists : ℕ) (body : List ℕ) (l : ℕ) (tags : List (List ℕ)) : Type 0 where
+  pub rise : (i j : ℕ) (a b : List ℕ) → i < j → slice_get tags i ≡ Some a → slice_get tags j ≡ Some b
+      → big_number 6 a < big_number 6 b
+  pub each : (tag : List ℕ) → Contains tags tag → HasTag lists body l tag
+  pub all : (tag : List ℕ) → HasTag lists body l tag → Contains tags tag
+
+-- The posting is one of slot n's document in list l: its tag's place among the tags is its ordinal, the key is 256
+-- times the slot and the ordinal, and `last` is the greatest ordinal.
+pub record IsPostingOf (lists : ℕ) (body : List ℕ) (n l : ℕ) (p : PostingFields) : Type 0 where
+  pub tags : List (List ℕ)
+  pub are : AreTags lists body l tags
+  pub ordinal : ℕ
+  pub here : slice_get tags ordinal ≡ Some p.tag
+  pub key : p.key ≡ 256 * n + ordinal
+  pub last : p.last + 1 ≡ length tags
+
+-- the postings exist: each list gets at most 256 tags of the body
+pub record HasPostings (lists : ℕ) (body : List ℕ) : Type 0 where
+  pub each : (l : ℕ) → l < lists → (tags : List (List ℕ)) × AreTags lists body l tags × (length tags ≤ 256)
