@@ -29,22 +29,23 @@ impl KeptFronts {
         KeptFronts { held: [unknown; 9] }
     }
 
-    /// What is known of a block's front.
+    /// What is known of a block's front: the longest of those that are kept.
     pub fn of_block(&self, block: u32) -> KnownFront
         ensures block { result.block ≡ block }
         ensures places { result.count ≤ 128 }
         ensures known { (image : Image) → AreKept image self.now → IsKnown image result }
     {
-        for front in &self.held {
-            if front.block == block && front.count <= 128 {
-                return *front;
-            }
-        }
-        KnownFront {
+        let mut known = KnownFront {
             block,
             count: 0,
             greatest: 0,
+        };
+        for front in &self.held {
+            if front.block == block && front.count > known.count && front.count <= 128 {
+                known = *front;
+            }
         }
+        known
     }
 
     /// Keeps what is known of a front, in place of the one that was kept at this number.
