@@ -10,7 +10,8 @@ use Rattle.jump_block.specs.Pointers.{ReadsPointer}
 
 -- a written cell that is no posting
 pub no_posting : (block place at : ℕ) (found : List ℕ) (old new : ViewState)
-    → at ≡ block + place → ViewReads at old new (Ok (Some found)) → ((p : PostingFields) → IsRecordCell (posting_record p) at found → ⊥)
+    → at ≡ block + place → ViewReads at old new (Ok (Some found))
+    → ((p : PostingFields) → IsRecordCell (posting_record p) at found → ⊥)
     → ReadsEntry block place old new (Err (Tampered (record { rule = 8; cell = at; found = found })))
 no_posting block place at found old new is read none = record {
   viewed = read.viewed;

@@ -22,23 +22,31 @@ use Rattle.jump_block.proofs.Counting.{rose_later}
 use Rattle.jump_block.proofs.Knowing.{below_next, below_on, known_holds, known_on, of_known, past_on}
 
 -- an ending of a later call is one of the row of calls
-pub ends_later : (x block : ℕ) (old mid new : ViewState) → Viewed old mid → (result : Result Front Fault) → FirstEnds x block mid new result → FirstEnds x block old new result
+pub ends_later : (x block : ℕ) (old mid new : ViewState) → Viewed old mid → (result : Result Front Fault)
+    → FirstEnds x block mid new result → FirstEnds x block old new result
 ends_later x block old mid new viewed (Ok (At e)) ends =
     (ends.0, ends.1, ends.2, ends.3, λ tells. ends.4 (subst IsTrue (sym viewed.called.tells) tells))
-ends_later x block old mid new viewed (Ok (Open n greatest)) ends = (ends.0, λ tells. ends.1 (subst IsTrue (sym viewed.called.tells) tells))
-ends_later x block old mid new viewed (Ok (Full l)) ends = (ends.0, λ tells. ends.1 (subst IsTrue (sym viewed.called.tells) tells))
+ends_later x block old mid new viewed (Ok (Open n greatest)) ends =
+    (ends.0, λ tells. ends.1 (subst IsTrue (sym viewed.called.tells) tells))
+ends_later x block old mid new viewed (Ok (Full l)) ends = (
+  ends.0,
+  λ tells. ends.1
+      (subst IsTrue (sym viewed.called.tells) tells),
+)
 ends_later x block old mid new viewed (Err ReadFault) rose = rose_later _ _ _ viewed.called.faults rose
 ends_later x block old mid new viewed (Err (Tampered e)) ends =
     (ends.0, ends.1, ends.2, ends.3, λ tells. ends.4 (subst IsTrue (sym viewed.called.tells) tells))
 
 -- no known place holds what is no posting
-pub not_bad : (image : Image) (f : KnownFront) (place : ℕ) (found : List ℕ) → IsKnown image f → place < f.count → IsNoPosting image (f.block + place) found → ⊥
+pub not_bad : (image : Image) (f : KnownFront) (place : ℕ) (found : List ℕ) → IsKnown image f → place < f.count
+    → IsNoPosting image (f.block + place) found → ⊥
 not_bad image f place found known less bad =
     let h = known_holds image f place known less in
     let same : h.1.cell ≡ found = some_is h.1.cell found (sym h.1.stands ∙ bad.stands) in
     bad.none h.0 (subst (λ (c : List ℕ). IsRecordCell (posting_record h.0) (f.block + place) c) same h.1.is)
 
-module _ (f : KnownFront) (x : ℕ) (old mid new : ViewState) (viewed : Viewed old mid) (known : IsTrue old.base.tells → IsKnown old.image f)
+module _ (f : KnownFront) (x : ℕ) (old mid new : ViewState) (viewed : Viewed old mid)
+    (known : IsTrue old.base.tells → IsKnown old.image f)
     (places : f.count ≤ 128) (place : ℕ) (less : place < f.count) where
   told : IsTrue old.base.tells → IsTrue mid.base.tells
   told tells = subst IsTrue (sym viewed.called.tells) tells
@@ -47,14 +55,23 @@ module _ (f : KnownFront) (x : ℕ) (old mid new : ViewState) (viewed : Viewed o
   known_then later tells = known_on later.image (known_on viewed.image (known tells))
 
   -- a fault at a known place
-  pub fault_at : (fault : Fault) → ReadsEntry f.block place mid new (Err fault) → FirstEnds x f.block old new (Err fault)
+  pub fault_at : (fault : Fault) → ReadsEntry f.block place mid new (Err fault)
+      → FirstEnds x f.block old new (Err fault)
   fault_at ReadFault read = rose_later _ _ _ viewed.called.faults read.ends
-  fault_at (Tampered e) read =
-      (read.ends.0, place, omega arith, read.ends.1, λ tells. absurd (not_bad new.image f place e.found (known_then read.viewed tells) less (read.ends.2 (told tells))))
+  fault_at (Tampered e) read = (
+    read.ends.0,
+    place,
+    omega arith,
+    read.ends.1,
+    λ tells. absurd
+        (not_bad new.image f place e.found (known_then read.viewed tells) less (read.ends.2 (told tells))),
+  )
 
   -- the places up to a known one with a smaller key
-  pub next_below : (e : Entry) → e.key < x → ReadsEntry f.block place mid new (Ok (Some e)) → IsTrue old.base.tells → AreBelow new.image f.block (place + 1) x
-  next_below e below read tells = below_next new.image f place x e (known_then read.viewed tells) less (read.ends.3 (told tells)) below
+  pub next_below : (e : Entry) → e.key < x → ReadsEntry f.block place mid new (Ok (Some e))
+      → IsTrue old.base.tells → AreBelow new.image f.block (place + 1) x
+  next_below e below read tells = below_next new.image f place x e (known_then read.viewed tells) less
+      (read.ends.3 (told tells)) below
 
   -- a known place is not blank
   pub not_blank : ReadsEntry f.block place mid new (Ok None) → IsTrue old.base.tells → ⊥
@@ -63,7 +80,8 @@ module _ (f : KnownFront) (x : ℕ) (old mid new : ViewState) (viewed : Viewed o
       none-some _ (sym (read.ends (told tells)) ∙ h.1.stands)
 
   -- a known place is read that holds a key at or past x
-  pub past_at : (e : Entry) → x ≤ e.key → ReadsEntry f.block place mid new (Ok (Some e)) → IsTrue old.base.tells → IsPast new.image f.block place x
+  pub past_at : (e : Entry) → x ≤ e.key → ReadsEntry f.block place mid new (Ok (Some e)) → IsTrue old.base.tells
+      → IsPast new.image f.block place x
   past_at e past read tells = record {
     p = posting_of e;
     in_front = of_known new.image f place (posting_of e) (known_then read.viewed tells) less (read.ends.3 (told tells));
@@ -75,7 +93,8 @@ module _ (f : KnownFront) (x : ℕ) (old mid new : ViewState) (viewed : Viewed o
       → ReadsEntry f.block place mid new (Ok (Some e)) → IsTrue old.base.tells → ⊥
   not_less e low past read tells =
       let h = past_on read.viewed.image (past tells) in
-      let here = of_known new.image f place (posting_of e) (known_then read.viewed tells) less (read.ends.3 (told tells)) in
+      let here = of_known new.image f place (posting_of e) (known_then read.viewed tells) less
+      (read.ends.3 (told tells)) in
       let same : h.p.key ≡ e.key = ap (λ (q : PostingFields). q.key) (one_place h.in_front here) in
       omega (arith, h.past)
 
@@ -95,8 +114,10 @@ module _ (f : KnownFront) (x : ℕ) (old mid new : ViewState) (viewed : Viewed o
   )
 
 -- reading on, as a look from known places; before it so many reads found that what was known does not stand
-pub from_reading : (x : ℕ) (old mid new : ViewState) (front start later : KnownFront) → Viewed old mid → start.block ≡ front.block
-    → mid.base.reads ≤ old.base.reads + 8 → (IsTrue old.base.tells → (mid.base.reads ≡ old.base.reads) × (start.count ≡ front.count))
+pub from_reading : (x : ℕ) (old mid new : ViewState) (front start later : KnownFront) → Viewed old mid
+    → start.block ≡ front.block
+    → mid.base.reads ≤ old.base.reads + 8 → (IsTrue old.base.tells → (mid.base.reads ≡ old.base.reads)
+    × (start.count ≡ front.count))
     → (result : Result Front Fault) → ReadsOn x mid new start later result → FindsFromKnown x old new front later result
 from_reading x old mid new front start later viewed same before none result read = record {
   viewed = viewed_then viewed read.viewed;
@@ -105,5 +126,6 @@ from_reading x old mid new front start later viewed same before none result read
   known = λ tells. read.known (subst IsTrue (sym viewed.called.tells) tells);
   reads = omega (arith, before, read.reads, read.places);
   cheap = λ tells. let n = none tells in omega (arith, n.0, n.1, read.reads);
-  ends = subst (λ (b : ℕ). FirstEnds x b old new result) same (ends_later x start.block old mid new viewed result read.ends);
+  ends = subst (λ (b : ℕ). FirstEnds x b old new result) same
+      (ends_later x start.block old mid new viewed result read.ends);
 }

@@ -44,7 +44,8 @@ FirstEnds x block old new (Ok (At e)) =
     × (IsTrue old.base.tells → InFront new.image block e.place (posting_of e) × AreBelow new.image block e.place x)
 FirstEnds x block old new (Ok (Open n greatest)) =
     (n < 128)
-    × (IsTrue old.base.tells → (new.image (block + n) ≡ None) × AreBelow new.image block n x × EndsWith new.image block n greatest)
+    × (IsTrue old.base.tells → (new.image (block + n) ≡ None) × AreBelow new.image block n x
+    × EndsWith new.image block n greatest)
 FirstEnds x block old new (Ok (Full l)) = (l < x) × (IsTrue old.base.tells → HasKeyAt new.image block 127 l)
 FirstEnds x block old new (Err ReadFault) = Rose old.base.faults new.base.faults
 FirstEnds x block old new (Err (Tampered e)) =

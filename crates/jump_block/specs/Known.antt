@@ -43,7 +43,8 @@ pub record ReadsOn (x : ℕ) (old new : ViewState) (front later : KnownFront) (r
 
 -- A look from known places on keeps what is known, and makes more of it known. It costs one read for each place that
 -- was not known, and eight besides; over a view that does not tell its image, which may forget, 137 at most.
-pub record FindsFromKnown (x : ℕ) (old new : ViewState) (front later : KnownFront) (result : Result Front Fault) : Type 0 where
+pub record FindsFromKnown (x : ℕ) (old new : ViewState) (front later : KnownFront) (result : Result Front Fault)
+    : Type 0 where
   pub viewed : Viewed old new
   pub block : later.block ≡ front.block
   pub places : later.count ≤ 128

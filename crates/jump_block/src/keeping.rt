@@ -1,7 +1,7 @@
 //! A block of whose front some places may be kept.
 ghost use Rattle.std.specs.Prelude.{◌<◌, ◌≤◌, ◌+◌, IsTrue};
 ghost use Rattle.jump_block.specs.Fronts.{FindsFirst};
-ghost use Rattle.jump_block.specs.Keeping.{AreKept};
+ghost use Rattle.jump_block.specs.Keeping.{AreKept, CostsLess};
 
 use crate::kept_fronts::KEPT_FRONTS;
 use crate::{Front, KeptFronts, first_from_known};
@@ -21,6 +21,8 @@ pub fn first_from_kept<V: View>(
     requires inside { block + 256 ≤ (V.seen view.old).cells }
     requires kept { IsTrue (V.seen view.old).base.tells → AreKept (V.seen view.old).image fronts.old }
     ensures kept { IsTrue (V.seen view.old).base.tells → AreKept (V.seen view.new).image fronts.new }
+    ensures cheap { IsTrue (V.seen view.old).base.tells →
+        CostsLess block fronts.old fronts.new (V.seen view.old) (V.seen view.new) }
     ensures finds { FindsFirst x block 137 (V.seen view.old) (V.seen view.new) result }
 {
     let mut front = fronts.of_block(block);

@@ -1,7 +1,7 @@
 //! The fronts that a row of searches keeps.
-ghost use Rattle.std.specs.Prelude.{◌≡◌, ◌<◌, ◌≤◌};
+ghost use Rattle.std.specs.Prelude.{◌≡◌, ◌<◌, ◌≤◌, ℕ};
 ghost use Rattle.cell_types.specs.Image.{Image};
-ghost use Rattle.jump_block.specs.Keeping.{AreKept};
+ghost use Rattle.jump_block.specs.Keeping.{AreKept, KeepsPlaces};
 ghost use Rattle.jump_block.specs.Known.{IsKnown};
 
 use crate::KnownFront;
@@ -33,6 +33,7 @@ impl KeptFronts {
     pub fn of_block(&self, block: u32) -> KnownFront
         ensures block { result.block ≡ block }
         ensures places { result.count ≤ 128 }
+        ensures longest { (count : ℕ) → KeepsPlaces self.now block count → count ≤ result.count }
         ensures known { (image : Image) → AreKept image self.now → IsKnown image result }
     {
         let mut known = KnownFront {
@@ -51,7 +52,8 @@ impl KeptFronts {
     /// Keeps what is known of a front, in place of the one that was kept at this number.
     pub fn keep(&mut self, at: usize, front: KnownFront)
         requires { at < KEPT_FRONTS }
-        ensures { (image : Image) → AreKept image self.old → IsKnown image front → AreKept image self.new }
+        ensures kept { (image : Image) → AreKept image self.old → IsKnown image front → AreKept image self.new }
+        ensures added { front.count ≤ 128 → KeepsPlaces self.new front.block front.count }
     {
         self.held[at] = front;
     }

@@ -15,6 +15,7 @@ pub told_before : {old new : ViewState} → Viewed old new → IsTrue new.base.t
 told_before viewed tells = subst IsTrue viewed.called.tells tells
 
 -- fronts that were kept are kept still
-pub kept_then : {old new : ViewState} {fronts : KeptFronts} → Viewed old new → (IsTrue old.base.tells → AreKept old.image fronts)
+pub kept_then : {old new : ViewState} {fronts : KeptFronts} → Viewed old new
+    → (IsTrue old.base.tells → AreKept old.image fronts)
     → IsTrue old.base.tells → AreKept new.image fronts
 kept_then viewed kept tells = kept_on viewed.image (kept tells)

@@ -33,7 +33,8 @@ pub record IsPointerPlace (level digit : ℕ) : Type 0 where
 -- key of the target's front lies in its span.
 pub data IsBadPointer (bounds : Bounds) (image : Image) (block level digit : ℕ) (found : List ℕ) : Type 0 where
   no_jump : IsNoJump image (pointer_at block level digit) found → IsBadPointer bounds image block level digit found
-  outside : (target : ℕ) → HasPointer image block level digit target → (target < bounds.pool) ⊎ (bounds.edge < target + 256)
+  outside : (target : ℕ) → HasPointer image block level digit target
+      → (target < bounds.pool) ⊎ (bounds.edge < target + 256)
       → IsBadPointer bounds image block level digit found
   no_key : (target l : ℕ) → HasPointer image block level digit target → HasFull image block l
       → ((place : ℕ) (p : PostingFields) → place < 128 → InFront image target place p → InSpan l level digit p.key → ⊥)
@@ -42,10 +43,12 @@ pub data IsBadPointer (bounds : Bounds) (image : Image) (block level digit : ℕ
 -- The evidence stands in a block that this one leads to, within the bounds: it is an entry out of order, or a pointer
 -- that leads nowhere.
 pub data Shows (bounds : Bounds) (image : Image) (block : ℕ) (e : Evidence) : Type 0 where
-  bad_entry : (at place : ℕ) → Leads image bounds.pool bounds.edge at block → e.rule ≡ BLOCK_OUT_OF_ORDER → e.cell ≡ at + place → place < 128
+  bad_entry : (at place : ℕ) → Leads image bounds.pool bounds.edge at block → e.rule ≡ BLOCK_OUT_OF_ORDER
+      → e.cell ≡ at + place → place < 128
       → IsBadEntry image at place e.found → Shows bounds image block e
-  bad_pointer : (at level digit : ℕ) → Leads image bounds.pool bounds.edge at block → e.rule ≡ LOST_POINTER → IsPointerPlace level digit
-      → e.cell ≡ pointer_at at level digit → image e.cell ≡ Some e.found → IsBadPointer bounds image at level digit e.found
+  bad_pointer : (at level digit : ℕ) → Leads image bounds.pool bounds.edge at block → e.rule ≡ LOST_POINTER
+      → IsPointerPlace level digit → e.cell ≡ pointer_at at level digit → image e.cell ≡ Some e.found
+      → IsBadPointer bounds image at level digit e.found
       → Shows bounds image block e
 
 -- a search names one of two rules
@@ -55,10 +58,12 @@ IsSearchRule number = (number ≡ BLOCK_OUT_OF_ORDER) ⊎ (number ≡ LOST_POINT
 -- why a search from a block gives no answer
 abbrev pub FaultShows : Bounds → ℕ → ViewState → ViewState → Fault → Type 0
 FaultShows bounds block old new ReadFault = Rose old.base.faults new.base.faults
-FaultShows bounds block old new (Tampered e) = IsSearchRule e.rule × (IsTrue old.base.tells → Shows bounds new.image block e)
+FaultShows bounds block old new (Tampered e) =
+    IsSearchRule e.rule × (IsTrue old.base.tells → Shows bounds new.image block e)
 
 -- the fault names this pointer
 abbrev pub IsPointerEvidence : ℕ → ℕ → ℕ → ℕ → Fault → Type 0
 IsPointerEvidence block level digit target ReadFault = ⊥
 IsPointerEvidence block level digit target (Tampered e) =
-    (e.rule ≡ LOST_POINTER) × (e.cell ≡ pointer_at block level digit) × (e.found ≡ record_bytes (Jump target) (pointer_at block level digit))
+    (e.rule ≡ LOST_POINTER) × (e.cell ≡ pointer_at block level digit)
+    × (e.found ≡ record_bytes (Jump target) (pointer_at block level digit))

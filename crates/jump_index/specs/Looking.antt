@@ -25,7 +25,8 @@ PassesNone bounds block x bound s =
 
 -- the entry is no greater than any posting with a trail from the block that has a key at or past this one
 abbrev pub IsLeast : Bounds → ℕ → ℕ → ViewState → Entry → Type 0
-IsLeast bounds block past s e = (at : ℕ) (p : PostingFields) → HasTrail bounds s block at p → past ≤ p.key → e.key ≤ p.key
+IsLeast bounds block past s e =
+    (at : ℕ) (p : PostingFields) → HasTrail bounds s block at p → past ≤ p.key → e.key ≤ p.key
 
 -- some key of the block's front lies from low up to the bound
 pub record HasKeyIn (image : Image) (block low bound : ℕ) : Type 0 where
@@ -41,21 +42,24 @@ pub record HasKeyIn (image : Image) (block low bound : ℕ) : Type 0 where
 abbrev pub SearchEnds : Bounds → ℕ → ℕ → ℕ → ℕ → ViewState → ViewState → Result Looked Fault → Type 0
 SearchEnds bounds block x low bound old new (Ok (Found e)) =
     (x ≤ e.key) × (e.key < bound) × IsEntry old.cells e
-    × (IsTrue old.base.tells → IsEntryBehind bounds new.image block e × IsFirst bounds block x old e × IsExact bounds block x new e
-    × HasKeyIn new.image block low bound)
+    × (IsTrue old.base.tells → IsEntryBehind bounds new.image block e × IsFirst bounds block x old e
+    × IsExact bounds block x new e × HasKeyIn new.image block low bound)
 SearchEnds bounds block x low bound old new (Ok Nothing) = IsTrue old.base.tells → PassesNone bounds block x bound old
 SearchEnds bounds block x low bound old new (Ok NoKey) = IsTrue old.base.tells → HasKeyIn new.image block low bound → ⊥
 SearchEnds bounds block x low bound old new (Err fault) = FaultShows bounds block old new fault
 
-pub record SearchesBlock (bounds : Bounds) (block x low bound level : ℕ) (old new : ViewState) (result : Result Looked Fault) : Type 0 where
+pub record SearchesBlock (bounds : Bounds) (block x low bound level : ℕ) (old new : ViewState)
+    (result : Result Looked Fault) : Type 0 where
   pub viewed : Viewed old new
   pub reads : new.base.reads ≤ old.base.reads + 400 * (level + 1)
   pub ends : SearchEnds bounds block x low bound old new result
 
 -- a look into one block, whatever the bounds
 abbrev pub HereEnds : ℕ → ℕ → ℕ → ℕ → ViewState → ViewState → Result Here Fault → Type 0
-HereEnds block x low bound old new (Ok (Ends looked)) = (bounds : Bounds) → SearchEnds bounds block x low bound old new (Ok looked)
-HereEnds block x low bound old new (Ok (Beyond l)) = (low ≤ l) × (l < x) × (IsTrue old.base.tells → HasFull new.image block l)
+HereEnds block x low bound old new (Ok (Ends looked)) =
+    (bounds : Bounds) → SearchEnds bounds block x low bound old new (Ok looked)
+HereEnds block x low bound old new (Ok (Beyond l)) =
+    (low ≤ l) × (l < x) × (IsTrue old.base.tells → HasFull new.image block l)
 HereEnds block x low bound old new (Err fault) = (bounds : Bounds) → FaultShows bounds block old new fault
 
 pub record LooksHere (block x low bound : ℕ) (old new : ViewState) (result : Result Here Fault) : Type 0 where
@@ -68,7 +72,8 @@ abbrev pub BeforeEnds : ℕ → ℕ → ℕ → ViewState → ViewState → Resu
 BeforeEnds block place low old new (Ok (Ends (Found e))) = ⊥
 BeforeEnds block place low old new (Ok (Ends Nothing)) = ⊤
 BeforeEnds block place low old new (Ok (Ends NoKey)) =
-    IsTrue old.base.tells → (before : ℕ) (p : PostingFields) → place ≡ before + 1 → InFront new.image block before p → p.key < low
+    IsTrue old.base.tells
+    → (before : ℕ) (p : PostingFields) → place ≡ before + 1 → InFront new.image block before p → p.key < low
 BeforeEnds block place low old new (Ok (Beyond l)) = ⊥
 BeforeEnds block place low old new (Err ReadFault) = Rose old.base.faults new.base.faults
 BeforeEnds block place low old new (Err (Tampered e)) =
@@ -95,7 +100,8 @@ BehindEnds bounds block span old new (Ok (Some e)) =
 BehindEnds bounds block span old new (Ok None) = ⊥
 BehindEnds bounds block span old new (Err fault) = FaultShows bounds block old new fault
 
-pub record LooksBehind (bounds : Bounds) (block l : ℕ) (span : Span) (target : ℕ) (old new : ViewState) (result : Result (Option Entry) Fault) : Type 0 where
+pub record LooksBehind (bounds : Bounds) (block l : ℕ) (span : Span) (target : ℕ) (old new : ViewState)
+    (result : Result (Option Entry) Fault) : Type 0 where
   pub viewed : Viewed old new
   pub reads : new.base.reads ≤ old.base.reads + 137
   pub ends : BehindEnds bounds block span old new result
@@ -108,7 +114,8 @@ LaterEnds bounds block past bound old new (Ok (Some e)) =
 LaterEnds bounds block past bound old new (Ok None) = IsTrue old.base.tells → PassesNone bounds block past bound old
 LaterEnds bounds block past bound old new (Err fault) = FaultShows bounds block old new fault
 
-pub record LooksLater (bounds : Bounds) (block l past bound : ℕ) (old new : ViewState) (result : Result (Option Entry) Fault) : Type 0 where
+pub record LooksLater (bounds : Bounds) (block l past bound : ℕ) (old new : ViewState)
+    (result : Result (Option Entry) Fault) : Type 0 where
   pub viewed : Viewed old new
   pub reads : new.base.reads ≤ old.base.reads + 257
   pub ends : LaterEnds bounds block past bound old new result
@@ -122,19 +129,23 @@ OnEnds bounds block past bound old new (Ok Nothing) = IsTrue old.base.tells → 
 OnEnds bounds block past bound old new (Ok NoKey) = ⊥
 OnEnds bounds block past bound old new (Err fault) = FaultShows bounds block old new fault
 
-pub record LooksOn (bounds : Bounds) (block past bound : ℕ) (old new : ViewState) (result : Result Looked Fault) : Type 0 where
+pub record LooksOn (bounds : Bounds) (block past bound : ℕ) (old new : ViewState) (result : Result Looked Fault)
+    : Type 0 where
   pub viewed : Viewed old new
   pub reads : new.base.reads ≤ old.base.reads + 257
   pub ends : OnEnds bounds block past bound old new result
 
 -- where the pointer of a span leads, within the bounds
 abbrev pub FirstPointerEnds : Bounds → ℕ → Span → ViewState → ViewState → Result (Option ℕ) Fault → Type 0
-FirstPointerEnds bounds block s old new (Ok None) = IsTrue old.base.tells → new.image (pointer_at block s.level s.digit) ≡ None
+FirstPointerEnds bounds block s old new (Ok None) =
+    IsTrue old.base.tells → new.image (pointer_at block s.level s.digit) ≡ None
 FirstPointerEnds bounds block s old new (Ok (Some target)) =
-    (bounds.pool ≤ target) × (target + 256 ≤ bounds.edge) × (IsTrue old.base.tells → HasPointer new.image block s.level s.digit target)
+    (bounds.pool ≤ target) × (target + 256 ≤ bounds.edge)
+    × (IsTrue old.base.tells → HasPointer new.image block s.level s.digit target)
 FirstPointerEnds bounds block s old new (Err fault) = FaultShows bounds block old new fault
 
-pub record FirstPointer (bounds : Bounds) (block : ℕ) (s : Span) (old new : ViewState) (result : Result (Option ℕ) Fault) : Type 0 where
+pub record FirstPointer (bounds : Bounds) (block : ℕ) (s : Span) (old new : ViewState)
+    (result : Result (Option ℕ) Fault) : Type 0 where
   pub viewed : Viewed old new
   pub reads : new.base.reads ≤ old.base.reads + 1
   pub ends : FirstPointerEnds bounds block s old new result

@@ -54,15 +54,16 @@ pub record IsLicensed (bounds : Bounds) (head cells : ℕ) (image : Image) (e : 
   pub stands : image e.cell ≡ Some e.found
   pub place : (g : Layout) (l : ℕ) → l < g.lists → head ≡ list_at g l → bounds.pool ≡ pool_at g → bounds.edge ≤ g.cells
       → HasPlace g e
-  pub broken : (g : Layout) (l : ℕ) → IsVolume cells image g → l < g.lists → head ≡ list_at g l → bounds.pool ≡ pool_at g
-      → IsEdge g image image bounds.edge → IsBroken cells image e.rule e.cell
+  pub broken : (g : Layout) (l : ℕ) → IsVolume cells image g → l < g.lists → head ≡ list_at g l
+      → bounds.pool ≡ pool_at g → IsEdge g image image bounds.edge → IsBroken cells image e.rule e.cell
 
 -- How a search of a list may end. Of the postings that have a trail from the list's first block at entry none is
 -- passed. A fault is one of the device, or names evidence of this list.
 abbrev pub FindEnds : Bounds → ℕ → ℕ → ViewState → ViewState → Result (Option Entry) Fault → Type 0
 FindEnds bounds head x old new (Ok (Some e)) =
     (x ≤ e.key) × IsEntry old.cells e
-    × (IsTrue old.base.tells → IsEntryBehind bounds new.image head e × IsFirst bounds head x old e × IsExact bounds head x new e)
+    × (IsTrue old.base.tells → IsEntryBehind bounds new.image head e × IsFirst bounds head x old e
+    × IsExact bounds head x new e)
 FindEnds bounds head x old new (Ok None) =
     IsTrue old.base.tells → (at : ℕ) (p : PostingFields) → HasTrail bounds old head at p → x ≤ p.key → ⊥
 FindEnds bounds head x old new (Err ReadFault) = Rose old.base.faults new.base.faults
@@ -70,7 +71,8 @@ FindEnds bounds head x old new (Err (Tampered e)) =
     IsSearchRule e.rule × (IsTrue old.base.tells → IsLicensed bounds head new.cells new.image e)
 
 -- a search costs 4,096 reads at most
-pub record FindsGeq (bounds : Bounds) (head x : ℕ) (old new : ViewState) (result : Result (Option Entry) Fault) : Type 0 where
+pub record FindsGeq (bounds : Bounds) (head x : ℕ) (old new : ViewState) (result : Result (Option Entry) Fault)
+    : Type 0 where
   pub viewed : Viewed old new
   pub reads : new.base.reads ≤ old.base.reads + 4096
   pub ends : FindEnds bounds head x old new result

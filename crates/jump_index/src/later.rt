@@ -78,7 +78,8 @@ fn look_behind<V: View>(
     requires below { span.low < 2 ^ 32 }
     requires span { IsSpan l span }
     requires full { IsTrue (V.seen view.old).base.tells → HasFull (V.seen view.old).image block l }
-    requires jump { IsTrue (V.seen view.old).base.tells → HasPointer (V.seen view.old).image block span.level span.digit target }
+    requires jump { IsTrue (V.seen view.old).base.tells →
+        HasPointer (V.seen view.old).image block span.level span.digit target }
     ensures kept { IsTrue (V.seen view.old).base.tells → AreKept (V.seen view.new).image fronts.new }
     ensures looks { LooksBehind bounds block l span target (V.seen view.old) (V.seen view.new) result }
 {

@@ -14,9 +14,9 @@
 //! blank cells can't cut it off. So what a search finds is no greater than any key at or past the asked one that has a
 //! trail, and where the asked key has one, it is that entry. `None` says that no such key has a trail.
 //!
-//! **No cell is trusted.** An entry out of order is evidence, and so is a pointer that leads nowhere: out of the bounds,
-//! or to a block with no key in its span. A blank pointer says nothing of the later spans, which are tried in turn; the
-//! first written one ends the search.
+//! **No cell is trusted.** An entry out of order is evidence, and so is a pointer that leads nowhere: out of the
+//! bounds, or to a block with no key in its span. A blank pointer says nothing of the later spans, which are tried in
+//! turn; the first written one ends the search.
 //!
 //! The level of a span falls at every hop, so a walk has at most nine blocks, and a search makes at most 4,096 reads.
 //! A caller that searches again and again keeps fronts (`KeptFronts`), and few blocks are read twice.

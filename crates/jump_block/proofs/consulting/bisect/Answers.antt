@@ -25,7 +25,8 @@ returns-in-Err g c =
     record {
       viewed = viewed_then inv.viewed c.entry.ensures.viewed;
       reads = omega (arith, inv.reads, c.entry.ensures.reads, c.loop-halving-test.true);
-      ends = fault_at c.args.front.now c.args.x _ _ _ inv.viewed c.requires.known c.requires.places (c.loop-halving.low + (c.loop-halving.high - c.loop-halving.low) / 2)
+      ends = fault_at c.args.front.now c.args.x _ _ _ inv.viewed c.requires.known c.requires.places
+          (c.loop-halving.low + (c.loop-halving.high - c.loop-halving.low) / 2)
           (omega (arith, inv.order, inv.within)) c.in-Err.fault c.in-Err.ensures;
     }
 
@@ -46,8 +47,10 @@ loop-halving-preserved g c =
             let P : ℕ → Type 0 = λ n. IsPast (g.V.View.seen c.entry.new.view).image c.args.front.now.block n c.args.x in
             subst P (sym w.high-is) (past_on c.entry.ensures.viewed.image (inv.past tells));
         below = λ tells.
-            let P : ℕ → Type 0 = λ n. AreBelow (g.V.View.seen c.entry.new.view).image c.args.front.now.block n c.args.x in
-            subst P (sym w.low-is) (next_below c.args.front.now c.args.x _ _ _ inv.viewed c.requires.known c.requires.places middle less w.in-Some.next w.if-next-x.true
+            let P : ℕ → Type 0 = λ n. AreBelow (g.V.View.seen c.entry.new.view).image c.args.front.now.block n
+            c.args.x in
+            subst P (sym w.low-is) (next_below c.args.front.now c.args.x _ _ _ inv.viewed c.requires.known
+            c.requires.places middle less w.in-Some.next w.if-next-x.true
             (rw w.in-Some.is at c.in-Ok.ensures) tells);
       }
       | in_default-2 w ↦ record {
@@ -58,10 +61,12 @@ loop-halving-preserved g c =
         narrow = omega (arith, w.low-is, w.high-is, inv.narrow, half);
         past = λ tells.
             let P : ℕ → Type 0 = λ n. IsPast (g.V.View.seen c.entry.new.view).image c.args.front.now.block n c.args.x in
-            subst P (sym w.high-is) (past_at c.args.front.now c.args.x _ _ _ inv.viewed c.requires.known c.requires.places middle less w.in-Some.next w.if-next-x.false
+            subst P (sym w.high-is) (past_at c.args.front.now c.args.x _ _ _ inv.viewed c.requires.known
+            c.requires.places middle less w.in-Some.next w.if-next-x.false
             (rw w.in-Some.is at c.in-Ok.ensures) tells);
         below = λ tells.
-            let P : ℕ → Type 0 = λ n. AreBelow (g.V.View.seen c.entry.new.view).image c.args.front.now.block n c.args.x in
+            let P : ℕ → Type 0 = λ n. AreBelow (g.V.View.seen c.entry.new.view).image c.args.front.now.block n
+            c.args.x in
             subst P (sym w.low-is) (below_on c.entry.ensures.viewed.image (inv.below tells));
       }
       | in_default w ↦ record {
@@ -71,9 +76,11 @@ loop-halving-preserved g c =
         within = omega (arith, w.high-is, inv.within);
         narrow = omega (arith, w.low-is, w.high-is, inv.narrow, half);
         past = λ tells.
-            absurd (not_blank c.args.front.now c.args.x _ _ _ inv.viewed c.requires.known c.requires.places middle less (rw w.in_default.is at c.in-Ok.ensures) tells);
+            absurd (not_blank c.args.front.now c.args.x _ _ _ inv.viewed c.requires.known c.requires.places middle
+            less (rw w.in_default.is at c.in-Ok.ensures) tells);
         below = λ tells.
-            let P : ℕ → Type 0 = λ n. AreBelow (g.V.View.seen c.entry.new.view).image c.args.front.now.block n c.args.x in
+            let P : ℕ → Type 0 = λ n. AreBelow (g.V.View.seen c.entry.new.view).image c.args.front.now.block n
+            c.args.x in
             subst P (sym w.low-is) (below_on c.entry.ensures.viewed.image (inv.below tells));
       }
     ]

@@ -1,4 +1,5 @@
--- The places before low hold keys below x, the place high holds a key at or past x, and after so many halvings few places are left.
+-- The places before low hold keys below x, the place high holds a key at or past x, and after so many halvings few
+-- places are left.
 use Rattle.std.proofs.Common.{◌<◌, ◌≤◌, ◌+◌, ◌-◌, ◌^◌}
 use Rattle.std.specs.Prelude.{IsTrue}
 use Rattle.worm_device.specs.Views.{Viewed}

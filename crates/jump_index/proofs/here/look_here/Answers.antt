@@ -11,7 +11,8 @@ returns-in-Err-clause-looks g c =
     record {
       viewed = f.viewed;
       reads = omega (arith, f.reads);
-      ends = fault_here c.args.block c.args.x c.args.low c.args.bound _ _ c.requires.from c.requires.inside f.viewed c.in-Err.fault f.ends;
+      ends = fault_here c.args.block c.args.x c.args.low c.args.bound _ _ c.requires.from c.requires.inside
+          f.viewed c.in-Err.fault f.ends;
     }
 
 pub returns-in-At-clause-looks : goal.returns-in-At-clause-looks
@@ -20,7 +21,8 @@ returns-in-At-clause-looks g c =
     record {
       viewed = f.viewed;
       reads = omega (arith, f.reads);
-      ends = found_here c.args.block c.args.x c.args.low c.args.bound _ _ c.requires.from c.requires.inside f.viewed c.in-At.next f.ends (omega arith);
+      ends = found_here c.args.block c.args.x c.args.low c.args.bound _ _ c.requires.from c.requires.inside
+          f.viewed c.in-At.next f.ends (omega arith);
     }
 
 pub returns-in-At-2-clause-kept : goal.returns-in-At-2-clause-kept
@@ -29,7 +31,12 @@ returns-in-At-2-clause-kept g c = λ tells. kept_on c.look_before.ensures.viewed
 pub returns-in-At-2-clause-looks : goal.returns-in-At-2-clause-looks
 returns-in-At-2-clause-looks g c =
     let f = rw c.in-At-2.is at c.in-Ok.ensures.finds in
-    past_here c.args.block c.args.x c.args.low c.args.bound _ _ c.requires.from c.requires.inside f.viewed c.in-At-2.next _ f.ends (omega (arith, at_key c.in-At-2.next c.in-At.next (sym c.in-At-2.is ∙ c.in-At.is))) f.reads
+    past_here c.args.block c.args.x c.args.low c.args.bound _ _ c.requires.from c.requires.inside f.viewed
+    c.in-At-2.next _ f.ends (omega (
+      arith,
+      at_key c.in-At-2.next c.in-At.next
+          (sym c.in-At-2.is ∙ c.in-At.is),
+    )) f.reads
     c.look_before.result c.look_before.ensures
 
 pub returns-in-Open-clause-looks : goal.returns-in-Open-clause-looks
@@ -38,7 +45,8 @@ returns-in-Open-clause-looks g c =
     record {
       viewed = f.viewed;
       reads = omega (arith, f.reads);
-      ends = open_here c.args.block c.args.x c.args.low c.args.bound _ _ c.requires.from c.requires.inside f.viewed c.in-Open.field-0 c.in-Open.greatest
+      ends = open_here c.args.block c.args.x c.args.low c.args.bound _ _ c.requires.from c.requires.inside
+          f.viewed c.in-Open.field-0 c.in-Open.greatest
           c.end_before.result f.ends c.end_before.ensures;
     }
 
@@ -48,5 +56,6 @@ returns-in-Full-clause-looks g c =
     record {
       viewed = f.viewed;
       reads = omega (arith, f.reads);
-      ends = low_here c.args.block c.args.x c.args.low c.args.bound _ _ c.requires.from c.requires.inside f.viewed c.in-Full.greatest f.ends (omega arith);
+      ends = low_here c.args.block c.args.x c.args.low c.args.bound _ _ c.requires.from c.requires.inside f.viewed
+          c.in-Full.greatest f.ends (omega arith);
     }

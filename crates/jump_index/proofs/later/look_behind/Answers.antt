@@ -9,8 +9,12 @@ pub returns-then-target-bounds-clause-looks : goal.returns-then-target-bounds-cl
 returns-then-target-bounds-clause-looks g c = record {
   viewed = viewed_self (g.V.View.seen c.args.view.now);
   reads = omega arith;
-  ends = target_outside c.args.bounds c.args.block c.args.l c.args.span c.args.target (g.V.View.seen c.args.view.now) c.leads_nowhere.result c.requires.span c.requires.jump
-      (elim c.then-target-bounds.branch [ then-target-bounds-via-then-target-bounds w ↦ inl (omega arith) | then-target-bounds-via-else-target-bounds+then-from w ↦ inr (omega arith) ])
+  ends = target_outside c.args.bounds c.args.block c.args.l c.args.span c.args.target
+      (g.V.View.seen c.args.view.now) c.leads_nowhere.result c.requires.span c.requires.jump
+      (elim c.then-target-bounds.branch [
+        | then-target-bounds-via-then-target-bounds w ↦ inl (omega arith)
+        | then-target-bounds-via-else-target-bounds+then-from w ↦ inr (omega arith)
+      ])
       c.leads_nowhere.ensures;
 }
 
@@ -20,7 +24,8 @@ returns-in-Err-clause-looks g c =
     record {
       viewed = f.viewed;
       reads = f.reads;
-      ends = target_fault c.args.bounds c.args.block c.args.l c.args.span c.args.target _ _ f.viewed c.requires.span c.requires.full c.requires.jump
+      ends = target_fault c.args.bounds c.args.block c.args.l c.args.span c.args.target _ _ f.viewed
+          c.requires.span c.requires.full c.requires.jump
           (omega arith) (omega arith) c.in-Err.fault f.ends;
     }
 
@@ -33,9 +38,11 @@ returns-then-from-span-clause-looks g c =
       ends = (
         f.ends.2,
         omega arith,
-        target_entry c.args.bounds c.args.block c.args.l c.args.span c.args.target _ _ f.viewed c.requires.span c.requires.full c.requires.jump
+        target_entry c.args.bounds c.args.block c.args.l c.args.span c.args.target _ _ f.viewed c.requires.span
+            c.requires.full c.requires.jump
             (omega arith) (omega arith) c.in-At.entry c.requires.edge f.ends,
-        target_first c.args.bounds c.args.block c.args.l c.args.span c.args.target _ _ f.viewed c.requires.span c.requires.full c.requires.jump
+        target_first c.args.bounds c.args.block c.args.l c.args.span c.args.target _ _ f.viewed c.requires.span
+            c.requires.full c.requires.jump
             (omega arith) (omega arith) c.in-At.entry f.ends (omega arith),
       );
     }
@@ -46,8 +53,14 @@ returns-clause-looks g c =
     record {
       viewed = f.viewed;
       reads = f.reads;
-      ends = target_without_key c.args.bounds c.args.block c.args.l c.args.span c.args.target _ _ f.viewed c.requires.span c.requires.full c.requires.jump
+      ends = target_without_key c.args.bounds c.args.block c.args.l c.args.span c.args.target _ _ f.viewed
+          c.requires.span c.requires.full c.requires.jump
           (omega arith) (omega arith) c.in-Ok.first f.ends
-          (λ e same. elim c.match-first.branch [ in-At+else-from-span w ↦ omega (arith, at_key e w.in-At.entry (sym same ∙ w.in-At.is)) | in_default w ↦ absurd (w.in_default.not-At e same) ])
+          (λ e same. elim c.match-first.branch [
+            | in-At+else-from-span w ↦ omega
+                (arith, at_key e w.in-At.entry (sym same ∙ w.in-At.is))
+            | in_default w ↦ absurd
+                (w.in_default.not-At e same)
+          ])
           c.leads_nowhere-2.result c.leads_nowhere-2.ensures;
     }

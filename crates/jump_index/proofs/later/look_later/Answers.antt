@@ -20,8 +20,10 @@ returns-in-Err-clause-kept g c = λ tells. kept_on c.pointer.ensures.viewed.imag
 pub returns-in-Err-clause-looks : goal.returns-in-Err-clause-looks
 returns-in-Err-clause-looks g c =
     let so_far = c.loop-span.invariant.so_far in
-    pointer_fault c.args.bounds c.args.block c.args.l c.args.after.high _ _ _ c.loop-span.span c.next-span.result c.requires.full so_far
-    (c.next-span.ensures.is c.args.l so_far.is) c.next-span.ensures.follows c.next-span.ensures.place c.args.bound c.in-Err.fault c.in-Err.ensures
+    pointer_fault c.args.bounds c.args.block c.args.l c.args.after.high _ _ _ c.loop-span.span c.next-span.result
+    c.requires.full so_far
+    (c.next-span.ensures.is c.args.l so_far.is) c.next-span.ensures.follows c.next-span.ensures.place c.args.bound
+    c.in-Err.fault c.in-Err.ensures
 
 pub look_behind-requires-clause-kept : goal.look_behind-requires-clause-kept
 look_behind-requires-clause-kept g c = λ tells.
@@ -43,19 +45,29 @@ returns-in-Some-clause-kept g c = λ tells.
 pub returns-in-Some-clause-looks : goal.returns-in-Some-clause-looks
 returns-in-Some-clause-looks g c =
     let so_far = c.loop-span.invariant.so_far in
-    written_pointer c.args.bounds c.args.block c.args.l c.args.after.high _ _ _ c.loop-span.span c.next-span.result c.requires.full so_far
-    (c.next-span.ensures.is c.args.l so_far.is) c.next-span.ensures.follows c.next-span.ensures.place c.in-Some.target c.args.bound _ c.look_behind.result
+    written_pointer c.args.bounds c.args.block c.args.l c.args.after.high _ _ _ c.loop-span.span
+    c.next-span.result c.requires.full so_far
+    (c.next-span.ensures.is c.args.l so_far.is) c.next-span.ensures.follows c.next-span.ensures.place
+    c.in-Some.target c.args.bound _ c.look_behind.result
     (rw c.in-Some.is at c.in-Ok.ensures) c.look_behind.ensures.looks
 
 pub loop-span-smaller : goal.loop-span-smaller
 loop-span-smaller g c =
-    omega (arith, c.loop-span-test.true, c.next-span.ensures.follows, span_is_wide (c.next-span.ensures.is c.args.l c.loop-span.invariant.so_far.is))
+    omega (
+      arith,
+      c.loop-span-test.true,
+      c.next-span.ensures.follows,
+      span_is_wide
+          (c.next-span.ensures.is c.args.l c.loop-span.invariant.so_far.is),
+    )
 
 pub loop-span-preserved : goal.loop-span-preserved
 loop-span-preserved g c =
     let so_far = c.loop-span.invariant.so_far in
     record {
-      so_far = blank_pointer c.args.bounds c.args.block c.args.l c.args.after.high _ _ _ c.loop-span.span c.next-span.result c.requires.full so_far
-          (c.next-span.ensures.is c.args.l so_far.is) c.next-span.ensures.follows c.next-span.ensures.place (rw c.in_default.is at c.in-Ok.ensures);
+      so_far = blank_pointer c.args.bounds c.args.block c.args.l c.args.after.high _ _ _ c.loop-span.span
+          c.next-span.result c.requires.full so_far
+          (c.next-span.ensures.is c.args.l so_far.is) c.next-span.ensures.follows c.next-span.ensures.place
+          (rw c.in_default.is at c.in-Ok.ensures);
       kept = λ tells. kept_on c.pointer.ensures.viewed.image (c.loop-span.invariant.kept tells);
     }
