@@ -61,6 +61,7 @@ stored_stands id body cells image g is_id is_body is_layout volume fits stored =
       done = record {
         commits = record {
           reserves = record {
+            slot = omega (arith, is_layout.some_slots);
             reserve = record {
               cell = _;
               stands = stored.reserve;
@@ -78,7 +79,7 @@ stored_stands id body cells image g is_id is_body is_layout volume fits stored =
             stands = stored.commit;
             is = record {
               fits = (omega (arith, count, is_id.most, is_body.most), omega arith);
-              well_formed = (omega (arith, count, is_id.some), omega (arith, count, is_id.most, is_body.most), refl);
+              well_formed = (omega (arith, count, is_id.some), omega (arith, count, is_id.most, is_body.most));
               same = refl;
             };
           };

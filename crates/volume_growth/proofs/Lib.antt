@@ -3,6 +3,7 @@ pub mod InPhase
 pub mod IngestLeaves
 pub mod Ingests
 pub mod ListShapes
+pub mod Needs
 pub mod OneWay
 pub mod PlanAdds
 pub mod PlanLeaves

@@ -3,6 +3,7 @@
 ghost use Rattle.volume_growth.specs.Filling.{PlanAddsOne, PlanIsSettled, PlanLeavesSound};
 ghost use Rattle.volume_growth.specs.Ingesting.{IngestLeavesSound, PhasesLeaveSound};
 ghost use Rattle.volume_growth.specs.ListShapes.{WellApart, WellWider, WellWithEntry, WellWithJump};
+ghost use Rattle.volume_growth.specs.Needs.{NeedIsBounded};
 ghost use Rattle.volume_growth.specs.SettledShapes.{LastBucketIsSame, NodesHaveOneLevel, SettledListed, SettledRooted};
 ghost use Rattle.volume_growth.specs.TreeShapes.{RootedApart, RootedWithChild};
 
@@ -79,4 +80,9 @@ pub fn nodes_have_one_level()
 /// A written bucket at the last level of an identifier's path names an identifier of the same digest.
 pub fn last_bucket_is_same()
     ensures { LastBucketIsSame }
+{}
+
+/// The need of a document with d cells and P postings is at least d + P + 1 and at most d + 258 P + 34.
+pub fn need_is_bounded()
+    ensures { NeedIsBounded }
 {}
