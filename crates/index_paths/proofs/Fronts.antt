@@ -39,11 +39,11 @@ rises (at_the_start place q is holds) i p front less = absurd (omega arith)
 rises {image} {block} (behind place before q r is rest step holds) i p front less =
     ⊎_elim
     (λ same. let e : r ≡ p = one_posting image (block + i) r p (subst (λ (n : ℕ). Holds image (block + n) (posting_record r)) (sym same) (front_holds rest)) (front_holds front) in
-        let e' : r.key ≡ p.key = ap (λ (f : PostingFields). f.key) e in omega arith)
+    let e' : r.key ≡ p.key = ap (λ (f : PostingFields). f.key) e in omega arith)
     (λ differ. ⊎_elim
-        (λ below. let h : p.key < r.key = rises rest i p front below in omega arith)
-        (λ above. absurd (omega arith))
-        differ)
+    (λ below. let h : p.key < r.key = rises rest i p front below in omega arith)
+    (λ above. absurd (omega arith))
+    differ)
     (cases_order i before)
 
 -- a place of a front holds one posting
@@ -55,11 +55,11 @@ pub rises_or_same : {image : Image} {block i j : ℕ} {p q : PostingFields} → 
 rises_or_same {image} {block} {i} {j} {p} {q} f h le =
     ⊎_elim
     (λ same. let e : p ≡ q = one_place f (subst (λ (n : ℕ). InFront image block n q) (sym same) h) in
-        let e' : p.key ≡ q.key = ap (λ (x : PostingFields). x.key) e in omega arith)
+    let e' : p.key ≡ q.key = ap (λ (x : PostingFields). x.key) e in omega arith)
     (λ differ. ⊎_elim
-        (λ below. let lt : p.key < q.key = rises h i p f below in omega arith)
-        (λ above. absurd (omega arith))
-        differ)
+    (λ below. let lt : p.key < q.key = rises h i p f below in omega arith)
+    (λ above. absurd (omega arith))
+    differ)
     (cases_order i j)
 
 -- a greater key stands at a later place

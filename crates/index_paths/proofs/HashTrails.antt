@@ -43,7 +43,7 @@ not_passed {image} {s} {n} {at} body stands bucket passed =
     ⊎_elim
     (λ differ. differ same.1)
     (λ h. let there : Stands s.cells image n h.0 h.1 = subst (λ (m : ℕ). Stands s.cells image m h.0 h.1) same.0 h.2 in
-        h.3 ((one_document s.cells image n h.0 h.1 s.id body there stands).0))
+    h.3 ((one_document s.cells image n h.0 h.1 s.id body there stands).0))
     passed.other
 
 -- one child, one target

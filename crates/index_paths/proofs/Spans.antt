@@ -30,9 +30,9 @@ one_level l k i j m n s t =
     ⊎_elim
     (λ same. same)
     (λ differ. ⊎_elim
-        (λ below. absurd (omega (arith, lower_is_less l i j k m n k s t below)))
-        (λ above. absurd (omega (arith, lower_is_less l m n k i j k t s above)))
-        differ)
+    (λ below. absurd (omega (arith, lower_is_less l i j k m n k s t below)))
+    (λ above. absurd (omega (arith, lower_is_less l m n k i j k t s above)))
+    differ)
     (cases_order i m)
 
 one_digit : (l k i j n : ℕ) → InSpan l i j k → InSpan l i n k → j ≡ n
@@ -40,9 +40,9 @@ one_digit l k i j n s t =
     ⊎_elim
     (λ same. same)
     (λ differ. ⊎_elim
-        (λ below. absurd (omega (arith, lower_digit_is_less l i j k n k s t below)))
-        (λ above. absurd (omega (arith, lower_digit_is_less l i n k j k t s above)))
-        differ)
+    (λ below. absurd (omega (arith, lower_digit_is_less l i j k n k s t below)))
+    (λ above. absurd (omega (arith, lower_digit_is_less l i n k j k t s above)))
+    differ)
     (cases_order j n)
 
 pub apart : (l k i j m n : ℕ) → InSpan l i j k → InSpan l m n k → (i ≡ m) × (j ≡ n)

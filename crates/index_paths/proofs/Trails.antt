@@ -40,10 +40,10 @@ pub one_target : {image : Image} {from to block k t u : ℕ} → Hop image from 
 one_target {image} {from} {to} {block} {k} {t} {u} h g =
     let same : h.greatest.key ≡ g.greatest.key = ap (λ (p : PostingFields). p.key) (one_place h.full g.full) in
     let spans : (h.level ≡ g.level) × (h.digit ≡ g.digit) =
-        apart g.greatest.key k h.level h.digit g.level g.digit (subst (λ (l : ℕ). InSpan l h.level h.digit k) same h.span) g.span in
+    apart g.greatest.key k h.level h.digit g.level g.digit (subst (λ (l : ℕ). InSpan l h.level h.digit k) same h.span) g.span in
     let at : pointer_at block h.level h.digit ≡ pointer_at block g.level g.digit = omega (arith, spans.0, spans.1) in
     jump_target t u (one_record_holds image (pointer_at block g.level g.digit) (Jump t) (Jump u)
-        (subst (λ (c : ℕ). Holds image c (Jump t)) at h.jump) g.jump)
+    (subst (λ (c : ℕ). Holds image c (Jump t)) at h.jump) g.jump)
 
 -- a posting of a front is no greater than the block's greatest key, so the block does not lead on for its key
 pub not_both : {image : Image} {from to block place target : ℕ} {p : PostingFields} (k : ℕ) → place < 128 → InFront image block place p → p.key ≡ k → Hop image from to block k target → ⊥
@@ -58,10 +58,10 @@ one_trail {image = image} {p = p} (here block place is below front) at' q (here 
     ⊎_elim
     (λ less. let no : p.key < q.key = rises front' place p front less in absurd (omega arith))
     (λ le. ⊎_elim
-        (λ less. let no : q.key < p.key = rises front place' q front' less in absurd (omega arith))
-        (λ ge. let one : place ≡ place' = omega arith in
-            (one_place front (subst (λ (n : ℕ). InFront image block n q) (sym one) front'), omega arith))
-        (cases_lt place' place))
+    (λ less. let no : q.key < p.key = rises front place' q front' less in absurd (omega arith))
+    (λ ge. let one : place ≡ place' = omega arith in
+    (one_place front (subst (λ (n : ℕ). InFront image block n q) (sym one) front'), omega arith))
+    (cases_lt place' place))
     (cases_lt place place')
 one_trail {p = p} (here block place is below front) at' q (on _ target hop rest) same =
     absurd (not_both q.key below front same hop)

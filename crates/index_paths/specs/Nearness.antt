@@ -27,7 +27,8 @@ pub record IsNear (lists : ℕ) (documents : List Document) (terms : List (List 
   pub term : List ℕ
   pub among : Contains terms term
   pub count : Count (SharesList lists term) documents near
-  pub least : (other : List ℕ) (more : ℕ) → Contains terms other → Count (SharesList lists other) documents more → near ≤ more
+  pub least : (other : List ℕ) (more : ℕ) → Contains terms other
+      → Count (SharesList lists other) documents more → near ≤ more
 
 -- a candidate has the tag of each term, in the term's list
 abbrev pub IsCandidate : ℕ → List (List ℕ) → Document → Type 0

@@ -23,7 +23,8 @@ pub data IsNode (g : Layout) (image : Image) : ℕ → ℕ → Type 0 where
 pub data IsOnPath (g : Layout) (image : Image) (digest : List ℕ) : ℕ → ℕ → Type 0 where
   root : (level node : ℕ) → level ≡ 0 → node ≡ root_at g → IsOnPath g image digest level node
   under : (level node v above : ℕ) → level ≡ v + 1 → IsOnPath g image digest v above → v < 63
-      → Holds image (above + 16 + nibble digest v) (Child node) → pool_at g ≤ node → node + 32 ≤ g.cells → IsOnPath g image digest level node
+      → Holds image (above + 16 + nibble digest v) (Child node) → pool_at g ≤ node → node + 32 ≤ g.cells
+      → IsOnPath g image digest level node
 
 -- the cells from a on, so many, and those from b on, so many, don't meet
 abbrev pub AreApart : ℕ → ℕ → ℕ → ℕ → Type 0

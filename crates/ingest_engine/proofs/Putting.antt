@@ -127,9 +127,11 @@ module _ (id body : List ℕ) (s0 s1 s2 : DeviceState) (g : Layout) (is_id : IsI
 
   ends_at : (result : Result Unit Refusal) → Stores g (stored_bytes id body) s1 s2 result → PutEnds id body s0 s2 result
   ends_at (Ok u) stores = λ tells.
-      let tells_1 = subst IsTrue (sym called.tells) tells in
-      (stored_stands id body s2.cells s2.sure g is_id is_body is_layout
-      (subst (λ (n : ℕ). IsVolume n s2.sure g) (sym stores.called.cells) (volume_on (stores.synced tells_1) (volume tells))) fits (stores.sure tells_1), extends_then called.image (stores.synced tells_1))
+      let tells_1 = subst IsTrue (sym called.tells) tells in (
+        stored_stands id body s2.cells s2.sure g is_id is_body is_layout
+            (subst (λ (n : ℕ). IsVolume n s2.sure g) (sym stores.called.cells) (volume_on (stores.synced tells_1) (volume tells))) fits (stores.sure tells_1),
+        extends_then called.image (stores.synced tells_1),
+      )
   ends_at (Err refusal) stores = refused refusal stores.called stores.ends
 
   -- the document was put, or putting it was ended at a cell

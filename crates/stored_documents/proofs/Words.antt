@@ -45,7 +45,7 @@ read_words (b ∷ bytes) run are = elim (bool_cases (is_word_byte b)) [
   | inl on ↦
       subst (AreWords (run ++ b ∷ bytes)) (ap (λ (r : List ℕ). words_from r bytes) (map_last run b) ∙ sym (read_on (map lowered run) bytes b on))
       (subst (λ (l : List ℕ). AreWords l (words_from (map lowered (run ++ b ∷ [])) bytes)) (append_assoc run (b ∷ []) bytes)
-          (read_words bytes (run ++ b ∷ []) (bytes_last run b are on)))
+      (read_words bytes (run ++ b ∷ []) (bytes_last run b are on)))
   | inr off ↦
       subst (AreWords (run ++ b ∷ bytes)) (sym (read_end (map lowered run) bytes b off))
       (closes b bytes (words_from [] bytes) off run are (skip b bytes (words_from [] bytes) off (read_words bytes [] tt)))
@@ -75,8 +75,8 @@ only : (words : List (List ℕ)) (bytes : List ℕ) → AreWords bytes words →
 only [] bytes are = sym (gap_words bytes are)
 only (w ∷ ws) bytes (gap, first, run, rest, whole, is_gap, of_words, apart, word, are) =
     let read : words_from [] bytes ≡ map lowered (first ∷ run) ∷ words_from [] rest =
-        ap (words_from []) whole ∙ past_gap gap ((first ∷ run) ++ rest) is_gap ∙ past_run (first ∷ run) rest [] of_words
-        ∙ closed_run (lowered first) (map lowered run) rest apart in
+    ap (words_from []) whole ∙ past_gap gap ((first ∷ run) ++ rest) is_gap ∙ past_run (first ∷ run) rest [] of_words
+    ∙ closed_run (lowered first) (map lowered run) rest apart in
     ap (λ (v : List ℕ). v ∷ ws) word ∙ ap (λ (l : List (List ℕ)). map lowered (first ∷ run) ∷ l) (only ws rest are) ∙ sym read
 
 pub words_are_one : WordsAreOne

@@ -84,4 +84,5 @@ DocumentsHoldOn =
 -- a slot has one document
 abbrev pub DocumentsAreOne : Type 0
 DocumentsAreOne =
-    (cells : ℕ) (image : Image) (n : ℕ) (a b c d : List ℕ) → Stands cells image n a b → Stands cells image n c d → (a ≡ c) × (b ≡ d)
+    (cells : ℕ) (image : Image) (n : ℕ) (a b c d : List ℕ) → Stands cells image n a b
+    → Stands cells image n c d → (a ≡ c) × (b ≡ d)

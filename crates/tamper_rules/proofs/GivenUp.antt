@@ -109,7 +109,8 @@ module _ {g : Layout} {old new : Image} {n start size : ℕ} (s : IsSettled g ol
   pub ended_on : {m : ℕ} → HasEnded g old old m → HasEnded g new new m
   ended_on {m} h = ⊎_elim
       (λ (a : IsAbandonedSlot g old old m). inl (record {
-        start = a.start; length = a.length;
+        start = a.start;
+        length = a.length;
         abandoned = record {
           abandons = record { reserves = reserves_on u.keeps a.abandoned.abandons.reserves; outcome = holds_on u.keeps a.abandoned.abandons.outcome };
           done = done_blank m a.abandoned.abandons.reserves.slot a.abandoned.done;
@@ -130,10 +131,11 @@ module _ {g : Layout} {old new : Image} {n start size : ℕ} (s : IsSettled g ol
       low less = ⊎_elim
           (λ same. none-some _ (sym (h.free (omega (arith, free))) ∙ ap (λ (i : ℕ). new (reserve_at i)) same ∙ u.reserves.reserve.stands))
           (λ differ. ⊎_elim
-              (λ below. let w = taken_to g old s n u.horizon k below in
-                  none-some _ (sym (h.free (omega (arith, free))) ∙ u.keeps.keeps (reserve_at k) w.found w.stands))
-              (λ above. absurd (omega arith)) differ)
+          (λ below. let w = taken_to g old s n u.horizon k below in
+          none-some _ (sym (h.free (omega (arith, free))) ∙ u.keeps.keeps (reserve_at k) w.found w.stands))
+          (λ above. absurd (omega arith)) differ)
           (cases_order k n)
+
       high : (k : ℕ) → IsHorizon g new new k → n + 1 < k → ⊥
       high zero h above = omega arith
       high (suc m) h above =

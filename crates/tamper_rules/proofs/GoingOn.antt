@@ -65,9 +65,15 @@ module _ {g : Layout} {old new : Image} (e : Extends old new) (blank : (n : ℕ)
 
 pub named_on : {g : Layout} {old new : Image} {cell : ℕ} → Extends old new → IsNamed g old cell → IsNamed g new cell
 named_on e h = record {
-  m = h.m; start = h.start; length = h.length; bytes = h.bytes; journal = h.journal;
+  m = h.m;
+  start = h.start;
+  length = h.length;
+  bytes = h.bytes;
+  journal = h.journal;
   done = done_on e h.done;
-  place = h.place; copied = h.copied; copies = copies_on e h.copies;
+  place = h.place;
+  copied = h.copied;
+  copies = copies_on e h.copies;
 }
 
 pub leads_to_on : {old new : Image} {from to last block : ℕ} → Extends old new → Leads old from to last block → Leads new from to last block

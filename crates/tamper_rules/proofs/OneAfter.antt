@@ -57,9 +57,9 @@ module _ {cells : ℕ} {image : Image} where
   both_completed g h n start reserved bytes journal m from more count entries v w a b c d =
       let same = one_slot g h n m v w a b in
       let r = reserves start reserved from more (one_record_holds image (reserve_at m) (Reserve start reserved) (Reserve from more)
-          (subst (λ (k : ℕ). Holds image (reserve_at k) (Reserve start reserved)) same c.commits.reserves.reserve) d.commits.reserves.reserve) in
+      (subst (λ (k : ℕ). Holds image (reserve_at k) (Reserve start reserved)) same c.commits.reserves.reserve) d.commits.reserves.reserve) in
       let o = commits bytes journal count entries (one_record_holds image (outcome_at m) (Commit bytes journal) (Commit count entries)
-          (subst (λ (k : ℕ). Holds image (outcome_at k) (Commit bytes journal)) same c.commits.outcome) d.commits.outcome) in
+      (subst (λ (k : ℕ). Holds image (outcome_at k) (Commit bytes journal)) same c.commits.outcome) d.commits.outcome) in
       (same, r.0, r.1, o.1)
 
 abbrev Rows : Image → ℕ → ℕ → ℕ → ℕ → ℕ → List ℕ → Type 0

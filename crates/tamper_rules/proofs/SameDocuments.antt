@@ -49,9 +49,9 @@ content_stood (abandoned g n start reserved v h r w) cell stored k is = ⊎_elim
     (w.only cell (content_at stored k) is)
 content_stood {cells} {image} (completed g n start reserved bytes journal v h c ready w) cell stored k is = ⊎_elim (λ was. was)
     (λ rows. absurd (⊎_elim
-        (λ (row : JournalRow image start reserved journal cell (content_at stored k)).
-            let e = row.copies in no_content stored k e.is (some_is e.entry (content_at stored k) (sym e.stands ∙ row.stands)))
-        (λ (row : DoneRow n cell (content_at stored k)). no_content stored k row.is refl) rows))
+    (λ (row : JournalRow image start reserved journal cell (content_at stored k)).
+    let e = row.copies in no_content stored k e.is (some_is e.entry (content_at stored k) (sym e.stands ∙ row.stands)))
+    (λ (row : DoneRow n cell (content_at stored k)). no_content stored k row.is refl) rows))
     (w.only cell (content_at stored k) is)
 
 -- so did a reserve cell
@@ -63,12 +63,12 @@ reserve_stood (abandoned k n start reserved v h r w) m value g inside vol is = �
     (w.only (reserve_at m) value is)
 reserve_stood {cells} {image} (completed k n start reserved bytes journal v h c ready w) m value g inside vol is = ⊎_elim (λ was. was)
     (λ rows. absurd (⊎_elim
-        (λ (row : JournalRow image start reserved journal (reserve_at m) value).
-            let same : k ≡ g = one_layout k g v vol in
-            let far : list_at k 0 ≤ reserve_at m = target_behind_log ready.entries row.copies in
-            let low : reserve_at m < list_at k 0 = subst (λ (j : Layout). reserve_at m < list_at j 0) (sym same) (let z : reserve_at m < list_at g 0 = omega arith in z) in
-            omega arith)
-        (λ (row : DoneRow n (reserve_at m) value). omega (arith, row.at)) rows))
+    (λ (row : JournalRow image start reserved journal (reserve_at m) value).
+    let same : k ≡ g = one_layout k g v vol in
+    let far : list_at k 0 ≤ reserve_at m = target_behind_log ready.entries row.copies in
+    let low : reserve_at m < list_at k 0 = subst (λ (j : Layout). reserve_at m < list_at j 0) (sym same) (let z : reserve_at m < list_at g 0 = omega arith in z) in
+    omega arith)
+    (λ (row : DoneRow n (reserve_at m) value). omega (arith, row.at)) rows))
     (w.only (reserve_at m) value is)
 
 module _ {g : Layout} {lower upper a b : Image} (v : IsVolume g.cells lower g) (e : Extends lower upper)
@@ -90,16 +90,22 @@ module _ {g : Layout} {lower upper a b : Image} (v : IsVolume g.cells lower g) (
   stands_up {m} {id} {body} t =
       let layout : t.layout ≡ g = one_layout t.layout g t.volume va in
       let d : IsDone g a m t.start t.reserved (length (stored_bytes id body)) t.journal =
-          subst (λ (h : Layout). IsDone h a m t.start t.reserved (length (stored_bytes id body)) t.journal) layout t.done in
+      subst (λ (h : Layout). IsDone h a m t.start t.reserved (length (stored_bytes id body)) t.journal) layout t.done in
       let r = d.commits.reserves in
       let outcome : Holds b (outcome_at m) (Commit (length (stored_bytes id body)) t.journal) = up (commit_stood x m (length (stored_bytes id body)) t.journal g r.slot v d.commits.outcome) in
       let reserve = up (record { cell = r.reserve.cell; stands = reserve_stood x m r.reserve.cell g r.slot v r.reserve.stands; is = r.reserve.is }) in
       let done : IsDoneSlot g b m = commit_done g b sb m (length (stored_bytes id body)) t.journal r.slot outcome in
       record {
-        layout = g; start = t.start; reserved = t.reserved; journal = t.journal; volume = vb; slot = r.slot;
+        layout = g;
+        start = t.start;
+        reserved = t.reserved;
+        journal = t.journal;
+        volume = vb;
+        slot = r.slot;
         done = record { commits = record { reserves = record { slot = r.slot; reserve = reserve; from = r.from; to = r.to }; outcome = outcome; fits = d.commits.fits }; done = done.done.done };
         spells = λ k below. (after_keeps y).keeps _ _ (e.keeps _ _ (content_stood x _ (stored_bytes id body) k (t.spells k below)));
-        is_identifier = t.is_identifier; is_body = t.is_body;
+        is_identifier = t.is_identifier;
+        is_body = t.is_body;
       }
 
   document_up : (d : Document) → IsDocument g.cells a d.slot d.id d.body → IsDocument g.cells b d.slot d.id d.body
@@ -110,11 +116,13 @@ module _ {g : Layout} {lower upper a b : Image} (v : IsVolume g.cells lower g) (
   document_down d t =
       let inside : d.slot < g.slots = stands_inside vb t.stands in
       let c : Holds upper (outcome_at d.slot) (Commit (length (stored_bytes d.id d.body)) t.stands.journal) =
-          commit_stood y d.slot (length (stored_bytes d.id d.body)) t.stands.journal g inside vu t.stands.done.commits.outcome in
+      commit_stood y d.slot (length (stored_bytes d.id d.body)) t.stands.journal g inside vu t.stands.done.commits.outcome in
       let w = same d.slot (length (stored_bytes d.id d.body)) t.stands.journal inside c in
       let low : Holds a (outcome_at d.slot) (Commit (length (stored_bytes d.id d.body)) t.stands.journal) = record {
-        cell = w.found; stands = (after_keeps x).keeps _ _ w.stands;
-        is = subst (λ (k : List ℕ). IsRecordCell (Commit (length (stored_bytes d.id d.body)) t.stands.journal) (outcome_at d.slot) k) (some_is c.cell w.found (sym c.stands ∙ e.keeps _ _ w.stands)) c.is } in
+        cell = w.found;
+        stands = (after_keeps x).keeps _ _ w.stands;
+        is = subst (λ (k : List ℕ). IsRecordCell (Commit (length (stored_bytes d.id d.body)) t.stands.journal) (outcome_at d.slot) k) (some_is c.cell w.found (sym c.stands ∙ e.keeps _ _ w.stands)) c.is;
+      } in
       let done : IsDoneSlot g a d.slot = commit_done g a sa d.slot (length (stored_bytes d.id d.body)) t.stands.journal inside low in
       let u = some_horizon g a sa in
       let z = done_stands va sa u.0 u.1 done in
@@ -182,19 +190,19 @@ module _ {g : Layout} {low high image : Image} (v : IsVolume g.cells low g)
   by_commit : (n : ℕ) → low_horizon.0 ≡ n + 1 → ((ds : List Document) → Held g.cells low ds → Held g.cells image ds) ⊎ ((ds : List Document) → Held g.cells high ds → Held g.cells image ds)
   by_commit n is = ⊎_elim
       (λ blank. inl (as_low (λ m bytes journal inside h. ⊎_elim
-          (λ lacks. absurd (
-              let at = new_commit m bytes journal inside lacks (holds_on f h) in
-              let same : m ≡ n = omega (arith, at, is) in
-              none-some _ (sym blank ∙ ap (λ (k : ℕ). image (outcome_at k)) (sym same) ∙ h.stands)))
-          (λ x. record { found = x.0; stands = x.1 })
-          (look low (outcome_at m)))))
+      (λ lacks. absurd (
+      let at = new_commit m bytes journal inside lacks (holds_on f h) in
+      let same : m ≡ n = omega (arith, at, is) in
+      none-some _ (sym blank ∙ ap (λ (k : ℕ). image (outcome_at k)) (sym same) ∙ h.stands)))
+      (λ x. record { found = x.0; stands = x.1 })
+      (look low (outcome_at m)))))
       (λ z. inr (as_high (λ m bytes journal inside h. ⊎_elim
-          (λ lacks.
-              let at = new_commit m bytes journal inside (blank_before e lacks) h in
-              let same : m ≡ n = omega (arith, at, is) in
-              record { found = z.0; stands = ap (λ (k : ℕ). image (outcome_at k)) same ∙ z.1 })
-          (λ x. record { found = x.0; stands = x.1 })
-          (look image (outcome_at m)))))
+      (λ lacks.
+      let at = new_commit m bytes journal inside (blank_before e lacks) h in
+      let same : m ≡ n = omega (arith, at, is) in
+      record { found = z.0; stands = ap (λ (k : ℕ). image (outcome_at k)) same ∙ z.1 })
+      (λ x. record { found = x.0; stands = x.1 })
+      (look image (outcome_at m)))))
       (look image (outcome_at n))
 
   no_commit : low_horizon.0 ≡ 0 → ((ds : List Document) → Held g.cells low ds → Held g.cells image ds) ⊎ ((ds : List Document) → Held g.cells high ds → Held g.cells image ds)

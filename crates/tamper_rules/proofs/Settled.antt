@@ -30,8 +30,8 @@ edge_horizon g image at e = record {
   below = λ m is. ⊎_elim
       (λ (z : (e.u ≡ 0) × (at ≡ _)). absurd (omega (arith, z.0, is)))
       (λ (w : (k : ℕ) × (start : ℕ) × (length : ℕ) × (e.u ≡ k + 1) × Reserves g image k start length × (at ≡ start + length)).
-          let same : k_of w ≡ m = omega (arith, is, w.3) in
-          subst (λ (k : ℕ). IsWritten image (reserve_at k)) same (written w.4))
+      let same : k_of w ≡ m = omega (arith, is, w.3) in
+      subst (λ (k : ℕ). IsWritten image (reserve_at k)) same (written w.4))
       e.ends;
   free = e.free;
 }
@@ -67,8 +67,8 @@ module _ (g : Layout) (image : Image) (s : IsSettled g image) where
   below_horizon n m free h inside w = ⊎_elim
       (λ same. absurd (none-some _ (sym (h.free free) ∙ ap (λ (i : ℕ). image (reserve_at i)) (sym same) ∙ w.stands)))
       (λ differ. ⊎_elim (λ less. less)
-          (λ above. let x : IsWritten image (reserve_at n) = taken_below m inside w n above in absurd (none-some _ (sym (h.free free) ∙ x.stands)))
-          differ)
+      (λ above. let x : IsWritten image (reserve_at n) = taken_below m inside w n above in absurd (none-some _ (sym (h.free free) ∙ x.stands)))
+      differ)
       (cases_order m n)
 
   -- the reservations of the slots below n end where those below n end, or before
@@ -77,20 +77,20 @@ module _ (g : Layout) (image : Image) (s : IsSettled g image) where
   ends_before (suc k) at ends m start length less r = ⊎_elim
       (λ (z : (suc k ≡ 0) × (at ≡ _)). absurd (omega (arith, z.0)))
       (λ (w : (l : ℕ) × (from : ℕ) × (size : ℕ) × (suc k ≡ l + 1) × Reserves g image l from size × (at ≡ from + size)).
-          let same : w.0 ≡ k = omega (arith, w.3) in
-          let last : Reserves g image k w.1 w.2 = subst (λ (i : ℕ). Reserves g image i w.1 w.2) same w.4 in
-          ⊎_elim
-          (λ is. let both = reserves start length w.1 w.2 (one_record_holds image (reserve_at k) (Reserve start length) (Reserve w.1 w.2)
-                  (subst (λ (i : ℕ). Holds image (reserve_at i) (Reserve start length)) is r.reserve) last.reserve) in
-              omega (arith, both.0, both.1, w.5))
-          (λ differ. ⊎_elim
-              (λ lower.
-                  let rule : ReserveRule g image k = s.met ReserveCells (reserve_at k) (written last) k last.slot refl in
-                  let before : start + length ≤ rule.start = ends_before k rule.start rule.begins m start length lower r in
-                  let both = reserves w.1 w.2 rule.start rule.length (one_record_holds image (reserve_at k) (Reserve w.1 w.2) (Reserve rule.start rule.length) last.reserve rule.reserves.reserve) in
-                  omega (arith, both.0, w.5))
-              (λ above. absurd (omega arith)) differ)
-          (cases_order m k))
+      let same : w.0 ≡ k = omega (arith, w.3) in
+      let last : Reserves g image k w.1 w.2 = subst (λ (i : ℕ). Reserves g image i w.1 w.2) same w.4 in
+      ⊎_elim
+      (λ is. let both = reserves start length w.1 w.2 (one_record_holds image (reserve_at k) (Reserve start length) (Reserve w.1 w.2)
+      (subst (λ (i : ℕ). Holds image (reserve_at i) (Reserve start length)) is r.reserve) last.reserve) in
+      omega (arith, both.0, both.1, w.5))
+      (λ differ. ⊎_elim
+      (λ lower.
+      let rule : ReserveRule g image k = s.met ReserveCells (reserve_at k) (written last) k last.slot refl in
+      let before : start + length ≤ rule.start = ends_before k rule.start rule.begins m start length lower r in
+      let both = reserves w.1 w.2 rule.start rule.length (one_record_holds image (reserve_at k) (Reserve w.1 w.2) (Reserve rule.start rule.length) last.reserve rule.reserves.reserve) in
+      omega (arith, both.0, w.5))
+      (λ above. absurd (omega arith)) differ)
+      (cases_order m k))
       ends
 
   -- two horizons are the same
@@ -107,9 +107,9 @@ module _ (g : Layout) (image : Image) (s : IsSettled g image) where
           ⊎_elim
           (λ same. none-some _ (sym (h.free (omega (arith, k.most))) ∙ ap (λ (m : ℕ). image (reserve_at m)) same ∙ last.stands))
           (λ differ. ⊎_elim
-              (λ below. let at : IsWritten image (reserve_at u) = taken_below v (omega (arith, k.most)) last u below in
-                  none-some _ (sym (h.free (omega (arith, k.most))) ∙ at.stands))
-              (λ above. absurd (omega arith)) differ)
+          (λ below. let at : IsWritten image (reserve_at u) = taken_below v (omega (arith, k.most)) last u below in
+          none-some _ (sym (h.free (omega (arith, k.most))) ∙ at.stands))
+          (λ above. absurd (omega arith)) differ)
           (cases_order u v)
 
   -- there is a horizon
@@ -121,7 +121,7 @@ module _ (g : Layout) (image : Image) (s : IsSettled g image) where
       from (suc left) u all below = ⊎_elim
           (λ blank. (u, record { most = omega arith; below = below; free = λ less. blank }))
           (λ w. from left (suc u) (omega arith) (λ m is. let same : u ≡ m = omega arith in
-              subst (λ (k : ℕ). IsWritten image (reserve_at k)) same (record { found = w.0; stands = w.1 })))
+          subst (λ (k : ℕ). IsWritten image (reserve_at k)) same (record { found = w.0; stands = w.1 })))
           (look image (reserve_at u))
 
   -- below a horizon the reservations end somewhere, and that is an edge
@@ -136,13 +136,13 @@ module _ (g : Layout) (image : Image) (s : IsSettled g image) where
 pub one_end : (g : Layout) (image : Image) (n a b : ℕ) → EndsBelow g image n a → EndsBelow g image n b → a ≡ b
 one_end g image n a b h k = ⊎_elim
     (λ (z : (n ≡ 0) × (a ≡ _)). ⊎_elim
-        (λ (y : (n ≡ 0) × (b ≡ _)). z.1 ∙ sym y.1)
-        (λ w. absurd (omega (arith, z.0, w.3)))
-        k)
+    (λ (y : (n ≡ 0) × (b ≡ _)). z.1 ∙ sym y.1)
+    (λ w. absurd (omega (arith, z.0, w.3)))
+    k)
     (λ w. ⊎_elim
-        (λ (y : (n ≡ 0) × (b ≡ _)). absurd (omega (arith, y.0, w.3)))
-        (λ v. apart w.0 v.0 w.1 w.2 v.1 v.2 w.3 v.3 w.4 v.4 w.5 v.5)
-        k)
+    (λ (y : (n ≡ 0) × (b ≡ _)). absurd (omega (arith, y.0, w.3)))
+    (λ v. apart w.0 v.0 w.1 w.2 v.1 v.2 w.3 v.3 w.4 v.4 w.5 v.5)
+    k)
     h
   where
     apart : (m l s t u v : ℕ) → n ≡ m + 1 → n ≡ l + 1 → Reserves g image m s t → Reserves g image l u v → a ≡ s + t → b ≡ u + v → a ≡ b

@@ -83,9 +83,13 @@ module _ {cells : ℕ} {image : Image} {g : Layout} (l : IsLayout g) (v : IsVolu
 
   pub formatted : Settled cells image × AreDocuments cells image []
   formatted = (
-    record { layout = g; volume = v; settled = record {
-      met = λ rule cell w. subst (λ (c : ℕ). IsMet g image rule c) (sym (only_0 cell w)) (met_0 rule);
-      ended = λ u m h less. absurd (no_horizon u m h less);
-    } },
+    record {
+      layout = g;
+      volume = v;
+      settled = record {
+        met = λ rule cell w. subst (λ (c : ℕ). IsMet g image rule c) (sym (only_0 cell w)) (met_0 rule);
+        ended = λ u m h less. absurd (no_horizon u m h less);
+      };
+    },
     record { rise = tt; each = λ d. (λ t. absurd (none_at (reserve_at d.slot) (omega arith) t.stands.done.commits.reserves.reserve), λ among. absurd (omega (arith, among.1))) },
   )

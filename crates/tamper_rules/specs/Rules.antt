@@ -32,7 +32,8 @@ pub record OutcomeRule (image : Image) (n : ℕ) : Type 0 where
   pub reserve : IsWritten image (reserve_at n)
   pub outcome : Holds image (outcome_at n) Abandon
       ⊎ ((bytes : ℕ) × (journal : ℕ) × Holds image (outcome_at n) (Commit bytes journal)
-      × ((start reserved : ℕ) → Holds image (reserve_at n) (Reserve start reserved) → cells_for bytes + journal ≤ reserved))
+      × ((start reserved : ℕ) → Holds image (reserve_at n) (Reserve start reserved)
+      → cells_for bytes + journal ≤ reserved))
 
 -- Rule 3, at the done cell of slot n: it is the done cell of this slot, and the outcome cell is a commit cell.
 pub record DoneRule (image : Image) (n : ℕ) : Type 0 where
@@ -59,18 +60,22 @@ DocumentRule g image n =
 -- Rule 5, at a journal cell of a slot that is committed or done: it is in order; and at such a slot's commit cell:
 -- each journal cell is written.
 pub record JournalRule (g : Layout) (image : Image) (cell : ℕ) : Type 0 where
-  pub entry : (n start reserved bytes journal place : ℕ) → Stores g image n start reserved bytes journal → place < journal
+  pub entry : (n start reserved bytes journal place : ℕ) → Stores g image n start reserved bytes journal
+      → place < journal
       → cell ≡ journal_at start reserved journal + place → IsInOrder g image n start reserved bytes journal place
-  pub commit : (n start reserved bytes journal place : ℕ) → Stores g image n start reserved bytes journal → place < journal
+  pub commit : (n start reserved bytes journal place : ℕ) → Stores g image n start reserved bytes journal
+      → place < journal
       → cell ≡ outcome_at n → IsWritten image (journal_at start reserved journal + place)
 
 -- Rule 6, at a journal cell: where the slot is done its target holds the same; where the slot is committed its target
 -- holds the same or is blank.
 pub record RedoneRule (g : Layout) (image : Image) (cell : ℕ) : Type 0 where
-  pub done : (n start reserved bytes journal place target : ℕ) (copied : RecordCell) → IsDone g image n start reserved bytes journal
+  pub done : (n start reserved bytes journal place target : ℕ) (copied : RecordCell)
+      → IsDone g image n start reserved bytes journal
       → Copies image start reserved journal place target copied → cell ≡ journal_at start reserved journal + place
       → image target ≡ image cell
-  pub committed : (n start reserved bytes journal place target : ℕ) (copied : RecordCell) → IsCommitted g image image n start reserved bytes journal
+  pub committed : (n start reserved bytes journal place target : ℕ) (copied : RecordCell)
+      → IsCommitted g image image n start reserved bytes journal
       → Copies image start reserved journal place target copied → cell ≡ journal_at start reserved journal + place
       → (image target ≡ None) ⊎ (image target ≡ image cell)
 
@@ -95,10 +100,12 @@ pub record HoldsInOrder (image : Image) (block place : ℕ) : Type 0 where
   pub p : PostingFields
   pub holds : Holds image (block + place) (posting_record p)
   pub rises : (place ≡ 0)
-      ⊎ ((before : ℕ) × (q : PostingFields) × (place ≡ before + 1) × Holds image (block + before) (posting_record q) × (q.key < p.key))
+      ⊎ ((before : ℕ) × (q : PostingFields) × (place ≡ before + 1)
+      × Holds image (block + before) (posting_record q) × (q.key < p.key))
 
 pub record EntryRule (g : Layout) (image : Image) (cell : ℕ) : Type 0 where
-  pub entry : (l block place : ℕ) → IsBlockOf g image l block → place < 128 → cell ≡ block + place → HoldsInOrder image block place
+  pub entry : (l block place : ℕ) → IsBlockOf g image l block → place < 128 → cell ≡ block + place
+      → HoldsInOrder image block place
   pub blank : (l block place : ℕ) → IsBlockOf g image l block → 248 ≤ place → place < 256 → cell ≢ block + place
 
 -- slot n is live, and the posting is one of its document's in list l
@@ -144,7 +151,8 @@ pub record LeadsWell (g : Layout) (image : Image) (l block level digit : ℕ) : 
   pub in_places : place < 128
   pub in_front : InFront image target place some
   pub in_span : InSpan greatest.key level digit some.key
-  pub blocks : (k other : ℕ) → IsBlockOf g image k other → ((other ≡ target) × (k ≡ l)) ⊎ AreApart target 256 other 256
+  pub blocks : (k other : ℕ) → IsBlockOf g image k other
+      → ((other ≡ target) × (k ≡ l)) ⊎ AreApart target 256 other 256
   pub nodes : (v node : ℕ) → IsNode g image v node → AreApart target 256 node 32
 
 abbrev pub PointerRule : Layout → Image → ℕ → Type 0
@@ -168,7 +176,8 @@ pub record IsTrueBucket (g : Layout) (image : Image) (node x : ℕ) : Type 0 whe
   pub here : x ≡ nibble (sha256 id) level
 
 abbrev pub BucketRule : Layout → Image → ℕ → Type 0
-BucketRule g image cell = (v node x : ℕ) → IsNode g image v node → x < 16 → cell ≡ node + x → IsTrueBucket g image node x
+BucketRule g image cell = (v node x : ℕ) → IsNode g image v node → x < 16 → cell ≡ node + x
+    → IsTrueBucket g image node x
 
 -- Rule 12, at child cell x of a node: it is a child cell; the bucket of the same half byte is written; the node is
 -- above level 63; the target's cells lie in the pool and before each edge; some slot that is committed or done has
@@ -193,12 +202,14 @@ pub record LeadsDownWell (g : Layout) (image : Image) (v node x : ℕ) : Type 0 
   pub same : image (journal_at start reserved journal + place) ≡ image (node + 16 + x)
   pub in_blocks : start ≤ target
   pub before_document : target < document_at start reserved bytes journal
-  pub first : (w other y : ℕ) → IsNode g image w other → y < 16 → other + 16 + y < node + 16 + x → Holds image (other + 16 + y) (Child target) → ⊥
+  pub first : (w other y : ℕ) → IsNode g image w other → y < 16 → other + 16 + y < node + 16 + x
+      → Holds image (other + 16 + y) (Child target) → ⊥
   pub blocks : (k other : ℕ) → IsBlockOf g image k other → AreApart target 32 other 256
   pub nodes : (w other : ℕ) → IsNode g image w other → (other ≡ target) ⊎ AreApart target 32 other 32
 
 abbrev pub ChildRule : Layout → Image → ℕ → Type 0
-ChildRule g image cell = (v node x : ℕ) → IsNode g image v node → x < 16 → cell ≡ node + 16 + x → LeadsDownWell g image v node x
+ChildRule g image cell = (v node x : ℕ) → IsNode g image v node → x < 16 → cell ≡ node + 16 + x
+    → LeadsDownWell g image v node x
 
 -- Rule 13, at the done cell of slot n: the postings of its document exist, and each of them has a trail.
 pub record TrailRule (g : Layout) (image : Image) (n : ℕ) (body : List ℕ) : Type 0 where
@@ -214,10 +225,12 @@ pub record PathRule (g : Layout) (image : Image) (n : ℕ) (id : List ℕ) : Typ
 
 -- the journal has a jump cell to this target, or a child cell to it
 abbrev pub HasJump : Image → ℕ → ℕ → ℕ → ℕ → Type 0
-HasJump image start reserved journal target = (place : ℕ) × (at : ℕ) × Copies image start reserved journal place at (Jump target)
+HasJump image start reserved journal target = (place : ℕ) × (at : ℕ)
+    × Copies image start reserved journal place at (Jump target)
 
 abbrev pub HasChild : Image → ℕ → ℕ → ℕ → ℕ → Type 0
-HasChild image start reserved journal target = (place : ℕ) × (at : ℕ) × Copies image start reserved journal place at (Child target)
+HasChild image start reserved journal target = (place : ℕ) × (at : ℕ)
+    × Copies image start reserved journal place at (Child target)
 
 -- so many cells belong to this target: 256 where a jump cell leads to it, and 32 otherwise
 abbrev pub IsSize : Image → ℕ → ℕ → ℕ → ℕ → ℕ → Type 0
@@ -236,7 +249,8 @@ Tile image start reserved journal from to (target ∷ targets) =
 -- that lie in its own block part tile that part, in rising order.
 pub record TilingRule (image : Image) (start reserved bytes journal : ℕ) : Type 0 where
   pub targets : List ℕ
-  pub each : (target : ℕ) → ((HasJump image start reserved journal target ⊎ HasChild image start reserved journal target)
+  pub each : (target : ℕ)
+      → ((HasJump image start reserved journal target ⊎ HasChild image start reserved journal target)
       × (start ≤ target) × (target < document_at start reserved bytes journal)) ↔ Contains targets target
   pub tile : Tile image start reserved journal start (document_at start reserved bytes journal) targets
 
@@ -290,8 +304,10 @@ IsMet g image Postings cell = PostingRule g image cell
 IsMet g image Pointers cell = PointerRule g image cell
 IsMet g image Buckets cell = BucketRule g image cell
 IsMet g image Children cell = ChildRule g image cell
-IsMet g image Trails cell = (n : ℕ) (id body : List ℕ) → cell ≡ done_at n → Stands g.cells image n id body → TrailRule g image n body
-IsMet g image Paths cell = (n : ℕ) (id body : List ℕ) → cell ≡ done_at n → Stands g.cells image n id body → PathRule g image n id
+IsMet g image Trails cell = (n : ℕ) (id body : List ℕ) → cell ≡ done_at n → Stands g.cells image n id body
+    → TrailRule g image n body
+IsMet g image Paths cell = (n : ℕ) (id body : List ℕ) → cell ≡ done_at n → Stands g.cells image n id body
+    → PathRule g image n id
 IsMet g image Tilings cell =
     (n start reserved bytes journal : ℕ) → cell ≡ outcome_at n → IsDone g image n start reserved bytes journal
     → TilingRule image start reserved bytes journal
@@ -311,7 +327,8 @@ IsPlace g DoneCells cell = IsOfSlot g done_at cell
 IsPlace g Documents cell = IsOfSlot g outcome_at cell
 IsPlace g Journals cell = IsOfSlot g outcome_at cell ⊎ IsOfPool g cell
 IsPlace g Targets cell = IsOfPool g cell
-IsPlace g StrayCells cell = ((1 ≤ cell) × (cell ≤ 3)) ⊎ IsOfSlot g spare_at cell ⊎ ((list_at g 0 ≤ cell) × (cell < g.cells))
+IsPlace g StrayCells cell = ((1 ≤ cell) × (cell ≤ 3)) ⊎ IsOfSlot g spare_at cell
+    ⊎ ((list_at g 0 ≤ cell) × (cell < g.cells))
 IsPlace g Entries cell = ((l : ℕ) × LiesIn g (FirstBlock l) cell) ⊎ IsOfPool g cell
 IsPlace g Postings cell = ((l : ℕ) × LiesIn g (FirstBlock l) cell) ⊎ IsOfPool g cell
 IsPlace g Pointers cell = ((l : ℕ) × LiesIn g (FirstBlock l) cell) ⊎ IsOfPool g cell

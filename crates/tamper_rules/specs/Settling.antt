@@ -66,7 +66,8 @@ pub data After (cells : ℕ) (image after : Image) : Type 0 where
   nothing : Settled cells image → IsUnchanged image after → After cells image after
   abandoned : (g : Layout) (n start reserved : ℕ) → IsVolume cells image g → IsOneHorizon g image (n + 1)
       → IsReserved g image image n start reserved → IsWith (AbandonRow n) image after → After cells image after
-  completed : (g : Layout) (n start reserved bytes journal : ℕ) → IsVolume cells image g → IsOneHorizon g image (n + 1)
+  completed : (g : Layout) (n start reserved bytes journal : ℕ) → IsVolume cells image g
+      → IsOneHorizon g image (n + 1)
       → IsCommitted g image image n start reserved bytes journal → IsReady g image n start reserved bytes journal
       → IsWith (λ cell value. JournalRow image start reserved journal cell value ⊎ DoneRow n cell value) image after
       → After cells image after
@@ -80,7 +81,8 @@ pub record Sound (cells : ℕ) (image : Image) : Type 0 where
 -- The documents that a sound image holds: those that stand once it is settled; none where no cell is written.
 pub data Held (cells : ℕ) (image : Image) (documents : List Document) : Type 0 where
   none : ((cell : ℕ) → image cell ≡ None) → documents ≡ [] → Held cells image documents
-  of_after : (after : Image) → After cells image after → AreDocuments cells after documents → Held cells image documents
+  of_after : (after : Image) → After cells image after → AreDocuments cells after documents
+      → Held cells image documents
 
 -- the cell is the reserve cell or the outcome cell of slot n, or one of those that it reserves
 pub data IsOf (n start length cell : ℕ) : Type 0 where

@@ -28,8 +28,9 @@ abbrev pub SettlingGoesOn : Type 0
 SettlingGoesOn =
     (cells : ℕ) (old after image : Image)
     → After cells old after → Settled cells after → Extends old image → Extends image after
-    → ((g : Layout) (n start reserved bytes journal : ℕ) → IsCommitted g old old n start reserved bytes journal → IsWritten image (done_at n)
-        → (cell : ℕ) (value : List ℕ) → JournalRow old start reserved journal cell value → image cell ≡ Some value)
+    → ((g : Layout) (n start reserved bytes journal : ℕ)
+    → IsCommitted g old old n start reserved bytes journal → IsWritten image (done_at n)
+    → (cell : ℕ) (value : List ℕ) → JournalRow old start reserved journal cell value → image cell ≡ Some value)
     → After cells image after
 
 -- settling makes one image of an image
@@ -38,17 +39,20 @@ AfterIsOne = (cells : ℕ) (image one other : Image) → After cells image one �
 
 -- no rule is broken in a settled image
 abbrev pub SettledIsUnbroken : Type 0
-SettledIsUnbroken = (cells : ℕ) (image : Image) (number cell : ℕ) → Settled cells image → IsBroken cells image number cell → ⊥
+SettledIsUnbroken = (cells : ℕ) (image : Image) (number cell : ℕ) → Settled cells image
+    → IsBroken cells image number cell → ⊥
 
 -- a volume cell alone is settled, and has no documents
 abbrev pub FormattedIsSettled : Type 0
 FormattedIsSettled =
-    (cells : ℕ) (image : Image) (g : Layout) → IsLayout g → IsVolume cells image g → ((cell : ℕ) → 1 ≤ cell → image cell ≡ None)
+    (cells : ℕ) (image : Image) (g : Layout) → IsLayout g → IsVolume cells image g
+    → ((cell : ℕ) → 1 ≤ cell → image cell ≡ None)
     → Settled cells image × AreDocuments cells image []
 
 -- a settled image has a list of its documents
 abbrev pub DocumentsExist : Type 0
-DocumentsExist = (cells : ℕ) (image : Image) → Settled cells image → (documents : List Document) × AreDocuments cells image documents
+DocumentsExist = (cells : ℕ) (image : Image) → Settled cells image
+    → (documents : List Document) × AreDocuments cells image documents
 
 -- Where each image from low up to high is sound, as those that a crash may leave, it holds the documents of low or
 -- those of high.

@@ -46,7 +46,9 @@ module _ {g : Layout} {old new : Image} {p : Plan} (u : IsFilled g old new p) wh
     below = slice_get_within p.entries place e.value e.entry;
     entry = e.value;
     stands = u.rows.adds (journal_at p.start p.reserved (length p.entries) + place) e.value (Storing, inr (record { place = place; entry = e.entry; at = refl }));
-    index = e.index; address = e.address; is = e.is;
+    index = e.index;
+    address = e.address;
+    is = e.is;
   }
 
   -- what a place copies is applied
@@ -140,7 +142,7 @@ module _ {g : Layout} {old new : Image} {p : Plan} (u : IsFilled g old new p) wh
   outcome_blank : old (outcome_at p.slot) ≡ None
   outcome_blank = ⊎_elim (λ none. none)
       (λ h. let o : OutcomeRule old p.slot = u.before.met Rules.OutcomeCells (outcome_at p.slot) (record { found = h.0; stands = h.1 }) p.slot free refl in
-          absurd (none-some _ (sym (u.horizon.free free) ∙ o.reserve.stands)))
+      absurd (none-some _ (sym (u.horizon.free free) ∙ o.reserve.stands)))
       (look old (outcome_at p.slot))
 
   -- the old image has no committed slot, so a blank done cell stays so
@@ -163,10 +165,13 @@ module _ {g : Layout} {old new : Image} {p : Plan} (u : IsFilled g old new p) wh
 
   in_order_on' : {n from reserved bytes journal place : ℕ} → IsInOrder g old n from reserved bytes journal place → IsInOrder g new n from reserved bytes journal place
   in_order_on' {n} {from} {reserved} {bytes} {journal} {place} o = record {
-    target = o.target; copied = o.copied; copies = copies_on keeps o.copies;
+    target = o.target;
+    copied = o.copied;
+    copies = copies_on keeps o.copies;
     rises = ⊎_elim inl (λ (h : (before : ℕ) × (lower : ℕ) × (other : RecordCell) × (place ≡ before + 1) × Copies old from reserved journal before lower other × (lower < o.target)).
         inr (h.0, h.1, h.2, h.3, copies_on keeps h.4, h.5)) o.rises;
-    before_document = o.before_document; index = index_on' o.index;
+    before_document = o.before_document;
+    index = index_on' o.index;
   }
 
   -- a slot that is done is the plan's, with its numbers, or another
@@ -174,9 +179,9 @@ module _ {g : Layout} {old new : Image} {p : Plan} (u : IsFilled g old new p) wh
       → (from ≡ p.start) × (reserved ≡ p.reserved) × (bytes ≡ length (stored_of p)) × (journal ≡ length p.entries)
   same_numbers {m} {from} {reserved} {bytes} {journal} c same =
       let r = reserves from reserved p.start p.reserved (one_record_holds new (reserve_at p.slot) (Reserve from reserved) (Reserve p.start p.reserved)
-          (subst (λ (k : ℕ). Holds new (reserve_at k) (Reserve from reserved)) same c.reserves.reserve) u.reserves.reserve) in
+      (subst (λ (k : ℕ). Holds new (reserve_at k) (Reserve from reserved)) same c.reserves.reserve) u.reserves.reserve) in
       let o = commits bytes journal (length (stored_of p)) (length p.entries) (one_record_holds new (outcome_at p.slot) (Commit bytes journal) (Commit (length (stored_of p)) (length p.entries))
-          (subst (λ (k : ℕ). Holds new (outcome_at k) (Commit bytes journal)) same c.outcome) u.commit) in
+      (subst (λ (k : ℕ). Holds new (outcome_at k) (Commit bytes journal)) same c.outcome) u.commit) in
       (r.0, r.1, o.0, o.1)
 
   -- what holds of the plan's numbers holds of these
@@ -193,17 +198,18 @@ module _ {g : Layout} {old new : Image} {p : Plan} (u : IsFilled g old new p) wh
   ended_on : {m : ℕ} → HasEnded g old old m → HasEnded g new new m
   ended_on {m} h = ⊎_elim
       (λ (a : IsAbandonedSlot g old old m).
-          let r = a.abandoned.abandons.reserves in
-          let other : m ≡ p.slot → ⊥ = λ same. none-some _ (sym (u.horizon.free free) ∙ ap (λ (k : ℕ). old (reserve_at k)) (sym same) ∙ r.reserve.stands) in
-          inl (record {
-            start = a.start; length = a.length;
-            abandoned = record {
-              abandons = record { reserves = reserves_on keeps r; outcome = holds_on keeps a.abandoned.abandons.outcome };
-              done = ⊎_elim (λ none. none)
-                  (λ x. absurd (none-some _ (sym a.abandoned.done ∙ log_was (done_at m) x.0 (omega (arith, r.slot)) (no_done other) x.1)))
-                  (look new (done_at m));
-            };
-          }))
+      let r = a.abandoned.abandons.reserves in
+      let other : m ≡ p.slot → ⊥ = λ same. none-some _ (sym (u.horizon.free free) ∙ ap (λ (k : ℕ). old (reserve_at k)) (sym same) ∙ r.reserve.stands) in
+      inl (record {
+        start = a.start;
+        length = a.length;
+        abandoned = record {
+          abandons = record { reserves = reserves_on keeps r; outcome = holds_on keeps a.abandoned.abandons.outcome };
+          done = ⊎_elim (λ none. none)
+              (λ x. absurd (none-some _ (sym a.abandoned.done ∙ log_was (done_at m) x.0 (omega (arith, r.slot)) (no_done other) x.1)))
+              (look new (done_at m));
+        };
+      }))
       (λ (d : IsDoneSlot g old m). inr (record { start = d.start; length = d.length; bytes = d.bytes; journal = d.journal; done = done_on keeps d.done }))
       h
 
@@ -211,17 +217,19 @@ module _ {g : Layout} {old new : Image} {p : Plan} (u : IsFilled g old new p) wh
   rule_1 m inside w = ⊎_elim
       (λ same. subst (λ (k : ℕ). ReserveRule g new k) (sym same) here)
       (λ other. let r : ReserveRule g old m = u.before.met Rules.ReserveCells (reserve_at m) (log_stood (omega arith) (no_reserve other) w) m inside refl in
-          record {
-            start = r.start; length = r.length;
-            reserves = reserves_on keeps r.reserves;
-            begins = ends_on keeps keeps r.begins;
-            before = λ k is. ended_on (r.before k is);
-          })
+      record {
+        start = r.start;
+        length = r.length;
+        reserves = reserves_on keeps r.reserves;
+        begins = ends_on keeps keeps r.begins;
+        before = λ k is. ended_on (r.before k is);
+      })
       (same_or_not m p.slot)
     where
       here : ReserveRule g new p.slot
       here = record {
-        start = p.start; length = p.reserved;
+        start = p.start;
+        length = p.reserved;
         reserves = u.reserves;
         begins = ends_on keeps keeps u.begins;
         before = λ k is. ended_on (u.before.ended p.slot k u.horizon (omega arith));
@@ -231,46 +239,54 @@ module _ {g : Layout} {old new : Image} {p : Plan} (u : IsFilled g old new p) wh
   rule_2 m inside w = ⊎_elim
       (λ same. subst (λ (k : ℕ). OutcomeRule new k) (sym same) here)
       (λ other.
-          let r : OutcomeRule old m = u.before.met Rules.OutcomeCells (outcome_at m) (log_stood (omega arith) (no_outcome other) w) m inside refl in
-          record {
-            reserve = written_on keeps r.reserve;
-            outcome = ⊎_elim (λ h. inl (holds_on keeps h))
-                (λ h. inr (h.0, h.1, holds_on keeps h.2, λ from reserved r. h.3 from reserved (log_held (omega arith) (no_reserve other) r)))
-                r.outcome;
-          })
+      let r : OutcomeRule old m = u.before.met Rules.OutcomeCells (outcome_at m) (log_stood (omega arith) (no_outcome other) w) m inside refl in
+      record {
+        reserve = written_on keeps r.reserve;
+        outcome = ⊎_elim (λ h. inl (holds_on keeps h))
+            (λ h. inr (h.0, h.1, holds_on keeps h.2, λ from reserved r. h.3 from reserved (log_held (omega arith) (no_reserve other) r)))
+            r.outcome;
+      })
       (same_or_not m p.slot)
     where
       here : OutcomeRule new p.slot
       here = record {
         reserve = written u.reserves;
-        outcome = inr (length (stored_of p), length p.entries, u.commit, λ from reserved h.
-            let e = reserves from reserved p.start p.reserved (one_record_holds new (reserve_at p.slot) (Reserve from reserved) (Reserve p.start p.reserved) h u.reserves.reserve) in
-            omega (arith, e.1, u.fits));
+        outcome = inr (
+          length (stored_of p),
+          length p.entries,
+          u.commit,
+          λ from reserved h.
+              let e = reserves from reserved p.start p.reserved (one_record_holds new (reserve_at p.slot) (Reserve from reserved) (Reserve p.start p.reserved) h u.reserves.reserve) in
+              omega (arith, e.1, u.fits),
+        );
       }
 
   pub rule_3 : (m : ℕ) → m < g.slots → IsWritten new (done_at m) → DoneRule new m
   rule_3 m inside w = ⊎_elim
       (λ same. subst (λ (k : ℕ). DoneRule new k) (sym same) (record { done = u.done; bytes = length (stored_of p); journal = length p.entries; commit = u.commit }))
       (λ other.
-          let r : DoneRule old m = u.before.met Rules.DoneCells (done_at m) (log_stood (omega arith) (no_done other) w) m inside refl in
-          record { done = holds_on keeps r.done; bytes = r.bytes; journal = r.journal; commit = holds_on keeps r.commit })
+      let r : DoneRule old m = u.before.met Rules.DoneCells (done_at m) (log_stood (omega arith) (no_done other) w) m inside refl in
+      record { done = holds_on keeps r.done; bytes = r.bytes; journal = r.journal; commit = holds_on keeps r.commit })
       (same_or_not m p.slot)
 
   pub rule_4 : (m : ℕ) → DocumentRule g new m
   rule_4 m from reserved bytes journal c = ⊎_elim
       (λ same. by_plan (λ m from reserved bytes journal. HasDocument new (document_at from reserved bytes journal) bytes) c.commits same here)
       (λ other.
-          let b = stores_back other c in
-          let r : DocumentRule g old m = u.before.met Rules.Documents (outcome_at m) (record { found = b.commits.outcome.cell; stands = b.commits.outcome.stands }) m b.commits.reserves.slot refl in
-          let d : HasDocument old (document_at from reserved bytes journal) bytes = r from reserved bytes journal b in
-          record { id = d.id; body = d.body; count = d.count; spells = spells_on _ _ keeps d.spells; is_identifier = d.is_identifier; is_body = d.is_body })
+      let b = stores_back other c in
+      let r : DocumentRule g old m = u.before.met Rules.Documents (outcome_at m) (record { found = b.commits.outcome.cell; stands = b.commits.outcome.stands }) m b.commits.reserves.slot refl in
+      let d : HasDocument old (document_at from reserved bytes journal) bytes = r from reserved bytes journal b in
+      record { id = d.id; body = d.body; count = d.count; spells = spells_on _ _ keeps d.spells; is_identifier = d.is_identifier; is_body = d.is_body })
       (same_or_not m p.slot)
     where
       here : HasDocument new (document_at p.start p.reserved (length (stored_of p)) (length p.entries)) (length (stored_of p))
       here = record {
-        id = p.id; body = p.body; count = refl;
+        id = p.id;
+        body = p.body;
+        count = refl;
         spells = λ k below. u.rows.adds _ _ (Storing, inl (record { place = k; below = below; at = refl; is = refl }));
-        is_identifier = u.is_identifier; is_body = u.is_body;
+        is_identifier = u.is_identifier;
+        is_body = u.is_body;
       }
 
   -- each journal cell of an old slot stood, and was in order
@@ -287,15 +303,21 @@ module _ {g : Layout} {old new : Image} {p : Plan} (u : IsFilled g old new p) wh
   planned_order place below =
       let q = u.entries place below in
       record {
-        target = q.target; copied = q.copied; copies = entry_copies q.entry;
+        target = q.target;
+        copied = q.copied;
+        copies = entry_copies q.entry;
         rises = ⊎_elim inl (λ (h : (before : ℕ) × (lower : ℕ) × (other : RecordCell) × (place ≡ before + 1) × IsEntry p before lower other × (lower < q.target)).
             inr (h.0, h.1, h.2, h.3, entry_copies h.4, h.5)) q.rises;
         before_document = q.before_document;
         index = ⊎_elim index_on'
             (λ from. of_slot p.slot (omega arith) (record {
-              start = p.start; length = p.reserved; bytes = length (stored_of p); journal = length p.entries;
+              start = p.start;
+              length = p.reserved;
+              bytes = length (stored_of p);
+              journal = length p.entries;
               stores = record { commits = mine.commits; done = inr u.done };
-              from = from; below = q.before_document;
+              from = from;
+              below = q.before_document;
             }))
             q.index;
       }
@@ -305,10 +327,10 @@ module _ {g : Layout} {old new : Image} {p : Plan} (u : IsFilled g old new p) wh
     entry = λ m from reserved bytes journal place c below at. ⊎_elim
         (λ same. in_order_at m from reserved bytes journal place c same below)
         (λ other.
-            let b = stores_back other c in
-            let before = old_entry b place below in
-            let r : JournalRule g old (journal_at from reserved journal + place) = u.before.met Rules.Journals (journal_at from reserved journal + place) before in
-            in_order_on' (r.entry m from reserved bytes journal place b below refl))
+        let b = stores_back other c in
+        let before = old_entry b place below in
+        let r : JournalRule g old (journal_at from reserved journal + place) = u.before.met Rules.Journals (journal_at from reserved journal + place) before in
+        in_order_on' (r.entry m from reserved bytes journal place b below refl))
         (same_or_not m p.slot);
     commit = λ m from reserved bytes journal place c below at. ⊎_elim
         (λ same. let o = in_order_at m from reserved bytes journal place c same below in record { found = o.copies.entry; stands = o.copies.stands })
@@ -324,14 +346,14 @@ module _ {g : Layout} {old new : Image} {p : Plan} (u : IsFilled g old new p) wh
   rule_6 cell w = record {
     done = λ m from reserved bytes journal place target copied d k at. ⊎_elim
         (λ same. by_plan (λ m from reserved bytes journal. Copies new from reserved journal place target copied → new target ≡ new (journal_at from reserved journal + place))
-            d.commits same (λ c. u.rows.adds target c.entry (Applying, copies_applied c) ∙ sym c.stands) k ∙ sym (ap new at))
+        d.commits same (λ c. u.rows.adds target c.entry (Applying, copies_applied c) ∙ sym c.stands) k ∙ sym (ap new at))
         (λ other.
-            let b = done_back other d in
-            let c = copies_was (record { commits = b.commits; done = inr b.done }) k in
-            let here : old cell ≡ Some c.entry = ap old at ∙ c.stands in
-            let r : RedoneRule g old cell = u.before.met Rules.Targets cell (record { found = c.entry; stands = here }) in
-            let same : old target ≡ old cell = r.done m from reserved bytes journal place target copied b c at in
-            keeps.keeps _ _ (same ∙ here) ∙ sym (keeps.keeps _ _ here))
+        let b = done_back other d in
+        let c = copies_was (record { commits = b.commits; done = inr b.done }) k in
+        let here : old cell ≡ Some c.entry = ap old at ∙ c.stands in
+        let r : RedoneRule g old cell = u.before.met Rules.Targets cell (record { found = c.entry; stands = here }) in
+        let same : old target ≡ old cell = r.done m from reserved bytes journal place target copied b c at in
+        keeps.keeps _ _ (same ∙ here) ∙ sym (keeps.keeps _ _ here))
         (same_or_not m p.slot);
     committed = λ m from reserved bytes journal place target copied d k at. ⊎_elim
         (λ same. absurd (none-some _ (sym d.done ∙ ap (λ (k : ℕ). new (done_at k)) same ∙ u.done.stands)))
@@ -347,10 +369,11 @@ module _ {g : Layout} {old new : Image} {p : Plan} (u : IsFilled g old new p) wh
       low less = ⊎_elim
           (λ same. none-some _ (sym (h.free (omega (arith, free))) ∙ ap (λ (i : ℕ). new (reserve_at i)) same ∙ u.reserves.reserve.stands))
           (λ differ. ⊎_elim
-              (λ below. let w = taken_to g old u.before p.slot u.horizon k below in
-                  none-some _ (sym (h.free (omega (arith, free))) ∙ keeps.keeps (reserve_at k) w.found w.stands))
-              (λ above. absurd (omega arith)) differ)
+          (λ below. let w = taken_to g old u.before p.slot u.horizon k below in
+          none-some _ (sym (h.free (omega (arith, free))) ∙ keeps.keeps (reserve_at k) w.found w.stands))
+          (λ above. absurd (omega arith)) differ)
           (cases_order k p.slot)
+
       high : (k : ℕ) → IsHorizon g new new k → p.slot + 1 < k → ⊥
       high zero h above = omega arith
       high (suc m) h above =
@@ -393,9 +416,9 @@ module _ {g : Layout} {old new : Image} {p : Plan} (u : IsFilled g old new p) wh
   old_index cell value is (Rules.IsDoneIndexCell.of_root lies) = Rules.IsDoneIndexCell.of_root lies
   old_index cell value is (Rules.IsDoneIndexCell.of_slot m from reserved bytes journal d low high) = ⊎_elim
       (λ same. absurd (
-          let e = same_numbers d.commits same in
-          let before = old_low cell value is (omega (arith, d.commits.reserves.from)) in
-          omega (arith, e.0)))
+      let e = same_numbers d.commits same in
+      let before = old_low cell value is (omega (arith, d.commits.reserves.from)) in
+      omega (arith, e.0)))
       (λ other. Rules.IsDoneIndexCell.of_slot m from reserved bytes journal (done_back other d) low high)
       (same_or_not m p.slot)
 
@@ -410,13 +433,13 @@ module _ {g : Layout} {old new : Image} {p : Plan} (u : IsFilled g old new p) wh
   no_stored_index cell far (Rules.IsDoneIndexCell.of_root lies) = let b = blocks_from in let f = u.reserves.from in omega (arith, lies.below)
   no_stored_index cell far (Rules.IsDoneIndexCell.of_slot m from reserved bytes journal d least high) = ⊎_elim
       (λ same.
-          let here : blocks_end p ≤ cell → cell < document_at from reserved bytes journal → ⊥ =
-              by_plan (λ m from reserved bytes journal. blocks_end p ≤ cell → cell < document_at from reserved bytes journal → ⊥) d.commits same (λ far high. omega arith) in
-          here far high)
+      let here : blocks_end p ≤ cell → cell < document_at from reserved bytes journal → ⊥ =
+      by_plan (λ m from reserved bytes journal. blocks_end p ≤ cell → cell < document_at from reserved bytes journal → ⊥) d.commits same (λ far high. omega arith) in
+      here far high)
       (λ other.
-          let b = done_back other d in
-          let e = ends b.commits.reserves in
-          let f = blocks_from in omega (arith, b.commits.fits))
+      let b = done_back other d in
+      let e = ends b.commits.reserves in
+      let f = blocks_from in omega (arith, b.commits.fits))
       (same_or_not m p.slot)
 
   -- each cell of the plan lies where it may
@@ -428,48 +451,64 @@ module _ {g : Layout} {old new : Image} {p : Plan} (u : IsFilled g old new p) wh
 
   row_lies : (cell : ℕ) (value : List ℕ) → (phase : Phase) → Row p phase cell value → LiesWell cell
   row_lies cell value Reserving row = record {
-    kept_blank = omega (arith, row.at); spare = λ n inside same. omega (arith, row.at);
-    named = λ i. absurd (no_log_index cell (omega (arith, row.at, free)) i); edge = λ pool. absurd (omega (arith, row.at, free));
+    kept_blank = omega (arith, row.at);
+    spare = λ n inside same. omega (arith, row.at);
+    named = λ i. absurd (no_log_index cell (omega (arith, row.at, free)) i);
+    edge = λ pool. absurd (omega (arith, row.at, free));
   }
   row_lies cell value Storing row = let low = stored_from row in let high = stored_to row in let b = blocks_from in let f = u.reserves.from in record {
-    kept_blank = omega arith; spare = λ n inside same. omega arith;
-    named = λ i. absurd (no_stored_index cell low i); edge = λ pool. high;
+    kept_blank = omega arith;
+    spare = λ n inside same. omega arith;
+    named = λ i. absurd (no_stored_index cell low i);
+    edge = λ pool. high;
   }
   row_lies cell value Committing row = record {
-    kept_blank = omega (arith, row.at); spare = λ n inside same. omega (arith, row.at);
-    named = λ i. absurd (no_log_index cell (omega (arith, row.at, free)) i); edge = λ pool. absurd (omega (arith, row.at, free));
+    kept_blank = omega (arith, row.at);
+    spare = λ n inside same. omega (arith, row.at);
+    named = λ i. absurd (no_log_index cell (omega (arith, row.at, free)) i);
+    edge = λ pool. absurd (omega (arith, row.at, free));
   }
   row_lies cell value Applying row = let low = applied_far row in let high = applied_low row in let b = blocks_to in record {
-    kept_blank = omega arith; spare = λ n inside same. omega arith;
+    kept_blank = omega arith;
+    spare = λ n inside same. omega arith;
     named = λ i. record {
-      m = p.slot; start = p.start; length = p.reserved; bytes = length (stored_of p); journal = length p.entries; done = mine;
-      place = row.place; copied = row.copied; copies = entry_copies (applied_entry row);
+      m = p.slot;
+      start = p.start;
+      length = p.reserved;
+      bytes = length (stored_of p);
+      journal = length p.entries;
+      done = mine;
+      place = row.place;
+      copied = row.copied;
+      copies = entry_copies (applied_entry row);
     };
     edge = λ pool. omega arith;
   }
   row_lies cell value Finishing row = record {
-    kept_blank = omega (arith, row.at); spare = λ n inside same. omega (arith, row.at);
-    named = λ i. absurd (no_log_index cell (omega (arith, row.at, free)) i); edge = λ pool. absurd (omega (arith, row.at, free));
+    kept_blank = omega (arith, row.at);
+    spare = λ n inside same. omega (arith, row.at);
+    named = λ i. absurd (no_log_index cell (omega (arith, row.at, free)) i);
+    edge = λ pool. absurd (omega (arith, row.at, free));
   }
 
   pub rule_7 : (cell : ℕ) → IsWritten new cell → BlankRule g new cell
   rule_7 cell w = ⊎_elim
       (λ was.
-          let r : BlankRule g old cell = u.before.met Rules.StrayCells cell (record { found = w.found; stands = was }) in
-          record {
-            kept_blank = r.kept_blank;
-            spare = r.spare;
-            named = λ i. named_on keeps (r.named (old_index cell w.found was i));
-            edge = λ at e pool. let is = edge_is at e in let less = r.edge p.start old_edge pool in omega arith;
-          })
+      let r : BlankRule g old cell = u.before.met Rules.StrayCells cell (record { found = w.found; stands = was }) in
+      record {
+        kept_blank = r.kept_blank;
+        spare = r.spare;
+        named = λ i. named_on keeps (r.named (old_index cell w.found was i));
+        edge = λ at e pool. let is = edge_is at e in let less = r.edge p.start old_edge pool in omega arith;
+      })
       (λ (row : AnyRow p cell w.found).
-          let r = row_lies cell w.found row.0 row.1 in
-          record {
-            kept_blank = λ one. r.kept_blank;
-            spare = r.spare;
-            named = r.named;
-            edge = λ at e pool. let is = edge_is at e in let less = r.edge pool in omega arith;
-          })
+      let r = row_lies cell w.found row.0 row.1 in
+      record {
+        kept_blank = λ one. r.kept_blank;
+        spare = r.spare;
+        named = r.named;
+        edge = λ at e pool. let is = edge_is at e in let less = r.edge pool in omega arith;
+      })
       (u.rows.only cell w.found w.stands)
 
   pub rule_15 : (m from reserved bytes journal : ℕ) → IsDone g new m from reserved bytes journal → TilingRule new from reserved bytes journal
@@ -493,14 +532,19 @@ module _ {g : Layout} {old new : Image} {p : Plan} (u : IsFilled g old new p) wh
         where
           jump_back : Stores g old m from reserved bytes journal → {target : ℕ} → HasJump new from reserved journal target → HasJump old from reserved journal target
           jump_back st h = (h.0, h.1, copies_was st h.2)
+
           jump_on : {target : ℕ} → HasJump old from reserved journal target → HasJump new from reserved journal target
           jump_on h = (h.0, h.1, copies_on keeps h.2)
+
           child_back : Stores g old m from reserved bytes journal → {target : ℕ} → HasChild new from reserved journal target → HasChild old from reserved journal target
           child_back st h = (h.0, h.1, copies_was st h.2)
+
           child_on : {target : ℕ} → HasChild old from reserved journal target → HasChild new from reserved journal target
           child_on h = (h.0, h.1, copies_on keeps h.2)
+
           size_on : Stores g old m from reserved bytes journal → {target count : ℕ} → IsSize old from reserved journal target count → IsSize new from reserved journal target count
           size_on st h = ⊎_elim (λ x. inl (x.0, jump_on x.1)) (λ x. inr (x.0, λ j. x.1 (jump_back st j))) h
+
           tile_on : Stores g old m from reserved bytes journal → (targets : List ℕ) (low high : ℕ) → Tile old from reserved journal low high targets → Tile new from reserved journal low high targets
           tile_on st [] low high t = t
           tile_on st (target ∷ targets) low high t = (t.0, t.1, size_on st t.2, tile_on st targets (low + t.1) high t.3)
@@ -510,16 +554,22 @@ module _ {g : Layout} {old new : Image} {p : Plan} (u : IsFilled g old new p) wh
   stands_back {m} {id} {body} other t =
       let same : t.layout ≡ g = one_layout t.layout g t.volume (volume_on keeps u.volume) in
       let d : IsDone g new m t.start t.reserved (length (stored_bytes id body)) t.journal =
-          subst (λ (h : Layout). IsDone h new m t.start t.reserved (length (stored_bytes id body)) t.journal) same t.done in
+      subst (λ (h : Layout). IsDone h new m t.start t.reserved (length (stored_bytes id body)) t.journal) same t.done in
       let b = done_back other d in
       let r : DocumentRule g old m = u.before.met Rules.Documents (outcome_at m) (record { found = b.commits.outcome.cell; stands = b.commits.outcome.stands }) m b.commits.reserves.slot refl in
       let k : HasDocument old (document_at t.start t.reserved (length (stored_bytes id body)) t.journal) (length (stored_bytes id body)) =
-          r t.start t.reserved (length (stored_bytes id body)) t.journal (record { commits = b.commits; done = inr b.done }) in
+      r t.start t.reserved (length (stored_bytes id body)) t.journal (record { commits = b.commits; done = inr b.done }) in
       record {
-        layout = g; start = t.start; reserved = t.reserved; journal = t.journal;
-        volume = u.volume; slot = b.commits.reserves.slot; done = b;
+        layout = g;
+        start = t.start;
+        reserved = t.reserved;
+        journal = t.journal;
+        volume = u.volume;
+        slot = b.commits.reserves.slot;
+        done = b;
         spells = λ j below.
             let there = k.spells j (subst (λ (n : ℕ). j < cells_for n) k.count below) in
             there ∙ sym (keeps.keeps _ _ there) ∙ t.spells j below;
-        is_identifier = t.is_identifier; is_body = t.is_body;
+        is_identifier = t.is_identifier;
+        is_body = t.is_body;
       }

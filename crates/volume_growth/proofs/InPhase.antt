@@ -60,15 +60,17 @@ module _ {g : Layout} {old new : Image} {p : Plan} (i : IsIngest g old new p) wh
   in_phases {image} phase l earlier later less cell value row none is other held first = ⊎_elim
       (λ was. absurd (none-some _ (sym none ∙ was)))
       (λ (h : (one : Phase) × (order_of one ≤ order_of phase) × Row p one cell value). ⊎_elim
-          (λ low. absurd (apart h.0 later low cell value value h.2 row))
-          (λ high. l.before earlier (omega (arith, h.1)) other held first)
-          (cases_lt (order_of h.0) (order_of later)))
+      (λ low. absurd (apart h.0 later low cell value value h.2 row))
+      (λ high. l.before earlier (omega (arith, h.1)) other held first)
+      (cases_lt (order_of h.0) (order_of later)))
       (l.only cell value is)
 
   pub left_sound : (image : Image) (phase : Phase) → IsLeftIn p old image phase → LeavesSound g.cells old new p.slot image
   left_sound image phase l = leaves_sound i l.keeps
-      (record { keeps = λ cell value is. ⊎_elim
-          (λ was. i.rows.keeps.keeps cell value was)
-          (λ (h : (one : Phase) × (order_of one ≤ order_of phase) × Row p one cell value). i.rows.adds cell value (h.0, h.2))
-          (l.only cell value is) })
+      (record {
+        keeps = λ cell value is. ⊎_elim
+            (λ was. i.rows.keeps.keeps cell value was)
+            (λ (h : (one : Phase) × (order_of one ≤ order_of phase) × Row p one cell value). i.rows.adds cell value (h.0, h.2))
+            (l.only cell value is);
+      })
       (in_phases phase l)

@@ -58,9 +58,11 @@ module _ {g : Layout} {old new image : Image} {p : Plan} (i : IsIngest g old new
 
   -- 1. no reserve cell: nothing is written
   untouched : image (reserve_at p.slot) ≡ None → image ≡ old
-  untouched blank = same_both e (record { keeps = λ cell value is. ⊎_elim (λ was. was)
-      (λ (h : (old cell ≡ None) × AnyRow p cell value). absurd (no_row cell value h.0 is (h.1).0 (h.1).1))
-      (row_of cell value is) })
+  untouched blank = same_both e (record {
+    keeps = λ cell value is. ⊎_elim (λ was. was)
+        (λ (h : (old cell ≡ None) × AnyRow p cell value). absurd (no_row cell value h.0 is (h.1).0 (h.1).1))
+        (row_of cell value is);
+  })
     where
       no_row : (cell : ℕ) (value : List ℕ) → old cell ≡ None → image cell ≡ Some value → (phase : Phase) → Row p phase cell value → ⊥
       no_row cell value none is Reserving row = none-some _ (sym blank ∙ ap image (sym row.at) ∙ is)
@@ -119,10 +121,12 @@ module _ {g : Layout} {old new image : Image} {p : Plan} (i : IsIngest g old new
       elsewhere cell other = put_other image (outcome_at p.slot) (record_bytes Abandon (outcome_at p.slot)) cell other
 
       to_given : Extends image given
-      to_given = record { keeps = λ cell value is. ⊎_elim
-          (λ same. absurd (none-some _ (sym blank ∙ ap image (sym same) ∙ is)))
-          (λ other. elsewhere cell other ∙ is)
-          (same_or_not cell (outcome_at p.slot)) }
+      to_given = record {
+        keeps = λ cell value is. ⊎_elim
+            (λ same. absurd (none-some _ (sym blank ∙ ap image (sym same) ∙ is)))
+            (λ other. elsewhere cell other ∙ is)
+            (same_or_not cell (outcome_at p.slot));
+      }
 
       from_old : Extends old given
       from_old = record { keeps = λ cell value is. to_given.keeps cell value (e.keeps cell value is) }
@@ -144,7 +148,7 @@ module _ {g : Layout} {old new image : Image} {p : Plan} (i : IsIngest g old new
         only = λ cell value is. ⊎_elim
             (λ same. inr (of_outcome same))
             (λ other. let here : image cell ≡ Some value = sym (elsewhere cell other) ∙ is in
-                ⊎_elim inl (λ (h : (old cell ≡ None) × AnyRow p cell value). inr (of_row cell value h.0 here (h.1).0 (h.1).1)) (row_of cell value here))
+            ⊎_elim inl (λ (h : (old cell ≡ None) × AnyRow p cell value). inr (of_row cell value h.0 here (h.1).0 (h.1).1)) (row_of cell value here))
             (same_or_not cell (outcome_at p.slot));
       }
 
@@ -154,7 +158,7 @@ module _ {g : Layout} {old new image : Image} {p : Plan} (i : IsIngest g old new
       undone : image (done_at p.slot) ≡ None
       undone = ⊎_elim (λ none. none)
           (λ h. absurd (none-some _ (sym blank ∙ has_commit Finishing (omega arith) (done_at p.slot) i.done.cell done_row (done_blank i)
-              (same_found (done_at p.slot) i.done.cell h.0 i.done.stands h.1))))
+          (same_found (done_at p.slot) i.done.cell h.0 i.done.stands h.1))))
           (look image (done_at p.slot))
 
       pub given_after : After g.cells image given
@@ -174,8 +178,8 @@ module _ {g : Layout} {old new image : Image} {p : Plan} (i : IsIngest g old new
         rise = are.rise;
         each = λ d. (
           λ t.
-            let stands = given_up_stands i.volume i.before given_up t.stands in
-            (are.each d).0 (record { stands = stands; taken = taken_below g old i.before d.slot (stands_inside i.volume stands) (written stands.done.commits.reserves) }),
+              let stands = given_up_stands i.volume i.before given_up t.stands in
+              (are.each d).0 (record { stands = stands; taken = taken_below g old i.before d.slot (stands_inside i.volume stands) (written stands.done.commits.reserves) }),
           λ among. document_on from_old ((are.each d).1 among),
         );
       }
@@ -218,9 +222,9 @@ module _ {g : Layout} {old new image : Image} {p : Plan} (i : IsIngest g old new
         commits = commits_here c.commits;
         done = ⊎_elim (λ none. inl (blank_before f none))
             (λ h. ⊎_elim
-                (λ same. inl (ap (λ (k : ℕ). image (done_at k)) same ∙ undone))
-                (λ other. inr (holds_here (omega (arith, c.commits.reserves.slot)) (λ same. other (omega arith)) h))
-                (same_or_not m p.slot))
+            (λ same. inl (ap (λ (k : ℕ). image (done_at k)) same ∙ undone))
+            (λ other. inr (holds_here (omega (arith, c.commits.reserves.slot)) (λ same. other (omega arith)) h))
+            (same_or_not m p.slot))
             c.done;
       }
 
@@ -251,7 +255,8 @@ module _ {g : Layout} {old new image : Image} {p : Plan} (i : IsIngest g old new
       rest_row cell value is Storing row = inl (stored cell value row)
       rest_row cell value is Committing row = inl (same_found cell value i.commit.cell is (ap image row.at ∙ committed))
       rest_row cell value is Applying row = inr (inl (record {
-        place = row.place; copied = row.copied;
+        place = row.place;
+        copied = row.copied;
         copies = copies_here (applied_copies i row);
         stands = stored (journal_at p.start p.reserved (length p.entries) + row.place) value (inr (record { place = row.place; entry = row.entry; at = refl }));
       }))
@@ -313,8 +318,8 @@ module _ {g : Layout} {old new image : Image} {p : Plan} (i : IsIngest g old new
   with_commit committed = ⊎_elim
       (λ undone. is_new (completed_after i e f phases committed undone) (λ none. none-some _ (sym none ∙ committed)))
       (λ x.
-          let same : image ≡ new = finished i e f phases (same_found i e f phases (done_at p.slot) i.done.cell x.0 i.done.stands x.1) in
-          is_new (subst (λ (y : Image). After g.cells y new) (sym same) (nothing new_settled (λ cell. refl))) (λ none. none-some _ (sym none ∙ committed)))
+      let same : image ≡ new = finished i e f phases (same_found i e f phases (done_at p.slot) i.done.cell x.0 i.done.stands x.1) in
+      is_new (subst (λ (y : Image). After g.cells y new) (sym same) (nothing new_settled (λ cell. refl))) (λ none. none-some _ (sym none ∙ committed)))
       (look image (done_at p.slot))
 
   with_reserve : image (reserve_at p.slot) ≡ Some i.reserve.cell → LeavesSound g.cells old new p.slot image

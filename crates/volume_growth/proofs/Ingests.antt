@@ -48,9 +48,9 @@ module _ {g : Layout} {old new : Image} {p : Plan} (i : IsIngest g old new p) wh
         fits = ⊎_elim
             (λ h. absurd (no_abandon (length (stored_of p)) (length p.entries) (one_record_holds new (outcome_at p.slot) (Commit (length (stored_of p)) (length p.entries)) Abandon i.commit h)))
             (λ h.
-                let same = commits _ _ _ _ (one_record_holds new (outcome_at p.slot) (Commit (length (stored_of p)) (length p.entries)) (Commit h.0 h.1) i.commit h.2) in
-                let fits : cells_for h.0 + h.1 ≤ p.reserved = h.3 p.start p.reserved i.reserve in
-                subst (λ (b : ℕ). cells_for b + length p.entries ≤ p.reserved) (sym same.0) (omega (arith, same.1, fits)))
+            let same = commits _ _ _ _ (one_record_holds new (outcome_at p.slot) (Commit (length (stored_of p)) (length p.entries)) (Commit h.0 h.1) i.commit h.2) in
+            let fits : cells_for h.0 + h.1 ≤ p.reserved = h.3 p.start p.reserved i.reserve in
+            subst (λ (b : ℕ). cells_for b + length p.entries ≤ p.reserved) (sym same.0) (omega (arith, same.1, fits)))
             r.outcome;
       }
 
@@ -72,7 +72,7 @@ module _ {g : Layout} {old new : Image} {p : Plan} (i : IsIngest g old new p) wh
       → new (journal_at p.start p.reserved (length p.entries) + place) ≡ Some value → new target ≡ Some value
   redone place target copied value c is =
       let r : RedoneRule g new (journal_at p.start p.reserved (length p.entries) + place) =
-          i.after.met Rules.Targets (journal_at p.start p.reserved (length p.entries) + place) (record { found = value; stands = is }) in
+      i.after.met Rules.Targets (journal_at p.start p.reserved (length p.entries) + place) (record { found = value; stands = is }) in
       r.done p.slot p.start p.reserved (length (stored_of p)) (length p.entries) place target copied slot_done c refl ∙ is
 
   -- what is applied is copied in the journal, and lies behind the log
@@ -121,13 +121,13 @@ module _ {g : Layout} {old new : Image} {p : Plan} (i : IsIngest g old new p) wh
   pub outcome_blank : old (outcome_at p.slot) ≡ None
   outcome_blank = ⊎_elim (λ none. none)
       (λ h. let o : OutcomeRule old p.slot = i.before.met Rules.OutcomeCells (outcome_at p.slot) (record { found = h.0; stands = h.1 }) p.slot i.free refl in
-          absurd (none-some _ (sym (i.horizon.free i.free) ∙ o.reserve.stands)))
+      absurd (none-some _ (sym (i.horizon.free i.free) ∙ o.reserve.stands)))
       (look old (outcome_at p.slot))
 
   pub done_blank : old (done_at p.slot) ≡ None
   done_blank = ⊎_elim (λ none. none)
       (λ h. let r : DoneRule old p.slot = i.before.met Rules.DoneCells (done_at p.slot) (record { found = h.0; stands = h.1 }) p.slot i.free refl in
-          absurd (none-some _ (sym outcome_blank ∙ r.commit.stands)))
+      absurd (none-some _ (sym outcome_blank ∙ r.commit.stands)))
       (look old (done_at p.slot))
 
   -- the new image's horizon
@@ -137,11 +137,11 @@ module _ {g : Layout} {old new : Image} {p : Plan} (i : IsIngest g old new p) wh
     below = λ m is. let same : p.slot ≡ m = omega arith in subst (λ (k : ℕ). IsWritten new (reserve_at k)) same (record { found = i.reserve.cell; stands = i.reserve.stands });
     free = λ less. ⊎_elim (λ none. none)
         (λ h. ⊎_elim
-            (λ before.
-                let w = taken_below g old i.before (p.slot + 1) less (record { found = h.0; stands = before }) p.slot (omega arith) in
-                absurd (none-some _ (sym (i.horizon.free i.free) ∙ w.stands)))
-            (λ of. absurd (no_log of))
-            (log_of (reserve_at (p.slot + 1)) h.0 (omega arith) h.1))
+        (λ before.
+        let w = taken_below g old i.before (p.slot + 1) less (record { found = h.0; stands = before }) p.slot (omega arith) in
+        absurd (none-some _ (sym (i.horizon.free i.free) ∙ w.stands)))
+        (λ of. absurd (no_log of))
+        (log_of (reserve_at (p.slot + 1)) h.0 (omega arith) h.1))
         (look new (reserve_at (p.slot + 1)));
   }
     where
@@ -155,9 +155,9 @@ module _ {g : Layout} {old new : Image} {p : Plan} (i : IsIngest g old new p) wh
   begins_there = ⊎_elim
       (λ (z : (p.slot ≡ 0) × (begins.start ≡ pool_at g)). inl (z.0, (same_start).0 ∙ z.1))
       (λ (w : (m : ℕ) × (from : ℕ) × (size : ℕ) × (p.slot ≡ m + 1) × Reserves g new m from size × (begins.start ≡ from + size)).
-          let r = w.4 in
-          let stood : old (reserve_at w.0) ≡ Some r.reserve.cell = ⊎_elim (λ was. was) (λ of. absurd (no_log w.0 w.3 of)) (log_of (reserve_at w.0) r.reserve.cell (omega (arith, r.slot)) r.reserve.stands) in
-          inr (w.0, w.1, w.2, w.3, record { slot = r.slot; reserve = record { cell = r.reserve.cell; stands = stood; is = r.reserve.is }; from = r.from; to = r.to }, (same_start).0 ∙ w.5))
+      let r = w.4 in
+      let stood : old (reserve_at w.0) ≡ Some r.reserve.cell = ⊎_elim (λ was. was) (λ of. absurd (no_log w.0 w.3 of)) (log_of (reserve_at w.0) r.reserve.cell (omega (arith, r.slot)) r.reserve.stands) in
+      inr (w.0, w.1, w.2, w.3, record { slot = r.slot; reserve = record { cell = r.reserve.cell; stands = stood; is = r.reserve.is }; from = r.from; to = r.to }, (same_start).0 ∙ w.5))
       begins.begins
     where
       no_log : (m : ℕ) → p.slot ≡ m + 1 → IsLogCell p.slot (reserve_at m) → ⊥

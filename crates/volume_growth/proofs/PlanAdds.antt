@@ -37,17 +37,19 @@ module _ {g : Layout} {old new : Image} {p : Plan} (w : IsWellPlanned g old new 
         each = λ d. (
           λ t. ⊎_elim
               (λ same.
-                  let e = one_document g.cells new p.slot d.id d.body p.id p.body (subst (λ (n : ℕ). Stands g.cells new n d.id d.body) same t.stands) stands in
-                  subst (λ (x : Document). Contains (ds ++ last ∷ []) x) (sym (documents d last same e.0 e.1)) (Contains-append_right ds (last ∷ []) last (the_one last)))
+              let e = one_document g.cells new p.slot d.id d.body p.id p.body (subst (λ (n : ℕ). Stands g.cells new n d.id d.body) same t.stands) stands in
+              subst (λ (x : Document). Contains (ds ++ last ∷ []) x) (sym (documents d last same e.0 e.1)) (Contains-append_right ds (last ∷ []) last (the_one last)))
               (λ other.
-                  let b = stands_back w.filled other t.stands in
-                  Contains-append_left ds (last ∷ []) d ((are.each d).0 (record { stands = b;
-                    taken = taken_below g old w.filled.before d.slot (stands_inside w.filled.volume b) (written b.done.commits.reserves) })))
+              let b = stands_back w.filled other t.stands in
+              Contains-append_left ds (last ∷ []) d ((are.each d).0 (record {
+                stands = b;
+                taken = taken_below g old w.filled.before d.slot (stands_inside w.filled.volume b) (written b.done.commits.reserves);
+              })))
               (same_or_not d.slot p.slot),
           λ c. ⊎_elim
               (λ l. document_on (keeps w.filled) ((are.each d).1 l))
               (λ r. subst (λ (x : Document). IsDocument g.cells new x.slot x.id x.body) (sym (only_one last d r))
-                  (record { stands = stands; taken = (mine_live w).taken }))
+              (record { stands = stands; taken = (mine_live w).taken }))
               (Contains-append_cases ds (last ∷ []) d c),
         );
       }

@@ -52,7 +52,13 @@ module _ {g : Layout} {image : Image} {at l : ℕ} (layout : IsLayout g) (s : Is
       let next : IsBlockOf g image l target = record { list = list; leads = leads_further b.leads level digit target ls d1 d2 jump f t } in
       ⊎_elim
       (λ same. inr (record {
-        from = cur; level = level; digit = digit; is = b; levels = ls; low = d1; high = d2;
+        from = cur;
+        level = level;
+        digit = digit;
+        is = b;
+        levels = ls;
+        low = d1;
+        high = d2;
         jump = subst (λ (k : ℕ). Holds image (pointer_at cur level digit) (Jump k)) (sym same) jump;
         pool = omega (arith, f, same);
       }))
@@ -76,9 +82,9 @@ module _ {g : Layout} {image : Image} {at l : ℕ} (layout : IsLayout g) (s : Is
   blocks_apart : {a b : ℕ} → IsBlockOf g image l a → IsBlockOf g image l b → (a ≡ b) ⊎ AreApart a 256 b 256
   blocks_apart {a} {b} x y = ⊎_elim
       (λ first. ⊎_elim
-          (λ also. inl (first ∙ sym also))
-          (λ h. inr (inl (let p = h.pool in omega arith)))
-          (reached y))
+      (λ also. inl (first ∙ sym also))
+      (λ h. inr (inl (let p = h.pool in omega arith)))
+      (reached y))
       (λ h. far_apart h y)
       (reached x)
 
@@ -90,15 +96,22 @@ module _ {g : Layout} {image : Image} {at l : ℕ} (layout : IsLayout g) (s : Is
         r.entry l block place (block_of b) below refl;
     blank = λ block place b low high. ⊎_elim (λ none. none)
         (λ h. let r : EntryRule g image (block + place) = s.met Rules.Entries (block + place) (record { found = h.0; stands = h.1 }) in
-            absurd (r.blank l block place (block_of b) low high refl))
+        absurd (r.blank l block place (block_of b) low high refl))
         (look image (block + place));
     pointers = λ block level digit b ls d1 d2 w. let r = rule_of (block_of b) ls d1 d2 w.stands in record {
-      target = r.target; jump = r.jump; greatest = r.greatest;
+      target = r.target;
+      jump = r.jump;
+      greatest = r.greatest;
       is_full = ends_full (λ place below.
           let e : EntryRule g image (block + place) = s.met Rules.Entries (block + place) (r.full place below) in
           e.entry l block place (block_of b) below refl) r.ends;
-      inside_from = r.from; inside_to = r.edge at e;
-      place = r.place; some = r.some; in_places = r.in_places; in_front = r.in_front; in_span = r.in_span;
+      inside_from = r.from;
+      inside_to = r.edge at e;
+      place = r.place;
+      some = r.some;
+      in_places = r.in_places;
+      in_front = r.in_front;
+      in_span = r.in_span;
     };
     apart = λ a b x y. blocks_apart (block_of x) (block_of y);
   }

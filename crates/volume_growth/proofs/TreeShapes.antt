@@ -71,9 +71,9 @@ module _ {g : Layout} {old new : Image} {to v node x target : ℕ} (w : IsWellRo
   node_of (root u other is at) = inl (root u other is at)
   node_of (under u other k above y is rest ys low hop from into) = ⊎_elim
       (λ there. ⊎_elim
-          (λ same. inr (children other target (one_record_holds new (node + 16 + x) (Child other) (Child target) (subst (λ (c : ℕ). Holds new c (Child other)) same hop) child)))
-          (λ differ. inl (under u other k above y is there ys low (holds_back (a.others (above + 16 + y) differ) hop) from into))
-          (same_or_not (above + 16 + y) (node + 16 + x)))
+      (λ same. inr (children other target (one_record_holds new (node + 16 + x) (Child other) (Child target) (subst (λ (c : ℕ). Holds new c (Child other)) same hop) child)))
+      (λ differ. inl (under u other k above y is there ys low (holds_back (a.others (above + 16 + y) differ) hop) from into))
+      (same_or_not (above + 16 + y) (node + 16 + x)))
       (λ same. absurd (none-some _ (sym (new_blank y ys) ∙ subst (λ (c : ℕ). new (c + 16 + y) ≡ Some hop.cell) same hop.stands)))
       (node_of rest)
 
@@ -100,18 +100,18 @@ module _ {g : Layout} {old new : Image} {to v node x target : ℕ} (w : IsWellRo
   children_on : (u other y : ℕ) → IsNode g new u other → y < 16 → IsWritten new (other + 16 + y) → ChildWell g new (target + 32) u other y
   children_on u other y m ys is = ⊎_elim
       (λ there. ⊎_elim
-          (λ same.
-              let h = same_child there ys same in
-              record {
-                target = target;
-                child = subst (λ (c : ℕ). Holds new c (Child target)) (sym same) child;
-                bucket = subst (λ (c : ℕ). IsWritten new c) (let z : node + x ≡ other + y = omega (arith, h.0, h.1) in z) (written_on e bucket);
-                level = level_of u (subst (λ (c : ℕ). IsNode g old u c) h.0 there);
-                from = omega arith;
-                inside = omega arith;
-              })
-          (λ differ. child_on e (omega arith) (w.children u other y there ys (written_back (a.others (other + 16 + y) differ) is)))
-          (same_or_not (other + 16 + y) (node + 16 + x)))
+      (λ same.
+      let h = same_child there ys same in
+      record {
+        target = target;
+        child = subst (λ (c : ℕ). Holds new c (Child target)) (sym same) child;
+        bucket = subst (λ (c : ℕ). IsWritten new c) (let z : node + x ≡ other + y = omega (arith, h.0, h.1) in z) (written_on e bucket);
+        level = level_of u (subst (λ (c : ℕ). IsNode g old u c) h.0 there);
+        from = omega arith;
+        inside = omega arith;
+      })
+      (λ differ. child_on e (omega arith) (w.children u other y there ys (written_back (a.others (other + 16 + y) differ) is)))
+      (same_or_not (other + 16 + y) (node + 16 + x)))
       (λ same. absurd (no_child same ys is))
       (node_of m)
     where
@@ -122,22 +122,22 @@ module _ {g : Layout} {old new : Image} {to v node x target : ℕ} (w : IsWellRo
       → Holds new (other + 16 + y) (Child t) → Holds new (more + 16 + z) (Child t) → other + 16 + y ≡ more + 16 + z
   first_on u other y k more z t m ys o zs h i = ⊎_elim
       (λ there. ⊎_elim
-          (λ also. ⊎_elim
-              (λ same. ⊎_elim
-                  (λ same'. same ∙ sym same')
-                  (λ differ'.
-                      let is : t ≡ target = children t target (one_record_holds new (node + 16 + x) (Child t) (Child target) (subst (λ (c : ℕ). Holds new c (Child t)) same h) child) in
-                      absurd (old_target also zs (holds_back (a.others (more + 16 + z) differ') i) is))
-                  (same_or_not (more + 16 + z) (node + 16 + x)))
-              (λ differ. ⊎_elim
-                  (λ same'.
-                      let is : t ≡ target = children t target (one_record_holds new (node + 16 + x) (Child t) (Child target) (subst (λ (c : ℕ). Holds new c (Child t)) same' i) child) in
-                      absurd (old_target there ys (holds_back (a.others (other + 16 + y) differ) h) is))
-                  (λ differ'. w.first u other y k more z t there ys also zs (holds_back (a.others (other + 16 + y) differ) h) (holds_back (a.others (more + 16 + z) differ') i))
-                  (same_or_not (more + 16 + z) (node + 16 + x)))
-              (same_or_not (other + 16 + y) (node + 16 + x)))
-          (λ same. absurd (no_child same zs (written_of i)))
-          (node_of o))
+      (λ also. ⊎_elim
+      (λ same. ⊎_elim
+      (λ same'. same ∙ sym same')
+      (λ differ'.
+      let is : t ≡ target = children t target (one_record_holds new (node + 16 + x) (Child t) (Child target) (subst (λ (c : ℕ). Holds new c (Child t)) same h) child) in
+      absurd (old_target also zs (holds_back (a.others (more + 16 + z) differ') i) is))
+      (same_or_not (more + 16 + z) (node + 16 + x)))
+      (λ differ. ⊎_elim
+      (λ same'.
+      let is : t ≡ target = children t target (one_record_holds new (node + 16 + x) (Child t) (Child target) (subst (λ (c : ℕ). Holds new c (Child t)) same' i) child) in
+      absurd (old_target there ys (holds_back (a.others (other + 16 + y) differ) h) is))
+      (λ differ'. w.first u other y k more z t there ys also zs (holds_back (a.others (other + 16 + y) differ) h) (holds_back (a.others (more + 16 + z) differ') i))
+      (same_or_not (more + 16 + z) (node + 16 + x)))
+      (same_or_not (other + 16 + y) (node + 16 + x)))
+      (λ same. absurd (no_child same zs (written_of i)))
+      (node_of o))
       (λ same. absurd (no_child same ys (written_of h)))
       (node_of m)
 
@@ -147,13 +147,13 @@ module _ {g : Layout} {old new : Image} {to v node x target : ℕ} (w : IsWellRo
   apart_on : (u other k more : ℕ) → IsNode g new u other → IsNode g new k more → (other ≡ more) ⊎ AreApart other 32 more 32
   apart_on u other k more m o = ⊎_elim
       (λ there. ⊎_elim
-          (λ also. w.apart u other k more there also)
-          (λ same. inr (subst (λ (c : ℕ). AreApart other 32 c 32) (sym same) (old_apart there)))
-          (node_of o))
+      (λ also. w.apart u other k more there also)
+      (λ same. inr (subst (λ (c : ℕ). AreApart other 32 c 32) (sym same) (old_apart there)))
+      (node_of o))
       (λ same. ⊎_elim
-          (λ also. inr (subst (λ (c : ℕ). AreApart c 32 more 32) (sym same) (⊎_elim inr inl (old_apart also))))
-          (λ same'. inl (same ∙ sym same'))
-          (node_of o))
+      (λ also. inr (subst (λ (c : ℕ). AreApart c 32 more 32) (sym same) (⊎_elim inr inl (old_apart also))))
+      (λ same'. inl (same ∙ sym same'))
+      (node_of o))
       (node_of m)
 
   pub rooted_with_child : IsWellRooted g new (target + 32)

@@ -38,7 +38,8 @@ pub record IsPlannedEntry (g : Layout) (old : Image) (p : Plan) (place : ℕ) : 
   pub target : ℕ
   pub copied : RecordCell
   pub entry : IsEntry p place target copied
-  pub rises : (place ≡ 0) ⊎ ((before : ℕ) × (lower : ℕ) × (other : RecordCell) × (place ≡ before + 1) × IsEntry p before lower other × (lower < target))
+  pub rises : (place ≡ 0) ⊎ ((before : ℕ) × (lower : ℕ) × (other : RecordCell) × (place ≡ before + 1)
+      × IsEntry p before lower other × (lower < target))
   pub before_document : target < blocks_end p
   pub index : IsIndexCell g old p.slot target ⊎ (p.start ≤ target)
 
@@ -69,25 +70,31 @@ pub record IsFilled (g : Layout) (old new : Image) (p : Plan) : Type 0 where
 pub record IsWellPlanned (g : Layout) (old new : Image) (p : Plan) : Type 0 where
   pub filled : IsFilled g old new p
   pub lists : (l : ℕ) → l < g.lists → IsWellListed new (pool_at g) (blocks_end p) (list_at g l)
-  pub owners : (l block : ℕ) → IsBlockOf g new l block → (block ≡ list_at g l) ⊎ ((m : ℕ) × LiesInBlocks g new m block × LiesInBlocks g new m (block + 255))
+  pub owners : (l block : ℕ) → IsBlockOf g new l block
+      → (block ≡ list_at g l) ⊎ ((m : ℕ) × LiesInBlocks g new m block × LiesInBlocks g new m (block + 255))
   pub apart : (l k a b : ℕ) → IsBlockOf g new l a → IsBlockOf g new k b → ((b ≡ a) × (k ≡ l)) ⊎ AreApart a 256 b 256
   pub apart_nodes : (l a v node : ℕ) → IsBlockOf g new l a → IsNode g new v node → AreApart a 256 node 32
   pub blocks : (l block : ℕ) → IsBlockOf g new l block → IsBlockOf g old l block ⊎ (p.start ≤ block)
-  pub postings : (l block place : ℕ) (q : PostingFields) → IsBlockOf g new l block → place < 128 → old (block + place) ≡ None
+  pub postings : (l block place : ℕ) (q : PostingFields) → IsBlockOf g new l block → place < 128
+      → old (block + place) ≡ None
       → Holds new (block + place) (posting_record q) → (q.key / 256 ≡ p.slot) × IsPostingOf g.lists p.body p.slot l q
   pub has_postings : HasPostings g.lists p.body
-  pub trails : (l : ℕ) (q : PostingFields) → l < g.lists → IsPostingOf g.lists p.body p.slot l q → (at : ℕ) × Trail new (pool_at g) g.cells at q (list_at g l)
+  pub trails : (l : ℕ) (q : PostingFields) → l < g.lists → IsPostingOf g.lists p.body p.slot l q
+      → (at : ℕ) × Trail new (pool_at g) g.cells at q (list_at g l)
   pub tree : IsWellRooted g new (blocks_end p)
   pub nodes : (v node : ℕ) → IsNode g new v node → IsNode g old v node ⊎ (p.start ≤ node)
-  pub new_children : (v node x target : ℕ) → IsNode g new v node → x < 16 → old (node + 16 + x) ≡ None → Holds new (node + 16 + x) (Child target) → p.start ≤ target
+  pub new_children : (v node x target : ℕ) → IsNode g new v node → x < 16 → old (node + 16 + x) ≡ None
+      → Holds new (node + 16 + x) (Child target) → p.start ≤ target
   pub new_buckets : (v node x : ℕ) → IsNode g new v node → x < 16 → old (node + x) ≡ None → IsWritten new (node + x)
-      → Holds new (node + x) (Bucket p.slot (fingerprint_of (sha256 p.id))) × IsOnPath g new (sha256 p.id) v node × (x ≡ nibble (sha256 p.id) v)
+      → Holds new (node + x) (Bucket p.slot (fingerprint_of (sha256 p.id)))
+      × IsOnPath g new (sha256 p.id) v node × (x ≡ nibble (sha256 p.id) v)
   pub path : HashTrail new (sought_in g.cells g p.id) p.slot (root_at g) 0
   pub absent : (m : ℕ) (other : List ℕ) → Stands g.cells old m p.id other → ⊥
 
 -- a plan keeps a volume settled
 abbrev pub PlanIsSettled : Type 0
-PlanIsSettled = (g : Layout) (old new : Image) (p : Plan) → IsWellPlanned g old new p → IsSettled g new × Stands g.cells new p.slot p.id p.body
+PlanIsSettled = (g : Layout) (old new : Image) (p : Plan) → IsWellPlanned g old new p
+    → IsSettled g new × Stands g.cells new p.slot p.id p.body
 
 -- a plan that is written in phases, and cut short in any of them, leaves a sound volume
 abbrev pub PlanLeavesSound : Type 0
@@ -98,5 +105,6 @@ PlanLeavesSound =
 -- and has the documents that there were, and its own behind them
 abbrev pub PlanAddsOne : Type 0
 PlanAddsOne =
-    (g : Layout) (old new : Image) (p : Plan) (documents : List Document) → IsWellPlanned g old new p → AreDocuments g.cells old documents
+    (g : Layout) (old new : Image) (p : Plan) (documents : List Document) → IsWellPlanned g old new p
+    → AreDocuments g.cells old documents
     → AreDocuments g.cells new (documents ++ record { slot = p.slot; id = p.id; body = p.body } ∷ [])

@@ -97,8 +97,10 @@ pub record IsIngest (g : Layout) (old new : Image) (p : Plan) : Type 0 where
 -- and the new ones otherwise.
 pub record LeavesSound (cells : ℕ) (old new : Image) (n : ℕ) (image : Image) : Type 0 where
   pub sound : Sound cells image
-  pub blank : image (outcome_at n) ≡ None → (documents : List Document) → AreDocuments cells old documents → Held cells image documents
-  pub written : IsWritten image (outcome_at n) → (documents : List Document) → AreDocuments cells new documents → Held cells image documents
+  pub blank : image (outcome_at n) ≡ None → (documents : List Document) → AreDocuments cells old documents
+      → Held cells image documents
+  pub written : IsWritten image (outcome_at n) → (documents : List Document)
+      → AreDocuments cells new documents → Held cells image documents
 
 abbrev pub IngestLeavesSound : Type 0
 IngestLeavesSound =
@@ -109,7 +111,8 @@ IngestLeavesSound =
 -- The image was left in this phase: it has all cells of the phases before, and none of those behind.
 pub record IsLeftIn (p : Plan) (old image : Image) (phase : Phase) : Type 0 where
   pub keeps : Extends old image
-  pub before : (earlier : Phase) → order_of earlier < order_of phase → (cell : ℕ) (value : List ℕ) → Row p earlier cell value → image cell ≡ Some value
+  pub before : (earlier : Phase) → order_of earlier < order_of phase → (cell : ℕ) (value : List ℕ)
+      → Row p earlier cell value → image cell ≡ Some value
   pub only : (cell : ℕ) (value : List ℕ) → image cell ≡ Some value
       → (old cell ≡ Some value) ⊎ ((one : Phase) × (order_of one ≤ order_of phase) × Row p one cell value)
 

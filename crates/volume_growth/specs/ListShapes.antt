@@ -27,8 +27,10 @@ pub record PointsWell (image : Image) (from to block level digit : ℕ) : Type 0
 -- place 0 on, the places behind the pointers are blank, pointers lead well, and no two blocks meet.
 pub record IsWellListed (image : Image) (from to head : ℕ) : Type 0 where
   pub before : head + 256 ≤ from
-  pub entries : (block place : ℕ) → Leads image from to block head → place < 128 → IsWritten image (block + place) → HoldsInOrder image block place
-  pub blank : (block place : ℕ) → Leads image from to block head → 248 ≤ place → place < 256 → image (block + place) ≡ None
+  pub entries : (block place : ℕ) → Leads image from to block head → place < 128
+      → IsWritten image (block + place) → HoldsInOrder image block place
+  pub blank : (block place : ℕ) → Leads image from to block head → 248 ≤ place → place < 256
+      → image (block + place) ≡ None
   pub pointers : (block level digit : ℕ) → Leads image from to block head → level < 8 → 1 ≤ digit → digit ≤ 15
       → IsWritten image (pointer_at block level digit) → PointsWell image from to block level digit
   pub apart : (a b : ℕ) → Leads image from to a head → Leads image from to b head → (a ≡ b) ⊎ AreApart a 256 b 256
@@ -47,7 +49,8 @@ WellApart =
 
 -- more room leaves a list as it was
 abbrev pub WellWider : Type 0
-WellWider = (image : Image) (from to wider head : ℕ) → to ≤ wider → IsWellListed image from to head → IsWellListed image from wider head
+WellWider = (image : Image) (from to wider head : ℕ) → to ≤ wider → IsWellListed image from to head
+    → IsWellListed image from wider head
 
 -- a posting is put at the first blank place of a block
 abbrev pub WellWithEntry : Type 0
@@ -55,7 +58,8 @@ WellWithEntry =
     (old new : Image) (from to head block place : ℕ) (p : PostingFields)
     → IsWellListed old from to head → Leads old from to block head → place < 128
     → Adds (block + place) old new → Holds new (block + place) (posting_record p)
-    → ((place ≡ 0) ⊎ ((before : ℕ) × (q : PostingFields) × (place ≡ before + 1) × Holds old (block + before) (posting_record q) × (q.key < p.key)))
+    → ((place ≡ 0) ⊎ ((before : ℕ) × (q : PostingFields) × (place ≡ before + 1)
+    × Holds old (block + before) (posting_record q) × (q.key < p.key)))
     → IsWellListed new from to head
 
 -- The block at target may become one of the list: it is one, or its cells meet no block of the list, its postings

@@ -44,7 +44,8 @@ pub record EndsAtPointer (image : Image) (block key pointer : ℕ) : Type 0 wher
 -- the walk from a block along the pointers of a key's spans comes to this block
 pub data WalksTo (image : Image) (key last : ℕ) : ℕ → Type 0 where
   arrived : (block : ℕ) → block ≡ last → WalksTo image key last block
-  onwards : (block target : ℕ) → LeadsOn image block key target → WalksTo image key last target → WalksTo image key last block
+  onwards : (block target : ℕ) → LeadsOn image block key target → WalksTo image key last target
+      → WalksTo image key last block
 
 -- The trail of the list's greatest key ends at this block: no posting with a trail from the list's first block has a
 -- greater key, and the posting stands in this block's front.
@@ -71,10 +72,12 @@ pub data PostingCosts (g : Layout) (l : ℕ) (p : PostingFields) (old new : Imag
   in_block : (block place : ℕ) → WalksTo old p.key block (list_at g l) → IsRoom old block place
       → Adds (block + place) old new → Holds new (block + place) (posting_record p)
       → to ≡ next → cost ≡ 1 → PostingCosts g l p old new next to cost
-  in_tail : (block pointer tail place : ℕ) → WalksTo old p.key block (list_at g l) → EndsAtPointer old block p.key pointer
+  in_tail : (block pointer tail place : ℕ) → WalksTo old p.key block (list_at g l)
+      → EndsAtPointer old block p.key pointer
       → IsTail g old l tail → IsRoom old tail place → AddsBoth old new (tail + place) pointer tail p
       → to ≡ next → cost ≡ 2 → PostingCosts g l p old new next to cost
-  in_new_block : (block pointer tail : ℕ) → WalksTo old p.key block (list_at g l) → EndsAtPointer old block p.key pointer
+  in_new_block : (block pointer tail : ℕ) → WalksTo old p.key block (list_at g l)
+      → EndsAtPointer old block p.key pointer
       → IsTail g old l tail → ((i : ℕ) → i < 128 → IsWritten old (tail + i)) → AddsBoth old new next pointer next p
       → to ≡ next + 256 → cost ≡ 258 → PostingCosts g l p old new next to cost
 
@@ -89,8 +92,10 @@ ComesBefore a b = (a.list < b.list) ⊎ ((a.list ≡ b.list) × (a.posting.key <
 
 -- these are the postings of slot n's document, by list and ordinal
 pub record ArePostings (lists : ℕ) (body : List ℕ) (n : ℕ) (rows : List ListedPosting) : Type 0 where
-  pub order : (i j : ℕ) (a b : ListedPosting) → i < j → slice_get rows i ≡ Some a → slice_get rows j ≡ Some b → ComesBefore a b
-  pub each : (i : ℕ) (a : ListedPosting) → slice_get rows i ≡ Some a → (a.list < lists) × IsPostingOf lists body n a.list a.posting
+  pub order : (i j : ℕ) (a b : ListedPosting) → i < j → slice_get rows i ≡ Some a → slice_get rows j ≡ Some b
+      → ComesBefore a b
+  pub each : (i : ℕ) (a : ListedPosting) → slice_get rows i ≡ Some a
+      → (a.list < lists) × IsPostingOf lists body n a.list a.posting
   pub all : (l : ℕ) (p : PostingFields) → l < lists → IsPostingOf lists body n l p
       → (i : ℕ) × (slice_get rows i ≡ Some (record { list = l; posting = p }))
 
@@ -107,7 +112,8 @@ pub data BucketCosts (g : Layout) (image : Image) (id : List ℕ) (cost : ℕ) :
       → image (node + nibble (sought_in g.cells g id).digest level) ≡ None → cost ≡ 1 → BucketCosts g image id cost
   in_new_node : (level node : ℕ) → level < 63 → PassedTo image (sought_in g.cells g id) (root_at g) node level
       → IsPassed image (sought_in g.cells g id) (node + nibble (sought_in g.cells g id).digest level)
-      → image (node + 16 + nibble (sought_in g.cells g id).digest level) ≡ None → cost ≡ 34 → BucketCosts g image id cost
+      → image (node + 16 + nibble (sought_in g.cells g id).digest level) ≡ None → cost ≡ 34
+      → BucketCosts g image id cost
 
 -- the need of a document in slot n of a settled image
 pub record IsNeed (g : Layout) (image : Image) (n : ℕ) (id body : List ℕ) (need : ℕ) : Type 0 where

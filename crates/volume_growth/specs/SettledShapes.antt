@@ -1,7 +1,6 @@
 -- The lists and the tree of a settled image have their shapes.
 use Rattle.std.specs.Prelude.{◌≡◌, ◌<◌, ◌+◌, ℕ, List}
 use Rattle.sha2.specs.Sha256.{sha256}
-use Rattle.cell_types.specs.Bytes.{AreBytes}
 use Rattle.cell_types.specs.declared.record_cell.RecordCell.TheVariants.{Bucket}
 use Rattle.stored_documents.specs.Documents.{Stands}
 use Rattle.index_paths.specs.HashPaths.{nibble, fingerprint_of}
@@ -15,20 +14,24 @@ use Rattle.stored_documents.specs.Slots.{IsEdge}
 use Rattle.volume_growth.specs.TreeShapes.{IsWellRooted}
 
 abbrev pub SettledListed : Type 0
-SettledListed = (g : Layout) (image : Image) (at l : ℕ) → IsLayout g → IsSettled g image → IsEdge g image image at → l < g.lists → IsWellListed image (pool_at g) at (list_at g l)
+SettledListed = (g : Layout) (image : Image) (at l : ℕ) → IsLayout g → IsSettled g image
+    → IsEdge g image image at → l < g.lists → IsWellListed image (pool_at g) at (list_at g l)
 
 abbrev pub SettledRooted : Type 0
-SettledRooted = (g : Layout) (image : Image) (at : ℕ) → IsLayout g → IsSettled g image → IsEdge g image image at → IsWellRooted g image at
+SettledRooted = (g : Layout) (image : Image) (at : ℕ) → IsLayout g → IsSettled g image
+    → IsEdge g image image at → IsWellRooted g image at
 
 -- each node is at one level
 abbrev pub NodesHaveOneLevel : Type 0
-NodesHaveOneLevel = (g : Layout) (image : Image) (to u v node : ℕ) → IsWellRooted g image to → IsNode g image u node → IsNode g image v node → u ≡ v
+NodesHaveOneLevel = (g : Layout) (image : Image) (to u v node : ℕ) → IsWellRooted g image to
+    → IsNode g image u node → IsNode g image v node → u ≡ v
 
 -- In a settled image a written bucket at the last level of an identifier's path names a slot whose identifier has the
 -- same digest.
 abbrev pub LastBucketIsSame : Type 0
 LastBucketIsSame =
-    (g : Layout) (image : Image) (id : List ℕ) (node : ℕ) → IsLayout g → IsSettled g image → ((m : List ℕ) → AreBytes (sha256 m))
+    (g : Layout) (image : Image) (id : List ℕ) (node : ℕ) → IsLayout g → IsSettled g image
     → IsOnPath g image (sha256 id) 63 node → IsWritten image (node + nibble (sha256 id) 63)
-    → (slot : ℕ) × (other : List ℕ) × (body : List ℕ) × Holds image (node + nibble (sha256 id) 63) (Bucket slot (fingerprint_of (sha256 other)))
+    → (slot : ℕ) × (other : List ℕ) × (body : List ℕ)
+    × Holds image (node + nibble (sha256 id) 63) (Bucket slot (fingerprint_of (sha256 other)))
     × Stands g.cells image slot other body × (sha256 other ≡ sha256 id)

@@ -22,10 +22,13 @@ pub record ChildWell (g : Layout) (image : Image) (to v node x : ℕ) : Type 0 w
 -- In the nodes of the tree child cells lead well, no two of them have the same target, and no two nodes meet.
 pub record IsWellRooted (g : Layout) (image : Image) (to : ℕ) : Type 0 where
   pub room : to ≤ g.cells
-  pub children : (v node x : ℕ) → IsNode g image v node → x < 16 → IsWritten image (node + 16 + x) → ChildWell g image to v node x
+  pub children : (v node x : ℕ) → IsNode g image v node → x < 16 → IsWritten image (node + 16 + x)
+      → ChildWell g image to v node x
   pub first : (v node x w other y target : ℕ) → IsNode g image v node → x < 16 → IsNode g image w other → y < 16
-      → Holds image (node + 16 + x) (Child target) → Holds image (other + 16 + y) (Child target) → node + 16 + x ≡ other + 16 + y
-  pub apart : (v node w other : ℕ) → IsNode g image v node → IsNode g image w other → (node ≡ other) ⊎ AreApart node 32 other 32
+      → Holds image (node + 16 + x) (Child target) → Holds image (other + 16 + y) (Child target)
+      → node + 16 + x ≡ other + 16 + y
+  pub apart : (v node w other : ℕ) → IsNode g image v node → IsNode g image w other
+      → (node ≡ other) ⊎ AreApart node 32 other 32
 
 -- what is written outside the child cells of its nodes leaves the tree as it was: buckets, and all other cells
 abbrev pub RootedApart : Type 0

@@ -40,7 +40,8 @@ CountsFault old new = (memory_of new ≡ with_fault (memory_of old)) × (room_of
 
 -- one more foreign write is in the record and in the count, and nothing else but the room has changed
 abbrev pub RecordsForeign : ℕ → List ℕ → MemoryDevice → MemoryDevice → Type 0
-RecordsForeign at value old new = (memory_of new ≡ with_foreign (memory_of old) at value) × (room_of new + 1 ≡ room_of old)
+RecordsForeign at value old new = (memory_of new ≡ with_foreign (memory_of old) at value)
+    × (room_of new + 1 ≡ room_of old)
 
 -- what others do is a call as any, and shows in the count
 pub record ForeignWrites (old new : DeviceState) : Type 0 where

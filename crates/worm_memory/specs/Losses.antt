@@ -32,7 +32,8 @@ pub record Crashes (keep : List ℕ) (old new : DeviceState) : Type 0 where
 
 -- each cell that is neither among these nor kept is sure as it stands
 abbrev pub AllElseSure : List ℕ → List ℕ → Instant → Type 0
-AllElseSure keep unsure now = (cell : ℕ) → is_among cell unsure ≡ false → is_among cell keep ≡ false → now.image cell ≡ now.sure cell
+AllElseSure keep unsure now = (cell : ℕ) → is_among cell unsure ≡ false → is_among cell keep ≡ false
+    → now.image cell ≡ now.sure cell
 
 -- a crash leaves what is kept and what is sure, and that is sure then
 abbrev pub ACrashKeeps : Type 0
