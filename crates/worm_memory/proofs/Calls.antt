@@ -158,11 +158,12 @@ foreign_done m at value fits = record {
     reads = omega arith;
     crashes = elapsed_since (elapses_counted (with_change m (Foreign at value)) m.faults m.reads (next_count m.foreign_writes));
   });
+  leaves = leaves_all _ _ (λ image between. inl (record { above = subst (λ (now : Instant). Extends now.sure image) (sym (after_append blank m.changes (Foreign at value))) between.above; below = between.below }));
   quiet = λ still. absurd (omega (arith, still.same, still.below));
 }
 
 pub foreign_taken : (m : Memory) → ForeignWrites (device_of m) (device_of m)
-foreign_taken m = record { called = called_self (device_of m); quiet = λ still cell. refl }
+foreign_taken m = record { called = called_self (device_of m); leaves = leaves_all _ _ (λ image between. inl between); quiet = λ still cell. refl }
 
 pub foreign_failed : (m : Memory) → m.faults < 2 ^ 64 → ForeignWrites (device_of m) (device_of (with_fault m))
-foreign_failed m fits = record { called = called_counted m (next_count m.faults) m.reads (omega arith) (omega arith); quiet = λ still cell. refl }
+foreign_failed m fits = record { called = called_counted m (next_count m.faults) m.reads (omega arith) (omega arith); leaves = leaves_all _ _ (λ image between. inl between); quiet = λ still cell. refl }

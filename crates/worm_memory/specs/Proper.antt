@@ -53,7 +53,7 @@ blank_stands = extends_self blank.image
 
 from_either : (P : List ℕ → Type 0) (here : Bool) (old : Option (List ℕ)) (value found : List ℕ)
     → (here ≡ true → P value) → (old ≡ Some found → P found)
-        → (if here then kept_or old value else old) ≡ Some found → P found
+    → (if here then kept_or old value else old) ≡ Some found → P found
 from_either P false old value found of_value of_old stands = of_old stands
 from_either P true (Some standing) value found of_value of_old stands = of_old stands
 from_either P true None value found of_value of_old stands = subst P (ap (λ o. unwrap_or o value) stands) (of_value refl)
@@ -72,7 +72,7 @@ written_inside cells image at value inside within is_cell cell found stands =
 
 changes_inside : (cells : ℕ) (now : Instant) (changes : List Change)
     → Extends now.sure now.image → IsInside cells now.image → AreChanges cells now changes
-        → IsInside cells (after_changes now changes).image
+    → IsInside cells (after_changes now changes).image
 changes_inside cells now [] stands inside all = inside
 changes_inside cells now (Wrote at value ∷ changes) stands inside all =
     changes_inside cells (after_change now (Wrote at value)) changes (extends_then stands (kept now.image at value))
@@ -84,7 +84,7 @@ changes_inside cells now (Synced ∷ changes) stands inside all = changes_inside
 changes_inside cells now (Lost at ∷ changes) stands inside all = changes_inside cells (after_change now (Lost at)) changes
     (record { keeps = λ cell found is. fallen_keeps (cell == at) (now.sure cell) (now.image cell) found (stands.keeps cell found is) is })
     (λ cell found is. fallen_from (λ v. (cell < cells)
-        × IsCell v) (cell == at) (now.sure cell) (now.image cell) found (λ sure. inside cell found (stands.keeps cell found sure)) (inside cell found) is)
+    × IsCell v) (cell == at) (now.sure cell) (now.image cell) found (λ sure. inside cell found (stands.keeps cell found sure)) (inside cell found) is)
     all
 changes_inside cells now (Crashed ∷ changes) stands inside all = changes_inside cells (after_change now Crashed) changes (extends_self now.image) inside all
 

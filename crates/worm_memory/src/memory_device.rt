@@ -26,11 +26,10 @@ pub struct MemoryDevice {
 }
 
 impl MemoryDevice {
-    ghost use Rattle.std.specs.Prelude.{◌≡◌, ◌≤◌, ◌<◌, ◌↔◌, ◌^◌, ◌-◌, min, [], ℕ, List, length, slice_get, None, Ok, IsTrue, IsOk, IsErr, IfOk, OnOk, OnErr};
+    ghost use Rattle.std.specs.Prelude.{◌≡◌, ◌≤◌, ◌<◌, ◌↔◌, ◌^◌, ◌-◌, min, [], length, slice_get, None, IsTrue, IsOk, IfOk, OnOk, OnErr};
     ghost use Rattle.worm_memory.specs.Memory.{Memory, with_read, IsUnsure};
     ghost use Rattle.worm_memory.specs.declared.change.Change.TheVariants.{Wrote, Synced};
-    ghost use Rattle.worm_memory.specs.Device.{memory_of, room_of, state_of, Records, CountsFault, RecordsForeign, ForeignWrites, Stays};
-    ghost use Rattle.worm_device.specs.declared.device.Written.TheVariants.{Done, Taken};
+    ghost use Rattle.worm_memory.specs.Device.{memory_of, room_of, state_of, Records, CountsFault, RecordsForeign, ForeignEnds, ForeignWrites};
 
     /// A device of so many blank cells, 1 to 2,147,483,648. Its record has no room yet.
     pub fn new(alloc: Global, cells: u32) -> Result<MemoryDevice, NoMemory>
@@ -157,14 +156,11 @@ impl MemoryDevice {
         self.changes.push_reserved(Change::Synced);
     }
 
-    /// Somebody else writes a cell. A written one stays as it is, and that counts for nothing.
+    /// Somebody else writes a cell. A written one stays as it is, and is not counted as a foreign write.
     pub fn foreign(&mut self, at: u32, value: Cell) -> Result<Written, Failed>
         requires { at < (memory_of self.old).cells }
         ensures writes { ForeignWrites (state_of self.old) (state_of self.new) }
-        ensures fails { IsErr result ↔ (((state_of self.old).image at ≡ None) × (room_of self.old ≡ 0)) }
-        ensures done { result ≡ Ok Done → RecordsForeign at value self.old self.new }
-        ensures taken { (found : List ℕ) → result ≡ Ok (Taken found) → Stays self.old self.new }
-        ensures failed { OnErr result (CountsFault self.old self.new) }
+        ensures ends { ForeignEnds at value self.old self.new result }
     {
         if let Some(found) = self.found(at) {
             return Ok(Written::Taken(found));

@@ -14,3 +14,7 @@ pub returns-clause-writes : goal.returns-clause-writes
 returns-clause-writes c =
     let old = memory_of c.args.self.now in
     subst (λ m. ForeignWrites (device_of old) (device_of m)) (sym c.record_foreign.ensures.recorded.0) (foreign_done old c.args.at c.args.value c.record_foreign.ensures.fits)
+
+-- a cell that was written stays
+pub returns-in-Some-clause-writes : goal.returns-in-Some-clause-writes
+returns-in-Some-clause-writes c = foreign_taken (memory_of c.args.self.now)
