@@ -34,13 +34,17 @@ CannotYet stored device at =
     ⊎ ((g : Layout) × IsVolume device.cells device.image g
     × (((at ≡ device.cells) × PassesTheEnd g stored) ⊎ IsTaken g stored device at))
 
+-- No write was asked for that wrote or failed: nothing has changed but what somebody else wrote, and no call failed.
+pub record IsUntouched (old new : DeviceState) : Type 0 where
+  pub quiet : IsStill old.foreign_writes new.foreign_writes → IsUnchanged old.image new.image
+  pub faults : new.faults ≡ old.faults
+
 -- how putting a document onto a device may end, and why
 abbrev pub PutEnds : List ℕ → List ℕ → DeviceState → DeviceState → Result Unit Refusal → Type 0
 PutEnds id body old new (Ok _) = IsTrue old.tells → Stands new.cells new.sure 0 id body × Extends old.image new.sure
 PutEnds id body old new (Err DeviceFault) = Rose old.faults new.faults
 PutEnds id body old new (Err (NotYet at)) = IsTrue old.tells → CannotYet (stored_bytes id body) new at
-PutEnds id body old new (Err NoMemory) = IsStill old.foreign_writes new.foreign_writes
-    → IsUnchanged old.image new.image
+PutEnds id body old new (Err NoMemory) = IsUntouched old new
 PutEnds id body old new (Err refusal) = ⊥
 
 -- the value is planned for the cell, by the layout that the device's cell 0 states
@@ -52,7 +56,7 @@ IsIngestCell stored device at value = (g : Layout) × IsVolume device.cells devi
 abbrev pub WritesItsCells : List ℕ → DeviceState → DeviceState → Type 0
 WritesItsCells stored old new =
     IsTrue old.tells → IsStill old.foreign_writes new.foreign_writes
-        → ChangesAsPlanned (IsIngestCell stored new) old.image new.image
+    → ChangesAsPlanned (IsIngestCell stored new) old.image new.image
 
 -- Where slot 0 had no outcome at old and nobody else wrote since, no crash since then could have left an outcome
 -- without the whole document.
@@ -61,7 +65,7 @@ CrashesLeaveWholeDocuments stored old new =
     IsTrue old.tells → IsStill old.foreign_writes new.foreign_writes → old.image (outcome_at 0) ≡ None
     → (image : Image) → LeftSince new old.moment image
     → (image (outcome_at 0) ≡ None) ⊎ ((g : Layout) × IsVolume new.cells new.image g
-        × Spells image (pool_at g) stored)
+    × Spells image (pool_at g) stored)
 
 -- what it means that a document was put onto a device, or that this was ended
 pub record PutsDocument (id body : List ℕ) (old new : DeviceState) (result : Result Unit Refusal) : Type 0 where
