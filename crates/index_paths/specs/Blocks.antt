@@ -11,11 +11,12 @@ pub record PostingFields : Type 0 where
   pub last : ℕ
   pub tag : List ℕ
 
+-- and its record
 abbrev pub posting_record : PostingFields → RecordCell
 posting_record p = Posting p.key p.last p.tag
 
 -- The place of the block is in its front and holds this posting: it is place 0, or the place before is in
--- the front and holds a smaller key.
+-- the front and holds a smaller key. A front ends at place 127: whoever speaks of one asks for a place below 128.
 pub data InFront (image : Image) (block : ℕ) : ℕ → PostingFields → Type 0 where
   at_the_start : (place : ℕ) (p : PostingFields) → place ≡ 0 → Holds image (block + place) (posting_record p)
       → InFront image block place p

@@ -14,7 +14,8 @@ nibble digest v = if v % 2 == 0 then slice_index digest (v / 2) / 16 else slice_
 abbrev pub fingerprint_of : List ℕ → List ℕ
 fingerprint_of digest = take 7 digest
 
--- an identifier and its digest, and the cells of the device and of the pool
+-- An identifier that is sought, by a digest, on a device of so many cells whose pool begins here. `sought_in` makes it
+-- with the identifier's own digest.
 pub record Sought : Type 0 where
   pub id : List ℕ
   pub digest : List ℕ

@@ -9,7 +9,7 @@ use Rattle.stored_documents.specs.Volumes.{Holds}
 use Rattle.index_paths.specs.Blocks.{PostingFields}
 use Rattle.index_paths.specs.HashPaths.{nibble, fingerprint_of}
 use Rattle.index_paths.specs.Nodes.{IsOnPath}
-use Rattle.index_paths.specs.Postings.{IsPostingOf, HasTag, list_of, tag_of}
+use Rattle.index_paths.specs.Postings.{HasPostings, IsPostingOf, HasTag, list_of, tag_of}
 
 -- so many of the documents are such
 abbrev pub Count : (Document → Type 0) → List Document → ℕ → Type 0
@@ -19,8 +19,10 @@ Count IsSuch (d ∷ documents) count =
     ⊎ ((IsSuch d → ⊥) × Count IsSuch documents count)
 
 -- the document has a posting in this term's list
-abbrev pub SharesList : ℕ → List ℕ → Document → Type 0
-SharesList lists term d = (p : PostingFields) × IsPostingOf lists d.body d.slot (list_of lists term) p
+pub record SharesList (lists : ℕ) (term : List ℕ) (d : Document) : Type 0 where
+  pub exist : HasPostings lists d.body
+  pub posting : PostingFields
+  pub is : IsPostingOf lists d.body d.slot (list_of lists term) posting
 
 -- Near: the least number, over the terms, of documents that have a posting in that term's list.
 pub record IsNear (lists : ℕ) (documents : List Document) (terms : List (List ℕ)) (near : ℕ) : Type 0 where

@@ -1,4 +1,4 @@
--- Laws of slots and rules, over all images.
+-- What was seen of slots goes on.
 use Rattle.std.specs.Prelude.{◌≡◌, ◌⊎◌, ℕ, List, Some}
 use Rattle.cell_types.specs.Image.{Image, Extends}
 use Rattle.cell_types.specs.Layout.{Layout}

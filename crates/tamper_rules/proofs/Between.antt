@@ -41,7 +41,7 @@ commit_stood {cells} {image} {after} (completed k n start reserved more entries 
     (λ rows. absurd (⊎_elim
     (λ (row : JournalRow image start reserved entries (outcome_at m) h.cell).
     let same : k ≡ g = one_layout k g v vol in
-    let far : list_at k 0 ≤ outcome_at m = target_behind_log ready.entries row.copies in
+    let far : list_at k 0 ≤ outcome_at m = target_behind_log ready.in_order row.copies in
     let low : outcome_at m < list_at k 0 = subst (λ (j : Layout). outcome_at m < list_at j 0) (sym same) (let z : outcome_at m < list_at g 0 = omega arith in z) in
     omega arith)
     (λ (row : DoneRow n (outcome_at m) h.cell). omega (arith, row.at)) rows))
@@ -60,7 +60,7 @@ done_added {cells} {image} {after} (completed k n start reserved more entries v 
     (λ rows. ⊎_elim
     (λ (row : JournalRow image start reserved entries (done_at m) d.found). absurd (
     let same : k ≡ g = one_layout k g v vol in
-    let far : list_at k 0 ≤ done_at m = target_behind_log ready.entries row.copies in
+    let far : list_at k 0 ≤ done_at m = target_behind_log ready.in_order row.copies in
     let low : done_at m < list_at k 0 = subst (λ (j : Layout). done_at m < list_at j 0) (sym same) (let z : done_at m < list_at g 0 = omega arith in z) in
     omega arith))
     (λ (row : DoneRow n (done_at m) d.found).

@@ -79,12 +79,12 @@ module _ {g : Layout} {old new : Image} {n start size : ℕ} (v : IsVolume g.cel
 
   rule_5 : (cell : ℕ) → IsWritten new cell → JournalRule g new cell
   rule_5 cell w = record {
-    entry = λ m from reserved bytes journal place c below at.
+    copy = λ m from reserved bytes journal place c below at.
         let b = stores_back s u c in
         let e = ends s u b.commits.reserves in
         let before : IsWritten old cell = stood s u (omega (arith, at, b.commits.fits, b.commits.reserves.from)) (omega (arith, at, e, below, b.commits.fits)) w in
         let r : JournalRule g old cell = s.met Rules.Journals cell before in
-        in_order_on u.keeps (done_blank s u) (r.entry m from reserved bytes journal place b below at);
+        in_order_on u.keeps (done_blank s u) (r.copy m from reserved bytes journal place b below at);
     commit = λ m from reserved bytes journal place c below at.
         let b = stores_back s u c in
         let before : IsWritten old (outcome_at m) = record { found = b.commits.outcome.cell; stands = b.commits.outcome.stands } in
@@ -230,8 +230,8 @@ module _ {g : Layout} {old new : Image} {n start size : ℕ} (v : IsVolume g.cel
         to = t.to;
         edge = λ at e. let is = edge_is s u at e in let less = t.edge start (old_edge s u) in omega arith;
         owner = t.owner;
-        first = blocks_on u.keeps (done_blank s u) t.first;
-        last = blocks_on u.keeps (done_blank s u) t.last;
+        owns_first = blocks_on u.keeps (done_blank s u) t.owns_first;
+        owns_last = blocks_on u.keeps (done_blank s u) t.owns_last;
         greatest = t.greatest;
         ends = full_ends (front_on u.keeps (ends_full entries t.ends));
         place = t.place;
@@ -286,9 +286,9 @@ module _ {g : Layout} {old new : Image} {n start size : ℕ} (v : IsVolume g.cel
         same = u.keeps.keeps _ _ (t.same ∙ t.child.stands) ∙ sym (u.keeps.keeps _ _ t.child.stands);
         in_blocks = t.in_blocks;
         before_document = t.before_document;
-        first = λ w other y o less lower child.
+        once = λ w other y o less lower child.
             let i = node_was s u o in
-            t.first w other y i.is less lower (held s u (omega (arith, i.low)) (omega (arith, i.high)) child);
+            t.once w other y i.is less lower (held s u (omega (arith, i.low)) (omega (arith, i.high)) child);
         blocks = λ j other o. t.blocks j other ((block_was s u o).is);
         nodes = λ w other o. t.nodes w other ((node_was s u o).is);
       }
@@ -325,7 +325,7 @@ module _ {g : Layout} {old new : Image} {n start size : ℕ} (v : IsVolume g.cel
   rule_14 m id body t =
       let b = stands_back t in
       let r : PathRule g old m id = s.met Rules.Paths (done_at m) (done_written b) m id body refl b in
-      record { path = hash_trail_on u.keeps r.path; first = λ k other less there. r.first k other less (stands_back there) }
+      record { path = hash_trail_on u.keeps r.path; alone = λ k other less there. r.alone k other less (stands_back there) }
 
   rule_15 : (m from reserved bytes journal : ℕ) → IsDone g new m from reserved bytes journal → TilingRule new from reserved bytes journal
   rule_15 m from reserved bytes journal d =

@@ -65,7 +65,7 @@ reserve_stood {cells} {image} (completed k n start reserved bytes journal v h c 
     (λ rows. absurd (⊎_elim
     (λ (row : JournalRow image start reserved journal (reserve_at m) value).
     let same : k ≡ g = one_layout k g v vol in
-    let far : list_at k 0 ≤ reserve_at m = target_behind_log ready.entries row.copies in
+    let far : list_at k 0 ≤ reserve_at m = target_behind_log ready.in_order row.copies in
     let low : reserve_at m < list_at k 0 = subst (λ (j : Layout). reserve_at m < list_at j 0) (sym same) (let z : reserve_at m < list_at g 0 = omega arith in z) in
     omega arith)
     (λ (row : DoneRow n (reserve_at m) value). omega (arith, row.at)) rows))

@@ -52,7 +52,7 @@ module _ {cells : ℕ} {image : Image} {g : Layout} (l : IsLayout g) (v : IsVolu
   met_0 Rules.DoneCells = λ m inside at. absurd (omega arith)
   met_0 Rules.Documents = λ m inside at. absurd (omega arith)
   met_0 Rules.Journals = record {
-    entry = λ n from reserved bytes journal place c below at. absurd (no_slot c.commits.reserves);
+    copy = λ n from reserved bytes journal place c below at. absurd (no_slot c.commits.reserves);
     commit = λ n from reserved bytes journal place c below at. absurd (no_slot c.commits.reserves);
   }
   met_0 Rules.Targets = record {

@@ -58,7 +58,7 @@ module _ {cells : ℕ} {old after image : Image} (settled : Settled cells after)
     log_was : (cell : ℕ) (value : List ℕ) → cell < list_at g 0 → (cell ≡ done_at n → ⊥) → image cell ≡ Some value → old cell ≡ Some value
     log_was cell value low other is = ⊎_elim (λ was. was)
         (λ rows. absurd (⊎_elim
-        (λ (row : JournalRow old start reserved journal cell value). let far : list_at g 0 ≤ cell = target_behind_log ready.entries row.copies in omega arith)
+        (λ (row : JournalRow old start reserved journal cell value). let far : list_at g 0 ≤ cell = target_behind_log ready.in_order row.copies in omega arith)
         (λ (row : DoneRow n cell value). other row.at) rows))
         (w.only cell value (f.keeps cell value is))
 
@@ -69,7 +69,7 @@ module _ {cells : ℕ} {old after image : Image} (settled : Settled cells after)
 
     row_back : {cell : ℕ} {value : List ℕ} → JournalRow image start reserved journal cell value → JournalRow old start reserved journal cell value
     row_back {cell} {value} row =
-        let o = ready.entries row.place row.copies.below in
+        let o = ready.in_order row.place row.copies.below in
         let was : old (journal_at start reserved journal + row.place) ≡ Some o.copies.entry = o.copies.stands in
         record {
           place = row.place;
@@ -105,7 +105,7 @@ module _ {cells : ℕ} {old after image : Image} (settled : Settled cells after)
         (record { is = horizon_on (n + 1) h.is; one = λ u k. h.one u (horizon_back u k) })
         (record { commits = commits_on e c.commits; done = blank })
         (record {
-          entries = λ place below. in_order_on e dones (ready.entries place below);
+          in_order = λ place below. in_order_on e dones (ready.in_order place below);
           free = λ cell value row. ⊎_elim inl
               (λ x. inr (x.1 ∙ sym (f.keeps cell x.0 x.1) ∙ w.adds cell value (inl (row_back row))))
               (look image cell);
@@ -126,7 +126,8 @@ module _ {cells : ℕ} {old after image : Image} (settled : Settled cells after)
         there ∙ ap (λ (x : List ℕ). Some x) (sym same)) rows))
 
 pub goes_on : (cells : ℕ) (old after image : Image) → After cells old after → Settled cells after → Extends old image → Extends image after
-    → ((g : Layout) (n start reserved bytes journal : ℕ) → IsCommitted g old old n start reserved bytes journal → IsWritten image (done_at n)
+    → ((g : Layout) (n start reserved bytes journal : ℕ) → IsVolume cells old g → IsCommitted g old old n start reserved bytes journal
+    → IsWritten image (done_at n)
     → (cell : ℕ) (value : List ℕ) → JournalRow old start reserved journal cell value → image cell ≡ Some value)
     → After cells image after
 goes_on cells old after image (nothing is same) settled e f all = after_nothing settled e f (nothing is same) same
@@ -135,5 +136,5 @@ goes_on cells old after image (completed g n start reserved bytes journal v h c 
     ⊎_elim
     (λ blank. going_on settled e f g n start reserved bytes journal v h c ready w blank)
     (λ x. let done : IsWritten image (done_at n) = record { found = x.0; stands = x.1 } in
-    finished settled e f g n start reserved bytes journal v h c ready w done (all g n start reserved bytes journal c done))
+    finished settled e f g n start reserved bytes journal v h c ready w done (all g n start reserved bytes journal v c done))
     (look image (done_at n))

@@ -18,7 +18,7 @@ use Rattle.stored_documents.specs.Volumes.{Holds, IsWritten, IsVolume}
 use Rattle.index_paths.specs.Postings.{IsPostingOf, HasPostings}
 
 -- Rule 1, at the reserve cell of slot n: it reserves cells of the pool, which begin where those of the slot before
--- end, or where the pool begins; and the slot before is abandoned or done.
+-- end, and for slot 0 where the pool begins; and the slot before is abandoned or done.
 pub record ReserveRule (g : Layout) (image : Image) (n : ℕ) : Type 0 where
   pub start : ℕ
   pub length : ℕ
@@ -27,7 +27,7 @@ pub record ReserveRule (g : Layout) (image : Image) (n : ℕ) : Type 0 where
   pub before : (m : ℕ) → n ≡ m + 1 → HasEnded g image image m
 
 -- Rule 2, at the outcome cell of slot n: the slot's reserve cell is written, and the cell is an abandon cell, or a
--- commit cell of no more cells than the slot reserves.
+-- commit cell of no more cells than the reserve cell states, where this is well-formed.
 pub record OutcomeRule (image : Image) (n : ℕ) : Type 0 where
   pub reserve : IsWritten image (reserve_at n)
   pub outcome : Holds image (outcome_at n) Abandon
@@ -57,10 +57,10 @@ DocumentRule g image n =
     (start reserved bytes journal : ℕ) → Stores g image n start reserved bytes journal
     → HasDocument image (document_at start reserved bytes journal) bytes
 
--- Rule 5, at a journal cell of a slot that is committed or done: it is in order; and at such a slot's commit cell:
--- each journal cell is written.
+-- Rule 5, at a journal cell of a slot that is committed or done: it is in order, so that one behind a cell that copies
+-- nothing is not; and at such a slot's commit cell: each journal cell is written.
 pub record JournalRule (g : Layout) (image : Image) (cell : ℕ) : Type 0 where
-  pub entry : (n start reserved bytes journal place : ℕ) → Stores g image n start reserved bytes journal
+  pub copy : (n start reserved bytes journal place : ℕ) → Stores g image n start reserved bytes journal
       → place < journal
       → cell ≡ journal_at start reserved journal + place → IsInOrder g image n start reserved bytes journal place
   pub commit : (n start reserved bytes journal place : ℕ) → Stores g image n start reserved bytes journal
@@ -94,8 +94,7 @@ pub record BlankRule (g : Layout) (image : Image) (cell : ℕ) : Type 0 where
   pub named : IsDoneIndexCell g image cell → IsNamed g image cell
   pub edge : (at : ℕ) → IsEdge g image image at → pool_at g ≤ cell → cell < at
 
--- Rule 8, at a cell of a block before its pointers or behind them: it lies before them and holds a posting, and is
--- the first, or the place before holds a posting with a smaller key.
+-- the place of the block holds a posting, and is the first, or the place before holds one with a smaller key
 pub record HoldsInOrder (image : Image) (block place : ℕ) : Type 0 where
   pub p : PostingFields
   pub holds : Holds image (block + place) (posting_record p)
@@ -103,6 +102,8 @@ pub record HoldsInOrder (image : Image) (block place : ℕ) : Type 0 where
       ⊎ ((before : ℕ) × (q : PostingFields) × (place ≡ before + 1)
       × Holds image (block + before) (posting_record q) × (q.key < p.key))
 
+-- Rule 8, at a cell of a block before its pointers or behind them: before them it is in order, and behind them nothing
+-- stands.
 pub record EntryRule (g : Layout) (image : Image) (cell : ℕ) : Type 0 where
   pub entry : (l block place : ℕ) → IsBlockOf g image l block → place < 128 → cell ≡ block + place
       → HoldsInOrder image block place
@@ -130,7 +131,7 @@ pub record EndsFront (image : Image) (block : ℕ) (greatest : PostingFields) : 
   pub in_front : InFront image block place greatest
   pub ends : place + 1 < 128 → (next : PostingFields) → InFront image block (place + 1) next → ⊥
 
--- Rule 10, at a pointer place of a block of list l: it is a jump cell; each entry place of its block is written; the
+-- The pointer of a level and a digit leads well from a block of list l: it is a jump cell; each entry place of its block is written; the
 -- target's cells lie in the pool, before each edge, and in the block part of one slot that is committed or done; some
 -- key of the target's front lies in the pointer's span; and the target's cells meet no block that begins elsewhere,
 -- none of another list, and no node.
@@ -142,8 +143,8 @@ pub record LeadsWell (g : Layout) (image : Image) (l block level digit : ℕ) : 
   pub to : target + 256 ≤ g.cells
   pub edge : (at : ℕ) → IsEdge g image image at → target + 256 ≤ at
   pub owner : ℕ
-  pub first : LiesInBlocks g image owner target
-  pub last : LiesInBlocks g image owner (target + 255)
+  pub owns_first : LiesInBlocks g image owner target
+  pub owns_last : LiesInBlocks g image owner (target + 255)
   pub greatest : PostingFields
   pub ends : EndsFront image block greatest
   pub place : ℕ
@@ -155,12 +156,13 @@ pub record LeadsWell (g : Layout) (image : Image) (l block level digit : ℕ) : 
       → ((other ≡ target) × (k ≡ l)) ⊎ AreApart target 256 other 256
   pub nodes : (v node : ℕ) → IsNode g image v node → AreApart target 256 node 32
 
+-- Rule 10, at a pointer place of a block: the pointer leads well.
 abbrev pub PointerRule : Layout → Image → ℕ → Type 0
 PointerRule g image cell =
     (l block level digit : ℕ) → IsBlockOf g image l block → level < 8 → 1 ≤ digit → digit ≤ 15
     → cell ≡ pointer_at block level digit → LeadsWell g image l block level digit
 
--- Rule 11, at bucket x of a node: it is a bucket; its slot is live; its fingerprint is that of the identifier of the
+-- Bucket x of a node is a true one: it is a bucket; its slot is live; its fingerprint is that of the identifier of the
 -- slot's document, and it is on this identifier's path.
 pub record IsTrueBucket (g : Layout) (image : Image) (node x : ℕ) : Type 0 where
   pub slot : ℕ
@@ -175,12 +177,13 @@ pub record IsTrueBucket (g : Layout) (image : Image) (node x : ℕ) : Type 0 whe
   pub on_path : IsOnPath g image (sha256 id) level node
   pub here : x ≡ nibble (sha256 id) level
 
+-- Rule 11, at a bucket of a node: it is a true one.
 abbrev pub BucketRule : Layout → Image → ℕ → Type 0
 BucketRule g image cell = (v node x : ℕ) → IsNode g image v node → x < 16 → cell ≡ node + x
     → IsTrueBucket g image node x
 
--- Rule 12, at child cell x of a node: it is a child cell; the bucket of the same half byte is written; the node is
--- above level 63; the target's cells lie in the pool and before each edge; some slot that is committed or done has
+-- Child cell x of a node leads down well: it is a child cell; the bucket of the same half byte is written; the node is
+-- at a level below 63; the target's cells lie in the pool and before each edge; some slot that is committed or done has
 -- this cell in its journal and the target in its block part; no lower child cell of a node has the same target; and
 -- the target's cells meet no block and no other node.
 pub record LeadsDownWell (g : Layout) (image : Image) (v node x : ℕ) : Type 0 where
@@ -202,11 +205,12 @@ pub record LeadsDownWell (g : Layout) (image : Image) (v node x : ℕ) : Type 0 
   pub same : image (journal_at start reserved journal + place) ≡ image (node + 16 + x)
   pub in_blocks : start ≤ target
   pub before_document : target < document_at start reserved bytes journal
-  pub first : (w other y : ℕ) → IsNode g image w other → y < 16 → other + 16 + y < node + 16 + x
+  pub once : (w other y : ℕ) → IsNode g image w other → y < 16 → other + 16 + y < node + 16 + x
       → Holds image (other + 16 + y) (Child target) → ⊥
   pub blocks : (k other : ℕ) → IsBlockOf g image k other → AreApart target 32 other 256
   pub nodes : (w other : ℕ) → IsNode g image w other → (other ≡ target) ⊎ AreApart target 32 other 32
 
+-- Rule 12, at a child cell of a node: it leads down well.
 abbrev pub ChildRule : Layout → Image → ℕ → Type 0
 ChildRule g image cell = (v node x : ℕ) → IsNode g image v node → x < 16 → cell ≡ node + 16 + x
     → LeadsDownWell g image v node x
@@ -221,13 +225,14 @@ pub record TrailRule (g : Layout) (image : Image) (n : ℕ) (body : List ℕ) : 
 -- identifier.
 pub record PathRule (g : Layout) (image : Image) (n : ℕ) (id : List ℕ) : Type 0 where
   pub path : HashTrail image (sought_in g.cells g id) n (root_at g) 0
-  pub first : (m : ℕ) (other : List ℕ) → m < n → Stands g.cells image m id other → ⊥
+  pub alone : (m : ℕ) (other : List ℕ) → m < n → Stands g.cells image m id other → ⊥
 
--- the journal has a jump cell to this target, or a child cell to it
+-- the journal has a jump cell to this target
 abbrev pub HasJump : Image → ℕ → ℕ → ℕ → ℕ → Type 0
 HasJump image start reserved journal target = (place : ℕ) × (at : ℕ)
     × Copies image start reserved journal place at (Jump target)
 
+-- and a child cell to it
 abbrev pub HasChild : Image → ℕ → ℕ → ℕ → ℕ → Type 0
 HasChild image start reserved journal target = (place : ℕ) × (at : ℕ)
     × Copies image start reserved journal place at (Child target)
@@ -316,6 +321,7 @@ IsMet g image Tilings cell =
 abbrev pub IsOfSlot : Layout → (ℕ → ℕ) → ℕ → Type 0
 IsOfSlot g place cell = (n : ℕ) × (n < g.slots) × (cell ≡ place n)
 
+-- the cell lies in the pool
 abbrev pub IsOfPool : Layout → ℕ → Type 0
 IsOfPool g cell = (pool_at g ≤ cell) × (cell < g.cells)
 
@@ -337,6 +343,10 @@ IsPlace g Children cell = LiesIn g Root cell ⊎ IsOfPool g cell
 IsPlace g Trails cell = IsOfSlot g done_at cell
 IsPlace g Paths cell = IsOfSlot g done_at cell
 IsPlace g Tilings cell = IsOfSlot g outcome_at cell
+
+-- the cell is one of those where the rule of this number can have its evidence
+abbrev pub IsPlaceOf : Layout → ℕ → ℕ → Type 0
+IsPlaceOf g number cell = (rule : Rule) × (number ≡ number_of rule) × IsPlace g rule cell
 
 -- the rule of this number is broken at the cell: the cell is written and one of the rule's places, and the rule is
 -- not kept there

@@ -55,7 +55,7 @@ pub record JournalRow (image : Image) (start reserved journal cell : ℕ) (value
 -- the journal of slot n, which is committed, may be carried out: each of its cells is in order, and each target is
 -- blank or holds what it is to hold
 pub record IsReady (g : Layout) (image : Image) (n start reserved bytes journal : ℕ) : Type 0 where
-  pub entries : (place : ℕ) → place < journal → IsInOrder g image n start reserved bytes journal place
+  pub in_order : (place : ℕ) → place < journal → IsInOrder g image n start reserved bytes journal place
   pub free : (cell : ℕ) (value : List ℕ) → JournalRow image start reserved journal cell value
       → (image cell ≡ None) ⊎ (image cell ≡ Some value)
 

@@ -22,14 +22,14 @@ SettledKeeps =
     (cells : ℕ) (image : Image) (documents : List Document)
     → Settled cells image → AreDocuments cells image documents → Kept cells image documents
 
--- Settling, cut short anywhere: what it leaves is made into the same by settling again. A done cell was written only
--- where each journal cell of its slot stands at its target.
+-- Settling, cut short anywhere: what it leaves is made into the same by settling again. The done cell of a committed
+-- slot of the volume was written only where each journal cell of this slot stands at its target.
 abbrev pub SettlingGoesOn : Type 0
 SettlingGoesOn =
     (cells : ℕ) (old after image : Image)
     → After cells old after → Settled cells after → Extends old image → Extends image after
     → ((g : Layout) (n start reserved bytes journal : ℕ)
-    → IsCommitted g old old n start reserved bytes journal → IsWritten image (done_at n)
+    → IsVolume cells old g → IsCommitted g old old n start reserved bytes journal → IsWritten image (done_at n)
     → (cell : ℕ) (value : List ℕ) → JournalRow old start reserved journal cell value → image cell ≡ Some value)
     → After cells image after
 

@@ -8,7 +8,7 @@
 //!     cell 12, a reserve cell      slot 2's              rule 1       slot 1, before it, has not ended
 //!     cell 9, an abandon cell      slot 1's outcome      rule 2       slot 1 reserves nothing
 //!     cell 700, anything           a pool cell           rule 7       it lies past the edge, 584
-//!     cell 284, a posting          place 248 of list 0   rule 8       nothing stands behind the pointers
+//!     cell 284, a posting          place 248 of list 0   rules 7, 8   no journal names it; nothing stands behind the pointers
 //!
 //! A volume is **settled** where no rule is broken and each slot below the horizon is abandoned or done. It is **sound**
 //! where settling makes a settled image of it (`After`): a crash leaves the last slot reserved, which is then given up,

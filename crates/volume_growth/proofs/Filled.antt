@@ -9,8 +9,8 @@ use Rattle.cell_types.specs.Records.{IsRecordCell}
 use Rattle.cell_types.specs.declared.record_cell.RecordCell.{RecordCell}
 use Rattle.cell_types.specs.declared.record_cell.RecordCell.TheVariants.{Reserve, Commit, Abandon, Done}
 use Rattle.stored_documents.specs.Documents.{Stands, stored_bytes, document_at}
-use Rattle.volume_growth.specs.Filling.{blocks_end, IsEntry, IsPlannedEntry, IsFilled}
-use Rattle.volume_growth.specs.Ingesting.{Plan, Phase, Reserving, Storing, Committing, Applying, Finishing, stored_of, ContentRow, EntryRow, AppliedRow, Row, AnyRow}
+use Rattle.volume_growth.specs.Filling.{blocks_end, IsCopy, IsPlannedCopy, IsFilled}
+use Rattle.volume_growth.specs.Ingesting.{Plan, Phase, Reserving, Storing, Committing, Applying, Finishing, stored_of, ContentRow, CopyRow, AppliedRow, Row, AnyRow}
 use Rattle.tamper_rules.specs.Journals.{journal_at, Copies, IsIndexCell, of_list, of_root, of_slot, IsInOrder, IsNamed}
 use Rattle.tamper_rules.specs.Rules
 use Rattle.tamper_rules.specs.Rules.{ReserveRule, OutcomeRule, DoneRule, DocumentRule, HasDocument, JournalRule, RedoneRule, BlankRule, IsDoneIndexCell, HasJump, HasChild, IsSize, Tile, TilingRule}
@@ -34,36 +34,36 @@ module _ {g : Layout} {old new : Image} {p : Plan} (u : IsFilled g old new p) wh
   pub keeps : Extends old new
   keeps = u.rows.keeps
 
-  pub mine : IsDone g new p.slot p.start p.reserved (length (stored_of p)) (length p.entries)
+  pub mine : IsDone g new p.slot p.start p.reserved (length (stored_of p)) (length p.journal)
   mine = record { commits = record { reserves = u.reserves; outcome = u.commit; fits = u.fits }; done = u.done }
 
   -- the journal of the plan
-  pub applied_entry : {cell : ℕ} {value : List ℕ} → (row : AppliedRow p cell value) → IsEntry p row.place cell row.copied
+  pub applied_entry : {cell : ℕ} {value : List ℕ} → (row : AppliedRow p cell value) → IsCopy p row.place cell row.copied
   applied_entry {cell} {value} row = record { value = value; entry = row.entry; index = row.index; address = row.address; is = row.is }
 
-  pub entry_copies : {place target : ℕ} {r : RecordCell} → IsEntry p place target r → Copies new p.start p.reserved (length p.entries) place target r
+  pub entry_copies : {place target : ℕ} {r : RecordCell} → IsCopy p place target r → Copies new p.start p.reserved (length p.journal) place target r
   entry_copies {place} {target} {r} e = record {
-    below = slice_get_within p.entries place e.value e.entry;
+    below = slice_get_within p.journal place e.value e.entry;
     entry = e.value;
-    stands = u.rows.adds (journal_at p.start p.reserved (length p.entries) + place) e.value (Storing, inr (record { place = place; entry = e.entry; at = refl }));
+    stands = u.rows.adds (journal_at p.start p.reserved (length p.journal) + place) e.value (Storing, inr (record { place = place; entry = e.entry; at = refl }));
     index = e.index;
     address = e.address;
     is = e.is;
   }
 
   -- what a place copies is applied
-  copies_applied : {place target : ℕ} {r : RecordCell} → (c : Copies new p.start p.reserved (length p.entries) place target r) → AppliedRow p target c.entry
+  copies_applied : {place target : ℕ} {r : RecordCell} → (c : Copies new p.start p.reserved (length p.journal) place target r) → AppliedRow p target c.entry
   copies_applied {place} {target} {r} c =
-      let found = slice_get-get_or p.entries place [] c.below in
-      let there = u.rows.adds (journal_at p.start p.reserved (length p.entries) + place) _ (Storing, inr (record { place = place; entry = found; at = refl })) in
+      let found = slice_get-get_or p.journal place [] c.below in
+      let there = u.rows.adds (journal_at p.start p.reserved (length p.journal) + place) _ (Storing, inr (record { place = place; entry = found; at = refl })) in
       let same = some_is _ c.entry (sym there ∙ c.stands) in
       record { place = place; entry = found ∙ ap (λ (v : List ℕ). Some v) same; copied = r; index = c.index; address = c.address; is = c.is }
 
-  row_target : {cell : ℕ} {value : List ℕ} → (row : AppliedRow p cell value) → (q : IsPlannedEntry g old p row.place) × (cell ≡ q.target)
+  row_target : {cell : ℕ} {value : List ℕ} → (row : AppliedRow p cell value) → (q : IsPlannedCopy g old p row.place) × (cell ≡ q.target)
   row_target {cell} {value} row =
       let e = entry_copies (applied_entry row) in
-      let q = u.entries row.place e.below in
-      (q, (one_copy new p.start p.reserved (length p.entries) row.place cell q.target row.copied q.copied e (entry_copies q.entry)).1)
+      let q = u.in_order row.place e.below in
+      (q, (one_copy new p.start p.reserved (length p.journal) row.place cell q.target row.copied q.copied e (entry_copies q.entry)).1)
 
   pub applied_far : {cell : ℕ} {value : List ℕ} → AppliedRow p cell value → list_at g 0 ≤ cell
   applied_far row = let q = row_target row in ⊎_elim (λ old. omega (arith, behind_log old, q.1)) (λ from. omega (arith, from, u.reserves.from, q.1)) (q.0).index
@@ -74,13 +74,13 @@ module _ {g : Layout} {old new : Image} {p : Plan} (u : IsFilled g old new p) wh
   pub stored_from : {cell : ℕ} {value : List ℕ} → Row p Storing cell value → blocks_end p ≤ cell
   stored_from {cell} {value} row = ⊎_elim
       (λ (c : ContentRow p cell value). omega (arith, c.at))
-      (λ (c : EntryRow p cell value). omega (arith, c.at))
+      (λ (c : CopyRow p cell value). omega (arith, c.at))
       row
 
   stored_to : {cell : ℕ} {value : List ℕ} → Row p Storing cell value → cell < p.start + p.reserved
   stored_to {cell} {value} row = ⊎_elim
       (λ (c : ContentRow p cell value). omega (arith, c.at, c.below, u.fits))
-      (λ (c : EntryRow p cell value). let below : c.place < length p.entries = slice_get_within p.entries c.place value c.entry in omega (arith, c.at, u.fits))
+      (λ (c : CopyRow p cell value). let below : c.place < length p.journal = slice_get_within p.journal c.place value c.entry in omega (arith, c.at, u.fits))
       row
 
   pub blocks_from : p.start ≤ blocks_end p
@@ -176,23 +176,23 @@ module _ {g : Layout} {old new : Image} {p : Plan} (u : IsFilled g old new p) wh
 
   -- a slot that is done is the plan's, with its numbers, or another
   same_numbers : {m from reserved bytes journal : ℕ} → Commits g new m from reserved bytes journal → m ≡ p.slot
-      → (from ≡ p.start) × (reserved ≡ p.reserved) × (bytes ≡ length (stored_of p)) × (journal ≡ length p.entries)
+      → (from ≡ p.start) × (reserved ≡ p.reserved) × (bytes ≡ length (stored_of p)) × (journal ≡ length p.journal)
   same_numbers {m} {from} {reserved} {bytes} {journal} c same =
       let r = reserves from reserved p.start p.reserved (one_record_holds new (reserve_at p.slot) (Reserve from reserved) (Reserve p.start p.reserved)
       (subst (λ (k : ℕ). Holds new (reserve_at k) (Reserve from reserved)) same c.reserves.reserve) u.reserves.reserve) in
-      let o = commits bytes journal (length (stored_of p)) (length p.entries) (one_record_holds new (outcome_at p.slot) (Commit bytes journal) (Commit (length (stored_of p)) (length p.entries))
+      let o = commits bytes journal (length (stored_of p)) (length p.journal) (one_record_holds new (outcome_at p.slot) (Commit bytes journal) (Commit (length (stored_of p)) (length p.journal))
       (subst (λ (k : ℕ). Holds new (outcome_at k) (Commit bytes journal)) same c.outcome) u.commit) in
       (r.0, r.1, o.0, o.1)
 
   -- what holds of the plan's numbers holds of these
   by_plan : (P : ℕ → ℕ → ℕ → ℕ → ℕ → Type 0) {m from reserved bytes journal : ℕ} → Commits g new m from reserved bytes journal → m ≡ p.slot
-      → P p.slot p.start p.reserved (length (stored_of p)) (length p.entries) → P m from reserved bytes journal
+      → P p.slot p.start p.reserved (length (stored_of p)) (length p.journal) → P m from reserved bytes journal
   by_plan P {m} {from} {reserved} {bytes} {journal} c same h =
       let e = same_numbers c same in
-      let h1 : P m p.start p.reserved (length (stored_of p)) (length p.entries) = subst (λ (k : ℕ). P k p.start p.reserved (length (stored_of p)) (length p.entries)) (sym same) h in
-      let h2 : P m from p.reserved (length (stored_of p)) (length p.entries) = subst (λ (k : ℕ). P m k p.reserved (length (stored_of p)) (length p.entries)) (sym e.0) h1 in
-      let h3 : P m from reserved (length (stored_of p)) (length p.entries) = subst (λ (k : ℕ). P m from k (length (stored_of p)) (length p.entries)) (sym e.1) h2 in
-      let h4 : P m from reserved bytes (length p.entries) = subst (λ (k : ℕ). P m from reserved k (length p.entries)) (sym e.2) h3 in
+      let h1 : P m p.start p.reserved (length (stored_of p)) (length p.journal) = subst (λ (k : ℕ). P k p.start p.reserved (length (stored_of p)) (length p.journal)) (sym same) h in
+      let h2 : P m from p.reserved (length (stored_of p)) (length p.journal) = subst (λ (k : ℕ). P m k p.reserved (length (stored_of p)) (length p.journal)) (sym e.0) h1 in
+      let h3 : P m from reserved (length (stored_of p)) (length p.journal) = subst (λ (k : ℕ). P m from k (length (stored_of p)) (length p.journal)) (sym e.1) h2 in
+      let h4 : P m from reserved bytes (length p.journal) = subst (λ (k : ℕ). P m from reserved k (length p.journal)) (sym e.2) h3 in
       subst (λ (k : ℕ). P m from reserved bytes k) (sym e.3) h4
 
   ended_on : {m : ℕ} → HasEnded g old old m → HasEnded g new new m
@@ -253,7 +253,7 @@ module _ {g : Layout} {old new : Image} {p : Plan} (u : IsFilled g old new p) wh
         reserve = written u.reserves;
         outcome = inr (
           length (stored_of p),
-          length p.entries,
+          length p.journal,
           u.commit,
           λ from reserved h.
               let e = reserves from reserved p.start p.reserved (one_record_holds new (reserve_at p.slot) (Reserve from reserved) (Reserve p.start p.reserved) h u.reserves.reserve) in
@@ -263,7 +263,7 @@ module _ {g : Layout} {old new : Image} {p : Plan} (u : IsFilled g old new p) wh
 
   pub rule_3 : (m : ℕ) → m < g.slots → IsWritten new (done_at m) → DoneRule new m
   rule_3 m inside w = ⊎_elim
-      (λ same. subst (λ (k : ℕ). DoneRule new k) (sym same) (record { done = u.done; bytes = length (stored_of p); journal = length p.entries; commit = u.commit }))
+      (λ same. subst (λ (k : ℕ). DoneRule new k) (sym same) (record { done = u.done; bytes = length (stored_of p); journal = length p.journal; commit = u.commit }))
       (λ other.
       let r : DoneRule old m = u.before.met Rules.DoneCells (done_at m) (log_stood (omega arith) (no_done other) w) m inside refl in
       record { done = holds_on keeps r.done; bytes = r.bytes; journal = r.journal; commit = holds_on keeps r.commit })
@@ -279,7 +279,7 @@ module _ {g : Layout} {old new : Image} {p : Plan} (u : IsFilled g old new p) wh
       record { id = d.id; body = d.body; count = d.count; spells = spells_on _ _ keeps d.spells; is_identifier = d.is_identifier; is_body = d.is_body })
       (same_or_not m p.slot)
     where
-      here : HasDocument new (document_at p.start p.reserved (length (stored_of p)) (length p.entries)) (length (stored_of p))
+      here : HasDocument new (document_at p.start p.reserved (length (stored_of p)) (length p.journal)) (length (stored_of p))
       here = record {
         id = p.id;
         body = p.body;
@@ -299,14 +299,14 @@ module _ {g : Layout} {old new : Image} {p : Plan} (u : IsFilled g old new p) wh
       → Copies new from reserved journal place target r → Copies old from reserved journal place target r
   copies_was {m} {from} {reserved} {bytes} {journal} {place} b c = copies_back keeps (old_entry b place c.below) c
 
-  planned_order : (place : ℕ) → place < length p.entries → IsInOrder g new p.slot p.start p.reserved (length (stored_of p)) (length p.entries) place
+  planned_order : (place : ℕ) → place < length p.journal → IsInOrder g new p.slot p.start p.reserved (length (stored_of p)) (length p.journal) place
   planned_order place below =
-      let q = u.entries place below in
+      let q = u.in_order place below in
       record {
         target = q.target;
         copied = q.copied;
         copies = entry_copies q.entry;
-        rises = ⊎_elim inl (λ (h : (before : ℕ) × (lower : ℕ) × (other : RecordCell) × (place ≡ before + 1) × IsEntry p before lower other × (lower < q.target)).
+        rises = ⊎_elim inl (λ (h : (before : ℕ) × (lower : ℕ) × (other : RecordCell) × (place ≡ before + 1) × IsCopy p before lower other × (lower < q.target)).
             inr (h.0, h.1, h.2, h.3, entry_copies h.4, h.5)) q.rises;
         before_document = q.before_document;
         index = ⊎_elim index_on'
@@ -314,7 +314,7 @@ module _ {g : Layout} {old new : Image} {p : Plan} (u : IsFilled g old new p) wh
               start = p.start;
               length = p.reserved;
               bytes = length (stored_of p);
-              journal = length p.entries;
+              journal = length p.journal;
               stores = record { commits = mine.commits; done = inr u.done };
               from = from;
               below = q.before_document;
@@ -324,13 +324,13 @@ module _ {g : Layout} {old new : Image} {p : Plan} (u : IsFilled g old new p) wh
 
   pub rule_5 : (cell : ℕ) → IsWritten new cell → JournalRule g new cell
   rule_5 cell w = record {
-    entry = λ m from reserved bytes journal place c below at. ⊎_elim
+    copy = λ m from reserved bytes journal place c below at. ⊎_elim
         (λ same. in_order_at m from reserved bytes journal place c same below)
         (λ other.
         let b = stores_back other c in
         let before = old_entry b place below in
         let r : JournalRule g old (journal_at from reserved journal + place) = u.before.met Rules.Journals (journal_at from reserved journal + place) before in
-        in_order_on' (r.entry m from reserved bytes journal place b below refl))
+        in_order_on' (r.copy m from reserved bytes journal place b below refl))
         (same_or_not m p.slot);
     commit = λ m from reserved bytes journal place c below at. ⊎_elim
         (λ same. let o = in_order_at m from reserved bytes journal place c same below in record { found = o.copies.entry; stands = o.copies.stands })
@@ -397,7 +397,7 @@ module _ {g : Layout} {old new : Image} {p : Plan} (u : IsFilled g old new p) wh
   all_ended k m h less =
       let is : k ≡ p.slot + 1 = horizon_is k h in
       ⊎_elim
-      (λ same. inr (subst (λ (i : ℕ). IsDoneSlot g new i) (sym same) (record { start = p.start; length = p.reserved; bytes = length (stored_of p); journal = length p.entries; done = mine })))
+      (λ same. inr (subst (λ (i : ℕ). IsDoneSlot g new i) (sym same) (record { start = p.start; length = p.reserved; bytes = length (stored_of p); journal = length p.journal; done = mine })))
       (λ other. ended_on (u.before.ended p.slot m u.horizon (below m less is other)))
       (same_or_not m p.slot)
     where
@@ -476,7 +476,7 @@ module _ {g : Layout} {old new : Image} {p : Plan} (u : IsFilled g old new p) wh
       start = p.start;
       length = p.reserved;
       bytes = length (stored_of p);
-      journal = length p.entries;
+      journal = length p.journal;
       done = mine;
       place = row.place;
       copied = row.copied;

@@ -5,24 +5,24 @@ use Rattle.std.proofs.lemmas.Bool.{cases_lt}
 use Rattle.cell_types.specs.Image.{Image, Extends}
 use Rattle.cell_types.specs.Layout.{Layout, reserve_at, outcome_at, done_at, list_at, pool_at}
 use Rattle.stored_documents.specs.Documents.{document_at}
-use Rattle.volume_growth.specs.Ingesting.{Plan, Phase, Reserving, Storing, Committing, Applying, Finishing, order_of, stored_of, ContentRow, EntryRow, AppliedRow, Row, IsInPhases, IsIngest, IsLeftIn, LeavesSound}
+use Rattle.volume_growth.specs.Ingesting.{Plan, Phase, Reserving, Storing, Committing, Applying, Finishing, order_of, stored_of, ContentRow, CopyRow, AppliedRow, Row, IsInPhases, IsIngest, IsLeftIn, LeavesSound}
 use Rattle.tamper_rules.proofs.GoingOn.{one_copy}
 use Rattle.volume_growth.proofs.Ingests.{slot_reserves, in_order, applied_copies, applied_far, stored_from}
 use Rattle.volume_growth.proofs.IngestLeaves.{leaves_sound}
 
 module _ {g : Layout} {old new : Image} {p : Plan} (i : IsIngest g old new p) where
   -- what is applied lies before the document, and what is stored does not
-  applied_low : {cell : ℕ} {value : List ℕ} → AppliedRow p cell value → cell < document_at p.start p.reserved (length (stored_of p)) (length p.entries)
+  applied_low : {cell : ℕ} {value : List ℕ} → AppliedRow p cell value → cell < document_at p.start p.reserved (length (stored_of p)) (length p.journal)
   applied_low {cell} row =
       let c = applied_copies i row in
       let o = in_order i row.place c.below in
-      let same = one_copy new p.start p.reserved (length p.entries) row.place cell o.target row.copied o.copied c o.copies in
+      let same = one_copy new p.start p.reserved (length p.journal) row.place cell o.target row.copied o.copied c o.copies in
       omega (arith, o.before_document, same.1)
 
-  stored_high : {cell : ℕ} {value : List ℕ} → Row p Storing cell value → document_at p.start p.reserved (length (stored_of p)) (length p.entries) ≤ cell
+  stored_high : {cell : ℕ} {value : List ℕ} → Row p Storing cell value → document_at p.start p.reserved (length (stored_of p)) (length p.journal) ≤ cell
   stored_high {cell} {value} row = ⊎_elim
       (λ (c : ContentRow p cell value). omega (arith, c.at))
-      (λ (c : EntryRow p cell value). omega (arith, c.at))
+      (λ (c : CopyRow p cell value). omega (arith, c.at))
       row
 
   pool_from : pool_at g ≤ p.start

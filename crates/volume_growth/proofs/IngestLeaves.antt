@@ -210,10 +210,10 @@ module _ {g : Layout} {old new image : Image} {p : Plan} (i : IsIngest g old new
       fits = c.fits;
     }
 
-    copies_here : {place target : ℕ} {r : RecordCell} → Copies new p.start p.reserved (length p.entries) place target r → Copies image p.start p.reserved (length p.entries) place target r
+    copies_here : {place target : ℕ} {r : RecordCell} → Copies new p.start p.reserved (length p.journal) place target r → Copies image p.start p.reserved (length p.journal) place target r
     copies_here {place} c =
-        let entry = slice_get-get_or p.entries place [] c.below in
-        copies_back f (record { found = _; stands = stored (journal_at p.start p.reserved (length p.entries) + place) _ (inr (record { place = place; entry = entry; at = refl })) }) c
+        let entry = slice_get-get_or p.journal place [] c.below in
+        copies_back f (record { found = _; stands = stored (journal_at p.start p.reserved (length p.journal) + place) _ (inr (record { place = place; entry = entry; at = refl })) }) c
 
     -- 3. no done cell: settling completes the slot
     module _ (undone : image (done_at p.slot) ≡ None) where
@@ -233,24 +233,24 @@ module _ {g : Layout} {old new image : Image} {p : Plan} (i : IsIngest g old new
       index_here (of_root lies) = of_root lies
       index_here (of_slot m le b) = of_slot m le (record { start = b.start; length = b.length; bytes = b.bytes; journal = b.journal; stores = stores_here b.stores; from = b.from; below = b.below })
 
-      order_here : (place : ℕ) → place < length p.entries → IsInOrder g image p.slot p.start p.reserved (length (stored_of p)) (length p.entries) place
+      order_here : (place : ℕ) → place < length p.journal → IsInOrder g image p.slot p.start p.reserved (length (stored_of p)) (length p.journal) place
       order_here place below =
           let o = in_order i place below in
           record {
             target = o.target;
             copied = o.copied;
             copies = copies_here o.copies;
-            rises = ⊎_elim inl (λ (h : (before : ℕ) × (lower : ℕ) × (other : RecordCell) × (place ≡ before + 1) × Copies new p.start p.reserved (length p.entries) before lower other × (lower < o.target)).
+            rises = ⊎_elim inl (λ (h : (before : ℕ) × (lower : ℕ) × (other : RecordCell) × (place ≡ before + 1) × Copies new p.start p.reserved (length p.journal) before lower other × (lower < o.target)).
                 inr (h.0, h.1, h.2, h.3, copies_here h.4, h.5)) o.rises;
             before_document = o.before_document;
             index = index_here o.index;
           }
 
-      applied : {cell : ℕ} {value : List ℕ} → JournalRow image p.start p.reserved (length p.entries) cell value → new cell ≡ Some value
+      applied : {cell : ℕ} {value : List ℕ} → JournalRow image p.start p.reserved (length p.journal) cell value → new cell ≡ Some value
       applied {cell} {value} row = redone i row.place cell row.copied value (copies_on f row.copies) (f.keeps _ _ row.stands)
 
       rest_row : (cell : ℕ) (value : List ℕ) → new cell ≡ Some value → (phase : Phase) → Row p phase cell value
-          → (image cell ≡ Some value) ⊎ (JournalRow image p.start p.reserved (length p.entries) cell value ⊎ DoneRow p.slot cell value)
+          → (image cell ≡ Some value) ⊎ (JournalRow image p.start p.reserved (length p.journal) cell value ⊎ DoneRow p.slot cell value)
       rest_row cell value is Reserving row = inl (same_found cell value i.reserve.cell is (ap image row.at ∙ reserved))
       rest_row cell value is Storing row = inl (stored cell value row)
       rest_row cell value is Committing row = inl (same_found cell value i.commit.cell is (ap image row.at ∙ committed))
@@ -258,15 +258,15 @@ module _ {g : Layout} {old new image : Image} {p : Plan} (i : IsIngest g old new
         place = row.place;
         copied = row.copied;
         copies = copies_here (applied_copies i row);
-        stands = stored (journal_at p.start p.reserved (length p.entries) + row.place) value (inr (record { place = row.place; entry = row.entry; at = refl }));
+        stands = stored (journal_at p.start p.reserved (length p.journal) + row.place) value (inr (record { place = row.place; entry = row.entry; at = refl }));
       }))
       rest_row cell value is Finishing row = inr (inr row)
 
       pub completed_after : After g.cells image new
-      completed_after = completed g p.slot p.start p.reserved (length (stored_of p)) (length p.entries) (volume_on e i.volume) (here_horizon reserved)
+      completed_after = completed g p.slot p.start p.reserved (length (stored_of p)) (length p.journal) (volume_on e i.volume) (here_horizon reserved)
           (record { commits = commits_here (slot_commits i); done = undone })
           (record {
-            entries = order_here;
+            in_order = order_here;
             free = λ cell value row. ⊎_elim inl
                 (λ x. inr (same_found cell value x.0 (applied row) x.1))
                 (look image cell);

@@ -7,7 +7,7 @@ use Rattle.cell_types.specs.Layout.{Layout, reserve_at, outcome_at, done_at, lis
 use Rattle.cell_types.specs.Records.{IsRecordCell, record_bytes}
 use Rattle.cell_types.specs.declared.record_cell.RecordCell.{RecordCell}
 use Rattle.cell_types.specs.declared.record_cell.RecordCell.TheVariants.{Reserve, Commit, Abandon, Done}
-use Rattle.volume_growth.specs.Ingesting.{Plan, Phase, Reserving, Storing, Committing, Applying, Finishing, stored_of, ContentRow, EntryRow, AppliedRow, Row, AnyRow, IsIngest}
+use Rattle.volume_growth.specs.Ingesting.{Plan, Phase, Reserving, Storing, Committing, Applying, Finishing, stored_of, ContentRow, CopyRow, AppliedRow, Row, AnyRow, IsIngest}
 use Rattle.tamper_rules.specs.Journals.{journal_at, Copies, IsInOrder}
 use Rattle.tamper_rules.specs.Rules
 use Rattle.tamper_rules.specs.Rules.{ReserveRule, OutcomeRule, DoneRule, JournalRule, RedoneRule}
@@ -39,48 +39,48 @@ module _ {g : Layout} {old new : Image} {p : Plan} (i : IsIngest g old new p) wh
   slot_reserves = let r = begins.reserves in let same = same_start in
       record { slot = i.free; reserve = i.reserve; from = omega (arith, r.from, same.0); to = omega (arith, r.to, same.0, same.1) }
 
-  pub slot_commits : Commits g new p.slot p.start p.reserved (length (stored_of p)) (length p.entries)
+  pub slot_commits : Commits g new p.slot p.start p.reserved (length (stored_of p)) (length p.journal)
   slot_commits =
       let r : OutcomeRule new p.slot = i.after.met Rules.OutcomeCells (outcome_at p.slot) (record { found = i.commit.cell; stands = i.commit.stands }) p.slot i.free refl in
       record {
         reserves = slot_reserves;
         outcome = i.commit;
         fits = ⊎_elim
-            (λ h. absurd (no_abandon (length (stored_of p)) (length p.entries) (one_record_holds new (outcome_at p.slot) (Commit (length (stored_of p)) (length p.entries)) Abandon i.commit h)))
+            (λ h. absurd (no_abandon (length (stored_of p)) (length p.journal) (one_record_holds new (outcome_at p.slot) (Commit (length (stored_of p)) (length p.journal)) Abandon i.commit h)))
             (λ h.
-            let same = commits _ _ _ _ (one_record_holds new (outcome_at p.slot) (Commit (length (stored_of p)) (length p.entries)) (Commit h.0 h.1) i.commit h.2) in
+            let same = commits _ _ _ _ (one_record_holds new (outcome_at p.slot) (Commit (length (stored_of p)) (length p.journal)) (Commit h.0 h.1) i.commit h.2) in
             let fits : cells_for h.0 + h.1 ≤ p.reserved = h.3 p.start p.reserved i.reserve in
-            subst (λ (b : ℕ). cells_for b + length p.entries ≤ p.reserved) (sym same.0) (omega (arith, same.1, fits)))
+            subst (λ (b : ℕ). cells_for b + length p.journal ≤ p.reserved) (sym same.0) (omega (arith, same.1, fits)))
             r.outcome;
       }
 
-  pub slot_done : IsDone g new p.slot p.start p.reserved (length (stored_of p)) (length p.entries)
+  pub slot_done : IsDone g new p.slot p.start p.reserved (length (stored_of p)) (length p.journal)
   slot_done = record { commits = slot_commits; done = i.done }
 
-  slot_stores : Stores g new p.slot p.start p.reserved (length (stored_of p)) (length p.entries)
+  slot_stores : Stores g new p.slot p.start p.reserved (length (stored_of p)) (length p.journal)
   slot_stores = record { commits = slot_commits; done = inr i.done }
 
-  pub in_order : (place : ℕ) → place < length p.entries → IsInOrder g new p.slot p.start p.reserved (length (stored_of p)) (length p.entries) place
+  pub in_order : (place : ℕ) → place < length p.journal → IsInOrder g new p.slot p.start p.reserved (length (stored_of p)) (length p.journal) place
   in_order place below =
       let c : JournalRule g new (outcome_at p.slot) = i.after.met Rules.Journals (outcome_at p.slot) (record { found = i.commit.cell; stands = i.commit.stands }) in
-      let w : IsWritten new (journal_at p.start p.reserved (length p.entries) + place) = c.commit p.slot p.start p.reserved (length (stored_of p)) (length p.entries) place slot_stores below refl in
-      let r : JournalRule g new (journal_at p.start p.reserved (length p.entries) + place) = i.after.met Rules.Journals (journal_at p.start p.reserved (length p.entries) + place) w in
-      r.entry p.slot p.start p.reserved (length (stored_of p)) (length p.entries) place slot_stores below refl
+      let w : IsWritten new (journal_at p.start p.reserved (length p.journal) + place) = c.commit p.slot p.start p.reserved (length (stored_of p)) (length p.journal) place slot_stores below refl in
+      let r : JournalRule g new (journal_at p.start p.reserved (length p.journal) + place) = i.after.met Rules.Journals (journal_at p.start p.reserved (length p.journal) + place) w in
+      r.copy p.slot p.start p.reserved (length (stored_of p)) (length p.journal) place slot_stores below refl
 
   -- a cell that a journal cell names holds the same
-  pub redone : (place target : ℕ) (copied : RecordCell) (value : List ℕ) → Copies new p.start p.reserved (length p.entries) place target copied
-      → new (journal_at p.start p.reserved (length p.entries) + place) ≡ Some value → new target ≡ Some value
+  pub redone : (place target : ℕ) (copied : RecordCell) (value : List ℕ) → Copies new p.start p.reserved (length p.journal) place target copied
+      → new (journal_at p.start p.reserved (length p.journal) + place) ≡ Some value → new target ≡ Some value
   redone place target copied value c is =
-      let r : RedoneRule g new (journal_at p.start p.reserved (length p.entries) + place) =
-      i.after.met Rules.Targets (journal_at p.start p.reserved (length p.entries) + place) (record { found = value; stands = is }) in
-      r.done p.slot p.start p.reserved (length (stored_of p)) (length p.entries) place target copied slot_done c refl ∙ is
+      let r : RedoneRule g new (journal_at p.start p.reserved (length p.journal) + place) =
+      i.after.met Rules.Targets (journal_at p.start p.reserved (length p.journal) + place) (record { found = value; stands = is }) in
+      r.done p.slot p.start p.reserved (length (stored_of p)) (length p.journal) place target copied slot_done c refl ∙ is
 
   -- what is applied is copied in the journal, and lies behind the log
-  pub applied_copies : {cell : ℕ} {value : List ℕ} → (row : AppliedRow p cell value) → Copies new p.start p.reserved (length p.entries) row.place cell row.copied
+  pub applied_copies : {cell : ℕ} {value : List ℕ} → (row : AppliedRow p cell value) → Copies new p.start p.reserved (length p.journal) row.place cell row.copied
   applied_copies {cell} {value} row = record {
-    below = slice_get_within p.entries row.place value row.entry;
+    below = slice_get_within p.journal row.place value row.entry;
     entry = value;
-    stands = i.rows.adds (journal_at p.start p.reserved (length p.entries) + row.place) value (Storing, inr (record { place = row.place; entry = row.entry; at = refl }));
+    stands = i.rows.adds (journal_at p.start p.reserved (length p.journal) + row.place) value (Storing, inr (record { place = row.place; entry = row.entry; at = refl }));
     index = row.index;
     address = row.address;
     is = row.is;
@@ -90,20 +90,20 @@ module _ {g : Layout} {old new : Image} {p : Plan} (i : IsIngest g old new p) wh
   applied_far {cell} {value} row =
       let c = applied_copies row in
       let o = in_order row.place c.below in
-      let same = one_copy new p.start p.reserved (length p.entries) row.place cell o.target row.copied o.copied c o.copies in
+      let same = one_copy new p.start p.reserved (length p.journal) row.place cell o.target row.copied o.copied c o.copies in
       omega (arith, behind_log o.index, same.1)
 
   -- what is stored lies in the slot's cells
   pub stored_from : {cell : ℕ} {value : List ℕ} → Row p Storing cell value → p.start ≤ cell
   stored_from {cell} {value} row = ⊎_elim
       (λ (c : ContentRow p cell value). omega (arith, c.at, slot_commits.fits))
-      (λ (c : EntryRow p cell value). omega (arith, c.at, slot_commits.fits))
+      (λ (c : CopyRow p cell value). omega (arith, c.at, slot_commits.fits))
       row
 
   pub stored_to : {cell : ℕ} {value : List ℕ} → Row p Storing cell value → cell < p.start + p.reserved
   stored_to {cell} {value} row = ⊎_elim
       (λ (c : ContentRow p cell value). omega (arith, c.at, c.below, slot_commits.fits))
-      (λ (c : EntryRow p cell value). let below : c.place < length p.entries = slice_get_within p.entries c.place value c.entry in omega (arith, c.at, slot_commits.fits))
+      (λ (c : CopyRow p cell value). let below : c.place < length p.journal = slice_get_within p.journal c.place value c.entry in omega (arith, c.at, slot_commits.fits))
       row
 
   -- the log changes in three cells

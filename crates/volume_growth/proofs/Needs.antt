@@ -3,9 +3,10 @@ use Rattle.std.proofs.Common.{◌≡◌, ◌≤◌, ◌+◌, ◌*◌, ℕ, List,
 use Rattle.cell_types.specs.Image.{Image}
 use Rattle.cell_types.specs.Layout.{Layout}
 use Rattle.index_paths.specs.Blocks.{PostingFields}
-use Rattle.volume_growth.specs.Needs.{PostingCosts, in_block, in_tail, in_new_block, ListedPosting, PostingsCost, none, one, BucketCosts, in_bucket, in_new_node, NeedIsBounded}
+use Rattle.index_paths.specs.Postings.{ListedPosting}
+use Rattle.volume_growth.specs.Needs.{PostingCosts, in_block, in_tail, in_new_block, PostingsCost, none, one, BucketCosts, in_bucket, in_new_node, NeedIsBounded}
 
-posting_costs : {g : Layout} {l : ℕ} {p : PostingFields} {old new : Image} {next to cost : ℕ} → PostingCosts g l p old new next to cost → (1 ≤ cost) × (cost ≤ 258)
+posting_costs : {from head : ℕ} {p : PostingFields} {old new : Image} {next to cost : ℕ} → PostingCosts from head p old new next to cost → (1 ≤ cost) × (cost ≤ 258)
 posting_costs (in_block block place walk room adds holds to is) = (omega arith, omega arith)
 posting_costs (in_tail block pointer tail place walk ends is_tail room adds to is) = (omega arith, omega arith)
 posting_costs (in_new_block block pointer tail walk ends is_tail full adds to is) = (omega arith, omega arith)

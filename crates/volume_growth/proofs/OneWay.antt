@@ -40,7 +40,7 @@ pub same_way : {g : Layout} {image : Image} {to : ℕ} {d e : List ℕ} → IsWe
 same_way r a b (Nodes.IsOnPath.root v node is at) k below w other same here way = absurd (omega arith)
 same_way {g} {image} r a b (Nodes.IsOnPath.under v node u above is rest less child from to) k below w other same here (Nodes.IsOnPath.root _ _ is' at') = absurd (omega arith)
 same_way {g} {image} {d = d} {e = e} r a b (Nodes.IsOnPath.under v node u above is rest less child from to) k below w other same here (Nodes.IsOnPath.under _ _ j behind is' rest' less' child' from' to') =
-    let h = r.first u above (nibble d u) j behind (nibble e j) node (on_node a rest) (nibble_low d a u) (on_node b rest') (nibble_low e b j) child
+    let h = r.once u above (nibble d u) j behind (nibble e j) node (on_node a rest) (nibble_low d a u) (on_node b rest') (nibble_low e b j) child
     (subst (λ (t : ℕ). Holds image (behind + 16 + nibble e j) (Child t)) here child') in
     let x = nibble_low d a u in
     let y = nibble_low e b j in

@@ -70,7 +70,7 @@ module _ {g : Layout} {old new : Image} {p : Plan} (w : IsWellPlanned g old new 
     layout = g;
     start = p.start;
     reserved = p.reserved;
-    journal = length p.entries;
+    journal = length p.journal;
     volume = volume_on (keeps u) u.volume;
     slot = free u;
     done = mine u;
@@ -82,7 +82,7 @@ module _ {g : Layout} {old new : Image} {p : Plan} (w : IsWellPlanned g old new 
   pub mine_live : IsLive g new p.slot
   mine_live = record {
     slot = free u;
-    done = record { start = p.start; length = p.reserved; bytes = length (stored_of p); journal = length p.entries; done = mine u };
+    done = record { start = p.start; length = p.reserved; bytes = length (stored_of p); journal = length p.journal; done = mine u };
     taken = λ m below. written_on (keeps u) (taken_to g old u.before p.slot u.horizon m below);
   }
 
@@ -132,8 +132,8 @@ module _ {g : Layout} {old new : Image} {p : Plan} (w : IsWellPlanned g old new 
         to = to;
         edge = λ at e. let same = edge_is u at e in let b = blocks_to u in omega (arith, k.inside_to);
         owner = o.0;
-        first = o.1;
-        last = o.2;
+        owns_first = o.1;
+        owns_last = o.2;
         greatest = k.greatest;
         ends = full_ends k.is_full;
         place = k.place;
@@ -165,17 +165,17 @@ module _ {g : Layout} {old new : Image} {p : Plan} (w : IsWellPlanned g old new 
       (λ same.
       let e = one_document g.cells new p.slot id body p.id p.body (subst (λ (k : ℕ). Stands g.cells new k id body) same t) mine_stands in
       subst (λ (k : ℕ). PathRule g new k id) (sym same) (subst (λ (i : List ℕ). PathRule g new p.slot i) (sym e.0)
-      (record { path = w.path; first = λ k other less there. w.absent k other (stands_back u (λ is. omega arith) there) })))
+      (record { path = w.path; alone = λ k other less there. w.absent k other (stands_back u (λ is. omega arith) there) })))
       (λ differ.
       let b = stands_back u differ t in
       let r : PathRule g old m id = u.before.met Rules.Paths (done_at m) (record { found = b.done.done.cell; stands = b.done.done.stands }) m id body refl b in
       record {
         path = hash_trail_on (keeps u) r.path;
-        first = λ k other less there. ⊎_elim
+        alone = λ k other less there. ⊎_elim
             (λ same.
             let e = one_document g.cells new p.slot id other p.id p.body (subst (λ (j : ℕ). Stands g.cells new j id other) same there) mine_stands in
             w.absent m body (subst (λ (i : List ℕ). Stands g.cells old m i body) e.0 b))
-            (λ apart. r.first k other less (stands_back u apart there))
+            (λ apart. r.alone k other less (stands_back u apart there))
             (same_or_not k p.slot);
       })
       (same_or_not m p.slot)
@@ -266,7 +266,7 @@ module _ {g : Layout} {old new : Image} {p : Plan} (w : IsWellPlanned g old new 
         start = p.start;
         reserved = p.reserved;
         bytes = length (stored_of p);
-        journal = length p.entries;
+        journal = length p.journal;
         stores = record { commits = (mine u).commits; done = inr u.done };
         place = r.place;
         in_journal = k.below;
@@ -321,7 +321,7 @@ module _ {g : Layout} {old new : Image} {p : Plan} (w : IsWellPlanned g old new 
         same = o.same;
         in_blocks = o.in_blocks;
         before_document = o.before_document;
-        first = λ k other y m ys lower h. let same = w.tree.first v node x k other y c.target n xs m ys c.child h in omega arith;
+        once = λ k other y m ys lower h. let same = w.tree.once v node x k other y c.target n xs m ys c.child h in omega arith;
         blocks = λ j other b. ⊎_elim inr inl (w.apart_nodes j other (v + 1) c.target b below);
         nodes = λ k other m. ⊎_elim (λ same. inl (sym same)) inr (w.tree.apart (v + 1) c.target k other below m);
       }

@@ -135,13 +135,13 @@ module _ {g : Layout} {image : Image} {at : ℕ} (layout : IsLayout g) (s : IsSe
   one_parent {v} {node} {x} {u} {other} {y} {target} n xs m ys h i less =
       let r = child_rule m ys (record { found = i.cell; stands = i.stands }) in
       let same : target ≡ r.target = children target r.target (one_record_holds image (other + 16 + y) (Child target) (Child r.target) i r.child) in
-      r.first v node x n xs less (subst (λ (t : ℕ). Holds image (node + 16 + x) (Child t)) same h)
+      r.once v node x n xs less (subst (λ (t : ℕ). Holds image (node + 16 + x) (Child t)) same h)
 
   pub settled_rooted : IsWellRooted g image at
   settled_rooted = record {
     room = edge_inside layout e;
     children = λ v node x n xs w. let r = child_rule n xs w in record { target = r.target; child = r.child; bucket = r.bucket; level = r.level; from = r.from; inside = r.edge at e };
-    first = λ v node x u other y target n xs m ys h i. ⊎_elim (λ same. same)
+    once = λ v node x u other y target n xs m ys h i. ⊎_elim (λ same. same)
         (λ differ. absurd (⊎_elim (λ less. one_parent n xs m ys h i less) (λ more. one_parent m ys n xs i h more) differ))
         (cases_order (node + 16 + x) (other + 16 + y));
     apart = λ v node u other n m. nodes_apart n m;

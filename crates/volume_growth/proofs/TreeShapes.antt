@@ -32,7 +32,7 @@ one_level w (root u node is at) v (root _ _ is' at') = is ∙ sym is'
 one_level w (root u node is at) v (under _ _ k above x is' rest xs less child from inside) = absurd (omega arith)
 one_level w (under u node k above x is rest xs less child from inside) v (root _ _ is' at') = absurd (omega arith)
 one_level {g} {image} w (under u node k above x is rest xs less child from inside) v (under _ _ j other y is' rest' ys less' child' from' inside') =
-    let same = w.first k above x j other y node rest xs rest' ys child child' in
+    let same = w.once k above x j other y node rest xs rest' ys child child' in
     let there : above ≡ other = ⊎_elim (λ s. s) (λ far. absurd (⊎_elim (λ low. omega arith) (λ high. omega arith) far)) (w.apart k above j other rest rest') in
     let level : k ≡ j = one_level w rest j (subst (λ (n : ℕ). IsNode g image j n) (sym there) rest') in
     omega arith
@@ -49,8 +49,8 @@ module _ {g : Layout} {old new : Image} {to : ℕ} (w : IsWellRooted g old to) (
   rooted_apart = record {
     room = w.room;
     children = λ v node x n xs is. let there = node_back n in child_on e (omega arith) (w.children v node x there xs (written_back (same v node x there xs) is));
-    first = λ v node x u other y target n xs m ys h k. let a = node_back n in let b = node_back m in
-        w.first v node x u other y target a xs b ys (holds_back (same v node x a xs) h) (holds_back (same u other y b ys) k);
+    once = λ v node x u other y target n xs m ys h k. let a = node_back n in let b = node_back m in
+        w.once v node x u other y target a xs b ys (holds_back (same v node x a xs) h) (holds_back (same u other y b ys) k);
     apart = λ v node u other n m. w.apart v node u other (node_back n) (node_back m);
   }
 
@@ -133,7 +133,7 @@ module _ {g : Layout} {old new : Image} {to v node x target : ℕ} (w : IsWellRo
       (λ same'.
       let is : t ≡ target = children t target (one_record_holds new (node + 16 + x) (Child t) (Child target) (subst (λ (c : ℕ). Holds new c (Child t)) same' i) child) in
       absurd (old_target there ys (holds_back (a.others (other + 16 + y) differ) h) is))
-      (λ differ'. w.first u other y k more z t there ys also zs (holds_back (a.others (other + 16 + y) differ) h) (holds_back (a.others (more + 16 + z) differ') i))
+      (λ differ'. w.once u other y k more z t there ys also zs (holds_back (a.others (other + 16 + y) differ) h) (holds_back (a.others (more + 16 + z) differ') i))
       (same_or_not (more + 16 + z) (node + 16 + x)))
       (same_or_not (other + 16 + y) (node + 16 + x)))
       (λ same. absurd (no_child same zs (written_of i)))
@@ -157,4 +157,4 @@ module _ {g : Layout} {old new : Image} {to v node x target : ℕ} (w : IsWellRo
       (node_of m)
 
   pub rooted_with_child : IsWellRooted g new (target + 32)
-  rooted_with_child = record { room = inside; children = children_on; first = first_on; apart = apart_on }
+  rooted_with_child = record { room = inside; children = children_on; once = first_on; apart = apart_on }

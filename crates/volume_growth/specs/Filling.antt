@@ -23,23 +23,23 @@ use Rattle.stored_documents.specs.Volumes.{Holds, IsWritten, IsVolume}
 
 -- where a plan's block part ends and its document begins
 abbrev pub blocks_end : Plan → ℕ
-blocks_end p = document_at p.start p.reserved (length (stored_of p)) (length p.entries)
+blocks_end p = document_at p.start p.reserved (length (stored_of p)) (length p.journal)
 
 -- this place of a plan's journal copies this index cell
-pub record IsEntry (p : Plan) (place target : ℕ) (copied : RecordCell) : Type 0 where
+pub record IsCopy (p : Plan) (place target : ℕ) (copied : RecordCell) : Type 0 where
   pub value : List ℕ
-  pub entry : slice_get p.entries place ≡ Some value
+  pub entry : slice_get p.journal place ≡ Some value
   pub index : IsIndexRecord copied
   pub address : target < 2 ^ 32
   pub is : IsRecordCell copied target value
 
 -- the place is in order: a later target than that before, an index cell of the old image or a cell of the new blocks
-pub record IsPlannedEntry (g : Layout) (old : Image) (p : Plan) (place : ℕ) : Type 0 where
+pub record IsPlannedCopy (g : Layout) (old : Image) (p : Plan) (place : ℕ) : Type 0 where
   pub target : ℕ
   pub copied : RecordCell
-  pub entry : IsEntry p place target copied
+  pub entry : IsCopy p place target copied
   pub rises : (place ≡ 0) ⊎ ((before : ℕ) × (lower : ℕ) × (other : RecordCell) × (place ≡ before + 1)
-      × IsEntry p before lower other × (lower < target))
+      × IsCopy p before lower other × (lower < target))
   pub before_document : target < blocks_end p
   pub index : IsIndexCell g old p.slot target ⊎ (p.start ≤ target)
 
@@ -51,14 +51,14 @@ pub record IsFilled (g : Layout) (old new : Image) (p : Plan) : Type 0 where
   pub horizon : IsHorizon g old old p.slot
   pub begins : EndsBelow g old p.slot p.start
   pub reserves : Reserves g new p.slot p.start p.reserved
-  pub commit : Holds new (outcome_at p.slot) (Commit (length (stored_of p)) (length p.entries))
+  pub commit : Holds new (outcome_at p.slot) (Commit (length (stored_of p)) (length p.journal))
   pub done : Holds new (done_at p.slot) (Done p.slot)
-  pub fits : cells_for (length (stored_of p)) + length p.entries ≤ p.reserved
+  pub fits : cells_for (length (stored_of p)) + length p.journal ≤ p.reserved
   pub rows : IsWith (AnyRow p) old new
   pub is_identifier : IsIdentifier p.id
   pub is_body : IsBody p.body
-  pub entries : (place : ℕ) → place < length p.entries → IsPlannedEntry g old p place
-  pub tiles : TilingRule new p.start p.reserved (length (stored_of p)) (length p.entries)
+  pub in_order : (place : ℕ) → place < length p.journal → IsPlannedCopy g old p place
+  pub tiles : TilingRule new p.start p.reserved (length (stored_of p)) (length p.journal)
 
 -- A settled image with a filled plan, and what its index shows then.
 --

@@ -35,7 +35,7 @@ pub record IsWellListed (image : Image) (from to head : ℕ) : Type 0 where
       → IsWritten image (pointer_at block level digit) → PointsWell image from to block level digit
   pub apart : (a b : ℕ) → Leads image from to a head → Leads image from to b head → (a ≡ b) ⊎ AreApart a 256 b 256
 
--- new is old with something in one cell that was blank
+-- new is old but for one cell, which was blank in old
 pub record Adds (at : ℕ) (old new : Image) : Type 0 where
   pub was : old at ≡ None
   pub others : (cell : ℕ) → cell ≢ at → new cell ≡ old cell
@@ -62,8 +62,8 @@ WellWithEntry =
     × Holds old (block + before) (posting_record q) × (q.key < p.key)))
     → IsWellListed new from to head
 
--- The block at target may become one of the list: it is one, or its cells meet no block of the list, its postings
--- are in order, and it has no others.
+-- The cells at target may become a block of the list: they meet no block of it, what stands at their entry places is
+-- in order, and their other places are blank.
 pub record IsNewBlock (image : Image) (from to head target : ℕ) : Type 0 where
   pub apart : (b : ℕ) → Leads image from to b head → AreApart target 256 b 256
   pub entries : (place : ℕ) → place < 128 → IsWritten image (target + place) → HoldsInOrder image target place

@@ -13,11 +13,11 @@ use Rattle.stored_documents.specs.Volumes.{Holds, IsWritten}
 use Rattle.index_paths.specs.Blocks.{PostingFields, posting_record, InFront, IsFull, InSpan, pointer_at, Trail}
 use Rattle.index_paths.specs.HashPaths.{IsPassed, PassedTo, nibble}
 use Rattle.index_paths.specs.Keeping.{sought_in}
-use Rattle.index_paths.specs.Postings.{IsPostingOf}
+use Rattle.index_paths.specs.Postings.{ListedPosting, ArePostings}
 use Rattle.volume_growth.specs.ListShapes.{Adds}
 
 -- this is the first blank entry place of the block
-pub record IsRoom (image : Image) (block place : ℕ) : Type 0 where
+pub record IsBlankEntry (image : Image) (block place : ℕ) : Type 0 where
   pub in_places : place < 128
   pub blank : image (block + place) ≡ None
   pub before : (i : ℕ) → i < place → IsWritten image (block + i)
@@ -47,15 +47,15 @@ pub data WalksTo (image : Image) (key last : ℕ) : ℕ → Type 0 where
   onwards : (block target : ℕ) → LeadsOn image block key target → WalksTo image key last target
       → WalksTo image key last block
 
--- The trail of the list's greatest key ends at this block: no posting with a trail from the list's first block has a
--- greater key, and the posting stands in this block's front.
-pub record IsTail (g : Layout) (image : Image) (l block : ℕ) : Type 0 where
+-- The trail of the list's greatest key ends at this block, in a list that begins at head and has the range for its other
+-- blocks: no posting with a trail from head has a greater key, and the posting stands in this block's front.
+pub record IsTail (image : Image) (from to head block : ℕ) : Type 0 where
   pub greatest : PostingFields
   pub place : ℕ
   pub in_places : place < 128
   pub in_front : InFront image block place greatest
-  pub trail : Trail image (pool_at g) g.cells (block + place) greatest (list_at g l)
-  pub most : (at : ℕ) (p : PostingFields) → Trail image (pool_at g) g.cells at p (list_at g l) → p.key ≤ greatest.key
+  pub trail : Trail image from to (block + place) greatest head
+  pub most : (at : ℕ) (p : PostingFields) → Trail image from to at p head → p.key ≤ greatest.key
 
 -- new is old with this posting in one cell, and with a jump cell to the target besides
 pub record AddsBoth (old new : Image) (at pointer target : ℕ) (p : PostingFields) : Type 0 where
@@ -65,45 +65,26 @@ pub record AddsBoth (old new : Image) (at pointer target : ℕ) (p : PostingFiel
   pub adds_jump : Adds pointer mid new
   pub jump : Holds new pointer (Jump target)
 
--- What one posting of list l adds and costs, where new blocks begin at `next`. The walk for its key ends at a block
--- with a blank entry, and the posting goes there; or at a blank pointer, which is set to the list's tail, where this
--- has a blank entry, or else to a new block.
-pub data PostingCosts (g : Layout) (l : ℕ) (p : PostingFields) (old new : Image) (next to cost : ℕ) : Type 0 where
-  in_block : (block place : ℕ) → WalksTo old p.key block (list_at g l) → IsRoom old block place
+-- What one posting adds to the list that begins at head, and costs, where other blocks lie from `from` up to `next`, and
+-- new ones begin there. The walk for its key ends at a block with a blank entry, and the posting goes there; or at a
+-- blank pointer, which is set to the list's tail, where this has a blank entry, or else to a new block.
+pub data PostingCosts (from head : ℕ) (p : PostingFields) (old new : Image) (next to cost : ℕ) : Type 0 where
+  in_block : (block place : ℕ) → WalksTo old p.key block head → IsBlankEntry old block place
       → Adds (block + place) old new → Holds new (block + place) (posting_record p)
-      → to ≡ next → cost ≡ 1 → PostingCosts g l p old new next to cost
-  in_tail : (block pointer tail place : ℕ) → WalksTo old p.key block (list_at g l)
-      → EndsAtPointer old block p.key pointer
-      → IsTail g old l tail → IsRoom old tail place → AddsBoth old new (tail + place) pointer tail p
-      → to ≡ next → cost ≡ 2 → PostingCosts g l p old new next to cost
-  in_new_block : (block pointer tail : ℕ) → WalksTo old p.key block (list_at g l)
-      → EndsAtPointer old block p.key pointer
-      → IsTail g old l tail → ((i : ℕ) → i < 128 → IsWritten old (tail + i)) → AddsBoth old new next pointer next p
-      → to ≡ next + 256 → cost ≡ 258 → PostingCosts g l p old new next to cost
+      → to ≡ next → cost ≡ 1 → PostingCosts from head p old new next to cost
+  in_tail : (block pointer tail place : ℕ) → WalksTo old p.key block head → EndsAtPointer old block p.key pointer
+      → IsTail old from next head tail → IsBlankEntry old tail place → AddsBoth old new (tail + place) pointer tail p
+      → to ≡ next → cost ≡ 2 → PostingCosts from head p old new next to cost
+  in_new_block : (block pointer tail : ℕ) → WalksTo old p.key block head → EndsAtPointer old block p.key pointer
+      → IsTail old from next head tail → ((i : ℕ) → i < 128 → IsWritten old (tail + i)) → AddsBoth old new next pointer next p
+      → to ≡ next + 256 → cost ≡ 258 → PostingCosts from head p old new next to cost
 
--- a posting and its list
-pub record ListedPosting : Type 0 where
-  pub list : ℕ
-  pub posting : PostingFields
-
--- the first comes before the second: its list is lower, or it is the same and its key is smaller
-abbrev pub ComesBefore : ListedPosting → ListedPosting → Type 0
-ComesBefore a b = (a.list < b.list) ⊎ ((a.list ≡ b.list) × (a.posting.key < b.posting.key))
-
--- these are the postings of slot n's document, by list and ordinal
-pub record ArePostings (lists : ℕ) (body : List ℕ) (n : ℕ) (rows : List ListedPosting) : Type 0 where
-  pub order : (i j : ℕ) (a b : ListedPosting) → i < j → slice_get rows i ≡ Some a → slice_get rows j ≡ Some b
-      → ComesBefore a b
-  pub each : (i : ℕ) (a : ListedPosting) → slice_get rows i ≡ Some a
-      → (a.list < lists) × IsPostingOf lists body n a.list a.posting
-  pub all : (l : ℕ) (p : PostingFields) → l < lists → IsPostingOf lists body n l p
-      → (i : ℕ) × (slice_get rows i ≡ Some (record { list = l; posting = p }))
-
--- What they cost one after another: what one adds stands before the next is taken.
+-- What a document's postings cost one after another: what one adds stands before the next is taken. New blocks may pass
+-- the device's end, so that the need is known also where it is greater than what is free.
 pub data PostingsCost (g : Layout) (new : Image) (to : ℕ) : List ListedPosting → Image → ℕ → ℕ → Type 0 where
   none : (old : Image) (next cost : ℕ) → old ≡ new → next ≡ to → cost ≡ 0 → PostingsCost g new to [] old next cost
   one : (a : ListedPosting) (rows : List ListedPosting) (old mid : Image) (next then cost first rest : ℕ)
-      → PostingCosts g a.list a.posting old mid next then first → PostingsCost g new to rows mid then rest
+      → PostingCosts (pool_at g) (list_at g a.list) a.posting old mid next then first → PostingsCost g new to rows mid then rest
       → cost ≡ first + rest → PostingsCost g new to (a ∷ rows) old next cost
 
 -- What the bucket costs: the identifier's path ends at a blank bucket, or at a blank child cell.

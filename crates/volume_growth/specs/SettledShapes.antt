@@ -13,10 +13,12 @@ use Rattle.tamper_rules.specs.Settling.{IsSettled}
 use Rattle.stored_documents.specs.Slots.{IsEdge}
 use Rattle.volume_growth.specs.TreeShapes.{IsWellRooted}
 
+-- each list of a settled image has its shape, with the edge as the end of its room
 abbrev pub SettledListed : Type 0
 SettledListed = (g : Layout) (image : Image) (at l : ℕ) → IsLayout g → IsSettled g image
     → IsEdge g image image at → l < g.lists → IsWellListed image (pool_at g) at (list_at g l)
 
+-- and so has the tree
 abbrev pub SettledRooted : Type 0
 SettledRooted = (g : Layout) (image : Image) (at : ℕ) → IsLayout g → IsSettled g image
     → IsEdge g image image at → IsWellRooted g image at
