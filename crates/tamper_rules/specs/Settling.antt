@@ -78,6 +78,10 @@ pub record Sound (cells : ℕ) (image : Image) : Type 0 where
   pub is : After cells image after
   pub settled : Settled cells after
 
+-- no cell is written, or settling makes a settled image of it: what a crash may leave at any moment
+abbrev pub IsBlankOrSound : ℕ → Image → Type 0
+IsBlankOrSound cells image = ((cell : ℕ) → image cell ≡ None) ⊎ Sound cells image
+
 -- The documents that a sound image holds: those that stand once it is settled; none where no cell is written.
 pub data Held (cells : ℕ) (image : Image) (documents : List Document) : Type 0 where
   none : ((cell : ℕ) → image cell ≡ None) → documents ≡ [] → Held cells image documents

@@ -5,7 +5,7 @@ use Rattle.cell_types.specs.Layout.{Layout, IsLayout, done_at}
 use Rattle.stored_documents.specs.Documents.{Document, AreDocuments}
 use Rattle.index_paths.specs.Keeping.{Kept}
 use Rattle.tamper_rules.specs.Rules.{IsBroken}
-use Rattle.tamper_rules.specs.Settling.{IsSettled, Settled, IsOneHorizon, JournalRow, After, Sound, Held}
+use Rattle.tamper_rules.specs.Settling.{IsSettled, Settled, IsOneHorizon, JournalRow, After, IsBlankOrSound, Held}
 use Rattle.stored_documents.specs.Slots.{IsCommitted, IsEdge}
 use Rattle.stored_documents.specs.Volumes.{IsWritten, IsVolume}
 
@@ -54,12 +54,17 @@ abbrev pub DocumentsExist : Type 0
 DocumentsExist = (cells : ℕ) (image : Image) → Settled cells image
     → (documents : List Document) × AreDocuments cells image documents
 
--- Where each image from low up to high is sound, as those that a crash may leave, it holds the documents of low or
--- those of high.
+-- an image holds one list of documents
+abbrev pub HeldIsOne : Type 0
+HeldIsOne = (cells : ℕ) (image : Image) (one other : List Document) → Held cells image one → Held cells image other
+    → one ≡ other
+
+-- Where each image from low up to high is blank or sound, as those that a crash may leave are in a steady state, it
+-- holds the documents of low or those of high.
 abbrev pub SteadyHoldsTwo : Type 0
 SteadyHoldsTwo =
-    (g : Layout) (low high image : Image) → IsVolume g.cells low g
-    → ((other : Image) → Extends low other → Extends other high → Sound g.cells other)
+    (cells : ℕ) (low high image : Image)
+    → ((other : Image) → Extends low other → Extends other high → IsBlankOrSound cells other)
     → Extends low image → Extends image high
-    → ((documents : List Document) → Held g.cells low documents → Held g.cells image documents)
-    ⊎ ((documents : List Document) → Held g.cells high documents → Held g.cells image documents)
+    → ((documents : List Document) → Held cells low documents → Held cells image documents)
+    ⊎ ((documents : List Document) → Held cells high documents → Held cells image documents)

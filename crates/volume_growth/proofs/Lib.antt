@@ -9,4 +9,5 @@ pub mod PlanAdds
 pub mod PlanLeaves
 pub mod PlanSettled
 pub mod SettledShapes
+pub mod SettledTrails
 pub mod TreeShapes

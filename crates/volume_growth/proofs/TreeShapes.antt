@@ -18,6 +18,15 @@ use Rattle.tamper_rules.proofs.Writing.{same_or_not}
 pub child_on : {g : Layout} {old new : Image} {to more v node x : ℕ} → Extends old new → to ≤ more → ChildWell g old to v node x → ChildWell g new more v node x
 child_on e le c = record { target = c.target; child = holds_on e c.child; bucket = written_on e c.bucket; level = c.level; from = c.from; inside = omega (arith, c.inside) }
 
+-- more room leaves the tree as it was
+pub rooted_wider : {g : Layout} {image : Image} {to wider : ℕ} → to ≤ wider → wider ≤ g.cells → IsWellRooted g image to → IsWellRooted g image wider
+rooted_wider {g} {image} {to} {wider} le inside w = record {
+  room = inside;
+  children = λ v node x n less is. child_on (record { keeps = λ cell value h. h }) le (w.children v node x n less is);
+  once = w.once;
+  apart = w.apart;
+}
+
 -- a node's place: it is the root, or lies in the room
 pub node_place : {g : Layout} {image : Image} {to v node : ℕ} → IsWellRooted g image to → IsNode g image v node → (node ≡ root_at g) ⊎ ((pool_at g ≤ node) × (node + 32 ≤ to))
 node_place w (root v node is at) = inl at

@@ -1,6 +1,7 @@
 -- The lists and the tree of a settled image have their shapes.
 use Rattle.std.specs.Prelude.{◌≡◌, ◌<◌, ◌+◌, ℕ, List}
 use Rattle.sha2.specs.Sha256.{sha256}
+use Rattle.cell_types.specs.Bytes.{AreBytes}
 use Rattle.cell_types.specs.declared.record_cell.RecordCell.TheVariants.{Bucket}
 use Rattle.stored_documents.specs.Documents.{Stands}
 use Rattle.index_paths.specs.HashPaths.{nibble, fingerprint_of}
@@ -8,7 +9,8 @@ use Rattle.stored_documents.specs.Volumes.{Holds, IsWritten}
 use Rattle.cell_types.specs.Image.{Image}
 use Rattle.cell_types.specs.Layout.{Layout, IsLayout, list_at, pool_at}
 use Rattle.volume_growth.specs.ListShapes.{IsWellListed}
-use Rattle.index_paths.specs.Nodes.{IsNode, IsOnPath}
+use Rattle.index_paths.specs.Blocks.{PostingFields, posting_record, Trail}
+use Rattle.index_paths.specs.Nodes.{IsBlockOf, IsNode, IsOnPath}
 use Rattle.tamper_rules.specs.Settling.{IsSettled}
 use Rattle.stored_documents.specs.Slots.{IsEdge}
 use Rattle.volume_growth.specs.TreeShapes.{IsWellRooted}
@@ -22,6 +24,21 @@ SettledListed = (g : Layout) (image : Image) (at l : ℕ) → IsLayout g → IsS
 abbrev pub SettledRooted : Type 0
 SettledRooted = (g : Layout) (image : Image) (at : ℕ) → IsLayout g → IsSettled g image
     → IsEdge g image image at → IsWellRooted g image at
+
+-- in a settled image each posting of a list has a trail from the list's first block
+abbrev pub SettledTrails : Type 0
+SettledTrails =
+    (g : Layout) (image : Image) (at l block place : ℕ) (p : PostingFields)
+    → IsLayout g → IsSettled g image → IsEdge g image image at
+    → IsBlockOf g image l block → place < 128 → Holds image (block + place) (posting_record p)
+    → (cell : ℕ) × Trail image (pool_at g) at cell p (list_at g l)
+
+-- each node is reached from the root in one way: the half bytes that lead to it are the same
+abbrev pub NodesHaveOneWay : Type 0
+NodesHaveOneWay =
+    (g : Layout) (image : Image) (to : ℕ) (d e : List ℕ) (v node k : ℕ)
+    → IsWellRooted g image to → AreBytes d → AreBytes e → IsOnPath g image d v node → IsOnPath g image e v node
+    → k < v → nibble d k ≡ nibble e k
 
 -- each node is at one level
 abbrev pub NodesHaveOneLevel : Type 0

@@ -4,8 +4,8 @@ ghost use Rattle.volume_growth.specs.Filling.{PlanAddsOne, PlanIsSettled, PlanLe
 ghost use Rattle.volume_growth.specs.Ingesting.{IngestLeavesSound, PhasesLeaveSound};
 ghost use Rattle.volume_growth.specs.ListShapes.{WellApart, WellWider, WellWithEntry, WellWithJump};
 ghost use Rattle.volume_growth.specs.Needs.{NeedIsBounded};
-ghost use Rattle.volume_growth.specs.SettledShapes.{LastBucketIsSame, NodesHaveOneLevel, SettledListed, SettledRooted};
-ghost use Rattle.volume_growth.specs.TreeShapes.{RootedApart, RootedWithChild};
+ghost use Rattle.volume_growth.specs.SettledShapes.{LastBucketIsSame, NodesHaveOneLevel, NodesHaveOneWay, SettledListed, SettledRooted, SettledTrails};
+ghost use Rattle.volume_growth.specs.TreeShapes.{RootedApart, RootedWider, RootedWithChild};
 
 /// Ingesting, cut short anywhere, leaves a sound volume with the old documents or the new ones.
 pub fn ingest_leaves_sound()
@@ -85,4 +85,19 @@ pub fn last_bucket_is_same()
 /// The need of a document with d cells and P postings is at least d + P + 1 and at most d + 258 P + 34.
 pub fn need_is_bounded()
     ensures { NeedIsBounded }
+{}
+
+/// Each posting of a list of a settled image has a trail from the list's first block.
+pub fn settled_trails()
+    ensures { SettledTrails }
+{}
+
+/// Each node is reached from the root in one way.
+pub fn nodes_have_one_way()
+    ensures { NodesHaveOneWay }
+{}
+
+/// More room leaves the tree as it was.
+pub fn rooted_wider()
+    ensures { RootedWider }
 {}
