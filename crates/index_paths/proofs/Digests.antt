@@ -1,5 +1,5 @@
 -- A digest is a row of bytes.
-use Rattle.std.proofs.Common.{◌≡◌, ◌<◌, ◌+◌, ◌-◌, ◌++◌, ◌∷◌, [], ℕ, suc, zero, List, length, slice_index, refl, sym, ap, subst, ⊎_elim, arith}
+use Rattle.std.proofs.Common.{◌<◌, ◌-◌, ◌++◌, ℕ, suc, zero, List, length, slice_index, sym, subst, ⊎_elim, arith}
 use Rattle.std.specs.Int.{to_be_bytes, w32}
 use Rattle.std.proofs.lemmas.Bool.{cases_lt}
 use Rattle.std.proofs.Math.ListN.{get_or-append}

@@ -1,7 +1,6 @@
 -- Paths of the hash tree.
-use Rattle.std.proofs.Common.{◌≡◌, ◌≢◌, ◌<◌, ◌≤◌, ◌+◌, ◌⊎◌, ⊎_elim, inl, inr, ℕ, List, None, Some, refl, ap, sym, subst, ◌∙◌, arith}
+use Rattle.std.proofs.Common.{◌≡◌, ◌+◌, ⊎_elim, inl, inr, ℕ, List, None, sym, subst, ◌∙◌, arith}
 use Rattle.cell_types.specs.Image.{Image, Extends}
-use Rattle.cell_types.specs.declared.record_cell.RecordCell.{RecordCell}
 use Rattle.cell_types.specs.declared.record_cell.RecordCell.TheVariants.{Bucket, Child}
 use Rattle.stored_documents.specs.Volumes.{Holds}
 use Rattle.stored_documents.specs.Documents.{Stands}

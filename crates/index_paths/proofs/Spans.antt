@@ -1,7 +1,7 @@
 -- Spans: a key lies in one of them, and each greater key lies in one.
-use Rattle.std.proofs.Common.{◌≡◌, ◌<◌, ◌≤◌, ◌+◌, ◌-◌, ◌*◌, ◌/◌, ◌%◌, ◌^◌, ◌⊎◌, ℕ, suc, zero, refl, inl, inr, ⊎_elim, arith, add-one, subst, sym, ◌≢◌, mul_comm}
+use Rattle.std.proofs.Common.{◌≡◌, ◌<◌, ◌≤◌, ◌+◌, ◌-◌, ◌*◌, ◌/◌, ◌^◌, ℕ, suc, zero, ⊎_elim, arith, subst, sym}
 use Rattle.std.proofs.lemmas.Bool.{cases_order, cases_lt}
-use Rattle.std.proofs.Math.Nat.{le-div_iff_mul-le, div-lt_iff_lt-mul, div-mul-le_self, lt-div-mul-add, pow-le-pow_right, one-le-pow, pow-succ', mul-le-mul_right, mul-le-mul_left}
+use Rattle.std.proofs.Math.Nat.{le-div_iff_mul-le, div-lt_iff_lt-mul, div-mul-le_self, lt-div-mul-add, pow-le-pow_right, one-le-pow, pow-succ', mul-le-mul_right}
 use Rattle.index_paths.specs.Blocks.{InSpan}
 
 -- a level's digits end where the next level begins

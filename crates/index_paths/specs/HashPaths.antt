@@ -1,7 +1,6 @@
 -- The hash tree of identifiers: nodes of 16 buckets and 16 child cells, and the path of a digest through them.
-use Rattle.std.specs.Prelude.{◌≡◌, ◌≢◌, ◌<◌, ◌≤◌, ◌+◌, ◌*◌, ◌/◌, ◌%◌, ◌⊎◌, ◌==◌, if◌then◌else◌, ℕ, List, slice_index, take}
+use Rattle.std.specs.Prelude.{◌≡◌, ◌≢◌, ◌<◌, ◌≤◌, ◌+◌, ◌/◌, ◌%◌, ◌⊎◌, ◌==◌, if◌then◌else◌, ℕ, List, slice_index, take}
 use Rattle.cell_types.specs.Image.{Image}
-use Rattle.cell_types.specs.Layout.{Layout, root_at, pool_at}
 use Rattle.cell_types.specs.declared.record_cell.RecordCell.TheVariants.{Bucket, Child}
 use Rattle.stored_documents.specs.Volumes.{Holds}
 use Rattle.stored_documents.specs.Documents.{Stands}

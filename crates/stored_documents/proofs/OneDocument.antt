@@ -1,13 +1,10 @@
 -- A slot has one document.
-use Rattle.std.proofs.Common.{◌≡◌, ◌<◌, ◌≤◌, ◌+◌, ◌-◌, ◌*◌, ◌/◌, ◌⊎◌, ⊎_elim, ℕ, suc, zero, List, [], ◌∷◌, ◌++◌, Some, length, take, drop, get_or, slice_index, refl, ap, sym, subst, arith, ◌∙◌, length-append, length-drop, drop-drop, replicate}
-use Rattle.std.proofs.lemmas.List.{take-append-drop, length-take}
+use Rattle.std.proofs.Common.{◌≡◌, ◌<◌, ◌≤◌, ◌+◌, ◌-◌, ◌*◌, ℕ, suc, zero, List, [], ◌∷◌, ◌++◌, length, take, drop, refl, ap, sym, arith, ◌∙◌, length-drop, drop-drop, replicate}
+use Rattle.std.proofs.lemmas.List.{take-append-drop}
 use Rattle.std.proofs.Math.Seq.{take-append_seam, drop-append_seam}
-use Rattle.cell_types.specs.Bytes.{AreBytes}
-use Rattle.cell_types.specs.Contents.{content_bytes, IsContentCell}
+use Rattle.cell_types.specs.Contents.{content_bytes}
 use Rattle.cell_types.specs.Image.{Image}
-use Rattle.cell_types.specs.Layout.{Layout}
-use Rattle.cell_types.specs.declared.record_cell.RecordCell.{RecordCell}
-use Rattle.cell_types.specs.declared.record_cell.RecordCell.TheVariants.{Volume, Reserve, Commit}
+use Rattle.cell_types.specs.declared.record_cell.RecordCell.TheVariants.{Reserve, Commit}
 use Rattle.stored_documents.specs.Slots.{cells_for}
 use Rattle.stored_documents.specs.Documents.{Stands, stored_bytes, document_at}
 use Rattle.stored_documents.proofs.Holding.{one_record_holds, some_is}

@@ -1,5 +1,5 @@
 -- What was seen of slots goes on.
-use Rattle.std.specs.Prelude.{◌≡◌, ◌⊎◌, ℕ, List, Some}
+use Rattle.std.specs.Prelude.{ℕ}
 use Rattle.cell_types.specs.Image.{Image, Extends}
 use Rattle.cell_types.specs.Layout.{Layout}
 use Rattle.stored_documents.specs.Slots.{IsUnused, IsReserved, IsAbandoned, IsCommitted, IsDone, HasEnded, IsHorizon, IsEdge, IsLive}

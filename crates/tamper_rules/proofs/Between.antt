@@ -1,12 +1,11 @@
 -- Sound images between two others.
-use Rattle.std.proofs.Common.{◌≡◌, ◌≢◌, ◌<◌, ◌≤◌, ◌+◌, ◌*◌, ◌⊎◌, ⊎_elim, inl, inr, ℕ, suc, zero, List, Some, None, refl, sym, ◌∙◌, subst, ap, arith, length}
+use Rattle.std.proofs.Common.{◌≡◌, ◌<◌, ◌≤◌, ◌+◌, ⊎_elim, ℕ, Some, None, refl, sym, ◌∙◌, subst, ap, arith}
 use Rattle.std.proofs.lemmas.Option.{none-some}
 use Rattle.std.proofs.lemmas.Bool.{cases_lt}
-use Rattle.cell_types.specs.Image.{Image, Extends, IsUnchanged}
-use Rattle.cell_types.specs.Layout.{Layout, reserve_at, outcome_at, done_at, list_at, pool_at}
+use Rattle.cell_types.specs.Image.{Image, Extends}
+use Rattle.cell_types.specs.Layout.{Layout, reserve_at, outcome_at, done_at, list_at}
 use Rattle.cell_types.specs.Records.{IsRecordCell}
-use Rattle.cell_types.specs.declared.record_cell.RecordCell.{RecordCell}
-use Rattle.cell_types.specs.declared.record_cell.RecordCell.TheVariants.{Commit, Abandon, Done, Reserve}
+use Rattle.cell_types.specs.declared.record_cell.RecordCell.TheVariants.{Commit, Abandon}
 use Rattle.tamper_rules.specs.Rules
 use Rattle.tamper_rules.specs.Rules.{OutcomeRule, DoneRule}
 use Rattle.tamper_rules.specs.Settling.{IsSettled, IsOneHorizon, AbandonRow, JournalRow, DoneRow, After, nothing, abandoned, completed, Sound}

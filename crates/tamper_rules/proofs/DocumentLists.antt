@@ -1,11 +1,11 @@
 -- The list of a volume's documents.
-use Rattle.std.proofs.Common.{◌≡◌, ◌<◌, ◌≤◌, ◌+◌, ◌⊎◌, ⊎_elim, inl, inr, ℕ, suc, zero, List, [], ◌∷◌, ◌++◌, Some, None, refl, sym, ◌∙◌, subst, ap, arith, length}
+use Rattle.std.proofs.Common.{◌≡◌, ◌<◌, ◌≤◌, ◌+◌, ⊎_elim, inr, ℕ, suc, zero, List, [], ◌∷◌, ◌++◌, refl, sym, ◌∙◌, subst, ap, arith, length}
 use Rattle.std.specs.Prelude.{Contains, ◌↔◌}
 use Rattle.std.proofs.lemmas.List.Elements.{Contains-append_left, Contains-append_right, Contains-append_cases}
 use Rattle.std.proofs.lemmas.Option.{none-some}
 use Rattle.std.proofs.lemmas.Bool.{cases_order}
 use Rattle.cell_types.specs.Image.{Image}
-use Rattle.cell_types.specs.Layout.{Layout, reserve_at, outcome_at, done_at}
+use Rattle.cell_types.specs.Layout.{Layout, reserve_at, outcome_at}
 use Rattle.cell_types.specs.declared.record_cell.RecordCell.TheVariants.{Commit, Abandon}
 use Rattle.stored_documents.specs.Documents.{Document, Rise, IsDocument, AreDocuments, Spells, Stands, stored_bytes, document_at}
 use Rattle.tamper_rules.specs.Rules

@@ -1,5 +1,5 @@
 -- A block whose entry places are all in order has a full front.
-use Rattle.std.proofs.Common.{◌≡◌, ◌<◌, ◌≤◌, ◌+◌, ◌⊎◌, ⊎_elim, ℕ, suc, zero, refl, sym, subst, ap, arith}
+use Rattle.std.proofs.Common.{◌≡◌, ◌<◌, ◌+◌, ⊎_elim, ℕ, suc, zero, refl, sym, subst, ap, arith}
 use Rattle.std.proofs.lemmas.Bool.{cases_lt}
 use Rattle.cell_types.specs.Image.{Image}
 use Rattle.index_paths.specs.Blocks.{PostingFields, posting_record, InFront, at_the_start, behind, IsFull}

@@ -1,23 +1,38 @@
 -- A slot that is given up at the horizon of a settled image: where the cells of the image are as they were.
-use Rattle.std.proofs.Common.{◌≡◌, ◌<◌, ◌≤◌, ◌+◌, ◌*◌, ◌⊎◌, ⊎_elim, inl, inr, ℕ, suc, zero, List, Some, None, refl, sym, ◌∙◌, subst, ap, arith, length}
+use Rattle.std.proofs.Common.{◌≡◌, ◌<◌, ◌≤◌, ◌+◌, ◌⊎◌, ⊎_elim, inl, inr, ℕ, suc, zero, List, Some, None, refl, sym, ◌∙◌, subst, ap, arith, length}
 use Rattle.std.proofs.lemmas.Option.{none-some}
-use Rattle.std.proofs.lemmas.Bool.{cases_order, cases_lt}
+use Rattle.std.proofs.lemmas.Bool.{cases_order}
 use Rattle.cell_types.specs.Image.{Image, Extends}
-use Rattle.cell_types.specs.Layout.{Layout, reserve_at, outcome_at, done_at, list_at, root_at, pool_at}
+use Rattle.cell_types.specs.Layout.{Layout, reserve_at, outcome_at, done_at, list_at, pool_at}
 use Rattle.cell_types.specs.declared.record_cell.RecordCell.{RecordCell}
-use Rattle.cell_types.specs.declared.record_cell.RecordCell.TheVariants.{Reserve, Commit, Abandon, Done, Jump, Child, Volume}
+use Rattle.cell_types.specs.declared.record_cell.RecordCell.TheVariants.{Commit, Abandon, Jump, Child, Volume}
 use Rattle.index_paths.specs.Blocks.{Leads, arrived, onwards, pointer_at}
 use Rattle.stored_documents.specs.Documents.{Stands, Spells, document_at}
 use Rattle.index_paths.specs.Nodes.{IsBlockOf, IsNode, root, under}
 use Rattle.tamper_rules.specs.Rules.{Pointers, Children, LeadsWell, LeadsDownWell}
-use Rattle.tamper_rules.specs.Settling.{IsSettled, IsGivenUp, IsOf, of_reserve, of_outcome, of_range}
+use Rattle.tamper_rules.specs.Settling.{IsSettled}
 use Rattle.stored_documents.specs.Slots.{cells_for, Reserves, Commits, Stores, IsAbandonedSlot, IsDoneSlot, IsDone, HasEnded, IsHorizon, EndsBelow, IsEdge}
 use Rattle.stored_documents.specs.Volumes.{Holds, IsWritten, IsVolume, volume_record}
 use Rattle.stored_documents.proofs.Extending.{holds_on, blank_before, reserves_on, done_on}
 use Rattle.stored_documents.proofs.Holding.{one_record_holds}
 use Rattle.tamper_rules.proofs.Images.{look}
-use Rattle.stored_documents.proofs.OneDocument.{reserves}
 use Rattle.tamper_rules.proofs.Settled.{written, taken_below, taken_to, below_horizon, ends_before, edge_horizon, one_end}
+
+-- the cell is the reserve cell or the outcome cell of slot n, or one of those that it reserves
+pub data IsOf (n start length cell : ℕ) : Type 0 where
+  of_reserve : cell ≡ reserve_at n → IsOf n start length cell
+  of_outcome : cell ≡ outcome_at n → IsOf n start length cell
+  of_range : start ≤ cell → cell < start + length → IsOf n start length cell
+
+-- New is old with slot n, at a horizon of old, given up: it reserves cells from the edge on, in which anything may
+-- have been written, and has its abandon cell.
+pub record IsGivenUp (g : Layout) (old new : Image) (n start length : ℕ) : Type 0 where
+  pub horizon : IsHorizon g old old n
+  pub keeps : Extends old new
+  pub reserves : Reserves g new n start length
+  pub begins : EndsBelow g old n start
+  pub outcome : Holds new (outcome_at n) Abandon
+  pub only : (cell : ℕ) (value : List ℕ) → new cell ≡ Some value → (old cell ≡ Some value) ⊎ IsOf n start length cell
 
 abbrev IsNoAbandon : RecordCell → Type 0
 IsNoAbandon Abandon = ⊥

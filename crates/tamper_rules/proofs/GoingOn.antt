@@ -1,5 +1,5 @@
 -- What is said of journals, blocks and nodes goes on holding in each image that extends the first.
-use Rattle.std.proofs.Common.{◌≡◌, ◌<◌, ◌≤◌, ◌+◌, ◌⊎◌, ⊎_elim, inl, inr, ℕ, List, Some, None, refl, sym, ◌∙◌, subst, ap, arith}
+use Rattle.std.proofs.Common.{◌≡◌, ◌<◌, ◌+◌, ⊎_elim, inl, inr, ℕ, List, Some, None, sym, ◌∙◌, subst, ap}
 use Rattle.cell_types.specs.Image.{Image, Extends}
 use Rattle.cell_types.specs.Layout.{Layout, done_at}
 use Rattle.cell_types.specs.Records.{IsRecordCell}

@@ -1,5 +1,5 @@
 -- Images that are the same in each cell.
-use Rattle.std.proofs.Common.{◌≡◌, ◌⊎◌, ⊎_elim, inl, inr, ℕ, List, Option, Some, None, refl, sym, ◌∙◌, subst}
+use Rattle.std.proofs.Common.{◌≡◌, ◌⊎◌, ⊎_elim, inl, inr, ℕ, List, Option, Some, None, refl, sym, ◌∙◌}
 use Rattle.cell_types.specs.Image.{Image, Extends, IsUnchanged}
 use Rattle.tamper_rules.specs.Settling.{IsWith}
 use Rattle.stored_documents.proofs.Extending.{blank_before}

@@ -1,9 +1,8 @@
 -- Laws of settled images.
-use Rattle.std.proofs.Common.{◌≡◌, ◌<◌, ◌≤◌, ◌+◌, ◌*◌, ◌⊎◌, ⊎_elim, inl, inr, ℕ, suc, zero, List, [], Some, None, refl, sym, ◌∙◌, subst, ap, arith}
-use Rattle.std.specs.Prelude.{Contains}
+use Rattle.std.proofs.Common.{◌≡◌, ◌<◌, ◌≤◌, ℕ, suc, zero, [], None, refl, sym, ◌∙◌, subst, arith}
 use Rattle.std.proofs.lemmas.Option.{none-some}
-use Rattle.cell_types.specs.Image.{Image, IsUnchanged}
-use Rattle.cell_types.specs.Layout.{Layout, IsLayout, reserve_at, outcome_at, done_at, spare_at, list_at, root_at, pool_at}
+use Rattle.cell_types.specs.Image.{Image}
+use Rattle.cell_types.specs.Layout.{Layout, IsLayout, reserve_at, pool_at}
 use Rattle.cell_types.specs.declared.record_cell.RecordCell.{RecordCell}
 use Rattle.index_paths.specs.Blocks.{pointer_at}
 use Rattle.stored_documents.specs.Documents.{AreDocuments}
@@ -15,7 +14,6 @@ use Rattle.tamper_rules.specs.Settling.{Settled}
 use Rattle.stored_documents.specs.Slots.{Reserves, IsHorizon}
 use Rattle.stored_documents.specs.Volumes.{Holds, IsWritten, IsVolume}
 use Rattle.tamper_rules.proofs.GivenUp.{one_layout}
-use Rattle.tamper_rules.proofs.Settled.{written}
 
 pub unbroken : (cells : ℕ) (image : Image) (number cell : ℕ) → Settled cells image → IsBroken cells image number cell → ⊥
 unbroken cells image number cell s b =

@@ -1,8 +1,7 @@
 -- Where each image between two is blank or sound, it holds the documents of the lower or those of the upper; and an image
 -- holds one list of documents.
-use Rattle.std.proofs.Common.{◌≡◌, ◌<◌, ◌⊎◌, ⊎_elim, inl, inr, ℕ, suc, zero, List, [], Some, None, refl, sym, ◌∙◌, subst, ap, arith}
+use Rattle.std.proofs.Common.{◌≡◌, ◌<◌, ◌⊎◌, ⊎_elim, inl, inr, ℕ, suc, zero, List, Some, None, refl, sym, ◌∙◌, subst, ap, arith}
 use Rattle.std.proofs.lemmas.Option.{none-some}
-use Rattle.std.proofs.lemmas.Bool.{cases_order}
 use Rattle.cell_types.specs.Image.{Image, Extends}
 use Rattle.cell_types.specs.Layout.{Layout}
 use Rattle.stored_documents.specs.Documents.{Document, AreDocuments}

@@ -1,12 +1,12 @@
 -- The fifteen rules of a volume. Each is said as what holds at a written cell where it is kept; it is broken at a
 -- written cell of its place where that does not hold.
-use Rattle.std.specs.Prelude.{◌≡◌, ◌≢◌, ◌<◌, ◌≤◌, ◌+◌, ◌/◌, ◌⊎◌, ◌↔◌, ℕ, List, [], ◌∷◌, length, Some, None, Contains}
+use Rattle.std.specs.Prelude.{◌≡◌, ◌≢◌, ◌<◌, ◌≤◌, ◌+◌, ◌/◌, ◌⊎◌, ◌↔◌, ℕ, List, [], ◌∷◌, length, None, Contains}
 use Rattle.sha2.specs.Sha256.{sha256}
 use Rattle.cell_types.specs.Image.{Image}
 use Rattle.cell_types.specs.Layout.{Layout, FirstBlock, Root, LiesIn, reserve_at, outcome_at, done_at, spare_at, list_at, root_at, pool_at}
 use Rattle.cell_types.specs.declared.record_cell.RecordCell.{RecordCell}
 use Rattle.cell_types.specs.declared.record_cell.RecordCell.TheVariants.{Reserve, Commit, Abandon, Done, Jump, Bucket, Child}
-use Rattle.index_paths.specs.Blocks.{PostingFields, posting_record, InFront, IsFull, InSpan, pointer_at, Trail}
+use Rattle.index_paths.specs.Blocks.{PostingFields, posting_record, InFront, InSpan, pointer_at, Trail}
 use Rattle.stored_documents.specs.Documents.{IsIdentifier, IsBody, Spells, Stands, stored_bytes, document_at}
 use Rattle.index_paths.specs.HashPaths.{HashTrail, fingerprint_of, nibble}
 use Rattle.tamper_rules.specs.Journals.{journal_at, Copies, LiesInBlocks, IsNamed, IsInOrder}

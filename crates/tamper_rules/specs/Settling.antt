@@ -1,15 +1,15 @@
 -- What it means that a volume is settled, what settling makes of it, and when a volume is sound.
-use Rattle.std.specs.Prelude.{◌≡◌, ◌<◌, ◌≤◌, ◌+◌, ◌⊎◌, ℕ, List, [], Some, None}
+use Rattle.std.specs.Prelude.{◌≡◌, ◌<◌, ◌+◌, ◌⊎◌, ℕ, List, [], Some, None}
 use Rattle.cell_types.specs.Image.{Image, Extends, IsUnchanged}
-use Rattle.cell_types.specs.Layout.{Layout, reserve_at, outcome_at, done_at}
+use Rattle.cell_types.specs.Layout.{Layout, outcome_at, done_at}
 use Rattle.cell_types.specs.Records.{IsRecordCell}
 use Rattle.cell_types.specs.declared.record_cell.RecordCell.{RecordCell}
 use Rattle.cell_types.specs.declared.record_cell.RecordCell.TheVariants.{Abandon, Done}
 use Rattle.stored_documents.specs.Documents.{Document, AreDocuments}
 use Rattle.tamper_rules.specs.Journals.{journal_at, Copies, IsInOrder}
 use Rattle.tamper_rules.specs.Rules.{Rule, IsMet}
-use Rattle.stored_documents.specs.Slots.{Reserves, IsReserved, IsCommitted, HasEnded, IsHorizon, EndsBelow}
-use Rattle.stored_documents.specs.Volumes.{Holds, IsWritten, IsVolume}
+use Rattle.stored_documents.specs.Slots.{IsReserved, IsCommitted, HasEnded, IsHorizon}
+use Rattle.stored_documents.specs.Volumes.{IsWritten, IsVolume}
 
 -- each rule is kept at each written cell, and each slot below a horizon is abandoned or done
 pub record IsSettled (g : Layout) (image : Image) : Type 0 where
@@ -87,19 +87,3 @@ pub data Held (cells : ℕ) (image : Image) (documents : List Document) : Type 0
   none : ((cell : ℕ) → image cell ≡ None) → documents ≡ [] → Held cells image documents
   of_after : (after : Image) → After cells image after → AreDocuments cells after documents
       → Held cells image documents
-
--- the cell is the reserve cell or the outcome cell of slot n, or one of those that it reserves
-pub data IsOf (n start length cell : ℕ) : Type 0 where
-  of_reserve : cell ≡ reserve_at n → IsOf n start length cell
-  of_outcome : cell ≡ outcome_at n → IsOf n start length cell
-  of_range : start ≤ cell → cell < start + length → IsOf n start length cell
-
--- New is old with slot n, at a horizon of old, given up: it reserves cells from the edge on, in which anything may
--- have been written, and has its abandon cell.
-pub record IsGivenUp (g : Layout) (old new : Image) (n start length : ℕ) : Type 0 where
-  pub horizon : IsHorizon g old old n
-  pub keeps : Extends old new
-  pub reserves : Reserves g new n start length
-  pub begins : EndsBelow g old n start
-  pub outcome : Holds new (outcome_at n) Abandon
-  pub only : (cell : ℕ) (value : List ℕ) → new cell ≡ Some value → (old cell ≡ Some value) ⊎ IsOf n start length cell

@@ -1,5 +1,5 @@
 -- Laws of settled and of sound volumes.
-use Rattle.std.specs.Prelude.{◌≡◌, ◌<◌, ◌≤◌, ◌⊎◌, ℕ, List, [], Some, None}
+use Rattle.std.specs.Prelude.{◌≡◌, ◌≤◌, ◌⊎◌, ℕ, List, [], Some, None}
 use Rattle.cell_types.specs.Image.{Image, Extends}
 use Rattle.cell_types.specs.Layout.{Layout, IsLayout, done_at}
 use Rattle.stored_documents.specs.Documents.{Document, AreDocuments}

@@ -1,13 +1,11 @@
 -- A plan whose cells are all written: the log, the documents, the journals and the blank cells.
-use Rattle.std.proofs.Common.{◌≡◌, ◌≢◌, ◌<◌, ◌≤◌, ◌+◌, ◌-◌, ◌*◌, ◌^◌, ◌⊎◌, ⊎_elim, inl, inr, ℕ, suc, zero, List, [], ◌∷◌, Some, None, refl, sym, ◌∙◌, subst, ap, arith, length}
-use Rattle.std.specs.Prelude.{Contains, slice_get}
+use Rattle.std.proofs.Common.{◌≡◌, ◌≢◌, ◌<◌, ◌≤◌, ◌+◌, ⊎_elim, inl, inr, ℕ, suc, zero, List, [], ◌∷◌, Some, None, refl, sym, ◌∙◌, subst, ap, arith, length}
 use Rattle.std.proofs.lemmas.Option.{none-some, slice_get_within, slice_get-get_or}
-use Rattle.std.proofs.lemmas.Bool.{cases_order, cases_lt}
+use Rattle.std.proofs.lemmas.Bool.{cases_order}
 use Rattle.cell_types.specs.Image.{Image, Extends}
-use Rattle.cell_types.specs.Layout.{Layout, reserve_at, outcome_at, done_at, spare_at, list_at, root_at, pool_at}
-use Rattle.cell_types.specs.Records.{IsRecordCell}
+use Rattle.cell_types.specs.Layout.{Layout, reserve_at, outcome_at, done_at, spare_at, list_at, pool_at}
 use Rattle.cell_types.specs.declared.record_cell.RecordCell.{RecordCell}
-use Rattle.cell_types.specs.declared.record_cell.RecordCell.TheVariants.{Reserve, Commit, Abandon, Done}
+use Rattle.cell_types.specs.declared.record_cell.RecordCell.TheVariants.{Reserve, Commit, Abandon}
 use Rattle.stored_documents.specs.Documents.{Stands, stored_bytes, document_at}
 use Rattle.volume_growth.specs.Filling.{blocks_end, IsCopy, IsPlannedCopy, IsFilled}
 use Rattle.volume_growth.specs.Ingesting.{Plan, Phase, Reserving, Storing, Committing, Applying, Finishing, stored_of, ContentRow, CopyRow, AppliedRow, Row, AnyRow}
@@ -19,7 +17,7 @@ use Rattle.stored_documents.specs.Volumes.{Holds, IsWritten}
 use Rattle.stored_documents.proofs.Extending.{holds_on, written_on, blank_before, volume_on, reserves_on, commits_on, done_on, ends_on, spells_on}
 use Rattle.stored_documents.proofs.Holding.{one_record_holds, some_is}
 use Rattle.tamper_rules.proofs.GivenUp.{no_abandon, one_layout}
-use Rattle.tamper_rules.proofs.GoingOn.{copies_on, copies_back, one_copy, index_on, in_order_on, named_on}
+use Rattle.tamper_rules.proofs.GoingOn.{copies_on, copies_back, one_copy, named_on}
 use Rattle.tamper_rules.proofs.Images.{look}
 use Rattle.volume_growth.proofs.Ingests.{IsLogCell, is_reserve, is_outcome, is_done}
 use Rattle.stored_documents.proofs.OneDocument.{reserves, commits}

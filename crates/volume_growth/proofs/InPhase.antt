@@ -1,9 +1,9 @@
 -- An image that was left in one phase of an ingest.
-use Rattle.std.proofs.Common.{◌≡◌, ◌<◌, ◌≤◌, ◌+◌, ◌-◌, ◌⊎◌, ⊎_elim, inl, inr, ℕ, List, Some, None, refl, sym, ◌∙◌, arith, length}
-use Rattle.std.proofs.lemmas.Option.{none-some, slice_get_within}
+use Rattle.std.proofs.Common.{◌<◌, ◌≤◌, ⊎_elim, ℕ, List, sym, ◌∙◌, arith, length}
+use Rattle.std.proofs.lemmas.Option.{none-some}
 use Rattle.std.proofs.lemmas.Bool.{cases_lt}
-use Rattle.cell_types.specs.Image.{Image, Extends}
-use Rattle.cell_types.specs.Layout.{Layout, reserve_at, outcome_at, done_at, list_at, pool_at}
+use Rattle.cell_types.specs.Image.{Image}
+use Rattle.cell_types.specs.Layout.{Layout, pool_at}
 use Rattle.stored_documents.specs.Documents.{document_at}
 use Rattle.volume_growth.specs.Ingesting.{Plan, Phase, Reserving, Storing, Committing, Applying, Finishing, order_of, stored_of, ContentRow, CopyRow, AppliedRow, Row, IsInPhases, IsIngest, IsLeftIn, LeavesSound}
 use Rattle.tamper_rules.proofs.GoingOn.{one_copy}

@@ -1,21 +1,20 @@
 -- What an ingest that is cut short leaves.
-use Rattle.std.proofs.Common.{◌≡◌, ◌<◌, ◌≤◌, ◌+◌, ◌-◌, ◌*◌, ◌^◌, ◌⊎◌, ⊎_elim, inl, inr, ℕ, suc, zero, List, [], Some, None, refl, sym, ◌∙◌, subst, ap, arith, length}
-use Rattle.std.specs.Prelude.{Contains, slice_get}
-use Rattle.std.proofs.lemmas.Option.{none-some, slice_get_within, slice_get-get_or}
+use Rattle.std.proofs.Common.{◌≡◌, ◌<◌, ◌+◌, ◌⊎◌, ⊎_elim, inl, inr, ℕ, List, [], Some, None, refl, sym, ◌∙◌, subst, ap, arith, length}
+use Rattle.std.proofs.lemmas.Option.{none-some, slice_get-get_or}
 use Rattle.cell_types.specs.Image.{Image, Extends}
-use Rattle.cell_types.specs.Layout.{Layout, reserve_at, outcome_at, done_at, list_at, root_at, pool_at}
+use Rattle.cell_types.specs.Layout.{Layout, reserve_at, outcome_at, done_at, list_at}
 use Rattle.cell_types.specs.Records.{IsRecordCell, record_bytes}
 use Rattle.cell_types.specs.declared.record_cell.RecordCell.{RecordCell}
-use Rattle.cell_types.specs.declared.record_cell.RecordCell.TheVariants.{Reserve, Commit, Abandon, Done}
+use Rattle.cell_types.specs.declared.record_cell.RecordCell.TheVariants.{Abandon}
 use Rattle.stored_documents.specs.Documents.{Document, AreDocuments}
 use Rattle.volume_growth.specs.Ingesting.{Plan, Phase, Reserving, Storing, Committing, Applying, Finishing, order_of, stored_of, Row, AnyRow, IsInPhases, IsIngest, LeavesSound}
 use Rattle.tamper_rules.specs.Journals.{journal_at, Copies, IsIndexCell, of_list, of_root, of_slot, IsInOrder}
-use Rattle.tamper_rules.specs.Settling.{Settled, IsOneHorizon, JournalRow, DoneRow, After, nothing, abandoned, completed, of_after, IsGivenUp, IsOf, of_reserve, of_outcome, of_range}
+use Rattle.tamper_rules.specs.Settling.{Settled, IsOneHorizon, JournalRow, DoneRow, After, nothing, abandoned, completed, of_after}
 use Rattle.stored_documents.specs.Slots.{Reserves, Commits, Stores, IsHorizon}
 use Rattle.stored_documents.specs.Volumes.{Holds, IsWritten}
 use Rattle.stored_documents.proofs.Extending.{volume_on, written_on, blank_before, reserves_on, document_on}
 use Rattle.stored_documents.proofs.Holding.{some_is}
-use Rattle.tamper_rules.proofs.GivenUp.{stands_inside}
+use Rattle.tamper_rules.proofs.GivenUp.{stands_inside, IsGivenUp, IsOf, of_reserve, of_outcome, of_range}
 use Rattle.tamper_rules.proofs.GivenUpRules.{given_up_is_settled, given_up_stands}
 use Rattle.tamper_rules.proofs.GoingOn.{copies_on, copies_back}
 use Rattle.tamper_rules.proofs.Images.{same_both, look, all_of_it}

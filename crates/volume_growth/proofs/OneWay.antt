@@ -1,9 +1,8 @@
 -- A node is reached in one way.
-use Rattle.std.proofs.Common.{◌≡◌, ◌<◌, ◌≤◌, ◌+◌, ◌*◌, ◌/◌, ◌%◌, ◌⊎◌, ⊎_elim, inl, inr, ℕ, suc, zero, List, Some, refl, sym, ◌∙◌, subst, ap, arith, length, slice_index, Bool, true, false, eqb, cond}
-use Rattle.std.proofs.lemmas.Bool.{cases_order}
+use Rattle.std.proofs.Common.{◌≡◌, ◌<◌, ◌+◌, ◌*◌, ◌/◌, ◌%◌, ⊎_elim, ℕ, List, refl, sym, ◌∙◌, subst, ap, arith, length, slice_index}
 use Rattle.cell_types.specs.Bytes.{AreBytes}
 use Rattle.cell_types.specs.Image.{Image}
-use Rattle.cell_types.specs.Layout.{Layout, root_at, pool_at}
+use Rattle.cell_types.specs.Layout.{Layout}
 use Rattle.cell_types.specs.declared.record_cell.RecordCell.TheVariants.{Child}
 use Rattle.std.proofs.Common.{ext_get_or}
 use Rattle.sha2.specs.Sha256.{sha256}

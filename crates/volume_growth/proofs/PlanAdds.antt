@@ -1,16 +1,12 @@
 -- A plan adds its document behind the others.
-use Rattle.std.proofs.Common.{◌≡◌, ◌<◌, ◌≤◌, ◌+◌, ◌⊎◌, ⊎_elim, inl, inr, ℕ, suc, zero, List, [], ◌∷◌, ◌++◌, Some, None, refl, sym, ◌∙◌, subst, ap, arith, length}
-use Rattle.std.specs.Prelude.{Contains, ◌↔◌}
+use Rattle.std.proofs.Common.{◌<◌, ⊎_elim, ℕ, List, [], ◌∷◌, ◌++◌, sym, subst, arith}
+use Rattle.std.specs.Prelude.{Contains}
 use Rattle.std.proofs.lemmas.List.Elements.{Contains-append_left, Contains-append_right, Contains-append_cases}
-use Rattle.std.proofs.lemmas.Option.{none-some}
-use Rattle.std.proofs.lemmas.Bool.{cases_order}
 use Rattle.cell_types.specs.Image.{Image}
-use Rattle.cell_types.specs.Layout.{Layout, reserve_at, outcome_at, done_at}
-use Rattle.cell_types.specs.declared.record_cell.RecordCell.TheVariants.{Commit, Abandon}
+use Rattle.cell_types.specs.Layout.{Layout}
 use Rattle.stored_documents.specs.Documents.{Document, IsDocument, AreDocuments, Stands}
 use Rattle.volume_growth.specs.Filling.{IsWellPlanned}
 use Rattle.volume_growth.specs.Ingesting.{Plan}
-use Rattle.tamper_rules.specs.Rules
 use Rattle.stored_documents.proofs.Extending.{document_on}
 use Rattle.volume_growth.proofs.Filled.{keeps, stands_back}
 use Rattle.index_paths.proofs.KeepingLaws.{documents}

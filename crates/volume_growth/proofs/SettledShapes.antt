@@ -1,9 +1,8 @@
 -- The lists and the tree of a settled image have their shapes.
-use Rattle.std.proofs.Common.{◌≡◌, ◌<◌, ◌≤◌, ◌+◌, ◌*◌, ◌⊎◌, ⊎_elim, inl, inr, ℕ, suc, zero, List, Some, None, refl, sym, ◌∙◌, subst, ap, arith}
-use Rattle.std.proofs.lemmas.Option.{none-some}
+use Rattle.std.proofs.Common.{◌≡◌, ◌<◌, ◌≤◌, ◌+◌, ◌⊎◌, ⊎_elim, inl, inr, ℕ, List, Some, refl, sym, ◌∙◌, subst, arith}
 use Rattle.std.proofs.lemmas.Bool.{cases_order}
 use Rattle.cell_types.specs.Image.{Image}
-use Rattle.cell_types.specs.Layout.{Layout, IsLayout, list_at, root_at, pool_at}
+use Rattle.cell_types.specs.Layout.{Layout, IsLayout, list_at, pool_at}
 use Rattle.cell_types.specs.declared.record_cell.RecordCell.TheVariants.{Jump, Child}
 use Rattle.index_paths.specs.Blocks.{Leads, arrived, onwards, pointer_at}
 use Rattle.volume_growth.specs.ListShapes.{IsWellListed}

@@ -1,12 +1,12 @@
 -- In a settled image each posting of a list has a trail: it is one of its slot's document, whose done cell asks for it.
-use Rattle.std.proofs.Common.{◌≡◌, ◌<◌, ◌≤◌, ◌+◌, ◌/◌, ℕ, List, Some, refl, sym, subst, arith}
+use Rattle.std.proofs.Common.{◌≡◌, ◌<◌, ◌≤◌, ◌+◌, ◌/◌, ℕ, refl, arith}
 use Rattle.cell_types.specs.Image.{Image}
-use Rattle.cell_types.specs.Layout.{Layout, IsLayout, done_at, list_at, pool_at}
+use Rattle.cell_types.specs.Layout.{Layout, done_at, list_at, pool_at}
 use Rattle.cell_types.specs.declared.record_cell.RecordCell.TheVariants.{Jump}
 use Rattle.stored_documents.specs.Slots.{IsEdge}
-use Rattle.stored_documents.specs.Volumes.{Holds, IsWritten}
+use Rattle.stored_documents.specs.Volumes.{Holds}
 use Rattle.stored_documents.proofs.Holding.{one_record_holds}
-use Rattle.index_paths.specs.Blocks.{PostingFields, posting_record, InSpan, Hop, Trail, here, on, Leads, arrived, pointer_at}
+use Rattle.index_paths.specs.Blocks.{PostingFields, posting_record, Trail, here, on, arrived, pointer_at}
 use Rattle.index_paths.specs.Nodes.{IsBlockOf}
 use Rattle.tamper_rules.specs.Rules
 use Rattle.tamper_rules.specs.Rules.{IsTruePosting, LeadsWell, PointerRule, PostingRule, TrailRule}

@@ -2,10 +2,10 @@
 use Rattle.std.specs.Prelude.{◌≡◌, ◌<◌, ◌≤◌, ◌+◌, ◌/◌, ◌^◌, ◌⊎◌, ℕ, List, [], ◌∷◌, ◌++◌, length, slice_get, Some, None}
 use Rattle.sha2.specs.Sha256.{sha256}
 use Rattle.cell_types.specs.Image.{Image}
-use Rattle.cell_types.specs.Layout.{Layout, reserve_at, outcome_at, done_at, list_at, root_at, pool_at}
+use Rattle.cell_types.specs.Layout.{Layout, outcome_at, done_at, list_at, root_at, pool_at}
 use Rattle.cell_types.specs.Records.{IsRecordCell}
 use Rattle.cell_types.specs.declared.record_cell.RecordCell.{RecordCell}
-use Rattle.cell_types.specs.declared.record_cell.RecordCell.TheVariants.{Reserve, Commit, Done, Bucket, Child}
+use Rattle.cell_types.specs.declared.record_cell.RecordCell.TheVariants.{Commit, Done, Bucket, Child}
 use Rattle.index_paths.specs.Blocks.{PostingFields, posting_record, Trail}
 use Rattle.stored_documents.specs.Documents.{Document, AreDocuments, IsIdentifier, IsBody, Stands, document_at}
 use Rattle.index_paths.specs.HashPaths.{HashTrail, fingerprint_of, nibble}

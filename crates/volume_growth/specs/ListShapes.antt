@@ -1,6 +1,6 @@
 -- The shape of one list: what its own blocks and pointers keep of the rules of blocks, and how it stays kept when a
 -- posting or a pointer is added.
-use Rattle.std.specs.Prelude.{◌≡◌, ◌≢◌, ◌<◌, ◌≤◌, ◌+◌, ◌⊎◌, ℕ, List, Some, None}
+use Rattle.std.specs.Prelude.{◌≡◌, ◌≢◌, ◌<◌, ◌≤◌, ◌+◌, ◌⊎◌, ℕ, None}
 use Rattle.cell_types.specs.Image.{Image, Extends}
 use Rattle.cell_types.specs.declared.record_cell.RecordCell.TheVariants.{Jump}
 use Rattle.index_paths.specs.Blocks.{PostingFields, posting_record, InFront, IsFull, InSpan, pointer_at, Leads}

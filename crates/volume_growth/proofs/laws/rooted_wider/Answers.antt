@@ -1,5 +1,4 @@
 -- The law, for all images.
-use Rattle.std.proofs.Common.{arith}
 use Rattle.volume_growth.proofs.TreeShapes.{rooted_wider}
 use Rattle.volume_growth.proofs.laws.rooted_wider.Goals as goal
 
