@@ -25,7 +25,7 @@ are_bytes bytes below = record {
 first_is : (at cell : ℕ) (value : List ℕ) (cells : List (ℕ × List ℕ)) → (cell == at) ≡ true → image_of ((at, value) ∷ cells) cell ≡ Some value
 first_is at cell value cells same = ap (λ (b : Bool). if b then Some value else image_of cells cell) same
 
-other_is : (at cell : ℕ) (value : List ℕ) (cells : List (ℕ × List ℕ)) → (cell == at) ≡ false → image_of ((at, value) ∷ cells) cell ≡ image_of cells cell
+pub other_is : (at cell : ℕ) (value : List ℕ) (cells : List (ℕ × List ℕ)) → (cell == at) ≡ false → image_of ((at, value) ∷ cells) cell ≡ image_of cells cell
 other_is at cell value cells differ = ap (λ (b : Bool). if b then Some value else image_of cells cell) differ
 
 -- no cell is written behind the last of a row

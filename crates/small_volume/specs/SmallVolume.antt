@@ -1,7 +1,8 @@
 -- The small volume: 8 slots, 2 lists, 1,000 cells, and the document `a` with the body `hello world`, with its index.
-use Rattle.std.specs.Prelude.{ℕ, List, [], ◌∷◌}
+use Rattle.std.specs.Prelude.{ℕ, List, [], ◌∷◌, codes}
 use Rattle.cell_types.specs.Image.{Image}
 use Rattle.cell_types.specs.Layout.{Layout}
+use Rattle.stored_documents.specs.Documents.{Document}
 use Rattle.small_volume.specs.Images.{image_of}
 
 -- 8 slots, 2 lists, 1,000 cells
@@ -32,9 +33,17 @@ hello_tag = 0x2c ∷ 0xf2 ∷ 0x4d ∷ 0xba ∷ 0x5f ∷ 0xb0 ∷ []
 abbrev pub hello_cell : List ℕ
 hello_cell = 0x06 ∷ 0x00 ∷ 0x00 ∷ 0x00 ∷ 0x00 ∷ 0x01 ∷ 0x2c ∷ 0xf2 ∷ 0x4d ∷ 0xba ∷ 0x5f ∷ 0xb0 ∷ 0x00 ∷ 0x00 ∷ 0x00 ∷ 0x24 ∷ []
 
+-- the tag of `world`, as its posting has it
+abbrev pub world_tag : List ℕ
+world_tag = 0x48 ∷ 0x6e ∷ 0xa4 ∷ 0x62 ∷ 0x24 ∷ 0xd1 ∷ []
+
 -- cell 37: kind 6, key 1, last 1, the tag of `world`
 abbrev pub world_cell : List ℕ
 world_cell = 0x06 ∷ 0x00 ∷ 0x00 ∷ 0x00 ∷ 0x01 ∷ 0x01 ∷ 0x48 ∷ 0x6e ∷ 0xa4 ∷ 0x62 ∷ 0x24 ∷ 0xd1 ∷ 0x00 ∷ 0x00 ∷ 0x00 ∷ 0x25 ∷ []
+
+-- the fingerprint of `a`, as its bucket has it
+abbrev pub a_fingerprint : List ℕ
+a_fingerprint = 0xca ∷ 0x97 ∷ 0x81 ∷ 0x12 ∷ 0xca ∷ 0x1b ∷ 0xbd ∷ []
 
 -- cell 560: kind 8, slot 0, the fingerprint of `a`
 abbrev pub bucket_cell : List ℕ
@@ -53,6 +62,10 @@ small_cells =
 -- the small volume's image
 abbrev pub small_image : Image
 small_image = image_of small_cells
+
+-- its one document
+abbrev pub small_document : Document
+small_document = record { slot = 0; id = codes "a"; body = codes "hello world" }
 
 -- the image of a volume that has just been formatted: its volume cell alone
 abbrev pub formatted_image : Image

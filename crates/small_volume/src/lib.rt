@@ -47,7 +47,7 @@ pub use broken_rules::{
     a_written_cell_behind_the_edge_breaks_rule_7, an_outcome_without_a_reserve_cell_breaks_rule_2,
 };
 pub use foreign_cells::{a_foreign_cell_changes_one_blank_cell, foreign_cells_leave_written_cells};
-pub use kept_rules::the_small_volume_keeps_rules_1_2_3_and_8;
+pub use kept_rules::{the_small_volume_is_settled, the_small_volume_keeps_rules_1_2_3_and_8};
 pub use volume_laws::{
     a_volume_cell_alone_is_settled, slot_0_is_done, slot_1_is_a_horizon_and_cell_584_an_edge,
     the_document_stands, the_image_is_a_volume,
