@@ -115,7 +115,8 @@ is_a = record {
   most = omega arith;
   each = λ i inside.
       let first : i ≡ 0 = omega arith in
-      subst (λ (i : ℕ). (0x21 ≤ slice_index (codes "a") i) × (slice_index (codes "a") i ≤ 0x7E)) (sym first) (omega arith, omega arith);
+      let InRange : ℕ → Type 0 = λ i. (0x21 ≤ slice_index (codes "a") i) × (slice_index (codes "a") i ≤ 0x7E) in
+      subst InRange (sym first) (omega arith, omega arith);
 }
 
 pub is_hello_world : IsBody (codes "hello world")
