@@ -1,15 +1,14 @@
 -- The rules that need no digest, at the cells of the small volume.
-use Rattle.std.proofs.Common.{◌≡◌, ◌<◌, ◌≤◌, ◌+◌, ◌⊎◌, ⊎_elim, inl, inr, ℕ, suc, zero, List, [], Some, None, refl, sym, ◌∙◌, subst, ap, arith, codes, drop}
+use Rattle.std.proofs.Common.{◌≡◌, ◌<◌, ◌≤◌, ◌+◌, inl, inr, ℕ, suc, zero, List, [], Some, refl, sym, ◌∙◌, subst, ap, arith, codes, drop}
 use Rattle.std.proofs.lemmas.Bool.{cases_lt}
 use Rattle.std.proofs.lemmas.Option.{none-some}
 use Rattle.byteorder.specs.Endian.{big_number}
-use Rattle.cell_types.specs.Layout.{reserve_at, outcome_at, done_at, list_at, root_at}
+use Rattle.cell_types.specs.Layout.{done_at, list_at}
 use Rattle.cell_types.specs.declared.record_cell.RecordCell.{RecordCell}
 use Rattle.cell_types.specs.declared.record_cell.RecordCell.TheVariants.{Reserve, Bucket}
 use Rattle.cell_types.proofs.OneRecord.{address_in}
 use Rattle.stored_documents.specs.Documents.{document_at}
-use Rattle.stored_documents.specs.Slots.{IsDone, Stores}
-use Rattle.stored_documents.specs.Volumes.{Holds, IsWritten}
+use Rattle.stored_documents.specs.Volumes.{IsWritten}
 use Rattle.stored_documents.proofs.Holding.{one_record_holds, some_is}
 use Rattle.stored_documents.proofs.OneDocument.{reserves}
 use Rattle.index_paths.specs.Blocks.{Leads, arrived, onwards, pointer_at, posting_record}
@@ -35,9 +34,14 @@ reserve_rule = record {
 pub outcome_rule : OutcomeRule small_image 0
 outcome_rule = record {
   reserve = record { found = reserve_cell; stands = refl };
-  outcome = inr (13, 3, commit_0, λ start reserved h.
-      let both = reserves 580 4 start reserved (one_record_holds small_image 4 (Reserve 580 4) (Reserve start reserved) reserve_0 h) in
-      omega (arith, both.1));
+  outcome = inr (
+    13,
+    3,
+    commit_0,
+    λ start reserved h.
+        let same = one_record_holds small_image 4 (Reserve 580 4) (Reserve start reserved) reserve_0 h in
+        omega (arith, (reserves 580 4 start reserved same).1),
+  );
 }
 
 pub done_rule : DoneRule small_image 0
@@ -62,13 +66,34 @@ at_place P first second third (suc (suc (suc place))) below = absurd (omega arit
 
 -- the journal copies cells 36, 37 and 560
 copies_36 : Copies small_image 580 4 3 0 36 (posting_record hello_posting)
-copies_36 = record { below = omega arith; entry = hello_cell; stands = refl; index = tt; address = omega arith; is = hello_is }
+copies_36 = record {
+  below = omega arith;
+  entry = hello_cell;
+  stands = refl;
+  index = tt;
+  address = omega arith;
+  is = hello_is;
+}
 
 copies_37 : Copies small_image 580 4 3 1 37 (posting_record world_posting)
-copies_37 = record { below = omega arith; entry = world_cell; stands = refl; index = tt; address = omega arith; is = world_is }
+copies_37 = record {
+  below = omega arith;
+  entry = world_cell;
+  stands = refl;
+  index = tt;
+  address = omega arith;
+  is = world_is;
+}
 
 copies_560 : Copies small_image 580 4 3 2 560 (Bucket 0 a_fingerprint)
-copies_560 = record { below = omega arith; entry = bucket_cell; stands = refl; index = tt; address = omega arith; is = bucket_is }
+copies_560 = record {
+  below = omega arith;
+  entry = bucket_cell;
+  stands = refl;
+  index = tt;
+  address = omega arith;
+  is = bucket_is;
+}
 
 in_order : (place : ℕ) → place < 3 → IsInOrder small_layout small_image 0 580 4 13 3 place
 in_order = at_place (λ place. IsInOrder small_layout small_image 0 580 4 13 3 place)
@@ -107,30 +132,35 @@ journal_written = at_place (λ place. IsWritten small_image (581 + place))
 pub journal_rule : (cell : ℕ) → JournalRule small_layout small_image cell
 journal_rule cell = record {
   entry = λ n start reserved bytes journal place s below at. of_slot_0
-      (λ n start reserved bytes journal. place < journal → IsInOrder small_layout small_image n start reserved bytes journal place)
+      (λ n start reserved bytes journal. place < journal
+      → IsInOrder small_layout small_image n start reserved bytes journal place)
       (in_order place) s below;
   commit = λ n start reserved bytes journal place s below at. of_slot_0
-      (λ n start reserved bytes journal. place < journal → IsWritten small_image (journal_at start reserved journal + place))
+      (λ n start reserved bytes journal. place < journal
+      → IsWritten small_image (journal_at start reserved journal + place))
       (journal_written place) s below;
 }
 
--- a copy of a cell that holds the same as the journal stands where it says
-module _ (number : ℕ) (held : List ℕ) (read : big_number 4 (drop 12 held) ≡ number) (stands : small_image number ≡ Some held) where
-  copied_from : (place target : ℕ) (copied : RecordCell) → small_image (581 + place) ≡ Some held
-      → Copies small_image 580 4 3 place target copied → small_image target ≡ small_image (581 + place)
-  copied_from place target copied here c =
-      let entry : c.entry ≡ held = some_is c.entry held (sym c.stands ∙ here) in
-      let address : big_number 4 (drop 12 c.entry) ≡ target = address_in copied target c.entry c.address c.is in
-      let to : target ≡ number = sym address ∙ ap (λ (v : List ℕ). big_number 4 (drop 12 v)) entry ∙ read in
-      ap small_image to ∙ stands ∙ sym here
+-- A copy stands at the target that it names: its last four bytes are this cell's number.
+abbrev address_of : List ℕ → ℕ
+address_of held = big_number 4 (drop 12 held)
+
+copied_to : (place number target : ℕ) (copied : RecordCell) (held : List ℕ) → address_of held ≡ number
+    → small_image number ≡ Some held → small_image (581 + place) ≡ Some held
+    → Copies small_image 580 4 3 place target copied → small_image target ≡ small_image (581 + place)
+copied_to place number target copied held read stands here c =
+    let entry : c.entry ≡ held = some_is c.entry held (sym c.stands ∙ here) in
+    let address : address_of c.entry ≡ target = address_in copied target c.entry c.address c.is in
+    let to : target ≡ number = sym address ∙ ap address_of entry ∙ read in
+    ap small_image to ∙ stands ∙ sym here
 
 redone : (target : ℕ) (copied : RecordCell) (place : ℕ) → place < 3 → Copies small_image 580 4 3 place target copied
     → small_image target ≡ small_image (581 + place)
 redone target copied = at_place
     (λ place. Copies small_image 580 4 3 place target copied → small_image target ≡ small_image (581 + place))
-    (copied_from 36 hello_cell refl refl 0 target copied refl)
-    (copied_from 37 world_cell refl refl 1 target copied refl)
-    (copied_from 560 bucket_cell refl refl 2 target copied refl)
+    (copied_to 0 36 target copied hello_cell refl refl refl)
+    (copied_to 1 37 target copied world_cell refl refl refl)
+    (copied_to 2 560 target copied bucket_cell refl refl refl)
 
 -- rule 6
 pub redone_rule : (cell : ℕ) → RedoneRule small_layout small_image cell
@@ -138,7 +168,7 @@ redone_rule cell = record {
   done = λ n start reserved bytes journal place target copied d c at.
       of_slot_0
       (λ n start reserved bytes journal. Copies small_image start reserved journal place target copied
-          → small_image target ≡ small_image (journal_at start reserved journal + place))
+      → small_image target ≡ small_image (journal_at start reserved journal + place))
       (λ c. redone target copied place c.below c) (record { commits = d.commits; done = inr d.done }) c
       ∙ ap small_image (sym at);
   committed = λ n start reserved bytes journal place target copied d c at.
@@ -147,7 +177,8 @@ redone_rule cell = record {
 }
 
 -- no index cell is written that slot 0's journal does not name
-named_by : (place cell : ℕ) (copied : RecordCell) → Copies small_image 580 4 3 place cell copied → IsNamed small_layout small_image cell
+named_by : (place cell : ℕ) (copied : RecordCell) → Copies small_image 580 4 3 place cell copied
+    → IsNamed small_layout small_image cell
 named_by place cell copied copies = record {
   m = 0;
   start = 580;
@@ -160,15 +191,18 @@ named_by place cell copied copies = record {
   copies = copies;
 }
 
-named : (cell : ℕ) → IsWritten small_image cell → IsDoneIndexCell small_layout small_image cell → IsNamed small_layout small_image cell
+named : (cell : ℕ) → IsWritten small_image cell → IsDoneIndexCell small_layout small_image cell
+    → IsNamed small_layout small_image cell
 named cell w (Rules.IsDoneIndexCell.of_list l lies) =
     let number = numbers cell w in
-    ⊎_elim
-    (λ low. let is : cell ≡ 36 = omega (arith, number, lies.exists, lies.from, lies.below) in
-        subst (IsNamed small_layout small_image) (sym is) (named_by 0 36 (posting_record hello_posting) copies_36))
-    (λ high. let is : cell ≡ 37 = omega (arith, number, lies.exists, lies.from, lies.below) in
-        subst (IsNamed small_layout small_image) (sym is) (named_by 1 37 (posting_record world_posting) copies_37))
-    (cases_lt cell 37)
+    elim (cases_lt cell 37) [
+      | inl low ↦
+          let is : cell ≡ 36 = omega (arith, number, lies.exists, lies.from, lies.below) in
+          subst (IsNamed small_layout small_image) (sym is) (named_by 0 36 (posting_record hello_posting) copies_36)
+      | inr high ↦
+          let is : cell ≡ 37 = omega (arith, number, lies.exists, lies.from, lies.below) in
+          subst (IsNamed small_layout small_image) (sym is) (named_by 1 37 (posting_record world_posting) copies_37)
+    ]
 named cell w (Rules.IsDoneIndexCell.of_root lies) =
     let is : cell ≡ 560 = omega (arith, numbers cell w, lies.from, lies.below) in
     subst (IsNamed small_layout small_image) (sym is) (named_by 2 560 (Bucket 0 a_fingerprint) copies_560)
@@ -188,14 +222,19 @@ blank_rule cell w = record {
 -- a list has its first block and no other
 pub heads_alone : {from to last block : ℕ} → Leads small_image from to last block → block ≡ last
 heads_alone (arrived block is) = is
-heads_alone (onwards block level digit target ls d1 d2 jump from to rest) = absurd (no_jump (pointer_at block level digit) target jump)
+heads_alone (onwards block level digit target ls d1 d2 jump from to rest) =
+    absurd (no_jump (pointer_at block level digit) target jump)
 
 -- the first two places of the first block hold postings, and their keys rise
 first_place : HoldsInOrder small_image 36 0
 first_place = record { p = hello_posting; holds = hello_holds; rises = inl refl }
 
 second_place : HoldsInOrder small_image 36 1
-second_place = record { p = world_posting; holds = world_holds; rises = inr (0, hello_posting, refl, hello_holds, omega arith) }
+second_place = record {
+  p = world_posting;
+  holds = world_holds;
+  rises = inr (0, hello_posting, refl, hello_holds, omega arith);
+}
 
 -- rule 8
 pub entry_rule : (cell : ℕ) → IsWritten small_image cell → EntryRule small_layout small_image cell
@@ -204,17 +243,22 @@ entry_rule cell w = record {
       let number = numbers cell w in
       let head : list_at small_layout l ≡ block = heads_alone b.leads in
       let first : block ≡ 36 = omega (arith, number, head, b.list, at, below) in
-      subst (λ (k : ℕ). HoldsInOrder small_image k place) (sym first) (⊎_elim
-          (λ low. let is : place ≡ 0 = omega (arith, number, first, at) in subst (HoldsInOrder small_image 36) (sym is) first_place)
-          (λ high. let is : place ≡ 1 = omega (arith, number, first, at, below) in subst (HoldsInOrder small_image 36) (sym is) second_place)
-          (cases_lt cell 37));
+      subst (λ (k : ℕ). HoldsInOrder small_image k place) (sym first) (elim (cases_lt cell 37) [
+        | inl low ↦
+            let is : place ≡ 0 = omega (arith, number, first, at) in
+            subst (HoldsInOrder small_image 36) (sym is) first_place
+        | inr high ↦
+            let is : place ≡ 1 = omega (arith, number, first, at, below) in
+            subst (HoldsInOrder small_image 36) (sym is) second_place
+      ]);
   blank = λ l block place b from to at. omega (arith, numbers cell w, heads_alone b.leads, b.list, at, from);
 }
 
 -- rule 10: no place of a pointer is written
 pub pointer_rule : (cell : ℕ) → IsWritten small_image cell → PointerRule small_layout small_image cell
 pointer_rule cell w = λ l block level digit b ls d1 d2 at.
-    absurd (let head : list_at small_layout l ≡ block = heads_alone b.leads in omega (arith, numbers cell w, b.list))
+    let head : list_at small_layout l ≡ block = heads_alone b.leads in
+    absurd (omega (arith, numbers cell w, head, b.list, at))
 
 -- the root is the one node
 pub root_alone : {v node : ℕ} → IsNode small_layout small_image v node → (v ≡ 0) × (node ≡ 548)
@@ -223,7 +267,7 @@ root_alone (under v node w above x is rest xs less child from to) = absurd (no_c
 
 -- rule 12: no place of a child cell is written
 pub child_rule : (cell : ℕ) → IsWritten small_image cell → ChildRule small_layout small_image cell
-child_rule cell w = λ v node x o less at. absurd (let is = (root_alone o).1 in omega (arith, numbers cell w, is))
+child_rule cell w = λ v node x o less at. absurd (omega (arith, numbers cell w, (root_alone o).1, at, less))
 
 -- rule 15: slot 0 has no block part, so nothing has to tile it
 pub tiling_rule : TilingRule small_image 580 4 13 3

@@ -1,8 +1,8 @@
 -- The small volume is settled, and has one document.
-use Rattle.std.proofs.Common.{◌≡◌, ◌<◌, ◌≤◌, ◌+◌, ◌⊎◌, inl, inr, ℕ, suc, zero, List, [], ◌∷◌, Some, None, refl, sym, ◌∙◌, subst, ap, arith, codes}
+use Rattle.std.proofs.Common.{◌≡◌, inr, ℕ, suc, zero, List, [], ◌∷◌, sym, ◌∙◌, subst, arith, codes}
 use Rattle.std.specs.Prelude.{Contains}
 use Rattle.std.proofs.lemmas.Option.{none-some}
-use Rattle.cell_types.specs.Layout.{Layout, reserve_at, outcome_at, done_at}
+use Rattle.cell_types.specs.Layout.{Layout}
 use Rattle.stored_documents.specs.Documents.{Document, IsDocument, AreDocuments, Stands, document_at}
 use Rattle.stored_documents.specs.Slots.{Reserves, IsDoneSlot, IsHorizon}
 use Rattle.stored_documents.specs.Volumes.{IsWritten}
@@ -20,14 +20,15 @@ use Rattle.small_volume.proofs.Index.{posting_rule, bucket_rule, trail_rule, pat
 use Rattle.small_volume.proofs.Small.{volume, reserve_0, slot_0, stands_0}
 
 -- what stands, stands in slot 0, and is its document
-stands_is : {n : ℕ} {id body : List ℕ} → Stands 1000 small_image n id body → (n ≡ 0) × (id ≡ codes "a") × (body ≡ codes "hello world")
+stands_is : {n : ℕ} {id body : List ℕ} → Stands 1000 small_image n id body
+    → (n ≡ 0) × (id ≡ codes "a") × (body ≡ codes "hello world")
 stands_is {n} {id} {body} t =
     let same : t.layout ≡ small_layout = one_layout t.layout small_layout t.volume volume in
     let reserves : Reserves small_layout small_image n t.start t.reserved =
-        subst (λ (g : Layout). Reserves g small_image n t.start t.reserved) same t.done.commits.reserves in
+    subst (λ (g : Layout). Reserves g small_image n t.start t.reserved) same t.done.commits.reserves in
     let first : n ≡ 0 = (reserves_are reserves).0 in
-    let both = one_document 1000 small_image 0 id body (codes "a") (codes "hello world")
-            (subst (λ (k : ℕ). Stands 1000 small_image k id body) first t) stands_0 in
+    let there = subst (λ (k : ℕ). Stands 1000 small_image k id body) first t in
+    let both = one_document 1000 small_image 0 id body (codes "a") (codes "hello world") there stands_0 in
     (first, both.0, both.1)
 
 -- each rule, at each written cell
@@ -42,7 +43,8 @@ met Rules.DoneCells cell w = λ n inside at.
     let first : n ≡ 0 = omega (arith, numbers cell w) in
     subst (DoneRule small_image) (sym first) done_rule
 met Rules.Documents cell w = λ n inside at start reserved bytes journal s. of_slot_0
-    (λ n start reserved bytes journal. HasDocument small_image (document_at start reserved bytes journal) bytes) has_document s
+    (λ n start reserved bytes journal. HasDocument small_image (document_at start reserved bytes journal) bytes)
+    has_document s
 met Rules.Journals cell w = journal_rule cell
 met Rules.Targets cell w = redone_rule cell
 met Rules.StrayCells cell w = blank_rule cell w
@@ -53,10 +55,12 @@ met Rules.Buckets cell w = bucket_rule cell w
 met Rules.Children cell w = child_rule cell w
 met Rules.Trails cell w = λ n id body at t.
     let is = stands_is t in
-    subst (λ (k : ℕ). TrailRule small_layout small_image k body) (sym is.0) (subst (TrailRule small_layout small_image 0) (sym is.2) trail_rule)
+    subst (λ (k : ℕ). TrailRule small_layout small_image k body) (sym is.0)
+    (subst (TrailRule small_layout small_image 0) (sym is.2) trail_rule)
 met Rules.Paths cell w = λ n id body at t.
     let is = stands_is t in
-    subst (λ (k : ℕ). PathRule small_layout small_image k id) (sym is.0) (subst (PathRule small_layout small_image 0) (sym is.1) path_rule)
+    subst (λ (k : ℕ). PathRule small_layout small_image k id) (sym is.0)
+    (subst (PathRule small_layout small_image 0) (sym is.1) path_rule)
 met Rules.Tilings cell w = λ n start reserved bytes journal at d. of_slot_0
     (λ n start reserved bytes journal. TilingRule small_image start reserved bytes journal) tiling_rule
     (record { commits = d.commits; done = inr d.done })
@@ -93,7 +97,10 @@ are_documents = record {
   each = λ d. (
     λ i.
         let is = stands_is i.stands in
-        subst (λ (e : Document). Contains (small_document ∷ []) e) (sym (documents d small_document is.0 is.1 is.2)) (the_one small_document),
-    λ among. subst (λ (e : Document). IsDocument 1000 small_image e.slot e.id e.body) (sym (only_one small_document d among)) is_document,
+        let same : d ≡ small_document = documents d small_document is.0 is.1 is.2 in
+        subst (λ (e : Document). Contains (small_document ∷ []) e) (sym same) (the_one small_document),
+    λ among.
+        let same : d ≡ small_document = only_one small_document d among in
+        subst (λ (e : Document). IsDocument 1000 small_image e.slot e.id e.body) (sym same) is_document,
   );
 }

@@ -2,7 +2,6 @@
 use Rattle.std.proofs.Common.{◌≡◌, ◌≤◌, ◌+◌, inr, ℕ, List, Some, refl, sym, subst, arith, codes, slice_index}
 use Rattle.cell_types.specs.Layout.{IsLayout, reserve_at}
 use Rattle.cell_types.specs.Records.{IsRecordCell}
-use Rattle.cell_types.specs.declared.record_cell.RecordCell.{RecordCell}
 use Rattle.cell_types.specs.declared.record_cell.RecordCell.TheVariants.{Reserve, Commit, Done, Bucket}
 use Rattle.stored_documents.specs.Volumes.{Holds, IsWritten, IsVolume, volume_record}
 use Rattle.stored_documents.specs.Slots.{Reserves, IsDone, IsHorizon, IsEdge}

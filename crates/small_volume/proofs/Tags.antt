@@ -1,5 +1,5 @@
 -- The tags of `hello world`: two in list 0, and none in list 1.
-use Rattle.std.proofs.Common.{◌≡◌, ◌<◌, ◌≤◌, ◌+◌, ◌%◌, ◌⊎◌, ⊎_elim, inl, inr, ℕ, suc, zero, List, [], ◌∷◌, Some, None, refl, sym, ◌∙◌, subst, ap, arith, codes, length, take, drop}
+use Rattle.std.proofs.Common.{◌≡◌, ◌<◌, ◌≤◌, ◌%◌, ◌⊎◌, ⊎_elim, inl, inr, ℕ, suc, zero, List, [], ◌∷◌, Some, refl, sym, ◌∙◌, subst, ap, arith, codes, length, take, drop}
 use Rattle.std.specs.Prelude.{Contains, slice_get}
 use Rattle.std.proofs.lemmas.Option.{none-some}
 use Rattle.byteorder.specs.Endian.{big_number}
@@ -23,7 +23,8 @@ one_of_two a b x (suc (suc k), low, is) = absurd (omega (arith, low))
 
 pub word_is : (word : List ℕ) → HasWord (codes "hello world") word → (word ≡ codes "hello") ⊎ (word ≡ codes "world")
 word_is word h =
-    let all : h.words ≡ codes "hello" ∷ codes "world" ∷ [] = words_are_one.one (codes "hello world") h.words h.are ∙ words in
+    let all : h.words ≡ codes "hello" ∷ codes "world" ∷ [] =
+    words_are_one.one (codes "hello world") h.words h.are ∙ words in
     one_of_two (codes "hello") (codes "world") word (subst (λ (ws : List (List ℕ)). Contains ws word) all h.among)
 
 -- their lists and tags
@@ -54,7 +55,8 @@ has_world = record {
 }
 
 -- each tag is in list 0, and one of the two
-pub tag_is : (l : ℕ) (tag : List ℕ) → HasTag 2 (codes "hello world") l tag → (l ≡ 0) × ((tag ≡ hello_tag) ⊎ (tag ≡ world_tag))
+pub tag_is : (l : ℕ) (tag : List ℕ) → HasTag 2 (codes "hello world") l tag
+    → (l ≡ 0) × ((tag ≡ hello_tag) ⊎ (tag ≡ world_tag))
 tag_is l tag h = ⊎_elim
     (λ is. (sym h.list ∙ ap (list_of 2) is ∙ hello_list, inl (sym h.same ∙ ap tag_of is ∙ hello_has)))
     (λ is. (sym h.list ∙ ap (list_of 2) is ∙ world_list, inr (sym h.same ∙ ap tag_of is ∙ world_has)))
@@ -113,7 +115,10 @@ number_is tag h = ⊎_elim (λ is. inl (ap (big_number 6) is)) (λ is. inr (ap (
 -- a list of its tags in list 0 has these two, in this order
 pub only_tags : (tags : List (List ℕ)) → AreTags 2 (codes "hello world") 0 tags → tags ≡ hello_tag ∷ world_tag ∷ []
 only_tags [] are = absurd (omega (arith, (are.all hello_tag hello_tagged).1))
-only_tags (x ∷ []) are = absurd (omega (arith, ap (big_number 6) (only hello_tag hello_tagged), ap (big_number 6) (only world_tag world_tagged)))
+only_tags (x ∷ []) are =
+    let first = ap (big_number 6) (only hello_tag hello_tagged) in
+    let second = ap (big_number 6) (only world_tag world_tagged) in
+    absurd (omega (arith, first, second))
   where
     only : (tag : List ℕ) → HasTag 2 (codes "hello world") 0 tag → x ≡ tag
     only tag h = first (are.all tag h)
@@ -127,21 +132,21 @@ only_tags (x ∷ y ∷ []) are =
     let second = are.each y (suc zero, omega arith, refl) in
     ⊎_elim
     (λ x_is. ⊎_elim
-        (λ y_is. absurd (omega (arith, rise, ap (big_number 6) x_is, ap (big_number 6) y_is)))
-        (λ y_is. ap (λ (t : List ℕ). t ∷ y ∷ []) x_is ∙ ap (λ (t : List ℕ). hello_tag ∷ t ∷ []) y_is)
-        (tag_is 0 y second).1)
+    (λ y_is. absurd (omega (arith, rise, ap (big_number 6) x_is, ap (big_number 6) y_is)))
+    (λ y_is. ap (λ (t : List ℕ). t ∷ y ∷ []) x_is ∙ ap (λ (t : List ℕ). hello_tag ∷ t ∷ []) y_is)
+    (tag_is 0 y second).1)
     (λ x_is. absurd (omega (arith, rise, ap (big_number 6) x_is, number_is y second)))
     (tag_is 0 x first).1
 only_tags (x ∷ y ∷ z ∷ tags) are =
     let rise : big_number 6 x < big_number 6 y = are.rise 0 1 x y (omega arith) refl refl in
     let more : big_number 6 y < big_number 6 z = are.rise 1 2 y z (omega arith) refl refl in
     absurd (omega (
-        arith,
-        rise,
-        more,
-        number_is x (are.each x (zero, omega arith, refl)),
-        number_is y (are.each y (suc zero, omega arith, refl)),
-        number_is z (are.each z (suc (suc zero), omega arith, refl)),
+      arith,
+      rise,
+      more,
+      number_is x (are.each x (zero, omega arith, refl)),
+      number_is y (are.each y (suc zero, omega arith, refl)),
+      number_is z (are.each z (suc (suc zero), omega arith, refl)),
     ))
 
 -- and one in list 1 has none

@@ -1,5 +1,5 @@
 -- Bytes and cells that are written out.
-use Rattle.std.proofs.Common.{◌≡◌, ◌≢◌, ◌<◌, ◌⊎◌, inl, inr, ◌==◌, ◌&&◌, not, if◌then◌else◌, ℕ, Bool, true, false, List, [], ◌∷◌, Option, Some, None, length, slice_index, nat_lt, refl, sym, ◌∙◌, ap, arith}
+use Rattle.std.proofs.Common.{◌≡◌, ◌≢◌, ◌<◌, ◌⊎◌, inl, inr, ◌==◌, ◌&&◌, not, if◌then◌else◌, ℕ, Bool, true, List, [], ◌∷◌, Option, Some, None, length, slice_index, nat_lt, refl, sym, ◌∙◌, ap, arith}
 use Rattle.std.specs.List.{list_all}
 use Rattle.std.proofs.lemmas.Bool.{and_parts, cases_lt, eq-eqb, ltb-true, true≢false}
 use Rattle.std.proofs.lemmas.Bool.Decides.{eqb_tells}

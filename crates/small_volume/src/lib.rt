@@ -1,6 +1,6 @@
-//! One small volume, byte for byte, on which the definitions of volumes, slots and rules are tried: 8 slots, 2 lists,
-//! 1,000 cells, and the document `a` with the body `hello world`, with its index. No code of its own; each function
-//! does nothing, and its contract is a sentence about these bytes.
+//! One small volume, byte for byte, on which the definitions of volumes, slots, rules and settled are tried: 8 slots,
+//! 2 lists, 1,000 cells, and the document `a` with the body `hello world`, with its index. No function does anything;
+//! its contract is a sentence about these bytes.
 //!
 //!     cell   0        volume    8 slots, 2 lists, 1,000 cells
 //!            1-3      blank
@@ -11,16 +11,16 @@
 //!            8-35     slots 1 to 7, blank
 //!            36       posting   key 0, last 1, `hello`   \   first block of list 0:
 //!            37       posting   key 1, last 1, `world`    |  entries 36-163, pointers 164-283,
-//!            38-291   blank                              /   nothing ever 284-291
+//!            38-291   blank                              /   and 284-291 stay blank
 //!            292-547  first block of list 1, blank
 //!            560      bucket    slot 0, `a`                  bucket 12 of the root node, 548-579
 //!            580      content   01 61 `hello world`      \
-//!            581-583  journal   copies of 36, 37, 560     |  pool, with its edge at 584
+//!            581-583  journal   copies of 36, 37, 560     |  pool, whose edge is at 584
 //!            584-999  blank                              /
 //!
-//! Then somebody else writes into it, and a rule is broken at the cell that was written:
+//! It is settled: each rule is kept at each written cell. Then somebody else writes into it, and a rule is broken:
 //!
-//! | Cell | What is written | Rule | Why |
+//! | Cell | What is written there | Rule | Why |
 //! |---|---|---|---|
 //! | 12 | reserve cell of slot 2, 1 cell from 584 on | 1 | slot 1, before it, has not ended |
 //! | 9 | abandon cell of slot 1 | 2 | slot 1 has no reserve cell |
@@ -29,10 +29,11 @@
 //! | 284 | posting, key 0, last 0, `hello` | 8 | it stands behind the pointers of its block |
 //! | 164 | jump to cell 0, which the journal of a whole slot 1 names | 10 | cell 0 lies before the pool |
 //!
-//! In the small volume itself rules 1, 2, 3 and 8 are kept at cells 4, 5, 6 and 36.
+//! The cells are written out in `specs/`, and no definition of a record made them. Nothing is said of the other rules
+//! as broken ones, nor of another volume.
 //!
-//! Stands on `stored_documents` and `tamper_rules`, whose words it tries. Begin with `specs/SmallVolume.antt`: the bytes
-//! there are written out, and no definition of a record made them.
+//! Stands on `stored_documents`, `index_paths` and `tamper_rules`, whose words it tries. Begin with
+//! `specs/SmallVolume.antt`.
 #![tactic(auto)]
 
 mod broken_rules;

@@ -1,5 +1,5 @@
 -- The outcome cell of slot 1 is blank.
-use Rattle.std.proofs.Common.{◌≡◌, ◌<◌, ◌≤◌, ◌+◌, inl, inr, ℕ, [], ◌∷◌, Some, None, refl, arith}
+use Rattle.std.proofs.Common.{refl, arith}
 use Rattle.tamper_rules.specs.Rules.{DoneCells}
 use Rattle.std.proofs.lemmas.Option.{none-some}
 use Rattle.small_volume.proofs.Broken.{broken_by}

@@ -94,8 +94,8 @@ pub returns-clause-broken : goal.returns-clause-broken
 returns-clause-broken c = broken (foreign_extends small_image second_slot_cells) Pointers 164 jump_cell refl
     (inl (0, record { exists = omega arith; from = omega arith; below = omega arith }))
     (λ met.
-        let rule = met 0 36 0 1 first_block (omega arith) (omega arith) (omega arith) refl in
-        let none : 0 ≡ rule.target =
-            jumps 0 rule.target (one_record_holds image 164 (Jump 0) (Jump rule.target) pointer rule.jump) in
-        let from : 580 ≤ rule.target = rule.from in
-        omega (arith, none, from))
+    let rule = met 0 36 0 1 first_block (omega arith) (omega arith) (omega arith) refl in
+    let none : 0 ≡ rule.target =
+    jumps 0 rule.target (one_record_holds image 164 (Jump 0) (Jump rule.target) pointer rule.jump) in
+    let from : 580 ≤ rule.target = rule.from in
+    omega (arith, none, from))

@@ -1,5 +1,5 @@
 -- Slot 1 has no reserve cell, so it has not ended.
-use Rattle.std.proofs.Common.{◌≡◌, ◌<◌, ◌≤◌, ◌+◌, inl, inr, ℕ, [], ◌∷◌, Some, None, refl, arith}
+use Rattle.std.proofs.Common.{refl, arith}
 use Rattle.tamper_rules.specs.Rules.{ReserveCells}
 use Rattle.tamper_rules.proofs.Settled.{ended_reserves, written}
 use Rattle.small_volume.proofs.Broken.{broken_by, no_written}

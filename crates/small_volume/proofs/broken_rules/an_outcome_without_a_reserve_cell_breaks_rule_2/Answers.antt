@@ -1,5 +1,5 @@
 -- The reserve cell of slot 1 is blank.
-use Rattle.std.proofs.Common.{◌≡◌, ◌<◌, ◌≤◌, ◌+◌, inl, inr, ℕ, [], ◌∷◌, Some, None, refl, arith}
+use Rattle.std.proofs.Common.{refl, arith}
 use Rattle.tamper_rules.specs.Rules.{OutcomeCells}
 use Rattle.small_volume.proofs.Broken.{broken_by, no_written}
 use Rattle.small_volume.specs.ForeignCells.{abandon_cell}
