@@ -131,7 +131,7 @@ journal_written = at_place (λ place. IsWritten small_image (581 + place))
 -- rule 5
 pub journal_rule : (cell : ℕ) → JournalRule small_layout small_image cell
 journal_rule cell = record {
-  entry = λ n start reserved bytes journal place s below at. of_slot_0
+  copy = λ n start reserved bytes journal place s below at. of_slot_0
       (λ n start reserved bytes journal. place < journal
       → IsInOrder small_layout small_image n start reserved bytes journal place)
       (in_order place) s below;

@@ -167,5 +167,5 @@ path_rule = record {
   path =
       let HasBucket : List ℕ → Type 0 = λ d. Holds small_image (548 + nibble d 0) (Bucket 0 (fingerprint_of d)) in
       HashPaths.HashTrail.here 548 0 (subst HasBucket (sym digests_a) bucket_holds);
-  first = λ m other less t. absurd (omega arith);
+  alone = λ m other less t. absurd (omega arith);
 }
