@@ -2,29 +2,35 @@
 use Rattle.std.proofs.Common.{◌≡◌, ℕ, List, [], ◌∷◌, refl, codes}
 use Rattle.sha2.specs.Sha256.{sha256, digest_bytes, hash_after, compress, rounds, schedule, first_words}
 
+-- the digest of the identifier `a`
 abbrev pub digest_of_a : List ℕ
 digest_of_a =
     0xca ∷ 0x97 ∷ 0x81 ∷ 0x12 ∷ 0xca ∷ 0x1b ∷ 0xbd ∷ 0xca ∷ 0xfa ∷ 0xc2 ∷ 0x31 ∷ 0xb3 ∷ 0x9a ∷ 0x23 ∷ 0xdc ∷ 0x4d ∷
     0xa7 ∷ 0x86 ∷ 0xef ∷ 0xf8 ∷ 0x14 ∷ 0x7c ∷ 0x4e ∷ 0x72 ∷ 0xb9 ∷ 0x80 ∷ 0x77 ∷ 0x85 ∷ 0xaf ∷ 0xee ∷ 0x48 ∷ 0xbb ∷ []
 
-pub digests_a : sha256 (codes "a") ≡ digest_of_a
+-- it is what the definition of SHA-256 gives
+pub sha256_of_a : sha256 (codes "a") ≡ digest_of_a
 unfolding sha256 digest_bytes hash_after compress rounds schedule first_words
-digests_a = refl
+sha256_of_a = refl
 
+-- the digest of the word `hello`
 abbrev pub digest_of_hello : List ℕ
 digest_of_hello =
     0x2c ∷ 0xf2 ∷ 0x4d ∷ 0xba ∷ 0x5f ∷ 0xb0 ∷ 0xa3 ∷ 0x0e ∷ 0x26 ∷ 0xe8 ∷ 0x3b ∷ 0x2a ∷ 0xc5 ∷ 0xb9 ∷ 0xe2 ∷ 0x9e ∷
     0x1b ∷ 0x16 ∷ 0x1e ∷ 0x5c ∷ 0x1f ∷ 0xa7 ∷ 0x42 ∷ 0x5e ∷ 0x73 ∷ 0x04 ∷ 0x33 ∷ 0x62 ∷ 0x93 ∷ 0x8b ∷ 0x98 ∷ 0x24 ∷ []
 
-pub digests_hello : sha256 (codes "hello") ≡ digest_of_hello
+-- it is what the definition gives
+pub sha256_of_hello : sha256 (codes "hello") ≡ digest_of_hello
 unfolding sha256 digest_bytes hash_after compress rounds schedule first_words
-digests_hello = refl
+sha256_of_hello = refl
 
+-- the digest of the word `world`
 abbrev pub digest_of_world : List ℕ
 digest_of_world =
     0x48 ∷ 0x6e ∷ 0xa4 ∷ 0x62 ∷ 0x24 ∷ 0xd1 ∷ 0xbb ∷ 0x4f ∷ 0xb6 ∷ 0x80 ∷ 0xf3 ∷ 0x4f ∷ 0x7c ∷ 0x9a ∷ 0xd9 ∷ 0x6a ∷
     0x8f ∷ 0x24 ∷ 0xec ∷ 0x88 ∷ 0xbe ∷ 0x73 ∷ 0xea ∷ 0x8e ∷ 0x5a ∷ 0x6c ∷ 0x65 ∷ 0x26 ∷ 0x0e ∷ 0x9c ∷ 0xb8 ∷ 0xa7 ∷ []
 
-pub digests_world : sha256 (codes "world") ≡ digest_of_world
+-- it is what the definition gives
+pub sha256_of_world : sha256 (codes "world") ≡ digest_of_world
 unfolding sha256 digest_bytes hash_after compress rounds schedule first_words
-digests_world = refl
+sha256_of_world = refl

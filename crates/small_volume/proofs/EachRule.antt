@@ -21,7 +21,7 @@ use Rattle.small_volume.proofs.Found.{numbers, reserves_are, of_slot_0, no_jump,
 use Rattle.small_volume.proofs.Small.{reserve_0, commit_0, done_0, reserves_0, slot_0, spells, is_a, is_hello_world}
 use Rattle.small_volume.proofs.Small.{hello_posting, hello_is, hello_holds, world_posting, world_is, world_holds, bucket_is}
 
--- rules 1 to 4, of slot 0
+-- rule 1, of slot 0
 pub reserve_rule : ReserveRule small_layout small_image 0
 reserve_rule = record {
   start = 580;
@@ -31,6 +31,7 @@ reserve_rule = record {
   before = λ m is. absurd (omega (arith, is));
 }
 
+-- rule 2, of slot 0: 13 bytes take one cell, and the journal three, of the four that are reserved
 pub outcome_rule : OutcomeRule small_image 0
 outcome_rule = record {
   reserve = record { found = reserve_cell; stands = refl };
@@ -44,9 +45,11 @@ outcome_rule = record {
   );
 }
 
+-- rule 3, of slot 0
 pub done_rule : DoneRule small_image 0
 done_rule = record { done = done_0; bytes = 13; journal = 3; commit = commit_0 }
 
+-- rule 4, of slot 0
 pub has_document : HasDocument small_image 580 13
 has_document = record {
   id = codes "a";
@@ -64,7 +67,7 @@ at_place P first second third (suc zero) below = second
 at_place P first second third (suc (suc zero)) below = third
 at_place P first second third (suc (suc (suc place))) below = absurd (omega arith)
 
--- the journal copies cells 36, 37 and 560
+-- the journal's first place copies cell 36
 copies_36 : Copies small_image 580 4 3 0 36 (posting_record hello_posting)
 copies_36 = record {
   below = omega arith;
@@ -75,6 +78,7 @@ copies_36 = record {
   is = hello_is;
 }
 
+-- its second place copies cell 37
 copies_37 : Copies small_image 580 4 3 1 37 (posting_record world_posting)
 copies_37 = record {
   below = omega arith;
@@ -85,6 +89,7 @@ copies_37 = record {
   is = world_is;
 }
 
+-- its third place copies cell 560
 copies_560 : Copies small_image 580 4 3 2 560 (Bucket 0 a_fingerprint)
 copies_560 = record {
   below = omega arith;
@@ -95,6 +100,7 @@ copies_560 = record {
   is = bucket_is;
 }
 
+-- so each place is in order
 in_order : (place : ℕ) → place < 3 → IsInOrder small_layout small_image 0 580 4 13 3 place
 in_order = at_place (λ place. IsInOrder small_layout small_image 0 580 4 13 3 place)
     (record {
@@ -122,6 +128,7 @@ in_order = at_place (λ place. IsInOrder small_layout small_image 0 580 4 13 3 p
       index = of_root (record { exists = tt; from = omega arith; below = omega arith });
     })
 
+-- and each is written
 journal_written : (place : ℕ) → place < 3 → IsWritten small_image (581 + place)
 journal_written = at_place (λ place. IsWritten small_image (581 + place))
     (record { found = hello_cell; stands = refl })
@@ -141,10 +148,11 @@ journal_rule cell = record {
       (journal_written place) s below;
 }
 
--- A copy stands at the target that it names: its last four bytes are this cell's number.
+-- the number in the last four bytes of a cell
 abbrev address_of : List ℕ → ℕ
 address_of held = big_number 4 (drop 12 held)
 
+-- a journal cell that holds the same as the cell of its own number has that cell as its target
 copied_to : (place number target : ℕ) (copied : RecordCell) (held : List ℕ) → address_of held ≡ number
     → small_image number ≡ Some held → small_image (581 + place) ≡ Some held
     → Copies small_image 580 4 3 place target copied → small_image target ≡ small_image (581 + place)
@@ -154,6 +162,7 @@ copied_to place number target copied held read stands here c =
     let to : target ≡ number = sym address ∙ ap address_of entry ∙ read in
     ap small_image to ∙ stands ∙ sym here
 
+-- so each target holds what its copy holds
 redone : (target : ℕ) (copied : RecordCell) (place : ℕ) → place < 3 → Copies small_image 580 4 3 place target copied
     → small_image target ≡ small_image (581 + place)
 redone target copied = at_place
@@ -176,7 +185,7 @@ redone_rule cell = record {
       absurd (none-some _ (sym d.done ∙ ap (λ (k : ℕ). small_image (done_at k)) place.0 ∙ done_0.stands));
 }
 
--- no index cell is written that slot 0's journal does not name
+-- what slot 0's journal copies is named
 named_by : (place cell : ℕ) (copied : RecordCell) → Copies small_image 580 4 3 place cell copied
     → IsNamed small_layout small_image cell
 named_by place cell copied copies = record {
@@ -191,6 +200,7 @@ named_by place cell copied copies = record {
   copies = copies;
 }
 
+-- so each written index cell is named
 named : (cell : ℕ) → IsWritten small_image cell → IsDoneIndexCell small_layout small_image cell
     → IsNamed small_layout small_image cell
 named cell w (Rules.IsDoneIndexCell.of_list l lies) =
@@ -225,10 +235,11 @@ heads_alone (arrived block is) = is
 heads_alone (onwards block level digit target ls d1 d2 jump from to rest) =
     absurd (no_jump (pointer_at block level digit) target jump)
 
--- the first two places of the first block hold postings, and their keys rise
+-- the first place of the first block holds a posting
 first_place : HoldsInOrder small_image 36 0
 first_place = record { p = hello_posting; holds = hello_holds; rises = inl refl }
 
+-- and so does its second, with a greater key
 second_place : HoldsInOrder small_image 36 1
 second_place = record {
   p = world_posting;

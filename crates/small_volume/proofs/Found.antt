@@ -17,6 +17,7 @@ abbrev IsOneOf : List (ℕ × List ℕ) → ℕ → Type 0
 IsOneOf [] cell = ⊥
 IsOneOf ((at, value) ∷ cells) cell = (cell ≡ at) ⊎ IsOneOf cells cell
 
+-- each written cell has
 one_of : (cells : List (ℕ × List ℕ)) (cell : ℕ) (value : List ℕ) → image_of cells cell ≡ Some value → IsOneOf cells cell
 one_of [] cell value stands = none-some value stands
 one_of ((at, first) ∷ cells) cell value stands = elim (first_or_other at first cells cell) [
@@ -40,7 +41,8 @@ pub reserves_are : {n start length : ℕ} → Reserves small_layout small_image 
 reserves_are {n} {start} {length} r =
     let first : n ≡ 0 = only_slot_0 n r.slot (record { found = r.reserve.cell; stands = r.reserve.stands }) in
     let held = subst (λ (k : ℕ). Holds small_image (reserve_at k) (Reserve start length)) first r.reserve in
-    let both = reserves start length 580 4 (one_record_holds small_image 4 (Reserve start length) (Reserve 580 4) held reserve_0) in
+    let same = one_record_holds small_image 4 (Reserve start length) (Reserve 580 4) held reserve_0 in
+    let both = reserves start length 580 4 same in
     (first, both.0, both.1)
 
 -- What holds of slot 0, its cells, its bytes and its journal, holds of each slot that is committed or done.
@@ -49,7 +51,8 @@ pub of_slot_0 : (P : ℕ → ℕ → ℕ → ℕ → ℕ → Type 0) → P 0 580
 of_slot_0 P is {n} {start} {reserved} {bytes} {journal} s =
     let place = reserves_are s.commits.reserves in
     let held = subst (λ (k : ℕ). Holds small_image (outcome_at k) (Commit bytes journal)) place.0 s.commits.outcome in
-    let sizes = commits bytes journal 13 3 (one_record_holds small_image 5 (Commit bytes journal) (Commit 13 3) held commit_0) in
+    let same = one_record_holds small_image 5 (Commit bytes journal) (Commit 13 3) held commit_0 in
+    let sizes = commits bytes journal 13 3 same in
     subst (λ (k : ℕ). P k start reserved bytes journal) (sym place.0)
     (subst (λ (k : ℕ). P 0 k reserved bytes journal) (sym place.1)
     (subst (λ (k : ℕ). P 0 580 k bytes journal) (sym place.2)

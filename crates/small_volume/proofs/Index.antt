@@ -16,7 +16,7 @@ use Rattle.index_paths.specs.Postings.{IsPostingOf}
 use Rattle.index_paths.proofs.Fronts.{one_posting}
 use Rattle.tamper_rules.specs.Rules.{PostingRule, IsTruePosting, BucketRule, IsTrueBucket, TrailRule, PathRule}
 use Rattle.small_volume.specs.SmallVolume.{small_image, small_layout, hello_tag, world_tag, a_fingerprint}
-use Rattle.small_volume.proofs.Digests.{digests_a}
+use Rattle.small_volume.proofs.Digests.{sha256_of_a}
 use Rattle.small_volume.proofs.EachRule.{heads_alone, root_alone}
 use Rattle.small_volume.proofs.Found.{numbers}
 use Rattle.small_volume.proofs.Small.{slot_0, stands_0, hello_posting, hello_holds, world_posting, world_holds, bucket_holds}
@@ -30,7 +30,7 @@ live_0 = record {
   taken = λ m below. absurd (omega arith);
 }
 
--- the postings of its document
+-- `hello` is the first posting of its document
 is_hello : IsPostingOf 2 (codes "hello world") 0 0 hello_posting
 is_hello = record {
   tags = hello_tag ∷ world_tag ∷ [];
@@ -41,6 +41,7 @@ is_hello = record {
   last = refl;
 }
 
+-- `world` is the second
 is_world : IsPostingOf 2 (codes "hello world") 0 0 world_posting
 is_world = record {
   tags = hello_tag ∷ world_tag ∷ [];
@@ -51,6 +52,7 @@ is_world = record {
   last = refl;
 }
 
+-- so the posting in cell 36 is a true one
 true_hello : IsTruePosting small_layout small_image 0 hello_posting
 true_hello = record {
   live = live_0;
@@ -61,6 +63,7 @@ true_hello = record {
   is = is_hello;
 }
 
+-- and so is the posting in cell 37
 true_world : IsTruePosting small_layout small_image 0 world_posting
 true_world = record {
   live = live_0;
@@ -100,12 +103,13 @@ true_bucket = record {
   id = codes "a";
   body = codes "hello world";
   stands = stands_0;
-  same = sym (ap fingerprint_of digests_a);
+  same = sym (ap fingerprint_of sha256_of_a);
   level = 0;
   on_path = root 0 548 refl refl;
-  here = sym (ap (λ (d : List ℕ). nibble d 0) digests_a);
+  here = sym (ap (λ (d : List ℕ). nibble d 0) sha256_of_a);
 }
 
+-- rule 11: no other bucket is written
 pub bucket_rule : (cell : ℕ) → IsWritten small_image cell → BucketRule small_layout small_image cell
 bucket_rule cell w = λ v node x o less at.
     let is = (root_alone o).1 in
@@ -113,19 +117,23 @@ bucket_rule cell w = λ v node x o less at.
     subst (λ (k : ℕ). IsTrueBucket small_layout small_image k x) (sym is)
     (subst (λ (k : ℕ). IsTrueBucket small_layout small_image 548 k) (sym bucket) true_bucket)
 
--- each posting of the document has a trail in the first block
+-- the posting of `hello` is in front of the first block
 hello_front : InFront small_image 36 0 hello_posting
 hello_front = at_the_start 0 hello_posting refl hello_holds
 
+-- the posting of `world` is in front behind it
 world_front : InFront small_image 36 1 world_posting
 world_front = behind 1 0 world_posting hello_posting refl hello_front (omega arith) world_holds
 
+-- so it has a trail
 hello_trail : Trail small_image 580 1000 36 hello_posting 36
 hello_trail = here 36 0 refl (omega arith) hello_front
 
+-- and so has the other
 world_trail : Trail small_image 580 1000 37 world_posting 36
 world_trail = here 36 1 refl (omega arith) world_front
 
+-- a posting by its fields
 abbrev fields : ℕ → ℕ → List ℕ → PostingFields
 fields key last tag = record { key = key; last = last; tag = tag }
 
@@ -135,6 +143,7 @@ same_fields : (p : PostingFields) (key last : ℕ) (tag : List ℕ) → p.key �
 same_fields p key last tag k l t =
     ap (λ (n : ℕ). fields n p.last p.tag) k ∙ ap (λ (n : ℕ). fields key n p.tag) l ∙ ap (fields key last) t
 
+-- each posting of the document is one of these two, and has a trail
 trail_of : (l : ℕ) (p : PostingFields) → l < 2 → IsPostingOf 2 (codes "hello world") 0 l p
     → (at : ℕ) × Trail small_image 580 1000 at p (list_at small_layout l)
 trail_of zero p below i =
@@ -166,6 +175,6 @@ pub path_rule : PathRule small_layout small_image 0 (codes "a")
 path_rule = record {
   path =
       let HasBucket : List ℕ → Type 0 = λ d. Holds small_image (548 + nibble d 0) (Bucket 0 (fingerprint_of d)) in
-      HashPaths.HashTrail.here 548 0 (subst HasBucket (sym digests_a) bucket_holds);
+      HashPaths.HashTrail.here 548 0 (subst HasBucket (sym sha256_of_a) bucket_holds);
   alone = λ m other less t. absurd (omega arith);
 }

@@ -72,9 +72,11 @@ horizon_is (suc k) h =
     let first : k ≡ 0 = only_slot_0 k (omega (arith, h.most)) (h.below k (omega arith)) in
     omega (arith, first)
 
+-- slot 0 is done
 done_slot_0 : IsDoneSlot small_layout small_image 0
 done_slot_0 = record { start = 580; length = 4; bytes = 13; journal = 3; done = slot_0 }
 
+-- the small volume is settled
 pub is_settled : Settled 1000 small_image
 is_settled = record {
   layout = small_layout;
@@ -91,6 +93,7 @@ is_settled = record {
 is_document : IsDocument 1000 small_image 0 (codes "a") (codes "hello world")
 is_document = record { stands = stands_0; taken = λ m below. absurd (omega arith) }
 
+-- and that document is the only one
 pub are_documents : AreDocuments 1000 small_image (small_document ∷ [])
 are_documents = record {
   rise = (omega arith, tt);

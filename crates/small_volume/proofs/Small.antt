@@ -22,7 +22,7 @@ layout = record {
   pool = omega arith;
 }
 
--- cell 0
+-- the volume cell is well-formed at cell 0
 pub volume_is : IsRecordCell (volume_record small_layout) 0 volume_cell
 volume_is = record {
   fits = (omega arith, omega arith, omega arith, omega arith);
@@ -30,34 +30,39 @@ volume_is = record {
   same = refl;
 }
 
+-- so the image is a volume
 pub volume : IsVolume 1000 small_image small_layout
 volume = record { volume = record { cell = volume_cell; stands = refl; is = volume_is }; size = refl }
 
--- cell 4
+-- the reserve cell is well-formed at cell 4
 reserve_is : IsRecordCell (Reserve 580 4) 4 reserve_cell
 reserve_is = record { fits = (omega arith, omega arith); well_formed = omega arith; same = refl }
 
+-- and stands in the small image
 pub reserve_0 : Holds small_image 4 (Reserve 580 4)
 reserve_0 = record { cell = reserve_cell; stands = refl; is = reserve_is }
 
--- cell 5
+-- the commit cell is well-formed at cell 5
 commit_is : IsRecordCell (Commit 13 3) 5 commit_cell
 commit_is = record { fits = (omega arith, omega arith); well_formed = (omega arith, omega arith); same = refl }
 
+-- and stands in the small image
 pub commit_0 : Holds small_image 5 (Commit 13 3)
 commit_0 = record { cell = commit_cell; stands = refl; is = commit_is }
 
--- cell 6
+-- the done cell is well-formed at cell 6
 done_is : IsRecordCell (Done 0) 6 done_cell
 done_is = record { fits = omega arith; well_formed = omega arith; same = refl }
 
+-- and stands in the small image
 pub done_0 : Holds small_image 6 (Done 0)
 done_0 = record { cell = done_cell; stands = refl; is = done_is }
 
--- cell 36
+-- what cell 36 says
 abbrev pub hello_posting : PostingFields
 hello_posting = record { key = 0; last = 1; tag = hello_tag }
 
+-- its record is well-formed there
 pub hello_is : IsRecordCell (posting_record hello_posting) 36 hello_cell
 hello_is = record {
   fits = (omega arith, omega arith, record { count = refl; fits = are_bytes hello_tag refl });
@@ -65,13 +70,15 @@ hello_is = record {
   same = refl;
 }
 
+-- and stands in the small image
 pub hello_holds : Holds small_image 36 (posting_record hello_posting)
 hello_holds = record { cell = hello_cell; stands = refl; is = hello_is }
 
--- cell 37
+-- what cell 37 says
 abbrev pub world_posting : PostingFields
 world_posting = record { key = 1; last = 1; tag = world_tag }
 
+-- its record is well-formed there
 pub world_is : IsRecordCell (posting_record world_posting) 37 world_cell
 world_is = record {
   fits = (omega arith, omega arith, record { count = refl; fits = are_bytes world_tag refl });
@@ -79,10 +86,11 @@ world_is = record {
   same = refl;
 }
 
+-- and stands in the small image
 pub world_holds : Holds small_image 37 (posting_record world_posting)
 world_holds = record { cell = world_cell; stands = refl; is = world_is }
 
--- cell 560
+-- the bucket is well-formed at cell 560
 pub bucket_is : IsRecordCell (Bucket 0 a_fingerprint) 560 bucket_cell
 bucket_is = record {
   fits = (omega arith, record { count = refl; fits = are_bytes a_fingerprint refl });
@@ -90,6 +98,7 @@ bucket_is = record {
   same = refl;
 }
 
+-- and stands in the small image
 pub bucket_holds : Holds small_image 560 (Bucket 0 a_fingerprint)
 bucket_holds = record { cell = bucket_cell; stands = refl; is = bucket_is }
 
@@ -108,6 +117,7 @@ spells k below =
     let stored : List ℕ = stored_bytes (codes "a") (codes "hello world") in
     subst (λ (k : ℕ). small_image (580 + k) ≡ Some (content_at stored k)) (sym first) refl
 
+-- `a` is an identifier
 pub is_a : IsIdentifier (codes "a")
 is_a = record {
   some = omega arith;
@@ -118,6 +128,7 @@ is_a = record {
       subst InRange (sym first) (omega arith, omega arith);
 }
 
+-- `hello world` is a body
 pub is_hello_world : IsBody (codes "hello world")
 is_hello_world = record { bytes = are_bytes (codes "hello world") refl; most = omega arith }
 

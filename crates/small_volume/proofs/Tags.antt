@@ -8,7 +8,7 @@ use Rattle.stored_documents.proofs.Holding.{some_is}
 use Rattle.stored_documents.proofs.Words.{words_are_one}
 use Rattle.index_paths.specs.Postings.{tag_of, list_of, HasTag, AreTags, HasPostings}
 use Rattle.small_volume.specs.SmallVolume.{hello_tag, world_tag}
-use Rattle.small_volume.proofs.Digests.{digests_hello, digests_world}
+use Rattle.small_volume.proofs.Digests.{sha256_of_hello, sha256_of_world}
 
 -- the body's words
 words : words_of (codes "hello world") ≡ codes "hello" ∷ codes "world" ∷ []
@@ -21,25 +21,30 @@ one_of_two a b x (zero, low, is) = inl (sym is)
 one_of_two a b x (suc zero, low, is) = inr (sym is)
 one_of_two a b x (suc (suc k), low, is) = absurd (omega (arith, low))
 
+-- each word of the body is one of the two
 pub word_is : (word : List ℕ) → HasWord (codes "hello world") word → (word ≡ codes "hello") ⊎ (word ≡ codes "world")
 word_is word h =
     let all : h.words ≡ codes "hello" ∷ codes "world" ∷ [] =
     words_are_one.one (codes "hello world") h.words h.are ∙ words in
     one_of_two (codes "hello") (codes "world") word (subst (λ (ws : List (List ℕ)). Contains ws word) all h.among)
 
--- their lists and tags
+-- the list of `hello` is list 0
 hello_list : list_of 2 (codes "hello") ≡ 0
-hello_list = ap (λ (d : List ℕ). big_number 4 (drop 6 d) % 2) digests_hello
+hello_list = ap (λ (d : List ℕ). big_number 4 (drop 6 d) % 2) sha256_of_hello
 
+-- and so is that of `world`
 world_list : list_of 2 (codes "world") ≡ 0
-world_list = ap (λ (d : List ℕ). big_number 4 (drop 6 d) % 2) digests_world
+world_list = ap (λ (d : List ℕ). big_number 4 (drop 6 d) % 2) sha256_of_world
 
+-- the tag of `hello` is the one of its posting
 hello_has : tag_of (codes "hello") ≡ hello_tag
-hello_has = ap (λ (d : List ℕ). take 6 d) digests_hello
+hello_has = ap (λ (d : List ℕ). take 6 d) sha256_of_hello
 
+-- and that of `world`
 world_has : tag_of (codes "world") ≡ world_tag
-world_has = ap (λ (d : List ℕ). take 6 d) digests_world
+world_has = ap (λ (d : List ℕ). take 6 d) sha256_of_world
 
+-- `hello` is a word of the body
 has_hello : HasWord (codes "hello world") (codes "hello")
 has_hello = record {
   words = words_of (codes "hello world");
@@ -47,6 +52,7 @@ has_hello = record {
   among = subst (λ (ws : List (List ℕ)). Contains ws (codes "hello")) (sym words) (zero, omega arith, refl);
 }
 
+-- and so is `world`
 has_world : HasWord (codes "hello world") (codes "world")
 has_world = record {
   words = words_of (codes "hello world");
@@ -62,9 +68,11 @@ tag_is l tag h = ⊎_elim
     (λ is. (sym h.list ∙ ap (list_of 2) is ∙ world_list, inr (sym h.same ∙ ap tag_of is ∙ world_has)))
     (word_is h.word h.among)
 
+-- the tag of `hello` is one of the body's in list 0
 hello_tagged : HasTag 2 (codes "hello world") 0 hello_tag
 hello_tagged = record { word = codes "hello"; among = has_hello; list = hello_list; same = hello_has }
 
+-- and so is that of `world`
 world_tagged : HasTag 2 (codes "hello world") 0 world_tag
 world_tagged = record { word = codes "world"; among = has_world; list = world_list; same = world_has }
 
@@ -78,6 +86,7 @@ two_rise zero (suc zero) a b less p q =
 two_rise (suc i) (suc zero) a b less p q = absurd (omega arith)
 two_rise i (suc (suc j)) a b less p q = absurd (none-some b q)
 
+-- these are the tags in list 0
 pub tags_of_0 : AreTags 2 (codes "hello world") 0 (hello_tag ∷ world_tag ∷ [])
 tags_of_0 = record {
   rise = two_rise;
@@ -91,6 +100,7 @@ tags_of_0 = record {
       (tag_is 0 tag h).1;
 }
 
+-- and list 1 has none
 pub tags_of_1 : AreTags 2 (codes "hello world") 1 []
 tags_of_1 = record {
   rise = λ i j a b less p q. absurd (none-some a p);

@@ -1,4 +1,5 @@
 -- The small volume: 8 slots, 2 lists, 1,000 cells, and the document `a` with the body `hello world`, with its index.
+-- Its cells are written out: of a record the kind and the body, and on the line below the cell's own number.
 use Rattle.std.specs.Prelude.{ℕ, List, [], ◌∷◌, codes}
 use Rattle.cell_types.specs.Image.{Image}
 use Rattle.cell_types.specs.Layout.{Layout}

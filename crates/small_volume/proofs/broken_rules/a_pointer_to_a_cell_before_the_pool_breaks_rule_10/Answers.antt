@@ -18,25 +18,31 @@ use Rattle.small_volume.proofs.Broken.{broken, first_block}
 use Rattle.small_volume.proofs.Values.{are_bytes, foreign_extends}
 use Rattle.small_volume.proofs.broken_rules.a_pointer_to_a_cell_before_the_pool_breaks_rule_10.Goals as goal
 
+-- the small volume with the whole second slot
 abbrev image : Image
 image = with_cells small_image second_slot_cells
 
--- the records of slot 1, and the pointer
+-- its reserve cell is well-formed
 reserve_is : IsRecordCell (Reserve 584 2) 8 reserve_cell_1
 reserve_is = record { fits = (omega arith, omega arith); well_formed = omega arith; same = refl }
 
+-- and its commit cell
 commit_is : IsRecordCell (Commit 2 1) 9 commit_cell_1
 commit_is = record { fits = (omega arith, omega arith); well_formed = (omega arith, omega arith); same = refl }
 
+-- and its done cell
 done_is : IsRecordCell (Done 1) 10 done_cell_1
 done_is = record { fits = omega arith; well_formed = omega arith; same = refl }
 
+-- the pointer is a jump cell to cell 0
 jump_is : IsRecordCell (Jump 0) 164 jump_cell
 jump_is = record { fits = omega arith; well_formed = tt; same = refl }
 
+-- and it stands
 pointer : Holds image 164 (Jump 0)
 pointer = record { cell = jump_cell; stands = refl; is = jump_is }
 
+-- slot 1 reserves cells 584 and 585
 reserves_1 : Reserves small_layout image 1 584 2
 reserves_1 = record {
   slot = omega arith;
@@ -45,6 +51,7 @@ reserves_1 = record {
   to = omega arith;
 }
 
+-- and it is done
 slot_1 : IsDone small_layout image 1 584 2 2 1
 slot_1 = record {
   commits = record {
@@ -55,13 +62,14 @@ slot_1 = record {
   done = record { cell = done_cell_1; stands = refl; is = done_is };
 }
 
--- its document
+-- its cells spell its document
 spells : Spells image 584 (stored_bytes (codes "b") [])
 spells k below =
     let first : k ≡ 0 = omega arith in
     let stored : List ℕ = stored_bytes (codes "b") [] in
     subst (λ (k : ℕ). image (584 + k) ≡ Some (content_at stored k)) (sym first) refl
 
+-- `b` is an identifier
 is_b : IsIdentifier (codes "b")
 is_b = record {
   some = omega arith;

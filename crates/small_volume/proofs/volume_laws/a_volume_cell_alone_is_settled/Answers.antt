@@ -7,9 +7,11 @@ use Rattle.small_volume.proofs.Small.{layout, volume_is}
 use Rattle.small_volume.proofs.Values.{blank_behind}
 use Rattle.small_volume.proofs.volume_laws.a_volume_cell_alone_is_settled.Goals as goal
 
+-- the image is a volume
 volume : IsVolume 1000 formatted_image small_layout
 volume = record { volume = record { cell = volume_cell; stands = refl; is = volume_is }; size = refl }
 
+-- each other cell is blank
 blank : (cell : ℕ) → 1 ≤ cell → formatted_image cell ≡ None
 blank cell some = blank_behind 0 cell volume_cell some
 
