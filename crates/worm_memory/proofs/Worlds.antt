@@ -11,7 +11,8 @@ use Rattle.worm_device.proofs.Images.{extends_self}
 use Rattle.worm_memory.specs.declared.change.Change.{Change}
 use Rattle.worm_memory.specs.declared.change.Change.TheVariants.{Wrote, Foreign, Synced, Lost, Crashed}
 use Rattle.worm_memory.specs.Proper.{kept, sure_stands, blank_stands}
-use Rattle.worm_memory.specs.Worlds.{written, after_change, after_changes, blank, world, AreChanges, EndsWithNoLoss, fallen}
+use Rattle.cell_types.specs.Bytes.{IsCell}
+use Rattle.worm_memory.specs.Worlds.{written, IsPut, ours, theirs, after_change, after_changes, blank, world, AreChanges, EndsWithNoLoss, fallen}
 
 -- the cell that was written holds the value, if it was blank
 pub written_here : (image : Image) (at : ℕ) (value : List ℕ) → image at ≡ None → written image at value at ≡ Some value
@@ -85,24 +86,36 @@ blank_below : (low high : Option (List ℕ)) → ((value : List ℕ) → low ≡
 blank_below None high keeps free = refl
 blank_below (Some value) high keeps free = absurd (none-some value (sym free ∙ keeps value refl))
 
--- after a write its cell is written and not sure
-pub unsure_after_write : (cells : ℕ) (changes : List Change) (at : ℕ) (value : List ℕ) → AreChanges cells blank (changes ++ Wrote at value ∷ [])
-    → ((world (changes ++ Wrote at value ∷ [])).image at ≡ Some value) × ((world (changes ++ Wrote at value ∷ [])).sure at ≡ None)
-unsure_after_write cells changes at value all =
-    let one = last_changes cells blank changes (Wrote at value) all in
-    rw (after_append blank changes (Wrote at value)) (
-      written_here (world changes).image at value one.1,
-      blank_below _ _ ((sure_stands blank changes blank_stands).keeps at) one.1,
-    )
+-- what a put makes of an image, and that it makes nothing sure
+pub put_image : {at : ℕ} {value : List ℕ} {change : Change} → IsPut at value change → (now : Instant)
+    → (after_change now change).image ≡ written now.image at value
+put_image ours now = refl
+put_image theirs now = refl
 
--- after a write its cell is written and not sure
-pub unsure_after_other : (cells : ℕ) (changes : List Change) (at : ℕ) (value : List ℕ) → AreChanges cells blank (changes ++ Foreign at value ∷ [])
-    → ((world (changes ++ Foreign at value ∷ [])).image at ≡ Some value) × ((world (changes ++ Foreign at value ∷ [])).sure at ≡ None)
-unsure_after_other cells changes at value all =
-    let one = last_changes cells blank changes (Foreign at value) all in
-    rw (after_append blank changes (Foreign at value)) (
-      written_here (world changes).image at value one.1,
-      blank_below _ _ ((sure_stands blank changes blank_stands).keeps at) one.1,
+put_sure : {at : ℕ} {value : List ℕ} {change : Change} → IsPut at value change → (now : Instant) → (after_change now change).sure ≡ now.sure
+put_sure ours now = refl
+put_sure theirs now = refl
+
+-- a put is a change where its cell was blank and its value is a written cell's
+pub put_is_change : {at : ℕ} {value : List ℕ} {change : Change} → IsPut at value change → (cells : ℕ) (now : Instant)
+    → at < cells → now.image at ≡ None → IsCell value → AreChanges cells now (change ∷ [])
+put_is_change ours cells now inside free is_cell = (inside, free, is_cell, tt)
+put_is_change theirs cells now inside free is_cell = (inside, free, is_cell, tt)
+
+put_was_free : {at : ℕ} {value : List ℕ} {change : Change} → IsPut at value change → (cells : ℕ) (now : Instant)
+    → AreChanges cells now (change ∷ []) → now.image at ≡ None
+put_was_free ours cells now all = all.1
+put_was_free theirs cells now all = all.1
+
+-- after a put its cell is written and not sure
+pub unsure_after_put : {at : ℕ} {value : List ℕ} {change : Change} → IsPut at value change → (cells : ℕ) (changes : List Change)
+    → AreChanges cells blank (changes ++ change ∷ [])
+    → ((world (changes ++ change ∷ [])).image at ≡ Some value) × ((world (changes ++ change ∷ [])).sure at ≡ None)
+unsure_after_put {at} {value} {change} put cells changes all =
+    let free = put_was_free put cells (world changes) (last_changes cells blank changes change all) in
+    rw (after_append blank changes change, put_image put (world changes), put_sure put (world changes)) (
+      written_here (world changes).image at value free,
+      blank_below _ _ ((sure_stands blank changes blank_stands).keeps at) free,
     )
 
 -- after a sync all that stands is sure
@@ -122,11 +135,9 @@ change_is a b e = cc
 pub no_loss_after : (changes : List Change) (change : Change) → ((at : ℕ) → change ≡ Lost at → ⊥) → EndsWithNoLoss (changes ++ change ∷ [])
 no_loss_after changes change none = λ at last. none at (change_is change (Lost at) (sym (get_last changes change) ∙ last))
 
-pub wrote_no_loss : (at : ℕ) (value : List ℕ) (other : ℕ) → Wrote at value ≡ Lost other → ⊥
-wrote_no_loss at value other e = cc
-
-pub foreign_no_loss : (at : ℕ) (value : List ℕ) (other : ℕ) → Foreign at value ≡ Lost other → ⊥
-foreign_no_loss at value other e = cc
+pub put_no_loss : {at : ℕ} {value : List ℕ} {change : Change} → IsPut at value change → (other : ℕ) → change ≡ Lost other → ⊥
+put_no_loss ours other e = cc
+put_no_loss theirs other e = cc
 
 pub synced_no_loss : (other : ℕ) → Synced ≡ Lost other → ⊥
 synced_no_loss other e = cc
