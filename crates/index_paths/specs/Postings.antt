@@ -30,6 +30,12 @@ pub record AreTags (lists : ℕ) (body : List ℕ) (l : ℕ) (tags : List (List 
   pub each : (tag : List ℕ) → Contains tags tag → HasTag lists body l tag
   pub all : (tag : List ℕ) → HasTag lists body l tag → Contains tags tag
 
+-- a body has one list of tags in a list
+abbrev pub TagsAreOne : Type 0
+TagsAreOne =
+    (lists : ℕ) (body : List ℕ) (l : ℕ) (one other : List (List ℕ)) → AreTags lists body l one → AreTags lists body l other
+    → one ≡ other
+
 -- The posting is one of slot n's document in list l: its tag's place among the tags is its ordinal, the key is 256
 -- times the slot and the ordinal, and `last` is the greatest ordinal.
 pub record IsPostingOf (lists : ℕ) (body : List ℕ) (n l : ℕ) (p : PostingFields) : Type 0 where
