@@ -1,12 +1,9 @@
 -- What the changes of a crash make of an instant.
-use Rattle.std.proofs.Common.{◌≡◌, ◌≤◌, ◌<◌, ◌==◌, if◌then◌else◌, ℕ, Bool, true, false, List, [], ◌∷◌, ◌++◌, length, set, get_or, Option, Some, None, refl, ap, sym, subst, ◌∙◌, ⊎_elim, arith}
+use Rattle.std.proofs.Common.{◌≡◌, ◌==◌, if◌then◌else◌, ℕ, Bool, true, false, List, [], ◌∷◌, Option, refl, ap, sym, ◌∙◌, ⊎_elim, arith}
 use Rattle.std.proofs.lemmas.Bool.Decides.{nat_tests, eqb_tells}
-use Rattle.std.proofs.lemmas.List.{get_or-set_same, get_or-set_other}
-use Rattle.cell_types.specs.Image.{Image, Extends}
 use Rattle.worm_device.specs.State.{Instant}
-use Rattle.worm_memory.specs.declared.change.Change.{Change}
-use Rattle.worm_memory.specs.declared.change.Change.TheVariants.{Lost, Crashed}
-use Rattle.worm_memory.specs.Worlds.{after_change, after_changes, fallen, Holds}
+use Rattle.worm_memory.specs.declared.change.Change.TheVariants.{Lost}
+use Rattle.worm_memory.specs.Worlds.{after_change, after_changes}
 use Rattle.worm_memory.specs.Losses.{is_among, kept_image, crash_changes, AllElseSure}
 
 module _ (keep : List ℕ) where

@@ -12,7 +12,7 @@ use Rattle.worm_memory.specs.declared.change.Change.{Change}
 use Rattle.worm_memory.specs.declared.change.Change.TheVariants.{Wrote, Foreign, Synced, Lost, Crashed}
 use Rattle.worm_memory.specs.Proper.{kept, sure_stands, blank_stands}
 use Rattle.cell_types.specs.Bytes.{IsCell}
-use Rattle.worm_memory.specs.Worlds.{written, IsPut, ours, theirs, after_change, after_changes, blank, world, AreChanges, EndsWithNoLoss, fallen}
+use Rattle.worm_memory.specs.Worlds.{written, IsPut, ours, theirs, after_change, after_changes, blank, world, AreChanges, EndsWithNoLoss}
 
 -- the cell that was written holds the value, if it was blank
 pub written_here : (image : Image) (at : ℕ) (value : List ℕ) → image at ≡ None → written image at value at ≡ Some value

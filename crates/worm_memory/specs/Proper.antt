@@ -12,7 +12,7 @@ use Rattle.worm_device.proofs.Images.{extends_self, extends_then}
 use Rattle.worm_memory.specs.declared.change.Change.{Change}
 use Rattle.worm_memory.specs.declared.change.Change.TheVariants.{Wrote, Foreign, Synced, Lost, Crashed}
 use Rattle.worm_memory.specs.Memory.{Memory, device_of}
-use Rattle.worm_memory.specs.Worlds.{kept_or, written, fallen, after_change, after_changes, blank, AreChanges}
+use Rattle.worm_memory.specs.Worlds.{kept_or, written, after_change, after_changes, blank, AreChanges}
 
 still_found : (here : Bool) (old : Option (List ℕ)) (value found : List ℕ)
     → old ≡ Some found → (if here then kept_or old value else old) ≡ Some found
