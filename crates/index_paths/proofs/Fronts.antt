@@ -10,7 +10,8 @@ use Rattle.index_paths.specs.Blocks.{PostingFields, InFront, at_the_start, behin
 use Rattle.stored_documents.proofs.Extending.{holds_on}
 
 -- a place stays in the front
-pub front_on : {old new : Image} {block place : ℕ} {p : PostingFields} → Extends old new → InFront old block place p → InFront new block place p
+pub front_on : {old new : Image} {block place : ℕ} {p : PostingFields} → Extends old new
+    → InFront old block place p → InFront new block place p
 front_on e (at_the_start place p is holds) = at_the_start place p is (holds_on e holds)
 front_on e (behind place before p q is rest less holds) = behind place before p q is (front_on e rest) less (holds_on e holds)
 
@@ -23,16 +24,19 @@ posting_fields : (p q : PostingFields) → posting_record p ≡ posting_record q
 posting_fields p q e = ap fields_of e
 
 -- what a place of a front holds
-pub front_holds : {image : Image} {block place : ℕ} {p : PostingFields} → InFront image block place p → Holds image (block + place) (posting_record p)
+pub front_holds : {image : Image} {block place : ℕ} {p : PostingFields} → InFront image block place p
+    → Holds image (block + place) (posting_record p)
 front_holds (at_the_start place p is holds) = holds
 front_holds (behind place before p q is rest less holds) = holds
 
 -- a cell holds one posting
-pub one_posting : (image : Image) (at : ℕ) (p q : PostingFields) → Holds image at (posting_record p) → Holds image at (posting_record q) → p ≡ q
+pub one_posting : (image : Image) (at : ℕ) (p q : PostingFields) → Holds image at (posting_record p)
+    → Holds image at (posting_record q) → p ≡ q
 one_posting image at p q h k = posting_fields p q (one_record_holds image at (posting_record p) (posting_record q) h k)
 
 -- places behind one place have greater keys
-pub rises : {image : Image} {block : ℕ} {j : ℕ} {q : PostingFields} → InFront image block j q → (i : ℕ) (p : PostingFields) → InFront image block i p → i < j → p.key < q.key
+pub rises : {image : Image} {block : ℕ} {j : ℕ} {q : PostingFields} → InFront image block j q
+    → (i : ℕ) (p : PostingFields) → InFront image block i p → i < j → p.key < q.key
 rises (at_the_start place q is holds) i p front less = absurd (omega arith)
 rises {image} {block} (behind place before q r is rest step holds) i p front less =
     ⊎_elim
@@ -45,11 +49,13 @@ rises {image} {block} (behind place before q r is rest step holds) i p front les
     (cases_order i before)
 
 -- a place of a front holds one posting
-pub one_place : {image : Image} {block i : ℕ} {p q : PostingFields} → InFront image block i p → InFront image block i q → p ≡ q
+pub one_place : {image : Image} {block i : ℕ} {p q : PostingFields} → InFront image block i p
+    → InFront image block i q → p ≡ q
 one_place {image} {block} {i} {p} {q} f h = one_posting image (block + i) p q (front_holds f) (front_holds h)
 
 -- the key at an earlier or the same place is not greater
-pub rises_or_same : {image : Image} {block i j : ℕ} {p q : PostingFields} → InFront image block i p → InFront image block j q → i ≤ j → p.key ≤ q.key
+pub rises_or_same : {image : Image} {block i j : ℕ} {p q : PostingFields} → InFront image block i p
+    → InFront image block j q → i ≤ j → p.key ≤ q.key
 rises_or_same {image} {block} {i} {j} {p} {q} f h le =
     ⊎_elim
     (λ same. let e : p ≡ q = one_place f (subst (λ (n : ℕ). InFront image block n q) (sym same) h) in
@@ -61,7 +67,8 @@ rises_or_same {image} {block} {i} {j} {p} {q} f h le =
     (cases_order i j)
 
 -- a greater key stands at a later place
-pub place_by_key : {image : Image} {block i j : ℕ} {p q : PostingFields} → InFront image block i p → InFront image block j q → p.key < q.key → i < j
+pub place_by_key : {image : Image} {block i j : ℕ} {p q : PostingFields} → InFront image block i p
+    → InFront image block j q → p.key < q.key → i < j
 place_by_key {image} {block} {i} {j} {p} {q} f h less =
     ⊎_elim
     (λ below. below)

@@ -21,7 +21,8 @@ rising from (tag ∷ tags) low rise = (
       (λ i j a b less p q. rise (suc i) (suc j) a b (omega arith) p q),
 )
 
-pub tags_one : (lists : ℕ) (body : List ℕ) (l : ℕ) (one other : List (List ℕ)) → AreTags lists body l one → AreTags lists body l other → one ≡ other
+pub tags_one : (lists : ℕ) (body : List ℕ) (l : ℕ) (one other : List (List ℕ)) → AreTags lists body l one
+    → AreTags lists body l other → one ≡ other
 tags_one lists body l one other a b =
     one_list number 0 one other (rising 0 one (λ i x is. omega arith) a.rise) (rising 0 other (λ i x is. omega arith) b.rise)
     (λ x has. b.all x (a.each x has)) (λ x has. a.all x (b.each x has))

@@ -10,7 +10,8 @@ use Rattle.stored_documents.proofs.Holding.{one_record_holds}
 use Rattle.index_paths.proofs.Fronts.{front_on, rises, one_place, rises_or_same}
 use Rattle.index_paths.proofs.Spans.{apart, span_above}
 
-pub hop_on : {old new : Image} {from to block k target : ℕ} → Extends old new → Hop old from to block k target → Hop new from to block k target
+pub hop_on : {old new : Image} {from to block k target : ℕ} → Extends old new → Hop old from to block k target
+    → Hop new from to block k target
 hop_on e h = record {
   greatest = h.greatest;
   full = front_on e h.full;
@@ -27,7 +28,8 @@ hop_on e h = record {
   in_span = h.in_span;
 }
 
-pub trail_on : {old new : Image} {from to at : ℕ} {p : PostingFields} {block : ℕ} → Extends old new → Trail old from to at p block → Trail new from to at p block
+pub trail_on : {old new : Image} {from to at : ℕ} {p : PostingFields} {block : ℕ} → Extends old new
+    → Trail old from to at p block → Trail new from to at p block
 trail_on e (here block place is below front) = here block place is below (front_on e front)
 trail_on e (on block target hop rest) = on block target (hop_on e hop) (trail_on e rest)
 
@@ -35,7 +37,8 @@ jump_target : (a b : ℕ) → Jump a ≡ Jump b → a ≡ b
 jump_target a b e = cc
 
 -- a block leads on for a key to one block
-pub one_target : {image : Image} {from to block k t u : ℕ} → Hop image from to block k t → Hop image from to block k u → t ≡ u
+pub one_target : {image : Image} {from to block k t u : ℕ} → Hop image from to block k t
+    → Hop image from to block k u → t ≡ u
 one_target {image} {from} {to} {block} {k} {t} {u} h g =
     let same : h.greatest.key ≡ g.greatest.key = ap (λ (p : PostingFields). p.key) (one_place h.full g.full) in
     let spans : (h.level ≡ g.level) × (h.digit ≡ g.digit) =
@@ -45,14 +48,17 @@ one_target {image} {from} {to} {block} {k} {t} {u} h g =
     (subst (λ (c : ℕ). Holds image c (Jump t)) at h.jump) g.jump)
 
 -- a posting of a front is no greater than the block's greatest key, so the block does not lead on for its key
-pub not_both : {image : Image} {from to block place target : ℕ} {p : PostingFields} (k : ℕ) → place < 128 → InFront image block place p → p.key ≡ k → Hop image from to block k target → ⊥
+pub not_both : {image : Image} {from to block place target : ℕ} {p : PostingFields} (k : ℕ) → place < 128
+    → InFront image block place p → p.key ≡ k → Hop image from to block k target → ⊥
 not_both {image} {from} {to} {block} {place} {target} {p} k below f same h =
     let le : p.key ≤ h.greatest.key = rises_or_same f h.full (omega arith) in
     let less : h.greatest.key < k = span_above h.span in
     omega arith
 
 -- from a block one posting of a key has a trail
-pub one_trail : {image : Image} {from to at : ℕ} {p : PostingFields} {block : ℕ} → Trail image from to at p block → (at' : ℕ) (q : PostingFields) → Trail image from to at' q block → p.key ≡ q.key → (p ≡ q) × (at ≡ at')
+pub one_trail : {image : Image} {from to at : ℕ} {p : PostingFields} {block : ℕ}
+    → Trail image from to at p block → (at' : ℕ) (q : PostingFields) → Trail image from to at' q block
+    → p.key ≡ q.key → (p ≡ q) × (at ≡ at')
 one_trail {image = image} {p = p} (here block place is below front) at' q (here _ place' is' below' front') same =
     ⊎_elim
     (λ less. let no : p.key < q.key = rises front' place p front less in absurd (omega arith))
@@ -71,7 +77,8 @@ one_trail {image} {from} {to} {p = p} (on block target hop rest) at' q (on _ tar
     one_trail rest at' q (subst (λ (t : ℕ). Trail image from to at' q t) (sym one) rest') same
 
 -- what lies in a range lies in a wider one
-pub hop_wider : {image : Image} {from to block k target : ℕ} (from' to' : ℕ) → from' ≤ from → to ≤ to' → Hop image from to block k target → Hop image from' to' block k target
+pub hop_wider : {image : Image} {from to block k target : ℕ} (from' to' : ℕ) → from' ≤ from → to ≤ to'
+    → Hop image from to block k target → Hop image from' to' block k target
 hop_wider from' to' p q h = record {
   greatest = h.greatest;
   full = h.full;
@@ -88,6 +95,7 @@ hop_wider from' to' p q h = record {
   in_span = h.in_span;
 }
 
-pub trail_wider : {image : Image} {from to at : ℕ} {p : PostingFields} (from' to' : ℕ) {block : ℕ} → from' ≤ from → to ≤ to' → Trail image from to at p block → Trail image from' to' at p block
+pub trail_wider : {image : Image} {from to at : ℕ} {p : PostingFields} (from' to' : ℕ) {block : ℕ}
+    → from' ≤ from → to ≤ to' → Trail image from to at p block → Trail image from' to' at p block
 trail_wider from' to' f t (here block place is below front) = here block place is below front
 trail_wider from' to' f t (on block target hop rest) = on block target (hop_wider from' to' f t hop) (trail_wider from' to' f t rest)

@@ -18,7 +18,8 @@ IsOneOf [] cell = ⊥
 IsOneOf ((at, value) ∷ cells) cell = (cell ≡ at) ⊎ IsOneOf cells cell
 
 -- each written cell has
-one_of : (cells : List (ℕ × List ℕ)) (cell : ℕ) (value : List ℕ) → image_of cells cell ≡ Some value → IsOneOf cells cell
+one_of : (cells : List (ℕ × List ℕ)) (cell : ℕ) (value : List ℕ) → image_of cells cell ≡ Some value
+    → IsOneOf cells cell
 one_of [] cell value stands = none-some value stands
 one_of ((at, first) ∷ cells) cell value stands = elim (first_or_other at first cells cell) [
   | inl same ↦ inl same.0

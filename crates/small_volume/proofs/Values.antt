@@ -73,7 +73,8 @@ pub foreign_extends : (image : Image) (cells : List (ℕ × List ℕ)) → Exten
 foreign_extends image cells = record { keeps = λ cell found was. with_was image cells cell was }
 
 -- one foreign cell changes its own cell at most, where that was blank
-pub foreign_changes : (image : Image) (at : ℕ) (value : List ℕ) → ChangesOnly at value image (with_cell image at value)
+pub foreign_changes : (image : Image) (at : ℕ) (value : List ℕ)
+    → ChangesOnly at value image (with_cell image at value)
 foreign_changes image at value cell = by (image cell) refl
   where
     by : (was : Option (List ℕ)) → image cell ≡ was

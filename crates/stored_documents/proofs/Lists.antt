@@ -27,7 +27,8 @@ rest_in : {A : Type 0} → (d : A) (ds : List A) (x : A) → Contains ds x → C
 rest_in d ds x (k, low, is) = (suc k, omega (arith, low), is)
 
 -- a list that rises from a number has no lower key
-from_on : {A : Type 0} → (key : A → ℕ) (from : ℕ) (ds : List A) → Rising key from ds → (x : A) → Contains ds x → from ≤ key x
+from_on : {A : Type 0} → (key : A → ℕ) (from : ℕ) (ds : List A) → Rising key from ds → (x : A) → Contains ds x
+    → from ≤ key x
 from_on key from [] rise x (k, low, is) = absurd (omega (arith, low))
 from_on {A} key from (d ∷ ds) rise x has = ⊎_elim
     (λ (same : d ≡ x). subst (λ (e : A). from ≤ key e) same rise.0)
@@ -35,7 +36,8 @@ from_on {A} key from (d ∷ ds) rise x has = ⊎_elim
     (among d ds x has)
 
 -- without equal heads
-rest_within : {A : Type 0} → (key : A → ℕ) (d : A) (ds es : List A) → Rising key (key d + 1) ds → Within (d ∷ ds) (d ∷ es) → Within ds es
+rest_within : {A : Type 0} → (key : A → ℕ) (d : A) (ds es : List A) → Rising key (key d + 1) ds
+    → Within (d ∷ ds) (d ∷ es) → Within ds es
 rest_within key d ds es rise within x has = ⊎_elim
     (λ (same : d ≡ x).
     let above : key d + 1 ≤ key x = from_on key (key d + 1) ds rise x has in
@@ -73,7 +75,8 @@ by_slot : (from : ℕ) (ds : List Document) → Rise from ds → Rising (λ (d :
 by_slot from [] rise = tt
 by_slot from (d ∷ ds) rise = (rise.0, by_slot (d.slot + 1) ds rise.1)
 
-pub lists_one : (cells : ℕ) (image : Image) (one other : List Document) → AreDocuments cells image one → AreDocuments cells image other → one ≡ other
+pub lists_one : (cells : ℕ) (image : Image) (one other : List Document) → AreDocuments cells image one
+    → AreDocuments cells image other → one ≡ other
 lists_one cells image one other a b =
     one_list (λ (d : Document). d.slot) 0 one other (by_slot 0 one a.rise) (by_slot 0 other b.rise)
     (λ x has. (b.each x).0 ((a.each x).1 has)) (λ x has. (a.each x).0 ((b.each x).1 has))

@@ -51,7 +51,8 @@ reserves a b c d e = (cc, cc)
 pub commits : (a b c d : ℕ) → Commit a b ≡ Commit c d → (a ≡ c) × (b ≡ d)
 commits a b c d e = (cc, cc)
 
-pub one_document : (cells : ℕ) (image : Image) (n : ℕ) (a b c d : List ℕ) → Stands cells image n a b → Stands cells image n c d → (a ≡ c) × (b ≡ d)
+pub one_document : (cells : ℕ) (image : Image) (n : ℕ) (a b c d : List ℕ) → Stands cells image n a b
+    → Stands cells image n c d → (a ≡ c) × (b ≡ d)
 one_document cells image n a b c d p q =
     let place = reserves _ _ _ _ (one_record_holds image _ _ _ p.done.commits.reserves.reserve q.done.commits.reserves.reserve) in
     let sizes = commits _ _ _ _ (one_record_holds image _ _ _ p.done.commits.outcome q.done.commits.outcome) in

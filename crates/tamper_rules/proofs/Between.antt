@@ -26,7 +26,8 @@ after_keeps (abandoned g n start reserved v h r w) = w.keeps
 after_keeps (completed g n start reserved bytes journal v h c ready w) = w.keeps
 
 -- and a commit cell stood before
-pub commit_stood : {cells : ℕ} {image after : Image} → After cells image after → (m bytes journal : ℕ) → (g : Layout) → m < g.slots → IsVolume cells image g
+pub commit_stood : {cells : ℕ} {image after : Image} → After cells image after → (m bytes journal : ℕ)
+    → (g : Layout) → m < g.slots → IsVolume cells image g
     → Holds after (outcome_at m) (Commit bytes journal) → Holds image (outcome_at m) (Commit bytes journal)
 commit_stood (nothing s same) m bytes journal g inside v h = record { cell = h.cell; stands = sym (same (outcome_at m)) ∙ h.stands; is = h.is }
 commit_stood {cells} {image} {after} (abandoned k n start reserved v x r w) m bytes journal g inside vol h = ⊎_elim
@@ -47,7 +48,8 @@ commit_stood {cells} {image} {after} (completed k n start reserved more entries 
     (w.only (outcome_at m) h.cell h.stands)
 
 -- a done cell that settling writes is that of the slot below the one horizon
-pub done_added : {cells : ℕ} {image after : Image} → After cells image after → (m : ℕ) (g : Layout) → m < g.slots → IsVolume cells image g
+pub done_added : {cells : ℕ} {image after : Image} → After cells image after → (m : ℕ) (g : Layout)
+    → m < g.slots → IsVolume cells image g
     → image (done_at m) ≡ None → IsWritten after (done_at m) → IsOneHorizon g image (m + 1)
 done_added (nothing s same) m g inside v none w = absurd (none-some _ (sym none ∙ sym (same (done_at m)) ∙ w.stands))
 done_added {cells} {image} {after} (abandoned k n start reserved v x r w) m g inside vol none d = ⊎_elim
@@ -69,14 +71,16 @@ done_added {cells} {image} {after} (completed k n start reserved more entries v 
     (w.only (done_at m) d.found d.stands)
 
 -- a taken slot lies below a horizon
-pub in_log : (g : Layout) (image : Image) → IsSettled g image → (u : ℕ) → IsHorizon g image image u → (m : ℕ) → m < g.slots → IsWritten image (reserve_at m) → m < u
+pub in_log : (g : Layout) (image : Image) → IsSettled g image → (u : ℕ) → IsHorizon g image image u → (m : ℕ)
+    → m < g.slots → IsWritten image (reserve_at m) → m < u
 in_log g image s u h m inside w = ⊎_elim
     (λ free. below_horizon g image s u m free h inside w)
     (λ full. omega arith)
     (cases_lt u g.slots)
 
 -- in a settled image a slot with a commit cell is done
-pub commit_done : (g : Layout) (image : Image) → IsSettled g image → (m bytes journal : ℕ) → m < g.slots → Holds image (outcome_at m) (Commit bytes journal) → IsDoneSlot g image m
+pub commit_done : (g : Layout) (image : Image) → IsSettled g image → (m bytes journal : ℕ) → m < g.slots
+    → Holds image (outcome_at m) (Commit bytes journal) → IsDoneSlot g image m
 commit_done g image s m bytes journal inside h =
     let o : OutcomeRule image m = s.met Rules.OutcomeCells (outcome_at m) (record { found = h.cell; stands = h.stands }) m inside refl in
     let u = some_horizon g image s in

@@ -21,7 +21,8 @@ use Rattle.tamper_rules.proofs.Settled.{written, taken_below, taken_to, some_hor
 use Rattle.tamper_rules.proofs.Writing.{same_or_not}
 
 -- one more document behind the others
-pub rise_last : (from : ℕ) (ds : List Document) (d : Document) → Rise from ds → ((e : Document) → Contains ds e → e.slot < d.slot) → from ≤ d.slot → Rise from (ds ++ d ∷ [])
+pub rise_last : (from : ℕ) (ds : List Document) (d : Document) → Rise from ds
+    → ((e : Document) → Contains ds e → e.slot < d.slot) → from ≤ d.slot → Rise from (ds ++ d ∷ [])
 rise_last from [] d r less le = (le, tt)
 rise_last from (e ∷ ds) d r less le =
     (r.0, rise_last (e.slot + 1) ds d r.1 (λ x c. less x (suc c.0, omega (arith, c.1), c.2)) (let h : e.slot < d.slot = less e (zero, omega arith, refl) in omega arith))
@@ -63,7 +64,8 @@ module _ {g : Layout} {image : Image} (v : IsVolume g.cells image g) (s : IsSett
         },
       )
 
-  without : {k : ℕ} {ds : List Document} → AreBelow g.cells image k ds → IsAbandonedSlot g image image k → AreBelow g.cells image (suc k) ds
+  without : {k : ℕ} {ds : List Document} → AreBelow g.cells image k ds → IsAbandonedSlot g image image k
+      → AreBelow g.cells image (suc k) ds
   without {k} {ds} b a = record {
     rise = b.rise;
     each = λ d. (
@@ -75,7 +77,8 @@ module _ {g : Layout} {image : Image} (v : IsVolume g.cells image g) (s : IsSett
       lower : (n : ℕ) → (n ≡ k → ⊥) → n < suc k → n < k
       lower n other less = omega arith
 
-  with_one : {k : ℕ} {ds : List Document} → AreBelow g.cells image k ds → k < u → (id body : List ℕ) → Stands g.cells image k id body
+  with_one : {k : ℕ} {ds : List Document} → AreBelow g.cells image k ds → k < u → (id body : List ℕ)
+      → Stands g.cells image k id body
       → AreBelow g.cells image (suc k) (ds ++ record { slot = k; id = id; body = body } ∷ [])
   with_one {k} {ds} b less id body t =
       let last : Document = record { slot = k; id = id; body = body } in
@@ -131,7 +134,8 @@ module _ {g : Layout} {image : Image} (v : IsVolume g.cells image g) (s : IsSett
           over : (n : ℕ) → u < n → n < g.slots → IsWritten image (reserve_at n) → ⊥
           over n above inside w = let x = taken_below g image s n inside w u above in none-some _ (sym (h.free (omega arith)) ∙ x.stands)
 
-pub documents_exist : (cells : ℕ) (image : Image) → Settled cells image → (ds : List Document) × AreDocuments cells image ds
+pub documents_exist : (cells : ℕ) (image : Image) → Settled cells image
+    → (ds : List Document) × AreDocuments cells image ds
 documents_exist cells image s =
     let g = s.layout in
     let v : IsVolume g.cells image g = subst (λ (c : ℕ). IsVolume c image g) (sym s.volume.size) s.volume in

@@ -8,7 +8,8 @@ use Rattle.stored_documents.specs.Volumes.{Holds}
 use Rattle.tamper_rules.specs.Rules.{HoldsInOrder, EndsFront}
 
 -- a full front ends at its last place
-pub full_ends : {image : Image} {block : ℕ} {greatest : PostingFields} → IsFull image block greatest → EndsFront image block greatest
+pub full_ends : {image : Image} {block : ℕ} {greatest : PostingFields} → IsFull image block greatest
+    → EndsFront image block greatest
 full_ends f = record { place = 127; in_places = omega arith; in_front = f; ends = λ less. absurd (omega arith) }
 
 module _ {image : Image} {block : ℕ} (entries : (place : ℕ) → place < 128 → HoldsInOrder image block place) where

@@ -99,13 +99,15 @@ module _ {g : Layout} {old new : Image} {n start size : ℕ} (v : IsVolume g.cel
       (s.ended n m u.horizon (below_horizon g old s n m u.reserves.slot u.horizon c.commits.reserves.slot (written c.commits.reserves)))
 
   -- a journal cell of a slot stood before
-  entry_stood : {m from reserved bytes journal place : ℕ} → Commits g old m from reserved bytes journal → place < journal
+  entry_stood : {m from reserved bytes journal place : ℕ} → Commits g old m from reserved bytes journal
+      → place < journal
       → IsWritten new (journal_at from reserved journal + place) → IsWritten old (journal_at from reserved journal + place)
   entry_stood c below w =
       let e = ends s u c.reserves in
       stood s u (omega (arith, c.fits, c.reserves.from)) (omega (arith, e, below, c.fits)) w
 
-  copies_was : {m from reserved bytes journal place target : ℕ} {r : RecordCell} → Commits g old m from reserved bytes journal
+  copies_was : {m from reserved bytes journal place target : ℕ} {r : RecordCell}
+      → Commits g old m from reserved bytes journal
       → Copies new from reserved journal place target r → Copies old from reserved journal place target r
   copies_was c k = copies_back u.keeps (entry_stood c k.below (record { found = k.entry; stands = k.stands })) k
 
@@ -173,7 +175,8 @@ module _ {g : Layout} {old new : Image} {n start size : ℕ} (v : IsVolume g.cel
       of_new at is pool (of_outcome same) = absurd (omega (arith, u.reserves.slot))
       of_new at is pool (of_range from to) = omega arith
 
-      in_range : (at : ℕ) → at ≡ start + size → pool_at g ≤ cell → (old cell ≡ Some w.found) ⊎ IsOf n start size cell → cell < at
+      in_range : (at : ℕ) → at ≡ start + size → pool_at g ≤ cell
+          → (old cell ≡ Some w.found) ⊎ IsOf n start size cell → cell < at
       in_range at is pool h = ⊎_elim
           (λ before.
           let r : BlankRule g old cell = s.met Rules.StrayCells cell (record { found = w.found; stands = before }) in
@@ -326,7 +329,8 @@ module _ {g : Layout} {old new : Image} {n start size : ℕ} (v : IsVolume g.cel
       let r : PathRule g old m id = s.met Rules.Paths (done_at m) (done_written b) m id body refl b in
       record { path = hash_trail_on u.keeps r.path; alone = λ k other less there. r.alone k other less (stands_back there) }
 
-  rule_15 : (m from reserved bytes journal : ℕ) → IsDone g new m from reserved bytes journal → TilingRule new from reserved bytes journal
+  rule_15 : (m from reserved bytes journal : ℕ) → IsDone g new m from reserved bytes journal
+      → TilingRule new from reserved bytes journal
   rule_15 m from reserved bytes journal d =
       let r : TilingRule old from reserved bytes journal = s.met Rules.Tilings (outcome_at m) (record { found = b.commits.outcome.cell; stands = b.commits.outcome.stands }) m from reserved bytes journal refl b in
       record {
@@ -347,16 +351,19 @@ module _ {g : Layout} {old new : Image} {n start size : ℕ} (v : IsVolume g.cel
       jump_on : {target : ℕ} → HasJump old from reserved journal target → HasJump new from reserved journal target
       jump_on h = (h.0, h.1, copies_on u.keeps h.2)
 
-      child_back : {target : ℕ} → HasChild new from reserved journal target → HasChild old from reserved journal target
+      child_back : {target : ℕ} → HasChild new from reserved journal target
+          → HasChild old from reserved journal target
       child_back h = (h.0, h.1, copies_was b.commits h.2)
 
       child_on : {target : ℕ} → HasChild old from reserved journal target → HasChild new from reserved journal target
       child_on h = (h.0, h.1, copies_on u.keeps h.2)
 
-      size_on : {target count : ℕ} → IsSize old from reserved journal target count → IsSize new from reserved journal target count
+      size_on : {target count : ℕ} → IsSize old from reserved journal target count
+          → IsSize new from reserved journal target count
       size_on h = ⊎_elim (λ x. inl (x.0, jump_on x.1)) (λ x. inr (x.0, λ j. x.1 (jump_back j))) h
 
-      tile_on : (targets : List ℕ) (low high : ℕ) → Tile old from reserved journal low high targets → Tile new from reserved journal low high targets
+      tile_on : (targets : List ℕ) (low high : ℕ) → Tile old from reserved journal low high targets
+          → Tile new from reserved journal low high targets
       tile_on [] low high t = t
       tile_on (target ∷ targets) low high t = (t.0, t.1, size_on t.2, tile_on targets (low + t.1) high t.3)
 

@@ -33,14 +33,17 @@ kind_low (Bucket slot fingerprint) at = omega arith
 kind_low (Child target) at = omega arith
 
 -- a record is no content cell
-no_content : {r : RecordCell} {at : ℕ} {value : List ℕ} (stored : List ℕ) (k : ℕ) → IsRecordCell r at value → value ≡ content_at stored k → ⊥
+no_content : {r : RecordCell} {at : ℕ} {value : List ℕ} (stored : List ℕ) (k : ℕ) → IsRecordCell r at value
+    → value ≡ content_at stored k → ⊥
 no_content {r} {at} {value} stored k is same =
     let low : slice_index (record_bytes r at) 0 ≤ 9 = kind_low r at in
     let kind : slice_index (record_bytes r at) 0 ≡ 16 + length (take 15 (drop (15 * k) stored)) = ap (λ (v : List ℕ). slice_index v 0) (sym is.same ∙ same) in
     omega (arith, low, kind)
 
 -- a content cell stood before settling
-content_stood : {cells : ℕ} {image after : Image} → After cells image after → (cell : ℕ) (stored : List ℕ) (k : ℕ) → after cell ≡ Some (content_at stored k) → image cell ≡ Some (content_at stored k)
+content_stood : {cells : ℕ} {image after : Image} → After cells image after
+    → (cell : ℕ) (stored : List ℕ) (k : ℕ) → after cell ≡ Some (content_at stored k)
+    → image cell ≡ Some (content_at stored k)
 content_stood (nothing s same) cell stored k is = sym (same cell) ∙ is
 content_stood (abandoned g n start reserved v h r w) cell stored k is = ⊎_elim (λ was. was)
     (λ (row : AbandonRow n cell (content_at stored k)). absurd (no_content stored k row.is refl))
@@ -53,7 +56,8 @@ content_stood {cells} {image} (completed g n start reserved bytes journal v h c 
     (w.only cell (content_at stored k) is)
 
 -- so did a reserve cell
-reserve_stood : {cells : ℕ} {image after : Image} → After cells image after → (m : ℕ) (value : List ℕ) (g : Layout) → m < g.slots → IsVolume cells image g
+reserve_stood : {cells : ℕ} {image after : Image} → After cells image after
+    → (m : ℕ) (value : List ℕ) (g : Layout) → m < g.slots → IsVolume cells image g
     → after (reserve_at m) ≡ Some value → image (reserve_at m) ≡ Some value
 reserve_stood (nothing s same) m value g inside v is = sym (same (reserve_at m)) ∙ is
 reserve_stood (abandoned k n start reserved v h r w) m value g inside vol is = ⊎_elim (λ was. was)
@@ -135,17 +139,20 @@ module _ {g : Layout} {lower upper a b : Image} (v : IsVolume g.cells lower g) (
   documents_down ds are = record { rise = are.rise; each = λ d. (λ t. (are.each d).0 (document_up d t), λ c. document_down d ((are.each d).1 c)) }
 
 -- the after of a sound image, settled for this layout
-settled_for : {g : Layout} {image : Image} → IsVolume g.cells image g → (t : Sound g.cells image) → IsSettled g (t.after)
+settled_for : {g : Layout} {image : Image} → IsVolume g.cells image g → (t : Sound g.cells image)
+    → IsSettled g (t.after)
 settled_for {g} {image} v t = subst (λ (k : Layout). IsSettled k t.after) (one_layout t.settled.layout g t.settled.volume (volume_on (after_keeps t.is) v)) t.settled.settled
 
 -- a sound image has a horizon
-horizon_of : {g : Layout} {image : Image} → IsVolume g.cells image g → (after : Image) → After g.cells image after → IsSettled g after → (u : ℕ) × IsHorizon g image image u
+horizon_of : {g : Layout} {image : Image} → IsVolume g.cells image g → (after : Image)
+    → After g.cells image after → IsSettled g after → (u : ℕ) × IsHorizon g image image u
 horizon_of {g} {image} v after (nothing s same) settled = some_horizon g image (subst (λ (i : Image). IsSettled g i) (same_image same) settled)
 horizon_of {g} {image} v after (abandoned k n start reserved w h r x) settled = (n + 1, subst (λ (j : Layout). IsHorizon j image image (n + 1)) (one_layout k g w v) h.is)
 horizon_of {g} {image} v after (completed k n start reserved bytes journal w h c ready x) settled = (n + 1, subst (λ (j : Layout). IsHorizon j image image (n + 1)) (one_layout k g w v) h.is)
 
 -- what a sound image holds
-held_of : {g : Layout} {image : Image} → IsVolume g.cells image g → (t : Sound g.cells image) → (ds : List Document) → Held g.cells image ds → AreDocuments g.cells (t.after) ds
+held_of : {g : Layout} {image : Image} → IsVolume g.cells image g → (t : Sound g.cells image)
+    → (ds : List Document) → Held g.cells image ds → AreDocuments g.cells (t.after) ds
 held_of {g} {image} v t ds (none blank is) = absurd (none-some _ (sym (blank 0) ∙ v.volume.stands))
 held_of {g} {image} v t ds (of_after after a are) = subst (λ (i : Image). AreDocuments g.cells i ds) (one_after g.cells image after t.after a t.is) are
 
@@ -173,19 +180,24 @@ module _ {g : Layout} {low high image : Image} (v : IsVolume g.cells low g)
   low_horizon = horizon_of v at_low.after at_low.is (settled_for v at_low)
 
   -- a commit cell that low lacks is of the slot below the horizon
-  new_commit : (m bytes journal : ℕ) → m < g.slots → low (outcome_at m) ≡ None → Holds high (outcome_at m) (Commit bytes journal) → low_horizon.0 ≡ m + 1
+  new_commit : (m bytes journal : ℕ) → m < g.slots → low (outcome_at m) ≡ None
+      → Holds high (outcome_at m) (Commit bytes journal) → low_horizon.0 ≡ m + 1
   new_commit m bytes journal inside blank h =
       let one = one_commit all_up steady g v m bytes journal inside blank h in one.one low_horizon.0 low_horizon.1
 
-  as_low : ((m bytes journal : ℕ) → m < g.slots → Holds image (outcome_at m) (Commit bytes journal) → IsWritten low (outcome_at m))
+  as_low : ((m bytes journal : ℕ) → m < g.slots → Holds image (outcome_at m) (Commit bytes journal)
+      → IsWritten low (outcome_at m))
       → (ds : List Document) → Held g.cells low ds → Held g.cells image ds
   as_low same ds h = of_after here.after here.is (documents_up v e at_low.is here.is (settled_for v at_low) (settled_for vi here) same ds (held_of v at_low ds h))
 
-  as_high : ((m bytes journal : ℕ) → m < g.slots → Holds high (outcome_at m) (Commit bytes journal) → IsWritten image (outcome_at m))
+  as_high : ((m bytes journal : ℕ) → m < g.slots → Holds high (outcome_at m) (Commit bytes journal)
+      → IsWritten image (outcome_at m))
       → (ds : List Document) → Held g.cells high ds → Held g.cells image ds
   as_high same ds h = of_after here.after here.is (documents_down vi f here.is at_high.is (settled_for vi here) (settled_for vh at_high) same ds (held_of vh at_high ds h))
 
-  by_commit : (n : ℕ) → low_horizon.0 ≡ n + 1 → ((ds : List Document) → Held g.cells low ds → Held g.cells image ds) ⊎ ((ds : List Document) → Held g.cells high ds → Held g.cells image ds)
+  by_commit : (n : ℕ) → low_horizon.0 ≡ n + 1
+      → ((ds : List Document) → Held g.cells low ds → Held g.cells image ds)
+      ⊎ ((ds : List Document) → Held g.cells high ds → Held g.cells image ds)
   by_commit n is = ⊎_elim
       (λ blank. inl (as_low (λ m bytes journal inside h. ⊎_elim
       (λ lacks. absurd (
@@ -203,15 +215,18 @@ module _ {g : Layout} {low high image : Image} (v : IsVolume g.cells low g)
       (look image (outcome_at m)))))
       (look image (outcome_at n))
 
-  no_commit : low_horizon.0 ≡ 0 → ((ds : List Document) → Held g.cells low ds → Held g.cells image ds) ⊎ ((ds : List Document) → Held g.cells high ds → Held g.cells image ds)
+  no_commit : low_horizon.0 ≡ 0 → ((ds : List Document) → Held g.cells low ds → Held g.cells image ds)
+      ⊎ ((ds : List Document) → Held g.cells high ds → Held g.cells image ds)
   no_commit is = inl (as_low (λ m bytes journal inside h. ⊎_elim
       (λ lacks. absurd (let at = new_commit m bytes journal inside lacks (holds_on f h) in omega (arith, at, is)))
       (λ x. record { found = x.0; stands = x.1 })
       (look low (outcome_at m))))
 
-  pub holds_two : ((ds : List Document) → Held g.cells low ds → Held g.cells image ds) ⊎ ((ds : List Document) → Held g.cells high ds → Held g.cells image ds)
+  pub holds_two : ((ds : List Document) → Held g.cells low ds → Held g.cells image ds)
+      ⊎ ((ds : List Document) → Held g.cells high ds → Held g.cells image ds)
   holds_two = by low_horizon.0 refl
     where
-      by : (u : ℕ) → low_horizon.0 ≡ u → ((ds : List Document) → Held g.cells low ds → Held g.cells image ds) ⊎ ((ds : List Document) → Held g.cells high ds → Held g.cells image ds)
+      by : (u : ℕ) → low_horizon.0 ≡ u → ((ds : List Document) → Held g.cells low ds → Held g.cells image ds)
+          ⊎ ((ds : List Document) → Held g.cells high ds → Held g.cells image ds)
       by zero is = no_commit is
       by (suc n) is = by_commit n (omega (arith, is))

@@ -14,13 +14,15 @@ use Rattle.stored_documents.proofs.OneDocument.{reserves}
 use Rattle.tamper_rules.proofs.Images.{look}
 
 -- a slot that has ended has a written reserve cell
-pub ended_reserves : {g : Layout} {image : Image} {n : ℕ} → HasEnded g image image n → (start : ℕ) × (length : ℕ) × Reserves g image n start length
+pub ended_reserves : {g : Layout} {image : Image} {n : ℕ} → HasEnded g image image n
+    → (start : ℕ) × (length : ℕ) × Reserves g image n start length
 ended_reserves {g} {image} {n} h = ⊎_elim
     (λ (a : IsAbandonedSlot g image image n). (a.start, a.length, a.abandoned.abandons.reserves))
     (λ (d : IsDoneSlot g image n). (d.start, d.length, d.done.commits.reserves))
     h
 
-pub written : {g : Layout} {image : Image} {n start length : ℕ} → Reserves g image n start length → IsWritten image (reserve_at n)
+pub written : {g : Layout} {image : Image} {n start length : ℕ} → Reserves g image n start length
+    → IsWritten image (reserve_at n)
 written r = record { found = r.reserve.cell; stands = r.reserve.stands }
 
 -- where an edge is said of a slot, that slot is a horizon
@@ -36,7 +38,8 @@ edge_horizon g image at e = record {
   free = e.free;
 }
   where
-    k_of : ((k : ℕ) × (start : ℕ) × (length : ℕ) × (e.u ≡ k + 1) × Reserves g image k start length × (at ≡ start + length)) → ℕ
+    k_of : ((k : ℕ) × (start : ℕ) × (length : ℕ) × (e.u ≡ k + 1) × Reserves g image k start length
+        × (at ≡ start + length)) → ℕ
     k_of w = w.0
 
 module _ (g : Layout) (image : Image) (s : IsSettled g image) where
@@ -63,7 +66,8 @@ module _ (g : Layout) (image : Image) (s : IsSettled g image) where
       (cases_order m k)
 
   -- and no other
-  pub below_horizon : (n m : ℕ) → n < g.slots → IsHorizon g image image n → m < g.slots → IsWritten image (reserve_at m) → m < n
+  pub below_horizon : (n m : ℕ) → n < g.slots → IsHorizon g image image n → m < g.slots
+      → IsWritten image (reserve_at m) → m < n
   below_horizon n m free h inside w = ⊎_elim
       (λ same. absurd (none-some _ (sym (h.free free) ∙ ap (λ (i : ℕ). image (reserve_at i)) (sym same) ∙ w.stands)))
       (λ differ. ⊎_elim (λ less. less)
@@ -72,7 +76,8 @@ module _ (g : Layout) (image : Image) (s : IsSettled g image) where
       (cases_order m n)
 
   -- the reservations of the slots below n end where those below n end, or before
-  pub ends_before : (n at : ℕ) → EndsBelow g image n at → (m start length : ℕ) → m < n → Reserves g image m start length → start + length ≤ at
+  pub ends_before : (n at : ℕ) → EndsBelow g image n at → (m start length : ℕ) → m < n
+      → Reserves g image m start length → start + length ≤ at
   ends_before zero at ends m start length less r = absurd (omega arith)
   ends_before (suc k) at ends m start length less r = ⊎_elim
       (λ (z : (suc k ≡ 0) × (at ≡ _)). absurd (omega (arith, z.0)))
@@ -116,7 +121,8 @@ module _ (g : Layout) (image : Image) (s : IsSettled g image) where
   pub some_horizon : (u : ℕ) × IsHorizon g image image u
   some_horizon = from g.slots zero (omega arith) (λ m is. absurd (omega arith))
     where
-      from : (left u : ℕ) → u + left ≡ g.slots → ((m : ℕ) → u ≡ m + 1 → IsWritten image (reserve_at m)) → (u : ℕ) × IsHorizon g image image u
+      from : (left u : ℕ) → u + left ≡ g.slots → ((m : ℕ) → u ≡ m + 1 → IsWritten image (reserve_at m))
+          → (u : ℕ) × IsHorizon g image image u
       from zero u all below = (u, record { most = omega arith; below = below; free = λ less. absurd (omega arith) })
       from (suc left) u all below = ⊎_elim
           (λ blank. (u, record { most = omega arith; below = below; free = λ less. blank }))
@@ -145,14 +151,16 @@ one_end g image n a b h k = ⊎_elim
     k)
     h
   where
-    apart : (m l s t u v : ℕ) → n ≡ m + 1 → n ≡ l + 1 → Reserves g image m s t → Reserves g image l u v → a ≡ s + t → b ≡ u + v → a ≡ b
+    apart : (m l s t u v : ℕ) → n ≡ m + 1 → n ≡ l + 1 → Reserves g image m s t → Reserves g image l u v
+        → a ≡ s + t → b ≡ u + v → a ≡ b
     apart m l s t u v is is' r q e f =
         let same : m ≡ l = omega (arith, is, is') in
         let both = reserves s t u v (one_record_holds image (reserve_at l) (Reserve s t) (Reserve u v) (subst (λ (k : ℕ). Holds image (reserve_at k) (Reserve s t)) same r.reserve) q.reserve) in
         omega (arith, both.0, both.1, e, f)
 
 -- a settled image has one edge
-pub one_edge : (g : Layout) (image : Image) → IsSettled g image → (a b : ℕ) → IsEdge g image image a → IsEdge g image image b → a ≡ b
+pub one_edge : (g : Layout) (image : Image) → IsSettled g image → (a b : ℕ) → IsEdge g image image a
+    → IsEdge g image image b → a ≡ b
 one_edge g image s a b h k =
     let same : k.u ≡ h.u = one_horizon g image s k.u h.u (edge_horizon g image b k) (edge_horizon g image a h) in
     one_end g image h.u a b h.ends (subst (λ (u : ℕ). EndsBelow g image u b) same k.ends)

@@ -15,7 +15,8 @@ use Rattle.stored_documents.specs.Slots.{Reserves, IsHorizon}
 use Rattle.stored_documents.specs.Volumes.{Holds, IsWritten, IsVolume}
 use Rattle.tamper_rules.proofs.GivenUp.{one_layout}
 
-pub unbroken : (cells : ℕ) (image : Image) (number cell : ℕ) → Settled cells image → IsBroken cells image number cell → ⊥
+pub unbroken : (cells : ℕ) (image : Image) (number cell : ℕ) → Settled cells image
+    → IsBroken cells image number cell → ⊥
 unbroken cells image number cell s b =
     let same : s.layout ≡ b.layout = one_layout s.layout b.layout s.volume b.volume in
     b.not_met (subst (λ (g : Layout). IsMet g image b.rule cell) same (s.settled.met b.rule cell b.written))

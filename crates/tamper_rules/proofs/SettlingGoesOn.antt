@@ -55,7 +55,8 @@ module _ {cells : ℕ} {old after image : Image} (settled : Settled cells after)
       (ready : IsReady g old n start reserved bytes journal)
       (w : IsWith (λ cell value. JournalRow old start reserved journal cell value ⊎ DoneRow n cell value) old after) where
     -- the log changes in the done cell alone
-    log_was : (cell : ℕ) (value : List ℕ) → cell < list_at g 0 → (cell ≡ done_at n → ⊥) → image cell ≡ Some value → old cell ≡ Some value
+    log_was : (cell : ℕ) (value : List ℕ) → cell < list_at g 0 → (cell ≡ done_at n → ⊥)
+        → image cell ≡ Some value → old cell ≡ Some value
     log_was cell value low other is = ⊎_elim (λ was. was)
         (λ rows. absurd (⊎_elim
         (λ (row : JournalRow old start reserved journal cell value). let far : list_at g 0 ≤ cell = target_behind_log ready.in_order row.copies in omega arith)
@@ -67,7 +68,8 @@ module _ {cells : ℕ} {old after image : Image} (settled : Settled cells after)
         (λ h. absurd (none-some _ (sym blank ∙ log_was cell h.0 low other h.1)))
         (look image cell)
 
-    row_back : {cell : ℕ} {value : List ℕ} → JournalRow image start reserved journal cell value → JournalRow old start reserved journal cell value
+    row_back : {cell : ℕ} {value : List ℕ} → JournalRow image start reserved journal cell value
+        → JournalRow old start reserved journal cell value
     row_back {cell} {value} row =
         let o = ready.in_order row.place row.copies.below in
         let was : old (journal_at start reserved journal + row.place) ≡ Some o.copies.entry = o.copies.stands in
@@ -78,7 +80,8 @@ module _ {cells : ℕ} {old after image : Image} (settled : Settled cells after)
           stands = was ∙ sym (e.keeps _ _ was) ∙ row.stands;
         }
 
-    row_on : {cell : ℕ} {value : List ℕ} → JournalRow old start reserved journal cell value → JournalRow image start reserved journal cell value
+    row_on : {cell : ℕ} {value : List ℕ} → JournalRow old start reserved journal cell value
+        → JournalRow image start reserved journal cell value
     row_on row = record { place = row.place; copied = row.copied; copies = copies_on e row.copies; stands = e.keeps _ _ row.stands }
 
     horizon_back : (u : ℕ) → IsHorizon g image image u → IsHorizon g old old u
@@ -118,14 +121,16 @@ module _ {cells : ℕ} {old after image : Image} (settled : Settled cells after)
               (w.only cell value is);
         })
 
-    finished : IsWritten image (done_at n) → ((cell : ℕ) (value : List ℕ) → JournalRow old start reserved journal cell value → image cell ≡ Some value) → After cells image after
+    finished : IsWritten image (done_at n) → ((cell : ℕ) (value : List ℕ)
+        → JournalRow old start reserved journal cell value → image cell ≡ Some value) → After cells image after
     finished done all = as_after (all_of_it w e f (λ cell value rows. ⊎_elim (all cell value)
         (λ (row : DoneRow n cell value).
         let there : image cell ≡ Some done.found = ap image row.at ∙ done.stands in
         let same : value ≡ done.found = some_is value done.found (sym (w.adds cell value (inr row)) ∙ f.keeps cell done.found there) in
         there ∙ ap (λ (x : List ℕ). Some x) (sym same)) rows))
 
-pub goes_on : (cells : ℕ) (old after image : Image) → After cells old after → Settled cells after → Extends old image → Extends image after
+pub goes_on : (cells : ℕ) (old after image : Image) → After cells old after → Settled cells after
+    → Extends old image → Extends image after
     → ((g : Layout) (n start reserved bytes journal : ℕ) → IsVolume cells old g → IsCommitted g old old n start reserved bytes journal
     → IsWritten image (done_at n)
     → (cell : ℕ) (value : List ℕ) → JournalRow old start reserved journal cell value → image cell ≡ Some value)

@@ -25,7 +25,8 @@ volume_of (completed g n start reserved bytes journal v h c ready w) = (g, v)
 not_blank : {cells : ℕ} {image after : Image} → After cells image after → image 0 ≡ None → ⊥
 not_blank a blank = let v = volume_of a in none-some _ (sym blank ∙ (v.1).volume.stands)
 
-pub held_one : (cells : ℕ) (image : Image) (one other : List Document) → Held cells image one → Held cells image other → one ≡ other
+pub held_one : (cells : ℕ) (image : Image) (one other : List Document) → Held cells image one
+    → Held cells image other → one ≡ other
 held_one cells image one other (none blank is) (none blank' is') = is ∙ sym is'
 held_one cells image one other (none blank is) (of_after after a are) = absurd (not_blank a (blank 0))
 held_one cells image one other (of_after after a are) (none blank is) = absurd (not_blank a (blank 0))
@@ -87,7 +88,8 @@ module _ {cells : ℕ} {low high image : Image} (steady : (other : Image) → Ex
         inr (λ documents held. subst (λ (i : Image). Held cells i documents) same held))
         (steady image e f)
       where
-        none_held : ((cell : ℕ) → image cell ≡ None) → (documents : List Document) → Held cells low documents → Held cells image documents
+        none_held : ((cell : ℕ) → image cell ≡ None) → (documents : List Document) → Held cells low documents
+            → Held cells image documents
         none_held all_blank documents (none low_blank is) = none all_blank is
         none_held all_blank documents (of_after after a are) = absurd (not_blank a (blank 0))
 

@@ -36,10 +36,12 @@ module _ {g : Layout} {old new : Image} {p : Plan} (u : IsFilled g old new p) wh
   mine = record { commits = record { reserves = u.reserves; outcome = u.commit; fits = u.fits }; done = u.done }
 
   -- the journal of the plan
-  pub applied_entry : {cell : ℕ} {value : List ℕ} → (row : AppliedRow p cell value) → IsCopy p row.place cell row.copied
+  pub applied_entry : {cell : ℕ} {value : List ℕ} → (row : AppliedRow p cell value)
+      → IsCopy p row.place cell row.copied
   applied_entry {cell} {value} row = record { value = value; entry = row.entry; index = row.index; address = row.address; is = row.is }
 
-  pub entry_copies : {place target : ℕ} {r : RecordCell} → IsCopy p place target r → Copies new p.start p.reserved (length p.journal) place target r
+  pub entry_copies : {place target : ℕ} {r : RecordCell} → IsCopy p place target r
+      → Copies new p.start p.reserved (length p.journal) place target r
   entry_copies {place} {target} {r} e = record {
     below = slice_get_within p.journal place e.value e.entry;
     entry = e.value;
@@ -50,14 +52,16 @@ module _ {g : Layout} {old new : Image} {p : Plan} (u : IsFilled g old new p) wh
   }
 
   -- what a place copies is applied
-  copies_applied : {place target : ℕ} {r : RecordCell} → (c : Copies new p.start p.reserved (length p.journal) place target r) → AppliedRow p target c.entry
+  copies_applied : {place target : ℕ} {r : RecordCell}
+      → (c : Copies new p.start p.reserved (length p.journal) place target r) → AppliedRow p target c.entry
   copies_applied {place} {target} {r} c =
       let found = slice_get-get_or p.journal place [] c.below in
       let there = u.rows.adds (journal_at p.start p.reserved (length p.journal) + place) _ (Storing, inr (record { place = place; entry = found; at = refl })) in
       let same = some_is _ c.entry (sym there ∙ c.stands) in
       record { place = place; entry = found ∙ ap (λ (v : List ℕ). Some v) same; copied = r; index = c.index; address = c.address; is = c.is }
 
-  row_target : {cell : ℕ} {value : List ℕ} → (row : AppliedRow p cell value) → (q : IsPlannedCopy g old p row.place) × (cell ≡ q.target)
+  row_target : {cell : ℕ} {value : List ℕ} → (row : AppliedRow p cell value)
+      → (q : IsPlannedCopy g old p row.place) × (cell ≡ q.target)
   row_target {cell} {value} row =
       let e = entry_copies (applied_entry row) in
       let q = u.in_order row.place e.below in
@@ -88,14 +92,16 @@ module _ {g : Layout} {old new : Image} {p : Plan} (u : IsFilled g old new p) wh
   blocks_to = omega arith
 
   -- the log changes in three cells
-  pub log_row : (cell : ℕ) (value : List ℕ) → cell < list_at g 0 → (phase : Phase) → Row p phase cell value → IsLogCell p.slot cell
+  pub log_row : (cell : ℕ) (value : List ℕ) → cell < list_at g 0 → (phase : Phase) → Row p phase cell value
+      → IsLogCell p.slot cell
   log_row cell value low Reserving row = is_reserve row.at
   log_row cell value low Storing row = absurd (let far = stored_from row in omega (arith, far, blocks_from, u.reserves.from))
   log_row cell value low Committing row = is_outcome row.at
   log_row cell value low Applying row = absurd (let far = applied_far row in omega arith)
   log_row cell value low Finishing row = is_done row.at
 
-  log_was : (cell : ℕ) (value : List ℕ) → cell < list_at g 0 → (IsLogCell p.slot cell → ⊥) → new cell ≡ Some value → old cell ≡ Some value
+  log_was : (cell : ℕ) (value : List ℕ) → cell < list_at g 0 → (IsLogCell p.slot cell → ⊥)
+      → new cell ≡ Some value → old cell ≡ Some value
   log_was cell value low other is = ⊎_elim (λ was. was) (λ (row : AnyRow p cell value). absurd (other (log_row cell value low row.0 row.1))) (u.rows.only cell value is)
 
   no_reserve : {m : ℕ} → (m ≡ p.slot → ⊥) → IsLogCell p.slot (reserve_at m) → ⊥
@@ -113,24 +119,29 @@ module _ {g : Layout} {old new : Image} {p : Plan} (u : IsFilled g old new p) wh
   no_done other (is_outcome at) = omega arith
   no_done other (is_done at) = other (omega arith)
 
-  log_held : {cell : ℕ} {r : RecordCell} → cell < list_at g 0 → (IsLogCell p.slot cell → ⊥) → Holds new cell r → Holds old cell r
+  log_held : {cell : ℕ} {r : RecordCell} → cell < list_at g 0 → (IsLogCell p.slot cell → ⊥) → Holds new cell r
+      → Holds old cell r
   log_held {cell} low other h = record { cell = h.cell; stands = log_was cell h.cell low other h.stands; is = h.is }
 
-  pub log_stood : {cell : ℕ} → cell < list_at g 0 → (IsLogCell p.slot cell → ⊥) → IsWritten new cell → IsWritten old cell
+  pub log_stood : {cell : ℕ} → cell < list_at g 0 → (IsLogCell p.slot cell → ⊥) → IsWritten new cell
+      → IsWritten old cell
   log_stood {cell} low other w = record { found = w.found; stands = log_was cell w.found low other w.stands }
 
   module _ {m : ℕ} (other : m ≡ p.slot → ⊥) where
-    commits_back : {from reserved bytes journal : ℕ} → Commits g new m from reserved bytes journal → Commits g old m from reserved bytes journal
+    commits_back : {from reserved bytes journal : ℕ} → Commits g new m from reserved bytes journal
+        → Commits g old m from reserved bytes journal
     commits_back c = record {
       reserves = record { slot = c.reserves.slot; reserve = log_held (omega (arith, c.reserves.slot)) (no_reserve other) c.reserves.reserve; from = c.reserves.from; to = c.reserves.to };
       outcome = log_held (omega (arith, c.reserves.slot)) (no_outcome other) c.outcome;
       fits = c.fits;
     }
 
-    done_back : {from reserved bytes journal : ℕ} → IsDone g new m from reserved bytes journal → IsDone g old m from reserved bytes journal
+    done_back : {from reserved bytes journal : ℕ} → IsDone g new m from reserved bytes journal
+        → IsDone g old m from reserved bytes journal
     done_back d = record { commits = commits_back d.commits; done = log_held (omega (arith, d.commits.reserves.slot)) (no_done other) d.done }
 
-    stores_back : {from reserved bytes journal : ℕ} → Stores g new m from reserved bytes journal → Stores g old m from reserved bytes journal
+    stores_back : {from reserved bytes journal : ℕ} → Stores g new m from reserved bytes journal
+        → Stores g old m from reserved bytes journal
     stores_back c = record {
       commits = commits_back c.commits;
       done = ⊎_elim (λ none. inl (blank_before keeps none)) (λ h. inr (log_held (omega (arith, c.commits.reserves.slot)) (no_done other) h)) c.done;
@@ -144,13 +155,15 @@ module _ {g : Layout} {old new : Image} {p : Plan} (u : IsFilled g old new p) wh
       (look old (outcome_at p.slot))
 
   -- the old image has no committed slot, so a blank done cell stays so
-  done_blank : (m from reserved bytes journal : ℕ) → Commits g old m from reserved bytes journal → old (done_at m) ≡ None → ⊥
+  done_blank : (m from reserved bytes journal : ℕ) → Commits g old m from reserved bytes journal
+      → old (done_at m) ≡ None → ⊥
   done_blank m from reserved bytes journal c none = ⊎_elim
       (λ (a : IsAbandonedSlot g old old m). no_abandon bytes journal (one_record_holds old (outcome_at m) (Commit bytes journal) Abandon c.outcome a.abandoned.abandons.outcome))
       (λ (d : IsDoneSlot g old m). none-some _ (sym none ∙ d.done.done.stands))
       (u.before.ended p.slot m u.horizon (below_horizon g old u.before p.slot m free u.horizon c.reserves.slot (written c.reserves)))
 
-  pub stores_on' : {m from reserved bytes journal : ℕ} → Stores g old m from reserved bytes journal → Stores g new m from reserved bytes journal
+  pub stores_on' : {m from reserved bytes journal : ℕ} → Stores g old m from reserved bytes journal
+      → Stores g new m from reserved bytes journal
   stores_on' {m} {from} {reserved} {bytes} {journal} c = record {
     commits = commits_on keeps c.commits;
     done = ⊎_elim (λ none. absurd (done_blank m from reserved bytes journal c.commits none)) (λ h. inr (holds_on keeps h)) c.done;
@@ -161,7 +174,8 @@ module _ {g : Layout} {old new : Image} {p : Plan} (u : IsFilled g old new p) wh
   index_on' (of_root lies) = of_root lies
   index_on' (of_slot m le b) = of_slot m le (record { start = b.start; length = b.length; bytes = b.bytes; journal = b.journal; stores = stores_on' b.stores; from = b.from; below = b.below })
 
-  in_order_on' : {n from reserved bytes journal place : ℕ} → IsInOrder g old n from reserved bytes journal place → IsInOrder g new n from reserved bytes journal place
+  in_order_on' : {n from reserved bytes journal place : ℕ}
+      → IsInOrder g old n from reserved bytes journal place → IsInOrder g new n from reserved bytes journal place
   in_order_on' {n} {from} {reserved} {bytes} {journal} {place} o = record {
     target = o.target;
     copied = o.copied;
@@ -183,7 +197,8 @@ module _ {g : Layout} {old new : Image} {p : Plan} (u : IsFilled g old new p) wh
       (r.0, r.1, o.0, o.1)
 
   -- what holds of the plan's numbers holds of these
-  by_plan : (P : ℕ → ℕ → ℕ → ℕ → ℕ → Type 0) {m from reserved bytes journal : ℕ} → Commits g new m from reserved bytes journal → m ≡ p.slot
+  by_plan : (P : ℕ → ℕ → ℕ → ℕ → ℕ → Type 0) {m from reserved bytes journal : ℕ}
+      → Commits g new m from reserved bytes journal → m ≡ p.slot
       → P p.slot p.start p.reserved (length (stored_of p)) (length p.journal) → P m from reserved bytes journal
   by_plan P {m} {from} {reserved} {bytes} {journal} c same h =
       let e = same_numbers c same in
@@ -288,16 +303,19 @@ module _ {g : Layout} {old new : Image} {p : Plan} (u : IsFilled g old new p) wh
       }
 
   -- each journal cell of an old slot stood, and was in order
-  old_entry : {m from reserved bytes journal : ℕ} → Stores g old m from reserved bytes journal → (place : ℕ) → place < journal → IsWritten old (journal_at from reserved journal + place)
+  old_entry : {m from reserved bytes journal : ℕ} → Stores g old m from reserved bytes journal → (place : ℕ)
+      → place < journal → IsWritten old (journal_at from reserved journal + place)
   old_entry {m} {from} {reserved} {bytes} {journal} b place below =
       let r : JournalRule g old (outcome_at m) = u.before.met Rules.Journals (outcome_at m) (record { found = b.commits.outcome.cell; stands = b.commits.outcome.stands }) in
       r.commit m from reserved bytes journal place b below refl
 
-  copies_was : {m from reserved bytes journal place target : ℕ} {r : RecordCell} → Stores g old m from reserved bytes journal
+  copies_was : {m from reserved bytes journal place target : ℕ} {r : RecordCell}
+      → Stores g old m from reserved bytes journal
       → Copies new from reserved journal place target r → Copies old from reserved journal place target r
   copies_was {m} {from} {reserved} {bytes} {journal} {place} b c = copies_back keeps (old_entry b place c.below) c
 
-  planned_order : (place : ℕ) → place < length p.journal → IsInOrder g new p.slot p.start p.reserved (length (stored_of p)) (length p.journal) place
+  planned_order : (place : ℕ) → place < length p.journal
+      → IsInOrder g new p.slot p.start p.reserved (length (stored_of p)) (length p.journal) place
   planned_order place below =
       let q = u.in_order place below in
       record {
@@ -336,7 +354,8 @@ module _ {g : Layout} {old new : Image} {p : Plan} (u : IsFilled g old new p) wh
         (same_or_not m p.slot);
   }
     where
-      in_order_at : (m from reserved bytes journal place : ℕ) → Stores g new m from reserved bytes journal → m ≡ p.slot → place < journal → IsInOrder g new m from reserved bytes journal place
+      in_order_at : (m from reserved bytes journal place : ℕ) → Stores g new m from reserved bytes journal
+          → m ≡ p.slot → place < journal → IsInOrder g new m from reserved bytes journal place
       in_order_at m from reserved bytes journal place c same below =
           by_plan (λ m from reserved bytes journal. place < journal → IsInOrder g new m from reserved bytes journal place) c.commits same (planned_order place) below
 
@@ -409,7 +428,8 @@ module _ {g : Layout} {old new : Image} {p : Plan} (u : IsFilled g old new p) wh
       r.edge p.start old_edge pool
 
   -- an index cell of the new image that is old was one of the old
-  old_index : (cell : ℕ) (value : List ℕ) → old cell ≡ Some value → IsDoneIndexCell g new cell → IsDoneIndexCell g old cell
+  old_index : (cell : ℕ) (value : List ℕ) → old cell ≡ Some value → IsDoneIndexCell g new cell
+      → IsDoneIndexCell g old cell
   old_index cell value is (Rules.IsDoneIndexCell.of_list l lies) = Rules.IsDoneIndexCell.of_list l lies
   old_index cell value is (Rules.IsDoneIndexCell.of_root lies) = Rules.IsDoneIndexCell.of_root lies
   old_index cell value is (Rules.IsDoneIndexCell.of_slot m from reserved bytes journal d low high) = ⊎_elim
@@ -509,7 +529,8 @@ module _ {g : Layout} {old new : Image} {p : Plan} (u : IsFilled g old new p) wh
       })
       (u.rows.only cell w.found w.stands)
 
-  pub rule_15 : (m from reserved bytes journal : ℕ) → IsDone g new m from reserved bytes journal → TilingRule new from reserved bytes journal
+  pub rule_15 : (m from reserved bytes journal : ℕ) → IsDone g new m from reserved bytes journal
+      → TilingRule new from reserved bytes journal
   rule_15 m from reserved bytes journal d = ⊎_elim
       (λ same. by_plan (λ m from reserved bytes journal. TilingRule new from reserved bytes journal) d.commits same u.tiles)
       (λ other. old_tiles (done_back other d))
@@ -528,27 +549,33 @@ module _ {g : Layout} {old new : Image} {p : Plan} (u : IsFilled g old new p) wh
             tile = tile_on st r.targets from (document_at from reserved bytes journal) r.tile;
           }
         where
-          jump_back : Stores g old m from reserved bytes journal → {target : ℕ} → HasJump new from reserved journal target → HasJump old from reserved journal target
+          jump_back : Stores g old m from reserved bytes journal → {target : ℕ}
+              → HasJump new from reserved journal target → HasJump old from reserved journal target
           jump_back st h = (h.0, h.1, copies_was st h.2)
 
           jump_on : {target : ℕ} → HasJump old from reserved journal target → HasJump new from reserved journal target
           jump_on h = (h.0, h.1, copies_on keeps h.2)
 
-          child_back : Stores g old m from reserved bytes journal → {target : ℕ} → HasChild new from reserved journal target → HasChild old from reserved journal target
+          child_back : Stores g old m from reserved bytes journal → {target : ℕ}
+              → HasChild new from reserved journal target → HasChild old from reserved journal target
           child_back st h = (h.0, h.1, copies_was st h.2)
 
-          child_on : {target : ℕ} → HasChild old from reserved journal target → HasChild new from reserved journal target
+          child_on : {target : ℕ} → HasChild old from reserved journal target
+              → HasChild new from reserved journal target
           child_on h = (h.0, h.1, copies_on keeps h.2)
 
-          size_on : Stores g old m from reserved bytes journal → {target count : ℕ} → IsSize old from reserved journal target count → IsSize new from reserved journal target count
+          size_on : Stores g old m from reserved bytes journal → {target count : ℕ}
+              → IsSize old from reserved journal target count → IsSize new from reserved journal target count
           size_on st h = ⊎_elim (λ x. inl (x.0, jump_on x.1)) (λ x. inr (x.0, λ j. x.1 (jump_back st j))) h
 
-          tile_on : Stores g old m from reserved bytes journal → (targets : List ℕ) (low high : ℕ) → Tile old from reserved journal low high targets → Tile new from reserved journal low high targets
+          tile_on : Stores g old m from reserved bytes journal → (targets : List ℕ) (low high : ℕ)
+              → Tile old from reserved journal low high targets → Tile new from reserved journal low high targets
           tile_on st [] low high t = t
           tile_on st (target ∷ targets) low high t = (t.0, t.1, size_on st t.2, tile_on st targets (low + t.1) high t.3)
 
   -- a document of another slot stood before
-  pub stands_back : {m : ℕ} {id body : List ℕ} → (m ≡ p.slot → ⊥) → Stands g.cells new m id body → Stands g.cells old m id body
+  pub stands_back : {m : ℕ} {id body : List ℕ} → (m ≡ p.slot → ⊥) → Stands g.cells new m id body
+      → Stands g.cells old m id body
   stands_back {m} {id} {body} other t =
       let same : t.layout ≡ g = one_layout t.layout g t.volume (volume_on keeps u.volume) in
       let d : IsDone g new m t.start t.reserved (length (stored_bytes id body)) t.journal =

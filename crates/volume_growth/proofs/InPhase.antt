@@ -12,14 +12,16 @@ use Rattle.volume_growth.proofs.IngestLeaves.{leaves_sound}
 
 module _ {g : Layout} {old new : Image} {p : Plan} (i : IsIngest g old new p) where
   -- what is applied lies before the document, and what is stored does not
-  applied_low : {cell : ℕ} {value : List ℕ} → AppliedRow p cell value → cell < document_at p.start p.reserved (length (stored_of p)) (length p.journal)
+  applied_low : {cell : ℕ} {value : List ℕ} → AppliedRow p cell value
+      → cell < document_at p.start p.reserved (length (stored_of p)) (length p.journal)
   applied_low {cell} row =
       let c = applied_copies i row in
       let o = in_order i row.place c.below in
       let same = one_copy new p.start p.reserved (length p.journal) row.place cell o.target row.copied o.copied c o.copies in
       omega (arith, o.before_document, same.1)
 
-  stored_high : {cell : ℕ} {value : List ℕ} → Row p Storing cell value → document_at p.start p.reserved (length (stored_of p)) (length p.journal) ≤ cell
+  stored_high : {cell : ℕ} {value : List ℕ} → Row p Storing cell value
+      → document_at p.start p.reserved (length (stored_of p)) (length p.journal) ≤ cell
   stored_high {cell} {value} row = ⊎_elim
       (λ (c : ContentRow p cell value). omega (arith, c.at))
       (λ (c : CopyRow p cell value). omega (arith, c.at))
@@ -29,7 +31,8 @@ module _ {g : Layout} {old new : Image} {p : Plan} (i : IsIngest g old new p) wh
   pool_from = let r = slot_reserves i in r.from
 
   -- no cell is of two phases
-  apart : (one : Phase) (two : Phase) → order_of one < order_of two → (cell : ℕ) (v w : List ℕ) → Row p one cell v → Row p two cell w → ⊥
+  apart : (one : Phase) (two : Phase) → order_of one < order_of two → (cell : ℕ) (v w : List ℕ)
+      → Row p one cell v → Row p two cell w → ⊥
   apart Reserving Reserving less cell v w a b = omega arith
   apart Reserving Storing less cell v w a b = let far = stored_from i b in omega (arith, far, a.at, i.free, pool_from)
   apart Reserving Committing less cell v w a b = omega (arith, a.at, b.at)
@@ -65,7 +68,8 @@ module _ {g : Layout} {old new : Image} {p : Plan} (i : IsIngest g old new p) wh
       (cases_lt (order_of h.0) (order_of later)))
       (l.only cell value is)
 
-  pub left_sound : (image : Image) (phase : Phase) → IsLeftIn p old image phase → LeavesSound g.cells old new p.slot image
+  pub left_sound : (image : Image) (phase : Phase) → IsLeftIn p old image phase
+      → LeavesSound g.cells old new p.slot image
   left_sound image phase l = leaves_sound i l.keeps
       (record {
         keeps = λ cell value is. ⊎_elim

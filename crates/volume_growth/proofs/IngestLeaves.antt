@@ -28,7 +28,8 @@ one_cell a b = a.same ∙ sym b.same
 
 module _ {g : Layout} {old new image : Image} {p : Plan} (i : IsIngest g old new p) (e : Extends old image) (f : Extends image new) (phases : IsInPhases p old image) where
   -- what stands in the image stood before, or is of the plan
-  row_of : (cell : ℕ) (value : List ℕ) → image cell ≡ Some value → (old cell ≡ Some value) ⊎ ((old cell ≡ None) × AnyRow p cell value)
+  row_of : (cell : ℕ) (value : List ℕ) → image cell ≡ Some value
+      → (old cell ≡ Some value) ⊎ ((old cell ≡ None) × AnyRow p cell value)
   row_of cell value is = ⊎_elim
       (λ none. ⊎_elim (λ was. inl was) (λ row. inr (none, row)) (i.rows.only cell value (f.keeps cell value is)))
       (λ h. inl (h.1 ∙ ap (λ (v : List ℕ). Some v) (some_is h.0 value (sym (e.keeps cell h.0 h.1) ∙ is))))
@@ -44,15 +45,18 @@ module _ {g : Layout} {old new image : Image} {p : Plan} (i : IsIngest g old new
   done_row = record { at = refl; is = i.done.is }
 
   -- with a commit cell all stands that comes before it, and so on
-  has_reserve : (phase : Phase) → order_of Reserving < order_of phase → (cell : ℕ) (value : List ℕ) → Row p phase cell value → old cell ≡ None → image cell ≡ Some value
+  has_reserve : (phase : Phase) → order_of Reserving < order_of phase → (cell : ℕ) (value : List ℕ)
+      → Row p phase cell value → old cell ≡ None → image cell ≡ Some value
       → image (reserve_at p.slot) ≡ Some i.reserve.cell
   has_reserve phase later cell value row none is = phases Reserving phase later cell value row none is (reserve_at p.slot) i.reserve.cell reserve_row
 
-  has_commit : (phase : Phase) → order_of Committing < order_of phase → (cell : ℕ) (value : List ℕ) → Row p phase cell value → old cell ≡ None → image cell ≡ Some value
+  has_commit : (phase : Phase) → order_of Committing < order_of phase → (cell : ℕ) (value : List ℕ)
+      → Row p phase cell value → old cell ≡ None → image cell ≡ Some value
       → image (outcome_at p.slot) ≡ Some i.commit.cell
   has_commit phase later cell value row none is = phases Committing phase later cell value row none is (outcome_at p.slot) i.commit.cell commit_row
 
-  same_found : (cell : ℕ) (value found : List ℕ) → new cell ≡ Some value → image cell ≡ Some found → image cell ≡ Some value
+  same_found : (cell : ℕ) (value found : List ℕ) → new cell ≡ Some value → image cell ≡ Some found
+      → image cell ≡ Some value
   same_found cell value found there is = is ∙ sym (f.keeps cell found is) ∙ there
 
   -- 1. no reserve cell: nothing is written
@@ -63,7 +67,8 @@ module _ {g : Layout} {old new image : Image} {p : Plan} (i : IsIngest g old new
         (row_of cell value is);
   })
     where
-      no_row : (cell : ℕ) (value : List ℕ) → old cell ≡ None → image cell ≡ Some value → (phase : Phase) → Row p phase cell value → ⊥
+      no_row : (cell : ℕ) (value : List ℕ) → old cell ≡ None → image cell ≡ Some value → (phase : Phase)
+          → Row p phase cell value → ⊥
       no_row cell value none is Reserving row = none-some _ (sym blank ∙ ap image (sym row.at) ∙ is)
       no_row cell value none is Storing row = none-some _ (sym blank ∙ has_reserve Storing (omega arith) cell value row none is)
       no_row cell value none is Committing row = none-some _ (sym blank ∙ has_reserve Committing (omega arith) cell value row none is)
@@ -72,7 +77,8 @@ module _ {g : Layout} {old new image : Image} {p : Plan} (i : IsIngest g old new
 
   -- with the reserve cell the image has the new image's horizon
   module _ (reserved : image (reserve_at p.slot) ≡ Some i.reserve.cell) where
-    reserve_stands : (m : ℕ) (value : List ℕ) → m < g.slots → new (reserve_at m) ≡ Some value → image (reserve_at m) ≡ Some value
+    reserve_stands : (m : ℕ) (value : List ℕ) → m < g.slots → new (reserve_at m) ≡ Some value
+        → image (reserve_at m) ≡ Some value
     reserve_stands m value inside is = ⊎_elim (λ was. e.keeps (reserve_at m) value was)
         (λ of. here of)
         (log_of i (reserve_at m) value (omega arith) is)
@@ -130,7 +136,8 @@ module _ {g : Layout} {old new image : Image} {p : Plan} (i : IsIngest g old new
       from_old : Extends old given
       from_old = record { keeps = λ cell value is. to_given.keeps cell value (e.keeps cell value is) }
 
-      of_row : (cell : ℕ) (value : List ℕ) → old cell ≡ None → image cell ≡ Some value → (phase : Phase) → Row p phase cell value → IsOf p.slot p.start p.reserved cell
+      of_row : (cell : ℕ) (value : List ℕ) → old cell ≡ None → image cell ≡ Some value → (phase : Phase)
+          → Row p phase cell value → IsOf p.slot p.start p.reserved cell
       of_row cell value none is Reserving row = of_reserve row.at
       of_row cell value none is Storing row = of_range (stored_from i row) (stored_to i row)
       of_row cell value none is Committing row = of_outcome row.at
@@ -172,7 +179,8 @@ module _ {g : Layout} {old new image : Image} {p : Plan} (i : IsIngest g old new
                 (same_or_not cell (outcome_at p.slot));
           })
 
-      pub given_documents : (documents : List Document) → AreDocuments g.cells old documents → AreDocuments g.cells given documents
+      pub given_documents : (documents : List Document) → AreDocuments g.cells old documents
+          → AreDocuments g.cells given documents
       given_documents documents are = record {
         rise = are.rise;
         each = λ d. (
@@ -191,7 +199,8 @@ module _ {g : Layout} {old new image : Image} {p : Plan} (i : IsIngest g old new
     reserved : image (reserve_at p.slot) ≡ Some i.reserve.cell
     reserved = has_reserve Committing (omega arith) (outcome_at p.slot) i.commit.cell commit_row (outcome_blank i) committed
 
-    log_here : (cell : ℕ) (value : List ℕ) → cell < list_at g 0 → (cell ≡ done_at p.slot → ⊥) → new cell ≡ Some value → image cell ≡ Some value
+    log_here : (cell : ℕ) (value : List ℕ) → cell < list_at g 0 → (cell ≡ done_at p.slot → ⊥)
+        → new cell ≡ Some value → image cell ≡ Some value
     log_here cell value low other is = ⊎_elim (λ was. e.keeps cell value was) here (log_of i cell value low is)
       where
         here : IsLogCell p.slot cell → image cell ≡ Some value
@@ -199,24 +208,29 @@ module _ {g : Layout} {old new image : Image} {p : Plan} (i : IsIngest g old new
         here (is_outcome at) = same_found cell value i.commit.cell is (ap image at ∙ committed)
         here (is_done at) = absurd (other at)
 
-    holds_here : {cell : ℕ} {r : RecordCell} → cell < list_at g 0 → (cell ≡ done_at p.slot → ⊥) → Holds new cell r → Holds image cell r
+    holds_here : {cell : ℕ} {r : RecordCell} → cell < list_at g 0 → (cell ≡ done_at p.slot → ⊥)
+        → Holds new cell r → Holds image cell r
     holds_here {cell} low other h = record { cell = h.cell; stands = log_here cell h.cell low other h.stands; is = h.is }
 
-    commits_here : {m from reserved bytes journal : ℕ} → Commits g new m from reserved bytes journal → Commits g image m from reserved bytes journal
+    commits_here : {m from reserved bytes journal : ℕ} → Commits g new m from reserved bytes journal
+        → Commits g image m from reserved bytes journal
     commits_here c = record {
       reserves = record { slot = c.reserves.slot; reserve = holds_here (omega (arith, c.reserves.slot)) (λ same. omega arith) c.reserves.reserve; from = c.reserves.from; to = c.reserves.to };
       outcome = holds_here (omega (arith, c.reserves.slot)) (λ same. omega arith) c.outcome;
       fits = c.fits;
     }
 
-    copies_here : {place target : ℕ} {r : RecordCell} → Copies new p.start p.reserved (length p.journal) place target r → Copies image p.start p.reserved (length p.journal) place target r
+    copies_here : {place target : ℕ} {r : RecordCell}
+        → Copies new p.start p.reserved (length p.journal) place target r
+        → Copies image p.start p.reserved (length p.journal) place target r
     copies_here {place} c =
         let entry = slice_get-get_or p.journal place [] c.below in
         copies_back f (record { found = _; stands = stored (journal_at p.start p.reserved (length p.journal) + place) _ (inr (record { place = place; entry = entry; at = refl })) }) c
 
     -- 3. no done cell: settling completes the slot
     module _ (undone : image (done_at p.slot) ≡ None) where
-      stores_here : {m from reserved bytes journal : ℕ} → Stores g new m from reserved bytes journal → Stores g image m from reserved bytes journal
+      stores_here : {m from reserved bytes journal : ℕ} → Stores g new m from reserved bytes journal
+          → Stores g image m from reserved bytes journal
       stores_here {m} c = record {
         commits = commits_here c.commits;
         done = ⊎_elim (λ none. inl (blank_before f none))
@@ -232,7 +246,8 @@ module _ {g : Layout} {old new image : Image} {p : Plan} (i : IsIngest g old new
       index_here (of_root lies) = of_root lies
       index_here (of_slot m le b) = of_slot m le (record { start = b.start; length = b.length; bytes = b.bytes; journal = b.journal; stores = stores_here b.stores; from = b.from; below = b.below })
 
-      order_here : (place : ℕ) → place < length p.journal → IsInOrder g image p.slot p.start p.reserved (length (stored_of p)) (length p.journal) place
+      order_here : (place : ℕ) → place < length p.journal
+          → IsInOrder g image p.slot p.start p.reserved (length (stored_of p)) (length p.journal) place
       order_here place below =
           let o = in_order i place below in
           record {
@@ -245,7 +260,8 @@ module _ {g : Layout} {old new image : Image} {p : Plan} (i : IsIngest g old new
             index = index_here o.index;
           }
 
-      applied : {cell : ℕ} {value : List ℕ} → JournalRow image p.start p.reserved (length p.journal) cell value → new cell ≡ Some value
+      applied : {cell : ℕ} {value : List ℕ}
+          → JournalRow image p.start p.reserved (length p.journal) cell value → new cell ≡ Some value
       applied {cell} {value} row = redone i row.place cell row.copied value (copies_on f row.copies) (f.keeps _ _ row.stands)
 
       rest_row : (cell : ℕ) (value : List ℕ) → new cell ≡ Some value → (phase : Phase) → Row p phase cell value
@@ -306,7 +322,8 @@ module _ {g : Layout} {old new image : Image} {p : Plan} (i : IsIngest g old new
         written = λ w documents are. absurd (none-some _ (sym (outcome_blank i) ∙ ap (λ (x : Image). x (outcome_at p.slot)) (sym same) ∙ w.stands));
       }
 
-  is_new : After g.cells image new → ((image (outcome_at p.slot) ≡ None) → ⊥) → LeavesSound g.cells old new p.slot image
+  is_new : After g.cells image new → ((image (outcome_at p.slot) ≡ None) → ⊥)
+      → LeavesSound g.cells old new p.slot image
   is_new after some = record {
     sound = record { after = new; is = after; settled = new_settled };
     blank = λ none documents are. absurd (some none);

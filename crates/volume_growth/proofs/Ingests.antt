@@ -58,7 +58,8 @@ module _ {g : Layout} {old new : Image} {p : Plan} (i : IsIngest g old new p) wh
   slot_stores : Stores g new p.slot p.start p.reserved (length (stored_of p)) (length p.journal)
   slot_stores = record { commits = slot_commits; done = inr i.done }
 
-  pub in_order : (place : ℕ) → place < length p.journal → IsInOrder g new p.slot p.start p.reserved (length (stored_of p)) (length p.journal) place
+  pub in_order : (place : ℕ) → place < length p.journal
+      → IsInOrder g new p.slot p.start p.reserved (length (stored_of p)) (length p.journal) place
   in_order place below =
       let c : JournalRule g new (outcome_at p.slot) = i.after.met Rules.Journals (outcome_at p.slot) (record { found = i.commit.cell; stands = i.commit.stands }) in
       let w : IsWritten new (journal_at p.start p.reserved (length p.journal) + place) = c.commit p.slot p.start p.reserved (length (stored_of p)) (length p.journal) place slot_stores below refl in
@@ -66,7 +67,8 @@ module _ {g : Layout} {old new : Image} {p : Plan} (i : IsIngest g old new p) wh
       r.copy p.slot p.start p.reserved (length (stored_of p)) (length p.journal) place slot_stores below refl
 
   -- a cell that a journal cell names holds the same
-  pub redone : (place target : ℕ) (copied : RecordCell) (value : List ℕ) → Copies new p.start p.reserved (length p.journal) place target copied
+  pub redone : (place target : ℕ) (copied : RecordCell) (value : List ℕ)
+      → Copies new p.start p.reserved (length p.journal) place target copied
       → new (journal_at p.start p.reserved (length p.journal) + place) ≡ Some value → new target ≡ Some value
   redone place target copied value c is =
       let r : RedoneRule g new (journal_at p.start p.reserved (length p.journal) + place) =
@@ -74,7 +76,8 @@ module _ {g : Layout} {old new : Image} {p : Plan} (i : IsIngest g old new p) wh
       r.done p.slot p.start p.reserved (length (stored_of p)) (length p.journal) place target copied slot_done c refl ∙ is
 
   -- what is applied is copied in the journal, and lies behind the log
-  pub applied_copies : {cell : ℕ} {value : List ℕ} → (row : AppliedRow p cell value) → Copies new p.start p.reserved (length p.journal) row.place cell row.copied
+  pub applied_copies : {cell : ℕ} {value : List ℕ} → (row : AppliedRow p cell value)
+      → Copies new p.start p.reserved (length p.journal) row.place cell row.copied
   applied_copies {cell} {value} row = record {
     below = slice_get_within p.journal row.place value row.entry;
     entry = value;
@@ -105,14 +108,16 @@ module _ {g : Layout} {old new : Image} {p : Plan} (i : IsIngest g old new p) wh
       row
 
   -- the log changes in three cells
-  pub log_row : (cell : ℕ) (value : List ℕ) → cell < list_at g 0 → (phase : Phase) → Row p phase cell value → IsLogCell p.slot cell
+  pub log_row : (cell : ℕ) (value : List ℕ) → cell < list_at g 0 → (phase : Phase) → Row p phase cell value
+      → IsLogCell p.slot cell
   log_row cell value low Reserving row = is_reserve row.at
   log_row cell value low Storing row = absurd (let far = stored_from row in omega (arith, far, slot_reserves.from))
   log_row cell value low Committing row = is_outcome row.at
   log_row cell value low Applying row = absurd (let far = applied_far row in omega arith)
   log_row cell value low Finishing row = is_done row.at
 
-  pub log_of : (cell : ℕ) (value : List ℕ) → cell < list_at g 0 → new cell ≡ Some value → (old cell ≡ Some value) ⊎ IsLogCell p.slot cell
+  pub log_of : (cell : ℕ) (value : List ℕ) → cell < list_at g 0 → new cell ≡ Some value
+      → (old cell ≡ Some value) ⊎ IsLogCell p.slot cell
   log_of cell value low is = ⊎_elim inl (λ (row : AnyRow p cell value). inr (log_row cell value low row.0 row.1)) (i.rows.only cell value is)
 
   -- slot n was unused

@@ -15,7 +15,8 @@ use Rattle.index_paths.proofs.Fronts.{front_on}
 use Rattle.tamper_rules.proofs.GivenUp.{jumps, leads_further}
 use Rattle.tamper_rules.proofs.Writing.{same_or_not}
 
-pub in_order_goes_on : {old new : Image} {block place : ℕ} → Extends old new → HoldsInOrder old block place → HoldsInOrder new block place
+pub in_order_goes_on : {old new : Image} {block place : ℕ} → Extends old new → HoldsInOrder old block place
+    → HoldsInOrder new block place
 in_order_goes_on {old} {new} {block} {place} e h = record {
   p = h.p;
   holds = holds_on e h.holds;
@@ -25,7 +26,8 @@ in_order_goes_on {old} {new} {block} {place} e h = record {
       h.rises;
 }
 
-pub points_on : {old new : Image} {from to block level digit : ℕ} → Extends old new → PointsWell old from to block level digit → PointsWell new from to block level digit
+pub points_on : {old new : Image} {from to block level digit : ℕ} → Extends old new
+    → PointsWell old from to block level digit → PointsWell new from to block level digit
 points_on e w = record {
   target = w.target;
   jump = holds_on e w.jump;
@@ -51,17 +53,20 @@ adds_extends {old} {new} {at} a = record {
 pub written_back : {old new : Image} {cell : ℕ} → new cell ≡ old cell → IsWritten new cell → IsWritten old cell
 written_back same w = record { found = w.found; stands = sym same ∙ w.stands }
 
-pub holds_back : {old new : Image} {cell : ℕ} {r : RecordCell} → new cell ≡ old cell → Holds new cell r → Holds old cell r
+pub holds_back : {old new : Image} {cell : ℕ} {r : RecordCell} → new cell ≡ old cell → Holds new cell r
+    → Holds old cell r
 holds_back same h = record { cell = h.cell; stands = sym same ∙ h.stands; is = h.is }
 
 -- the pointer cell lies in the block, behind the postings
-pub pointer_in : {level digit : ℕ} → level < 8 → 1 ≤ digit → digit ≤ 15 → (128 ≤ 127 + 15 * level + digit) × (127 + 15 * level + digit < 248)
+pub pointer_in : {level digit : ℕ} → level < 8 → 1 ≤ digit → digit ≤ 15
+    → (128 ≤ 127 + 15 * level + digit) × (127 + 15 * level + digit < 248)
 pointer_in l s d = (omega arith, omega arith)
 
 -- where the cells of the list's blocks are the same
 module _ {old new : Image} {from to head : ℕ} (w : IsWellListed old from to head) (e : Extends old new)
     (same : (block place : ℕ) → Leads old from to block head → place < 256 → new (block + place) ≡ old (block + place)) where
-  apart_back : {last block : ℕ} → Leads new from to last block → Leads old from to block head → Leads old from to last head
+  apart_back : {last block : ℕ} → Leads new from to last block → Leads old from to block head
+      → Leads old from to last head
   apart_back (arrived block is) there = subst (λ (b : ℕ). Leads old from to b head) is there
   apart_back (onwards block level digit target l s d jump f t rest) there =
       apart_back rest (leads_further there level digit target l s d
@@ -83,7 +88,8 @@ module _ {old new : Image} {from to head : ℕ} (w : IsWellListed old from to he
 
 -- with more room
 module _ {image : Image} {from to wider head : ℕ} (more : to ≤ wider) (w : IsWellListed image from to head) where
-  narrow : {last block : ℕ} → Leads image from wider last block → Leads image from to block head → Leads image from to last head
+  narrow : {last block : ℕ} → Leads image from wider last block → Leads image from to block head
+      → Leads image from to last head
   narrow (arrived block is) there = subst (λ (b : ℕ). Leads image from to b head) is there
   narrow (onwards block level digit target l s d jump f t rest) there =
       let p = w.pointers block level digit there l s d (record { found = jump.cell; stands = jump.stands }) in
@@ -115,7 +121,8 @@ module _ {image : Image} {from to wider head : ℕ} (more : to ≤ wider) (w : I
   }
 
 -- two cells of blocks are the same only where the blocks and the places are
-pub same_cell : {image : Image} {from to head a b i j : ℕ} → IsWellListed image from to head → Leads image from to a head → Leads image from to b head
+pub same_cell : {image : Image} {from to head a b i j : ℕ} → IsWellListed image from to head
+    → Leads image from to a head → Leads image from to b head
     → i < 256 → j < 256 → a + i ≡ b + j → (a ≡ b) × (i ≡ j)
 same_cell {image} {from} {to} {head} {a} {b} {i} {j} w x y li lj is = ⊎_elim
     (λ same. (same, omega arith))
@@ -173,7 +180,8 @@ module _ {old new : Image} {from to head block level digit target place : ℕ} {
   pointer_place = let h = pointer_in levels low high in omega (arith, h.1)
 
   -- a cell of another block, or at another place, is as it was
-  as_was : {other i : ℕ} → Leads old from to other head → i < 256 → (other + i ≡ pointer_at block level digit → ⊥) → new (other + i) ≡ old (other + i)
+  as_was : {other i : ℕ} → Leads old from to other head → i < 256
+      → (other + i ≡ pointer_at block level digit → ⊥) → new (other + i) ≡ old (other + i)
   as_was {other} {i} there less differ = a.others (other + i) differ
 
   low_place : {other i : ℕ} → Leads old from to other head → i < 128 → new (other + i) ≡ old (other + i)
@@ -213,7 +221,8 @@ module _ {old new : Image} {from to head block level digit target place : ℕ} {
     at_fresh (arrived cur is) same = sym is ∙ same
     at_fresh (onwards cur i j next l s d hop f t rest) same = absurd (no_hop l s d (subst (λ (k : ℕ). Holds new (pointer_at k i j) (Jump next)) same hop))
 
-    fresh_back : {last cur : ℕ} → Leads new from to last cur → Leads old from to cur head → Leads old from to last head ⊎ (last ≡ target)
+    fresh_back : {last cur : ℕ} → Leads new from to last cur → Leads old from to cur head
+        → Leads old from to last head ⊎ (last ≡ target)
     fresh_back (arrived cur is) there = inl (subst (λ (k : ℕ). Leads old from to k head) is there)
     fresh_back (onwards cur i j next l s d hop f t rest) there = ⊎_elim
         (λ same.
@@ -230,7 +239,8 @@ module _ {old new : Image} {from to head block level digit target place : ℕ} {
   Listed k = Leads old from to k head ⊎ (k ≡ target)
 
   module _ (is_block : Leads old from to target head ⊎ IsNewBlock old from to head target) where
-    all_listed : {k : ℕ} → Leads new from to k head → Leads old from to k head ⊎ ((k ≡ target) × IsNewBlock old from to head target)
+    all_listed : {k : ℕ} → Leads new from to k head
+        → Leads old from to k head ⊎ ((k ≡ target) × IsNewBlock old from to head target)
     all_listed {k} l = ⊎_elim
         (λ listed. inl (jump_listed listed l))
         (λ fresh. ⊎_elim inl (λ is. inr (is, fresh)) (fresh_listed fresh l))
@@ -252,7 +262,8 @@ module _ {old new : Image} {from to head block level digit target place : ℕ} {
     }
 
     -- a level and a digit are told by the place of their pointer
-    one_digit : {i j : ℕ} → i < 8 → 1 ≤ j → j ≤ 15 → 127 + 15 * i + j ≡ 127 + 15 * level + digit → (i ≡ level) × (j ≡ digit)
+    one_digit : {i j : ℕ} → i < 8 → 1 ≤ j → j ≤ 15 → 127 + 15 * i + j ≡ 127 + 15 * level + digit
+        → (i ≡ level) × (j ≡ digit)
     one_digit {i} {j} l s d same = (grind arith, grind arith)
 
     entries_on : (k i : ℕ) → Leads new from to k head → i < 128 → IsWritten new (k + i) → HoldsInOrder new k i
@@ -269,7 +280,8 @@ module _ {old new : Image} {from to head block level digit target place : ℕ} {
         (λ h. subst (λ (x : ℕ). new (x + i) ≡ None) (sym h.0) (fresh_cell h.1 less ∙ (h.1).blank i (omega arith) less))
         (all_listed l)
 
-    pointers_on : (k i j : ℕ) → Leads new from to k head → i < 8 → 1 ≤ j → j ≤ 15 → IsWritten new (pointer_at k i j) → PointsWell new from to k i j
+    pointers_on : (k i j : ℕ) → Leads new from to k head → i < 8 → 1 ≤ j → j ≤ 15
+        → IsWritten new (pointer_at k i j) → PointsWell new from to k i j
     pointers_on k i j l less s d is = ⊎_elim
         (λ there. ⊎_elim
         (λ same.

@@ -28,13 +28,15 @@ use Rattle.tamper_rules.proofs.Writing.{same_or_not}
 nibble_low : (d : List ℕ) → AreBytes d → (v : ℕ) → nibble d v < 16
 nibble_low d bytes v = let b = bytes.each (v / 2) in grind (arith, b)
 
-on_node : {g : Layout} {image : Image} {d : List ℕ} {v node : ℕ} → AreBytes d → IsOnPath g image d v node → IsNode g image v node
+on_node : {g : Layout} {image : Image} {d : List ℕ} {v node : ℕ} → AreBytes d → IsOnPath g image d v node
+    → IsNode g image v node
 on_node bytes (Nodes.IsOnPath.root v node is at) = Nodes.IsNode.root v node is at
 on_node {d = d} bytes (Nodes.IsOnPath.under v node u above is rest less child from to) =
     Nodes.IsNode.under v node u above (nibble d u) is (on_node bytes rest) (nibble_low d bytes u) less child from to
 
 -- two ways to a node go by the same half bytes
-pub same_way : {g : Layout} {image : Image} {to : ℕ} {d e : List ℕ} → IsWellRooted g image to → AreBytes d → AreBytes e → {v node : ℕ} → IsOnPath g image d v node
+pub same_way : {g : Layout} {image : Image} {to : ℕ} {d e : List ℕ} → IsWellRooted g image to → AreBytes d
+    → AreBytes e → {v node : ℕ} → IsOnPath g image d v node
     → (k : ℕ) → k < v → (w other : ℕ) → w ≡ v → other ≡ node → IsOnPath g image e w other → nibble d k ≡ nibble e k
 same_way r a b (Nodes.IsOnPath.root v node is at) k below w other same here way = absurd (omega arith)
 same_way {g} {image} r a b (Nodes.IsOnPath.under v node u above is rest less child from to) k below w other same here (Nodes.IsOnPath.root _ _ is' at') = absurd (omega arith)
@@ -64,7 +66,8 @@ half_bytes d i =
     grind (arith, a, b, c, e)
 
 -- digests with the same half bytes are the same
-pub same_digest : (d e : List ℕ) → length d ≡ 32 → length e ≡ 32 → ((k : ℕ) → k < 64 → nibble d k ≡ nibble e k) → d ≡ e
+pub same_digest : (d e : List ℕ) → length d ≡ 32 → length e ≡ 32
+    → ((k : ℕ) → k < 64 → nibble d k ≡ nibble e k) → d ≡ e
 same_digest d e long also same = ext_get_or 0 d e (long ∙ sym also) (λ i below.
     let h = same (2 * i) (omega (arith, long, below)) in
     let l = same (2 * i + 1) (omega (arith, long, below)) in

@@ -24,7 +24,8 @@ module _ {g : Layout} {old new : Image} {p : Plan} (w : IsWellPlanned g old new 
   old_below : {n : ℕ} {id body : List ℕ} → Stands g.cells old n id body → n < p.slot
   old_below {n} t = below_horizon g old w.filled.before p.slot n w.filled.reserves.slot w.filled.horizon (stands_inside w.filled.volume t) (written t.done.commits.reserves)
 
-  pub adds_one : (ds : List Document) → AreDocuments g.cells old ds → AreDocuments g.cells new (ds ++ record { slot = p.slot; id = p.id; body = p.body } ∷ [])
+  pub adds_one : (ds : List Document) → AreDocuments g.cells old ds
+      → AreDocuments g.cells new (ds ++ record { slot = p.slot; id = p.id; body = p.body } ∷ [])
   adds_one ds are =
       let stands : Stands g.cells new p.slot p.id p.body = (plan_is_settled w).1 in
       let last : Document = record { slot = p.slot; id = p.id; body = p.body } in

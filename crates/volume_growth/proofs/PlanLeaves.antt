@@ -19,5 +19,6 @@ plan_ingests w = record {
   rows = w.filled.rows;
 }
 
-pub plan_leaves_sound : {g : Layout} {old new : Image} {p : Plan} → IsWellPlanned g old new p → (image : Image) (phase : Phase) → IsLeftIn p old image phase → LeavesSound g.cells old new p.slot image
+pub plan_leaves_sound : {g : Layout} {old new : Image} {p : Plan} → IsWellPlanned g old new p
+    → (image : Image) (phase : Phase) → IsLeftIn p old image phase → LeavesSound g.cells old new p.slot image
 plan_leaves_sound w image phase l = left_sound (plan_ingests w) image phase l

@@ -36,7 +36,8 @@ use Rattle.index_paths.proofs.Trails.{trail_on}
 use Rattle.tamper_rules.proofs.Writing.{same_or_not}
 
 -- each place up to one in the front is written
-pub front_written : {image : Image} {block j : ℕ} {q : PostingFields} → InFront image block j q → (i : ℕ) → i ≤ j → IsWritten image (block + i)
+pub front_written : {image : Image} {block j : ℕ} {q : PostingFields} → InFront image block j q → (i : ℕ)
+    → i ≤ j → IsWritten image (block + i)
 front_written {image} {block} (at_the_start j q is holds) i le =
     let same : j ≡ i = omega arith in
     subst (λ (k : ℕ). IsWritten image (block + k)) same (record { found = holds.cell; stands = holds.stands })
@@ -112,7 +113,8 @@ module _ {g : Layout} {old new : Image} {p : Plan} (w : IsWellPlanned g old new 
       same : (v : List ℕ) → old cell ≡ Some v → Some h.cell ≡ Some v
       same v was = sym h.stands ∙ (keeps u).keeps cell v was
 
-  target_listed : {l block level digit target : ℕ} → IsBlockOf g new l block → level < 8 → 1 ≤ digit → digit ≤ 15 → Holds new (pointer_at block level digit) (Jump target)
+  target_listed : {l block level digit target : ℕ} → IsBlockOf g new l block → level < 8 → 1 ≤ digit
+      → digit ≤ 15 → Holds new (pointer_at block level digit) (Jump target)
       → pool_at g ≤ target → target + 256 ≤ g.cells → IsBlockOf g new l target
   target_listed {l} {block} {level} {digit} {target} b ls d1 d2 jump from to = record { list = b.list; leads = leads_further b.leads level digit target ls d1 d2 jump from to }
 
@@ -144,7 +146,8 @@ module _ {g : Layout} {old new : Image} {p : Plan} (w : IsWellPlanned g old new 
         nodes = λ v node x. w.apart_nodes l k.target v node t x;
       }
     where
-      owner : (target : ℕ) → IsBlockOf g new l target → pool_at g ≤ target → (m : ℕ) × LiesInBlocks g new m target × LiesInBlocks g new m (target + 255)
+      owner : (target : ℕ) → IsBlockOf g new l target → pool_at g ≤ target
+          → (m : ℕ) × LiesInBlocks g new m target × LiesInBlocks g new m (target + 255)
       owner target t from = ⊎_elim (λ first. absurd (omega (arith, t.list))) (λ o. o) (w.owners l target t)
 
   rule_13 : (m : ℕ) (id body : List ℕ) → Stands g.cells new m id body → TrailRule g new m body
@@ -180,14 +183,16 @@ module _ {g : Layout} {old new : Image} {p : Plan} (w : IsWellPlanned g old new 
       (same_or_not m p.slot)
 
   -- where a node lies
-  node_low : {v node : ℕ} → IsNode g new v node → (list_at g 0 ≤ node) × ((node + 32 ≤ pool_at g) ⊎ (node + 32 ≤ blocks_end p))
+  node_low : {v node : ℕ} → IsNode g new v node
+      → (list_at g 0 ≤ node) × ((node + 32 ≤ pool_at g) ⊎ (node + 32 ≤ blocks_end p))
   node_low n = ⊎_elim (λ is. (omega arith, inl (omega arith))) (λ h. (omega (arith, h.0), inr h.1)) (node_place w.tree n)
 
   node_high : {v node : ℕ} → IsNode g new v node → node + 32 ≤ blocks_end p
   node_high n = ⊎_elim (λ low. let b = blocks_from u in let f = u.reserves.from in omega arith) (λ high. high) ((node_low n).1)
 
   -- a written cell of a node that was written before is in an old node
-  old_node : {v node i : ℕ} (value : List ℕ) → IsNode g new v node → i < 32 → old (node + i) ≡ Some value → IsNode g old v node
+  old_node : {v node i : ℕ} (value : List ℕ) → IsNode g new v node → i < 32 → old (node + i) ≡ Some value
+      → IsNode g old v node
   old_node {v} {node} {i} value n less was = ⊎_elim (λ o. o)
       (λ fresh. absurd (
       let f = u.reserves.from in
@@ -247,14 +252,16 @@ module _ {g : Layout} {old new : Image} {p : Plan} (w : IsWellPlanned g old new 
     in_blocks : start ≤ target
     before_document : target < document_at start reserved bytes journal
 
-  applied_row : (v node x : ℕ) (value : List ℕ) → IsNode g new v node → x < 16 → (phase : Phase) → Row p phase (node + 16 + x) value → AppliedRow p (node + 16 + x) value
+  applied_row : (v node x : ℕ) (value : List ℕ) → IsNode g new v node → x < 16 → (phase : Phase)
+      → Row p phase (node + 16 + x) value → AppliedRow p (node + 16 + x) value
   applied_row v node x value n xs Reserving row = absurd (let low = (node_low n).0 in let f = free u in omega (arith, row.at))
   applied_row v node x value n xs Storing row = absurd (let high = node_high n in let from = stored_from u row in omega arith)
   applied_row v node x value n xs Committing row = absurd (let low = (node_low n).0 in let f = free u in omega (arith, row.at))
   applied_row v node x value n xs Applying row = row
   applied_row v node x value n xs Finishing row = absurd (let low = (node_low n).0 in let f = free u in omega (arith, row.at))
 
-  new_owner : (v node x : ℕ) → IsNode g new v node → x < 16 → (c : ChildWell g new (blocks_end p) v node x) → old (node + 16 + x) ≡ None → ChildOwner (node + 16 + x) c.target
+  new_owner : (v node x : ℕ) → IsNode g new v node → x < 16 → (c : ChildWell g new (blocks_end p) v node x)
+      → old (node + 16 + x) ≡ None → ChildOwner (node + 16 + x) c.target
   new_owner v node x n xs c none = ⊎_elim
       (λ was. absurd (none-some _ (sym none ∙ was)))
       (λ (row : AnyRow p (node + 16 + x) c.child.cell).
@@ -275,7 +282,9 @@ module _ {g : Layout} {old new : Image} {p : Plan} (w : IsWellPlanned g old new 
       })
       (u.rows.only (node + 16 + x) c.child.cell c.child.stands)
 
-  old_owner : (v node x : ℕ) (value : List ℕ) → IsNode g new v node → x < 16 → (c : ChildWell g new (blocks_end p) v node x) → old (node + 16 + x) ≡ Some value → ChildOwner (node + 16 + x) c.target
+  old_owner : (v node x : ℕ) (value : List ℕ) → IsNode g new v node → x < 16
+      → (c : ChildWell g new (blocks_end p) v node x) → old (node + 16 + x) ≡ Some value
+      → ChildOwner (node + 16 + x) c.target
   old_owner v node x value n xs c was =
       let o = old_node {i = 16 + x} value n (omega arith) (ap old (let z : node + (16 + x) ≡ node + 16 + x = omega arith in z) ∙ was) in
       let r : ChildRule g old (node + 16 + x) = u.before.met Rules.Children (node + 16 + x) (record { found = value; stands = was }) in

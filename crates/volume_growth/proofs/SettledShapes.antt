@@ -18,7 +18,8 @@ use Rattle.tamper_rules.proofs.FullFronts.{ends_full}
 use Rattle.tamper_rules.proofs.GivenUp.{jumps, children, leads_further}
 use Rattle.tamper_rules.proofs.Images.{look}
 
-pub leads_wider : {image : Image} {from to more last block : ℕ} → to ≤ more → Leads image from to last block → Leads image from more last block
+pub leads_wider : {image : Image} {from to more last block : ℕ} → to ≤ more → Leads image from to last block
+    → Leads image from more last block
 leads_wider le (arrived block is) = arrived block is
 leads_wider le (onwards block level digit target l s d jump f t rest) = onwards block level digit target l s d jump f (omega arith) (leads_wider le rest)
 
@@ -45,7 +46,8 @@ module _ {g : Layout} {image : Image} {at l : ℕ} (layout : IsLayout g) (s : Is
     jump : Holds image (pointer_at from level digit) (Jump block)
     pool : pool_at g ≤ block
 
-  last_hop : {last cur : ℕ} → Leads image (pool_at g) g.cells last cur → IsBlockOf g image l cur → (last ≡ cur) ⊎ LastHop last
+  last_hop : {last cur : ℕ} → Leads image (pool_at g) g.cells last cur → IsBlockOf g image l cur
+      → (last ≡ cur) ⊎ LastHop last
   last_hop (arrived cur is) b = inl (sym is)
   last_hop {last} (onwards cur level digit target ls d1 d2 jump f t rest) b =
       let next : IsBlockOf g image l target = record { list = list; leads = leads_further b.leads level digit target ls d1 d2 jump f t } in
@@ -67,7 +69,8 @@ module _ {g : Layout} {image : Image} {at l : ℕ} (layout : IsLayout g) (s : Is
   reached : {block : ℕ} → IsBlockOf g image l block → (block ≡ list_at g l) ⊎ LastHop block
   reached b = last_hop b.leads (record { list = list; leads = arrived (list_at g l) refl })
 
-  rule_of : {block level digit : ℕ} {cell : List ℕ} → IsBlockOf g image l block → level < 8 → 1 ≤ digit → digit ≤ 15 → image (pointer_at block level digit) ≡ Some cell → LeadsWell g image l block level digit
+  rule_of : {block level digit : ℕ} {cell : List ℕ} → IsBlockOf g image l block → level < 8 → 1 ≤ digit
+      → digit ≤ 15 → image (pointer_at block level digit) ≡ Some cell → LeadsWell g image l block level digit
   rule_of {block} {level} {digit} {cell} b ls d1 d2 is =
       let r : PointerRule g image (pointer_at block level digit) = s.met Rules.Pointers (pointer_at block level digit) (record { found = cell; stands = is }) in
       r l block level digit b ls d1 d2 refl
@@ -116,12 +119,14 @@ module _ {g : Layout} {image : Image} {at l : ℕ} (layout : IsLayout g) (s : Is
   }
 
 module _ {g : Layout} {image : Image} {at : ℕ} (layout : IsLayout g) (s : IsSettled g image) (e : IsEdge g image image at) where
-  child_rule : {v node x : ℕ} → IsNode g image v node → x < 16 → IsWritten image (node + 16 + x) → LeadsDownWell g image v node x
+  child_rule : {v node x : ℕ} → IsNode g image v node → x < 16 → IsWritten image (node + 16 + x)
+      → LeadsDownWell g image v node x
   child_rule {v} {node} {x} n xs w =
       let r : ChildRule g image (node + 16 + x) = s.met Rules.Children (node + 16 + x) w in
       r v node x n xs refl
 
-  nodes_apart : {v u node other : ℕ} → IsNode g image v node → IsNode g image u other → (node ≡ other) ⊎ AreApart node 32 other 32
+  nodes_apart : {v u node other : ℕ} → IsNode g image v node → IsNode g image u other
+      → (node ≡ other) ⊎ AreApart node 32 other 32
   nodes_apart (root v node is at) (root u other is' at') = inl (at ∙ sym at')
   nodes_apart (root v node is at) (under u other k above x is' rest xs less child from inside) = inr (inl (omega arith))
   nodes_apart {u = u} {other = other} (under v node k above x is rest xs less child from inside) m =

@@ -27,7 +27,8 @@ module _ {g : Layout} {image : Image} {at : ℕ} (s : IsSettled g image) (e : Is
       omega arith
 
   -- so a trail through the pool is one through its part before the edge
-  narrow : {l cell : ℕ} {p : PostingFields} {block : ℕ} → IsBlockOf g image l block → Trail image (pool_at g) g.cells cell p block
+  narrow : {l cell : ℕ} {p : PostingFields} {block : ℕ} → IsBlockOf g image l block
+      → Trail image (pool_at g) g.cells cell p block
       → Trail image (pool_at g) at cell p block
   narrow b (here block place is below front) = here block place is below front
   narrow {l} b (on block target h rest) =

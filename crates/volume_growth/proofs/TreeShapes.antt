@@ -15,11 +15,13 @@ use Rattle.tamper_rules.proofs.GivenUp.{children}
 use Rattle.volume_growth.proofs.ListShapes.{adds_extends, written_back, holds_back}
 use Rattle.tamper_rules.proofs.Writing.{same_or_not}
 
-pub child_on : {g : Layout} {old new : Image} {to more v node x : ℕ} → Extends old new → to ≤ more → ChildWell g old to v node x → ChildWell g new more v node x
+pub child_on : {g : Layout} {old new : Image} {to more v node x : ℕ} → Extends old new → to ≤ more
+    → ChildWell g old to v node x → ChildWell g new more v node x
 child_on e le c = record { target = c.target; child = holds_on e c.child; bucket = written_on e c.bucket; level = c.level; from = c.from; inside = omega (arith, c.inside) }
 
 -- more room leaves the tree as it was
-pub rooted_wider : {g : Layout} {image : Image} {to wider : ℕ} → to ≤ wider → wider ≤ g.cells → IsWellRooted g image to → IsWellRooted g image wider
+pub rooted_wider : {g : Layout} {image : Image} {to wider : ℕ} → to ≤ wider → wider ≤ g.cells
+    → IsWellRooted g image to → IsWellRooted g image wider
 rooted_wider {g} {image} {to} {wider} le inside w = record {
   room = inside;
   children = λ v node x n less is. child_on (record { keeps = λ cell value h. h }) le (w.children v node x n less is);
@@ -28,7 +30,8 @@ rooted_wider {g} {image} {to} {wider} le inside w = record {
 }
 
 -- a node's place: it is the root, or lies in the room
-pub node_place : {g : Layout} {image : Image} {to v node : ℕ} → IsWellRooted g image to → IsNode g image v node → (node ≡ root_at g) ⊎ ((pool_at g ≤ node) × (node + 32 ≤ to))
+pub node_place : {g : Layout} {image : Image} {to v node : ℕ} → IsWellRooted g image to
+    → IsNode g image v node → (node ≡ root_at g) ⊎ ((pool_at g ≤ node) × (node + 32 ≤ to))
 node_place w (root v node is at) = inl at
 node_place {g} {image} {to} w (under v node u above x is rest xs less child from inside) =
     let c = w.children u above x rest xs (record { found = child.cell; stands = child.stands }) in
@@ -36,7 +39,8 @@ node_place {g} {image} {to} w (under v node u above x is rest xs less child from
     inr (from, omega (arith, same, c.inside))
 
 -- a node is reached at one level
-pub one_level : {g : Layout} {image : Image} {to : ℕ} → IsWellRooted g image to → {u node : ℕ} → IsNode g image u node → (v : ℕ) → IsNode g image v node → u ≡ v
+pub one_level : {g : Layout} {image : Image} {to : ℕ} → IsWellRooted g image to → {u node : ℕ}
+    → IsNode g image u node → (v : ℕ) → IsNode g image v node → u ≡ v
 one_level w (root u node is at) v (root _ _ is' at') = is ∙ sym is'
 one_level w (root u node is at) v (under _ _ k above x is' rest xs less child from inside) = absurd (omega arith)
 one_level w (under u node k above x is rest xs less child from inside) v (root _ _ is' at') = absurd (omega arith)
@@ -87,7 +91,8 @@ module _ {g : Layout} {old new : Image} {to v node x target : ℕ} (w : IsWellRo
       (node_of rest)
 
   -- an old child cell leads elsewhere
-  old_target : {u other y t : ℕ} → IsNode g old u other → y < 16 → Holds old (other + 16 + y) (Child t) → t ≡ target → ⊥
+  old_target : {u other y t : ℕ} → IsNode g old u other → y < 16 → Holds old (other + 16 + y) (Child t)
+      → t ≡ target → ⊥
   old_target {u} {other} {y} {t} m ys h same =
       let c = w.children u other y m ys (record { found = h.cell; stands = h.stands }) in
       let is : t ≡ c.target = children t c.target (one_record_holds old (other + 16 + y) (Child t) (Child c.target) h c.child) in
@@ -100,13 +105,15 @@ module _ {g : Layout} {old new : Image} {to v node x target : ℕ} (w : IsWellRo
   written_of h = record { found = h.cell; stands = h.stands }
 
   -- the node and the place of a child cell are told by its number
-  same_child : {u other y : ℕ} → IsNode g old u other → y < 16 → other + 16 + y ≡ node + 16 + x → (other ≡ node) × (y ≡ x)
+  same_child : {u other y : ℕ} → IsNode g old u other → y < 16 → other + 16 + y ≡ node + 16 + x
+      → (other ≡ node) × (y ≡ x)
   same_child {u} {other} {y} m ys same = ⊎_elim
       (λ is. (is, omega arith))
       (λ far. absurd (⊎_elim (λ low. omega arith) (λ high. omega arith) far))
       (w.apart u other v node m n)
 
-  children_on : (u other y : ℕ) → IsNode g new u other → y < 16 → IsWritten new (other + 16 + y) → ChildWell g new (target + 32) u other y
+  children_on : (u other y : ℕ) → IsNode g new u other → y < 16 → IsWritten new (other + 16 + y)
+      → ChildWell g new (target + 32) u other y
   children_on u other y m ys is = ⊎_elim
       (λ there. ⊎_elim
       (λ same.
@@ -153,7 +160,8 @@ module _ {g : Layout} {old new : Image} {to v node x target : ℕ} (w : IsWellRo
   old_apart : {u other : ℕ} → IsNode g old u other → AreApart other 32 target 32
   old_apart m = ⊎_elim (λ is. inl (omega arith)) (λ h. inl (omega (arith, h.1))) (node_place w m)
 
-  apart_on : (u other k more : ℕ) → IsNode g new u other → IsNode g new k more → (other ≡ more) ⊎ AreApart other 32 more 32
+  apart_on : (u other k more : ℕ) → IsNode g new u other → IsNode g new k more
+      → (other ≡ more) ⊎ AreApart other 32 more 32
   apart_on u other k more m o = ⊎_elim
       (λ there. ⊎_elim
       (λ also. w.apart u other k more there also)

@@ -13,7 +13,8 @@ use Rattle.worm_memory.specs.Memory.{Memory, IsUnsure}
 use Rattle.worm_memory.proofs.Worlds.{image_is, written_here, written_elsewhere, ends_with, put_image, unsure_after_put, sure_after_sync, sure_after_crash}
 
 -- what the cells hold after a put: in the cell itself
-holds_here : {at : ℕ} {value : List ℕ} {change : Change} → IsPut at value change → (cells : List (Option (List ℕ))) (changes : List Change)
+holds_here : {at : ℕ} {value : List ℕ} {change : Change} → IsPut at value change
+    → (cells : List (Option (List ℕ))) (changes : List Change)
     → at < length cells → (world changes).image at ≡ None
     → get_or (set cells at (Some value)) at None ≡ (world (changes ++ change ∷ [])).image at
 holds_here {at} {value} {change} put cells changes within free =
@@ -23,7 +24,8 @@ holds_here {at} {value} {change} put cells changes within free =
     ∙ sym (image_is changes change at)
 
 -- and in each
-pub holds_put : {at : ℕ} {value : List ℕ} {change : Change} → IsPut at value change → (cells : List (Option (List ℕ))) (changes : List Change)
+pub holds_put : {at : ℕ} {value : List ℕ} {change : Change} → IsPut at value change
+    → (cells : List (Option (List ℕ))) (changes : List Change)
     → at < length cells → (world changes).image at ≡ None
     → Holds cells (world changes).image → Holds (set cells at (Some value)) (world (changes ++ change ∷ [])).image
 holds_put {at} {value} {change} put cells changes within free holds = λ cell.
@@ -36,11 +38,13 @@ holds_put {at} {value} {change} put cells changes within free holds = λ cell.
     (eqb_tells cell at)
 
 -- and after a sync
-pub holds_synced : (cells : List (Option (List ℕ))) (changes : List Change) → Holds cells (world changes).image → Holds cells (world (changes ++ Synced ∷ [])).image
+pub holds_synced : (cells : List (Option (List ℕ))) (changes : List Change)
+    → Holds cells (world changes).image → Holds cells (world (changes ++ Synced ∷ [])).image
 holds_synced cells changes holds = λ cell. holds cell ∙ sym (image_is changes Synced cell)
 
 -- a row that ends with a write has a cell that is not sure
-pub unsure_after : {at : ℕ} {value : List ℕ} {change : Change} → IsPut at value change → (m : Memory) → AreChanges m.cells blank m.changes
+pub unsure_after : {at : ℕ} {value : List ℕ} {change : Change} → IsPut at value change → (m : Memory)
+    → AreChanges m.cells blank m.changes
     → slice_get m.changes (length m.changes - 1) ≡ Some change → IsUnsure m
 unsure_after {at} {value} {change} put m all last =
     let whole = ends_with m.changes change last in
@@ -48,7 +52,8 @@ unsure_after {at} {value} {change} put m all last =
     (at, value, ap (λ changes. (world changes).image at) whole ∙ unsure.0, ap (λ changes. (world changes).sure at) whole ∙ unsure.1)
 
 -- and no other row has
-blank_sure : (changes : List Change) → slice_get changes (length changes - 1) ≡ None → (cell : ℕ) → (world changes).sure cell ≡ (world changes).image cell
+blank_sure : (changes : List Change) → slice_get changes (length changes - 1) ≡ None → (cell : ℕ)
+    → (world changes).sure cell ≡ (world changes).image cell
 blank_sure [] last cell = refl
 blank_sure (change ∷ changes) last cell =
     absurd (none-some _ (sym last ∙ slice_get-get_or (change ∷ changes) (length (change ∷ changes) - 1) change (omega arith)))
