@@ -15,7 +15,8 @@ mod small;
 
 use crate::small::small_volume;
 use cell_types::Refusal;
-use host_ports::{FileDevice, Pages, StdSink, StdSource};
+use host_files::{FileDevice, Hold, Pages};
+use host_ports::{StdSink, StdSource};
 use record_top::run;
 use std::alloc::Global;
 use std::os::unix::fs::FileExt;
@@ -57,14 +58,18 @@ fn main(rt: HostRuntime) -> ExitCode {
 
 /// Opens the device that the first word names, and carries out the command that the others ask for.
 fn carry_out(
-    rt: &(impl Env + Files<File: FileExt> + Input + Print + AllocGlobal),
+    rt: &(impl Env + Files<File: FileExt + Hold> + Input + Print + AllocGlobal),
 ) -> Result<(), Fault> {
     let words = words(rt)?;
     let (image, command) = words.split_first().ok_or(Refusal::Usage)?;
+    let in_memory = image.as_str() == "-";
+    if image.as_str().starts_with('-') && !in_memory {
+        return Err(Fault::Refused(Refusal::Usage));
+    }
     let alloc = rt.alloc();
     let mut source = StdSource::new(rt.reader());
     let mut sink = StdSink::new(io::writer(rt));
-    if image.as_str() == "-" {
+    if in_memory {
         let mut device = small_volume(alloc)?;
         run(alloc, command, &mut device, &mut source, &mut sink)?;
     } else {
