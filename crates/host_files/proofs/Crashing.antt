@@ -1,5 +1,5 @@
 -- What a crash leaves of a file, as cells.
-use Rattle.std.specs.Prelude.{◌≡◌, ℕ, List, Option, Some, None, nat_lt, if◌then◌else◌}
+use Rattle.std.specs.Prelude.{ℕ, List, Option, Some, None, nat_lt, if◌then◌else◌}
 use Rattle.std.proofs.Common.{◌∙◌, ap, sym, subst, inl, inr, ⊎_elim}
 use Rattle.std.proofs.lemmas.Option.{none-some, same_Some}
 use Rattle.cell_types.specs.Image.{Between}
@@ -10,8 +10,8 @@ use Rattle.host_files.specs.Device.{device_at, device_over, instant_of, StandsIn
 use Rattle.host_files.specs.File.{FileState, Held, Told}
 
 -- what a crash leaves lies between what is sure and what stands
-pub crash_between : (cells : ℕ) (held : Held) (bytes : List ℕ) → StandsIn (instant_of cells held) → CrashLeaves held bytes
-    → Between (image_of cells held.sure) (image_of cells held.bytes) (image_of cells bytes)
+pub crash_between : (cells : ℕ) (held : Held) (bytes : List ℕ) → StandsIn (instant_of cells held)
+    → CrashLeaves held bytes → Between (image_of cells held.sure) (image_of cells held.bytes) (image_of cells bytes)
 crash_between cells held bytes stands leaves =
     let as_cell = λ (cell : ℕ) (part : List ℕ). if nat_lt cell cells then cell_in part else None in record {
       above = record {

@@ -35,7 +35,8 @@ written_in bytes sixteen written =
 pub elsewhere : (cells at cell : ℕ) (put bytes : List ℕ) → 16 * at + 16 ≤ length bytes → length put ≡ 16 → cell ≢ at
     → image_of cells (patched (16 * at) put bytes) cell ≡ image_of cells bytes cell
 elsewhere cells at cell put bytes within sixteen apart =
-    ap (λ piece. if nat_lt cell cells then cell_in piece else None) (put_others at (16 * at) 16 cell bytes put refl refl sixteen (omega arith) apart)
+    ap (λ piece. if nat_lt cell cells then cell_in piece else None) (put_others at (16 * at) 16 cell bytes put refl
+    refl sixteen (omega arith) apart)
 
 -- and that one is what was put
 pub here : (cells at : ℕ) (put bytes : List ℕ) → at < cells → 16 * at + 16 ≤ length bytes → length put ≡ 16
@@ -45,8 +46,8 @@ here cells at put bytes inside within sixteen =
     ∙ ap cell_in (put_holds at (16 * at) 16 bytes put refl sixteen (omega arith))
 
 -- what was written stays, where a blank cell was put
-pub put_extends : (cells at : ℕ) (put bytes : List ℕ) → 16 * at + 16 ≤ length bytes → length put ≡ 16 → image_of cells bytes at ≡ None
-    → Extends (image_of cells bytes) (image_of cells (patched (16 * at) put bytes))
+pub put_extends : (cells at : ℕ) (put bytes : List ℕ) → 16 * at + 16 ≤ length bytes → length put ≡ 16
+    → image_of cells bytes at ≡ None → Extends (image_of cells bytes) (image_of cells (patched (16 * at) put bytes))
 put_extends cells at put bytes within sixteen free = record {
   keeps = λ cell value stands.
       ⊎_elim
@@ -56,7 +57,8 @@ put_extends cells at put bytes within sixteen free = record {
 }
 
 -- and only that cell changes
-pub put_changes : (cells at : ℕ) (value bytes : List ℕ) → at < cells → 16 * at + 16 ≤ length bytes → IsCell value → image_of cells bytes at ≡ None
+pub put_changes : (cells at : ℕ) (value bytes : List ℕ) → at < cells → 16 * at + 16 ≤ length bytes → IsCell value
+    → image_of cells bytes at ≡ None
     → ChangesOnly at value (image_of cells bytes) (image_of cells (patched (16 * at) value bytes))
 put_changes cells at value bytes inside within is free = λ cell.
     ⊎_elim

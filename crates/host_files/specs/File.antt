@@ -96,7 +96,8 @@ pub record ReadsAt (from : ℕ) (into : List ℕ) (old new : FileState) (result 
 abbrev pub Leaves : ℕ → List ℕ → FileState → FileState → Type 0
 Leaves from piece old new =
     (new.told ≡ old.told)
-    ⊎ ((put : List ℕ) × (length put ≡ 16) × Puts from put old.told new.told × ((put ≡ piece) ⊎ Rose old.parts new.parts))
+    ⊎ ((put : List ℕ) × (length put ≡ 16) × Puts from put old.told new.told × ((put ≡ piece) ⊎ Rose old.parts
+    new.parts))
 
 -- A write that answers has put the piece.
 pub record WritesAt (from : ℕ) (piece : List ℕ) (old new : FileState) (result : Result Unit Failed) : Type 0 where

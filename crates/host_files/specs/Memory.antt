@@ -2,7 +2,7 @@
 -- it held at each moment follows.
 use Rattle.std.specs.Prelude.{◌≡◌, ◌+◌, ℕ, List, [], ◌∷◌, ◌++◌, length, take, Option, Some, None}
 use Rattle.worm_device.specs.Counts.{next_count}
-use Rattle.host_files.specs.File.{FileState, Held, patched}
+use Rattle.host_files.specs.File.{FileState, Held, Told, patched}
 use Rattle.host_files.specs.declared.change.FileChange.{FileChange}
 use Rattle.host_files.specs.declared.change.FileChange.TheVariants.{Put, Synced}
 
@@ -15,6 +15,10 @@ after_change held Synced = record { bytes = held.bytes; sure = held.bytes }
 abbrev pub after_changes : Held → List FileChange → Held
 after_changes held [] = held
 after_changes held (change ∷ changes) = after_changes (after_change held change) changes
+
+-- these bytes, all of them sure
+abbrev pub all_sure : List ℕ → Held
+all_sure bytes = record { bytes = bytes; sure = bytes }
 
 -- all that a file in memory tells
 pub record FileMemory : Type 0 where
@@ -33,15 +37,23 @@ pub record FileMemory : Type 0 where
   -- where the last call found sixteen zeros
   pub blank_at : Option ℕ
 
--- what it held after so many changes
+-- what it held after these of its changes
 abbrev pub held_at : FileMemory → List FileChange → Held
-held_at m changes = after_changes (record { bytes = m.first; sure = m.first }) changes
+held_at m changes = after_changes (all_sure m.first) changes
 
--- as a file; the moment is the number of changes so far
+-- what it tells; the moment is the number of changes so far
+abbrev pub told_of : FileMemory → Told
+told_of m = record {
+  now = held_at m m.changes;
+  moment = length m.changes;
+  past = λ moment. held_at m (take moment m.changes);
+}
+
+-- as a file
 abbrev pub file_of : FileMemory → FileState
 file_of m = record {
   size = length m.first;
-  told = Some (record { now = held_at m m.changes; moment = length m.changes; past = λ moment. held_at m (take moment m.changes) });
+  told = Some (told_of m);
   faults = m.faults;
   parts = m.parts;
   blank_at = m.blank_at;
@@ -54,6 +66,14 @@ with_change m change = record m { changes = m.changes ++ change ∷ [] }
 -- one more call, which has found no zeros yet
 abbrev pub with_call : FileMemory → FileMemory
 with_call m = record m { blank_at = None; calls = next_count m.calls }
+
+-- one more fault
+abbrev pub with_fault : FileMemory → FileMemory
+with_fault m = record m { faults = next_count m.faults }
+
+-- one more write that has left a part
+abbrev pub with_part : FileMemory → FileMemory
+with_part m = record m { parts = next_count m.parts }
 
 -- the next call is to fail
 abbrev pub IsToFail : FileMemory → Type 0

@@ -12,7 +12,8 @@ PageHolds cells bytes page =
 
 -- so does each of the pages
 abbrev pub PagesHold : ℕ → List ℕ → List Page → Type 0
-PagesHold cells bytes pages = (frame : ℕ) (page : Page) → slice_get pages frame ≡ Some page → PageHolds cells bytes page
+PagesHold cells bytes pages =
+    (frame : ℕ) (page : Page) → slice_get pages frame ≡ Some page → PageHolds cells bytes page
 
 -- the page of this number is held there
 abbrev pub IsOn : List Page → ℕ → ℕ → Type 0

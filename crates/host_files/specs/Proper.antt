@@ -32,7 +32,8 @@ found_in bytes value found =
     (cases_Bool (are_zeros bytes))
 
 -- within the device its image is what its bytes are
-pub within_image : (cells cell : ℕ) (bytes : List ℕ) → cell < cells → image_of cells bytes cell ≡ cell_in (cell_bytes bytes cell)
+pub within_image : (cells cell : ℕ) (bytes : List ℕ) → cell < cells
+    → image_of cells bytes cell ≡ cell_in (cell_bytes bytes cell)
 within_image cells cell bytes inside =
     cond-true (nat_lt cell cells) (cell_in (cell_bytes bytes cell)) None (lt-ltb cell cells inside)
 
@@ -43,26 +44,35 @@ beyond_image cells cell bytes value stands =
     ⊎_elim
     (λ inside. (inside, sym (within_image cells cell bytes inside) ∙ stands))
     (λ outside. absurd (none-some value
-    (sym (cond-false (nat_lt cell cells) (cell_in (cell_bytes bytes cell)) None (le-ltb cell cells outside)) ∙ stands)))
+    (sym (cond-false (nat_lt cell cells) (cell_in (cell_bytes bytes cell)) None (le-ltb cell cells outside))
+    ∙ stands)))
     (cases_lt cell cells)
 
 -- sixteen bytes of a file are sixteen, and bytes
-pub part_is : (from : ℕ) (bytes : List ℕ) → from + 16 ≤ length bytes → AreBytes bytes → (length (part_at from bytes) ≡ 16) × AreBytes (part_at from bytes)
+pub part_is : (from : ℕ) (bytes : List ℕ) → from + 16 ≤ length bytes → AreBytes bytes
+    → (length (part_at from bytes) ≡ 16) × AreBytes (part_at from bytes)
 part_is from bytes within fits =
-    let count : length (part_at from bytes) ≡ 16 = omega (arith, length-take 16 (drop from bytes), length-drop from bytes) in (
+    let count : length (part_at from bytes) ≡ 16 = omega (
+      arith,
+      length-take 16 (drop from bytes),
+      length-drop from
+          bytes,
+    ) in (
       count,
       record {
         each = λ i.
             ⊎_elim
-            (λ inside. subst (λ n. n < 256) (sym (get_or-take 16 (drop from bytes) i 0 inside ∙ get_or-drop from bytes i 0)) (fits.each (from + i)))
-            (λ outside. subst (λ n. n < 256) (sym (get_or_past (part_at from bytes) i 0 (omega (arith, count, outside)))) (omega arith))
+            (λ inside. subst (λ n. n < 256)
+            (sym (get_or-take 16 (drop from bytes) i 0 inside ∙ get_or-drop from bytes i 0)) (fits.each (from + i)))
+            (λ outside. subst (λ n. n < 256)
+            (sym (get_or_past (part_at from bytes) i 0 (omega (arith, count, outside)))) (omega arith))
             (cases_lt i 16);
       },
     )
 
 -- what is found in a cell of a file is a written cell of the device
-inside_is : (cells size : ℕ) (told : Option Told) → 16 * cells ≤ size → ((t : Told) → told ≡ Some t → length t.now.bytes ≡ size)
-    → ((t : Told) → told ≡ Some t → AreBytes t.now.bytes)
+inside_is : (cells size : ℕ) (told : Option Told) → 16 * cells ≤ size
+    → ((t : Told) → told ≡ Some t → length t.now.bytes ≡ size) → ((t : Told) → told ≡ Some t → AreBytes t.now.bytes)
     → (cell : ℕ) (value : List ℕ) → (now_in cells told).image cell ≡ Some value → (cell < cells) × IsCell value
 inside_is cells size None within sized fits cell value stands = absurd (none-some value stands)
 inside_is cells size (Some t) within sized fits cell value stands =
@@ -77,8 +87,8 @@ inside_is cells size (Some t) within sized fits cell value stands =
       },
     )
 
-pub is_device : (cells reads : ℕ) (file : FileState) → 1 ≤ cells → cells ≤ MAX_CELLS → 16 * cells ≤ file.size → SureStands cells file.told → IsFile file
-    → IsDevice (device_over cells reads file)
+pub is_device : (cells reads : ℕ) (file : FileState) → 1 ≤ cells → cells ≤ MAX_CELLS → 16 * cells ≤ file.size
+    → SureStands cells file.told → IsFile file → IsDevice (device_over cells reads file)
 is_device cells reads file some most within stands is = record {
   sure = stands.now;
   inside = inside_is cells file.size file.told within is.size is.bytes;
@@ -87,8 +97,10 @@ is_device cells reads file some most within stands is = record {
 }
 
 -- a file in memory is a file
-pub is_memory : (m : FileMemory) (bytes : List ℕ) → bytes ≡ (held_at m m.changes).bytes → length bytes ≡ length m.first → AreBytes bytes → IsFile (file_of m)
+pub is_memory : (m : FileMemory) (bytes : List ℕ) → bytes ≡ (held_at m m.changes).bytes
+    → length bytes ≡ length m.first → AreBytes bytes → IsFile (file_of m)
 is_memory m bytes holds sized fits = record {
-  size = λ told is. ap (λ (t : Told). length t.now.bytes) (sym (same_Some _ told is)) ∙ ap length (sym holds) ∙ sized;
+  size = λ told is. ap (λ (t : Told). length t.now.bytes) (sym (same_Some _ told is)) ∙ ap length (sym holds)
+      ∙ sized;
   bytes = λ told is. subst AreBytes (holds ∙ ap (λ (t : Told). t.now.bytes) (same_Some _ told is)) fits;
 }

@@ -10,7 +10,8 @@ use worm_device::{Device, Failed, Written};
 /// Writes a cell, and makes it sure.
 fn write_and_sync<D: Device>(device: &mut D, at: u32, value: Cell) -> Result<bool, Failed>
     requires { at < (D.state device.old).cells }
-    ensures sure { IsTrue (D.state device.old).tells → IfOk result (λ done. IsTrue done → (D.state device.new).sure at ≡ Some value) }
+    ensures sure { IsTrue (D.state device.old).tells
+        → IfOk result (λ done. IsTrue done → (D.state device.new).sure at ≡ Some value) }
     ensures cause { IsErr result → Rose (D.state device.old).faults (D.state device.new).faults }
 {
     let written = device.write(at, value)?;

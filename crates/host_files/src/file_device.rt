@@ -56,7 +56,8 @@ impl<F: HostFile + Drop> FileDevice<F> {
     /// tells has to have what is sure of it standing, as one whose bytes are all sure.
     pub fn over(file: F, mut pages: Pages) -> Result<FileDevice<F>, OpenFault>
         requires { (cells : ℕ) → SureStands cells (F.state file).told }
-        ensures made { IfOk result (λ device. state_over device ≡ device_over ((F.state file).size / 16) 0 (F.state file)) }
+        ensures made { IfOk result (λ device.
+            state_over device ≡ device_over ((F.state file).size / 16) 0 (F.state file)) }
         ensures refused { IfErr result (λ fault. (fault ≡ Size ((F.state file).size / 16))
             × (((F.state file).size / 16 ≡ 0) ⊎ (MAX_CELLS < (F.state file).size / 16))) }
     {

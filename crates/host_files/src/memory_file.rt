@@ -3,7 +3,7 @@ ghost use Rattle.std.specs.Prelude.{◌≡◌, ◌≤◌, ◌+◌, vec_len, leng
 ghost use Rattle.std.proofs.Props.{props};
 ghost use Rattle.cell_types.specs.Bytes.{AreBytes};
 ghost use Rattle.host_files.specs.File.{patched};
-ghost use Rattle.host_files.specs.Memory.{after_changes};
+ghost use Rattle.host_files.specs.Memory.{after_changes, all_sure};
 
 use crate::{FileChange, Leaving};
 use cell_types::NoMemory;
@@ -38,7 +38,7 @@ pub struct MemoryFile {
     leaving: Leaving,
     faults: u64,
     parts: u64,
-    ghost holds: { bytes.items ≡ (after_changes (record { bytes = first.items; sure = first.items }) changes.items).bytes } by { Prim.hlevel props },
+    ghost holds: { bytes.items ≡ (after_changes (all_sure first.items) changes.items).bytes } by { Prim.hlevel props },
     ghost same_size: { length bytes.items ≡ length first.items },
     ghost fits: { AreBytes bytes.items } by { Prim.hlevel props },
 }
@@ -46,7 +46,7 @@ pub struct MemoryFile {
 impl MemoryFile {
     ghost use Rattle.std.specs.Prelude.{◌≤◌, ◌<◌, ◌+◌, ◌-◌, ◌^◌, ◌↔◌, ℕ, vec_capacity, [], None, Some, IfOk, IsTrue, OnOk, OnErr, IsOk, length, take, drop};
     ghost use Rattle.worm_device.specs.Counts.{next_count};
-    ghost use Rattle.host_files.specs.Memory.{FileMemory, held_at, with_change, with_call};
+    ghost use Rattle.host_files.specs.Memory.{FileMemory, held_at, with_call, with_change, with_fault, with_part};
     ghost use Rattle.host_files.specs.MemoryFile.{memory_of, room_of, state_of};
     ghost use Rattle.host_files.specs.Device.{SureStands};
     ghost use Rattle.host_files.specs.declared.change.FileChange.TheVariants.{Put, Synced};
@@ -129,7 +129,7 @@ impl MemoryFile {
 
     /// Counts a fault.
     pub(crate) fn fail(&mut self) -> Failed
-        ensures counted { memory_of self.new ≡ record (memory_of self.old) { faults = next_count (memory_of self.old).faults } }
+        ensures counted { memory_of self.new ≡ with_fault (memory_of self.old) }
         ensures fits { (memory_of self.old).faults < 2 ^ 64 }
     {
         self.faults = self.faults.saturating_add(1);
@@ -175,8 +175,7 @@ impl MemoryFile {
     pub(crate) fn put_part(&mut self, from: u64, part: [u8; 16])
         requires inside { from + 16 ≤ length (memory_of self.old).first }
         requires room { 1 ≤ room_of self.old }
-        ensures put { memory_of self.new
-            ≡ record (with_change (memory_of self.old) (Put from part)) { parts = next_count (memory_of self.old).parts } }
+        ensures put { memory_of self.new ≡ with_part (with_change (memory_of self.old) (Put from part)) }
         ensures fits { (memory_of self.old).parts < 2 ^ 64 }
         ensures sixteen { length part ≡ 16 }
     {

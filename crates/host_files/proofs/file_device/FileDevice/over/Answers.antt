@@ -8,4 +8,5 @@ pub invariant_of-result-clause-stands : goal.invariant_of-result-clause-stands
 invariant_of-result-clause-stands g c = c.requires c.in-Ok.cells
 
 pub invariant_of-result-clause-mirror : goal.invariant_of-result-clause-mirror
-invariant_of-result-clause-mirror g c told is = λ frame page on number place held low inside. absurd (c.clear.ensures frame number (page, on, held))
+invariant_of-result-clause-mirror g c told is =
+    λ frame page on number place held low inside. absurd (c.clear.ensures frame number (page, on, held))

@@ -1,8 +1,7 @@
 -- What a write of a file in memory has left, by its change, if there is one, and its counts.
 use Rattle.std.proofs.Common.{◌<◌, ◌^◌, Ok, Err, ap, sym, ◌∙◌, subst}
-use Rattle.worm_device.specs.Counts.{next_count}
 use Rattle.host_files.specs.File.{WritesAt}
-use Rattle.host_files.specs.Memory.{FileMemory, file_of, with_change}
+use Rattle.host_files.specs.Memory.{FileMemory, file_of, with_change, with_fault, with_part}
 use Rattle.host_files.specs.MemoryFile.{memory_of}
 use Rattle.host_files.specs.declared.change.FileChange.TheVariants.{Put}
 use Rattle.host_files.proofs.Changes.{put_answers, nothing_left, all_left, part_left}
@@ -14,7 +13,7 @@ returns-then-room-eq0-clause-writes c =
     let old = memory_of c.args.self.now in
     let begun = c.begin-fails.ensures.counted in
     subst (λ m. WritesAt c.args.from c.args.piece.now (file_of old) (file_of m) (Err c.fail.result))
-    (sym (c.fail.ensures.counted ∙ ap (λ (m : FileMemory). record m { faults = next_count m.faults }) begun))
+    (sym (c.fail.ensures.counted ∙ ap with_fault begun))
     (nothing_left old c.args.from c.args.piece.now c.fail.result
     (subst (λ (m : FileMemory). m.faults < 2 ^ 64) begun c.fail.ensures.fits))
 
@@ -34,7 +33,7 @@ returns-in-Nothing-clause-writes c =
     let fail = c.fail-in-Nothing in
     let begun = c.begin-fails.ensures.counted in
     subst (λ m. WritesAt c.args.from c.args.piece.now (file_of old) (file_of m) (Err fail.result))
-    (sym (fail.ensures.counted ∙ ap (λ (m : FileMemory). record m { faults = next_count m.faults }) begun))
+    (sym (fail.ensures.counted ∙ ap with_fault begun))
     (nothing_left old c.args.from c.args.piece.now fail.result
     (subst (λ (m : FileMemory). m.faults < 2 ^ 64) begun fail.ensures.fits))
 
@@ -47,7 +46,7 @@ returns-in-All-clause-writes c =
     let same =
     put.ensures.put ∙ ap (λ m. with_change m (Put c.args.from c.args.piece.now)) c.begin-fails.ensures.counted in
     subst (λ m. WritesAt c.args.from c.args.piece.now (file_of old) (file_of m) (Err fail.result))
-    (sym (fail.ensures.counted ∙ ap (λ (m : FileMemory). record m { faults = next_count m.faults }) same))
+    (sym (fail.ensures.counted ∙ ap with_fault same))
     (all_left old c.args.from c.args.piece.now fail.result
     (subst (λ (m : FileMemory). m.faults < 2 ^ 64) same fail.ensures.fits) put.ensures.sixteen)
 
@@ -59,11 +58,9 @@ returns-in-Part-clause-writes c =
     let put = c.put_part in
     let part = c.part_of.result in
     let begun = c.begin-fails.ensures.counted in
-    let same =
-    put.ensures.put
-    ∙ ap (λ (m : FileMemory). record (with_change m (Put c.args.from part)) { parts = next_count m.parts }) begun in
+    let same = put.ensures.put ∙ ap (λ m. with_part (with_change m (Put c.args.from part))) begun in
     subst (λ m. WritesAt c.args.from c.args.piece.now (file_of old) (file_of m) (Err fail.result))
-    (sym (fail.ensures.counted ∙ ap (λ (m : FileMemory). record m { faults = next_count m.faults }) same))
+    (sym (fail.ensures.counted ∙ ap with_fault same))
     (part_left old c.args.from c.args.piece.now part fail.result
     (subst (λ (m : FileMemory). m.faults < 2 ^ 64) same fail.ensures.fits)
     (subst (λ (m : FileMemory). m.parts < 2 ^ 64) begun put.ensures.fits) put.ensures.sixteen)

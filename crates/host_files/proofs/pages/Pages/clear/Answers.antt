@@ -6,7 +6,8 @@ use Rattle.host_files.proofs.pages.Pages.clear.Goals as goal
 
 pub invariant_of-self-clause-apart : goal.invariant_of-self-clause-apart
 invariant_of-self-clause-apart c =
-    apart_set c.loop-frame.self.pages.items c.loop-frame.frame _ c.loop-frame.self.apart (λ number other is on. absurd (none-some number is))
+    apart_set c.loop-frame.self.pages.items c.loop-frame.frame _ c.loop-frame.self.apart
+    (λ number other is on. absurd (none-some number is))
 
 pub loop-frame-preserved : goal.loop-frame-preserved
 loop-frame-preserved c =
@@ -19,4 +20,5 @@ loop-frame-preserved c =
 
 pub returns : goal.returns
 returns c frame number on =
-    c.loop-frame.invariant.1 frame number (omega (arith, c.loop-frame.invariant.0, slice_get_within c.loop-frame.self.pages.items frame on.0 on.1)) on
+    c.loop-frame.invariant.1 frame number
+    (omega (arith, c.loop-frame.invariant.0, slice_get_within c.loop-frame.self.pages.items frame on.0 on.1)) on

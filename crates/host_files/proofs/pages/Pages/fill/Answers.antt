@@ -5,7 +5,8 @@ pub invariant_of-self-clause-apart : goal.invariant_of-self-clause-apart
 invariant_of-self-clause-apart g c =
     let pages = c.args.self.now.pages.items in
     apart_set pages c.oldest-frame.result c.load.new.self c.args.self.now.apart
-    (alone_loaded pages c.oldest-frame.result c.args.number c.load.new.self c.load.result c.load.ensures.number c.load.ensures.nothing
+    (alone_loaded pages c.oldest-frame.result c.args.number c.load.new.self c.load.result c.load.ensures.number
+    c.load.ensures.nothing
     c.requires.new)
 
 pub returns-in_err-load-clause-holds : goal.returns-in_err-load-clause-holds

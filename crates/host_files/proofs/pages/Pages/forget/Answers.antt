@@ -6,7 +6,8 @@ use Rattle.host_files.proofs.pages.Pages.forget.Goals as goal
 
 pub invariant_of-self-clause-apart : goal.invariant_of-self-clause-apart
 invariant_of-self-clause-apart c =
-    apart_set c.args.self.now.pages.items c.in-Some.frame _ c.args.self.now.apart (λ number other is on. absurd (none-some number is))
+    apart_set c.args.self.now.pages.items c.in-Some.frame _ c.args.self.now.apart
+    (λ number other is on. absurd (none-some number is))
 
 pub returns-in-Some-clause-same : goal.returns-in-Some-clause-same
 returns-in-Some-clause-same c cells bytes old =
@@ -16,7 +17,8 @@ returns-in-Some-clause-same c cells bytes old =
 pub returns-in-Some-clause-put : goal.returns-in-Some-clause-put
 returns-in-Some-clause-put c piece cells bytes within sixteen old =
     let page : Page = record { number = None; used = 0; bytes = c.index_mut-page.result.now.bytes } in
-    patched_set cells c.args.at c.in-Some.frame piece bytes c.args.self.now.pages.items page within sixteen c.in-Some.ensures.found
+    patched_set cells c.args.at c.in-Some.frame piece bytes c.args.self.now.pages.items page within sixteen
+    c.in-Some.ensures.found
     c.args.self.now.apart old (none_holds cells _ page refl)
 
 pub returns-in_default-clause-put : goal.returns-in_default-clause-put

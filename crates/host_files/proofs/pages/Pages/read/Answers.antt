@@ -7,7 +7,8 @@ pub returns-in-Some-clause-answers : goal.returns-in-Some-clause-answers
 returns-in-Some-clause-answers g c told is old =
     let on = c.in-Some.ensures.found in
     c.show.ensures.found on.0 on.1
-    ∙ cell_on c.args.cells c.args.at c.in-Some.frame told.now.bytes c.args.self.now.pages.items on old c.requires.some
+    ∙ cell_on c.args.cells c.args.at c.in-Some.frame told.now.bytes c.args.self.now.pages.items on old
+    c.requires.some
 
 pub returns-in-Some-clause-holds : goal.returns-in-Some-clause-holds
 returns-in-Some-clause-holds g c told is old = c.show.ensures.holds c.args.cells told.now.bytes old
@@ -26,7 +27,8 @@ returns-clause-answers g c told is old =
     let on = c.in_ok-frame.ensures.on in
     let now = c.fill.ensures.holds told is old in
     c.show-2.ensures.found on.0 on.1
-    ∙ cell_on c.args.cells c.args.at c.in_ok-frame.frame told.now.bytes c.fill.new.self.pages.items on now c.requires.some
+    ∙ cell_on c.args.cells c.args.at c.in_ok-frame.frame told.now.bytes c.fill.new.self.pages.items on now
+    c.requires.some
 
 pub returns-clause-holds : goal.returns-clause-holds
 returns-clause-holds g c told is old =

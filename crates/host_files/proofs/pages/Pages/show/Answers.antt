@@ -14,7 +14,8 @@ invariant_of-self-clause-apart c =
 
 pub returns-clause-found : goal.returns-clause-found
 returns-clause-found c page is =
-    c.cell_at.ensures ∙ ap (λ (p : Page). cell_in (cell_bytes p.bytes c.args.place)) (c.index_mut-page.ensures.value ∙ get_or_from_slice_get c.args.self.now.pages.items c.args.frame page c.index_mut-page.result.now is)
+    c.cell_at.ensures ∙ ap (λ (p : Page). cell_in (cell_bytes p.bytes c.args.place)) (c.index_mut-page.ensures.value
+    ∙ get_or_from_slice_get c.args.self.now.pages.items c.args.frame page c.index_mut-page.result.now is)
 
 pub returns-clause-holds : goal.returns-clause-holds
 returns-clause-holds c cells bytes old =
