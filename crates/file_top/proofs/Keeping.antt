@@ -1,5 +1,5 @@
 -- From what a command does to the cells of a device to what it does to the bytes of the file below.
-use Rattle.std.specs.Prelude.{◌≡◌, ℕ, List, Option, Some, None, Result, Ok, Err, IfSome, IsTrue, is_some}
+use Rattle.std.specs.Prelude.{ℕ, List, Option, Some, None, Result, Ok, Err, IfSome, IsTrue, is_some}
 use Rattle.std.proofs.Common.{refl, ◌∙◌, sym, arith, inl, ⊎_elim}
 use Rattle.cell_types.specs.Image.{Image, Between}
 use Rattle.cell_types.specs.declared.refusal.Refusal.{Refusal}

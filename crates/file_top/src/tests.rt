@@ -27,14 +27,23 @@ const FIRST_EIGHT: [bool; 16] = [
     false, false,
 ];
 
-/// The bytes of a file in which these cells are written, and no other.
-fn with_cells(alloc: Global, cells: &[(usize, [u8; 16])]) -> Result<Vec<u8>, Fail> {
-    let mut bytes = vec![in alloc; 0u8; 16 * CELLS + 7]?;
-    for (at, cell) in cells {
-        if *at < CELLS {
-            bytes[16 * *at..16 * *at + 16].copy_from_slice(cell);
+/// What is written in a cell, where these cells are and no other.
+fn written_at(cells: &[(usize, [u8; 16])], at: usize) -> [u8; 16] {
+    for (other, cell) in cells {
+        if *other == at {
+            return *cell;
         }
     }
+    [0; 16]
+}
+
+/// The bytes of a file in which these cells are written, and no other.
+fn with_cells(alloc: Global, cells: &[(usize, [u8; 16])]) -> Result<Vec<u8>, Fail> {
+    let mut bytes = Vec::new(alloc);
+    for at in 0..CELLS {
+        bytes.extend_from_slice(&written_at(cells, at))?;
+    }
+    bytes.extend_from_slice(&[0; 7])?;
     Ok(bytes)
 }
 
