@@ -9,11 +9,13 @@ use Rattle.host_files.specs.Device.{device_at, device_over, now_in}
 use Rattle.host_files.specs.File.{FileState, Told}
 use Rattle.host_ports.specs.Sinks.{SinkState}
 use Rattle.host_ports.specs.Sources.{SourceState}
-use Rattle.record_top.specs.Run.{Ports, Ingests}
+use Rattle.record_top.specs.Run.{Ports, Ingests, IngestEnds}
+use Rattle.cell_types.specs.declared.refusal.Refusal.TheVariants.{SinkFault}
+use Rattle.worm_device.specs.Calls.{Called}
 use Rattle.stored_documents.specs.Documents.{Stands}
 use Rattle.stored_documents.proofs.Extending.{stands_on}
 use Rattle.worm_device.specs.State.{DeviceState, LeftSince}
-use Rattle.file_top.specs.Files.{IsKeptIn, KeepsIn}
+use Rattle.file_top.specs.Files.{IsKeptIn, HasStored, KeepsIn}
 
 -- what a crash from now on leaves has what is sure
 left_now : (s : DeviceState) (image : Image) → LeftSince s s.moment image → Between s.sure s.image image
@@ -33,20 +35,28 @@ kept_told cells reads faults parts id body (Some t) seen stands = record {
       stands_on now.above (stands refl);
 }
 
--- so it is at Ok
+-- so it is where the command has stored it
+kept : (cells reads : ℕ) (file : FileState) (id given : List ℕ) (old : Ports) (source : SourceState) (sink : SinkState)
+    (result : Result Unit Refusal)
+    → let new : Ports = record { device = device_over cells reads file; source = source; sink = sink } in
+    Called old.device new.device → IngestEnds id given old new result
+    → CrashesAreSeen (device_over cells reads file) file.told → HasStored result
+    → IfSome file.told (IsKeptIn cells id given)
+kept cells reads file id given old source sink (Ok done) called ends seen stored =
+    kept_told cells reads file.faults file.parts id given file.told seen
+    (λ tells. (ends.1 (sym called.tells ∙ tells)).0)
+kept cells reads file id given old source sink (Err SinkFault) called ends seen stored =
+    kept_told cells reads file.faults file.parts id given file.told seen
+    (λ tells. (ends.1 (sym called.tells ∙ tells)).0)
+kept cells reads file id given old source sink (Err refusal) called ends seen stored = absurd stored
+
 pub keeps : (cells reads : ℕ) (file : FileState) (id : List ℕ) (old : Ports) (source : SourceState) (sink : SinkState)
     (result : Result Unit Refusal)
     → Ingests id old (record { device = device_over cells reads file; source = source; sink = sink }) result
     → CrashesAreSeen (device_over cells reads file) file.told
     → KeepsIn cells id old.source source file.told result
-keeps cells reads file id old source sink (Ok done) run seen = record {
+keeps cells reads file id old source sink result run seen = record {
   given = run.given;
   gives = run.gives;
-  kept = kept_told cells reads file.faults file.parts id run.given file.told seen
-      (λ tells. (run.ends.1 (sym run.called.tells ∙ tells)).0);
-}
-keeps cells reads file id old source sink (Err refusal) run seen = record {
-  given = run.given;
-  gives = run.gives;
-  kept = tt;
+  kept = kept cells reads file id run.given old source sink result run.called run.ends seen;
 }

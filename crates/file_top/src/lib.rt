@@ -34,7 +34,7 @@ pub fn run_over_file<F: HostFile, S: Source, K: Sink>(
     source: &mut S,
     sink: &mut K,
 ) -> Outcome
-    // At Ok of `ingest` the file keeps the document.
+    // Where `ingest` has stored its document, which it has at Ok, the file keeps it.
     ensures keeps { (id : List ℕ) → AsksToIngest (map string_bytes words.now) id →
         KeepsIn (state_over device.new).cells id (S.state source.old) (S.state source.new) (file_below device.new).told result }
     // What a crash leaves of the file, at any moment of the command, is a crash of the device, of which `run` speaks.

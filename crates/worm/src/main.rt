@@ -19,6 +19,7 @@ mod small;
 
 use crate::small::small_volume;
 use cell_types::Refusal;
+use file_top::run_over_file;
 use host_files::{FileDevice, Hold, Pages};
 use host_ports::{StdSink, StdSource};
 use record_top::run;
@@ -80,7 +81,7 @@ fn carry_out(
     }
     let pages = Pages::new(alloc).map_err(|_| Refusal::NoMemory)?;
     let mut device = FileDevice::open(rt, image.as_str(), pages).map_err(|_| Fault::Image)?;
-    run(alloc, command, &mut device, &mut source, &mut sink)?;
+    run_over_file(alloc, command, &mut device, &mut source, &mut sink)?;
     Ok(())
 }
 
