@@ -1,0 +1,5 @@
+pub mod Counting
+pub mod EntryReads
+pub mod FrontReads
+pub mod Knowing
+pub mod KnownReads

@@ -1,0 +1,6 @@
+pub mod Entries
+pub mod Fronts
+pub mod Keeping
+pub mod Known
+pub mod Pointers
+pub mod Spans

@@ -1,0 +1,9 @@
+pub mod Behind
+pub mod Descending
+pub mod Finding
+pub mod Licence
+pub mod LookingHere
+pub mod LookingLater
+pub mod Passing
+pub mod PointerReads
+pub mod Telling

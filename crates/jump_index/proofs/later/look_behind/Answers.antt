@@ -1,0 +1,53 @@
+-- Each ending, by the lemma of its kind.
+use Rattle.std.proofs.Common.{sym, arith, inl, inr, ◌∙◌}
+use Rattle.worm_device.proofs.Resting.{viewed_self}
+use Rattle.jump_index.proofs.Behind.{target_outside, target_fault, target_entry, at_key, target_first, target_without_key}
+use Rattle.jump_index.proofs.later.look_behind.Goals as goal
+use Rattle.jump_index.proofs.later.look_behind.Goals.{then-target-bounds-via-then-target-bounds, then-target-bounds-via-else-target-bounds+then-from, in-At+else-from-span, in_default}
+
+pub returns-then-target-bounds-clause-looks : goal.returns-then-target-bounds-clause-looks
+returns-then-target-bounds-clause-looks g c = record {
+  viewed = viewed_self (g.V.View.seen c.args.view.now);
+  reads = omega arith;
+  ends = target_outside c.args.bounds c.args.block c.args.l c.args.span c.args.target (g.V.View.seen c.args.view.now) c.leads_nowhere.result c.requires.span c.requires.jump
+      (elim c.then-target-bounds.branch [ then-target-bounds-via-then-target-bounds w ↦ inl (omega arith) | then-target-bounds-via-else-target-bounds+then-from w ↦ inr (omega arith) ])
+      c.leads_nowhere.ensures;
+}
+
+pub returns-in-Err-clause-looks : goal.returns-in-Err-clause-looks
+returns-in-Err-clause-looks g c =
+    let f = c.in-Err.ensures.finds in
+    record {
+      viewed = f.viewed;
+      reads = f.reads;
+      ends = target_fault c.args.bounds c.args.block c.args.l c.args.span c.args.target _ _ f.viewed c.requires.span c.requires.full c.requires.jump
+          (omega arith) (omega arith) c.in-Err.fault f.ends;
+    }
+
+pub returns-then-from-span-clause-looks : goal.returns-then-from-span-clause-looks
+returns-then-from-span-clause-looks g c =
+    let f = rw c.in-At.is at c.in-Ok.ensures.finds in
+    record {
+      viewed = f.viewed;
+      reads = f.reads;
+      ends = (
+        f.ends.2,
+        omega arith,
+        target_entry c.args.bounds c.args.block c.args.l c.args.span c.args.target _ _ f.viewed c.requires.span c.requires.full c.requires.jump
+            (omega arith) (omega arith) c.in-At.entry c.requires.edge f.ends,
+        target_first c.args.bounds c.args.block c.args.l c.args.span c.args.target _ _ f.viewed c.requires.span c.requires.full c.requires.jump
+            (omega arith) (omega arith) c.in-At.entry f.ends (omega arith),
+      );
+    }
+
+pub returns-clause-looks : goal.returns-clause-looks
+returns-clause-looks g c =
+    let f = c.in-Ok.ensures.finds in
+    record {
+      viewed = f.viewed;
+      reads = f.reads;
+      ends = target_without_key c.args.bounds c.args.block c.args.l c.args.span c.args.target _ _ f.viewed c.requires.span c.requires.full c.requires.jump
+          (omega arith) (omega arith) c.in-Ok.first f.ends
+          (λ e same. elim c.match-first.branch [ in-At+else-from-span w ↦ omega (arith, at_key e w.in-At.entry (sym same ∙ w.in-At.is)) | in_default w ↦ absurd (w.in_default.not-At e same) ])
+          c.leads_nowhere-2.result c.leads_nowhere-2.ensures;
+    }

@@ -1,0 +1,71 @@
+//! A look into one block.
+ghost use Rattle.std.specs.Prelude.{◌<◌, ◌≤◌, ◌+◌, IsTrue};
+ghost use Rattle.jump_block.specs.Keeping.{AreKept};
+ghost use Rattle.jump_index.specs.Looking.{EndsBefore, LooksBefore, LooksHere};
+
+use crate::looked::{Here, Looked};
+use cell_types::Fault;
+use jump_block::{Front, KeptFronts, entry, first_from_kept};
+use worm_device::View;
+
+/// Looks for the first key of a block from x up to the bound. A pointer led here whose span is from low up to the
+/// bound.
+pub(crate) fn look_here<V: View>(
+    view: &mut V,
+    fronts: &mut KeptFronts,
+    block: u32,
+    x: u32,
+    low: u64,
+    bound: u64,
+    level: u8,
+) -> Result<Here, Fault>
+    requires inside { block + 256 ≤ (V.seen view.old).cells }
+    requires kept { IsTrue (V.seen view.old).base.tells → AreKept (V.seen view.old).image fronts.old }
+    requires from { low ≤ x }
+    requires below { x < bound }
+    requires level { level ≤ 8 }
+    ensures kept { IsTrue (V.seen view.old).base.tells → AreKept (V.seen view.new).image fronts.new }
+    ensures looks { LooksHere block x low bound (V.seen view.old) (V.seen view.new) result }
+{
+    let first = match first_from_kept(view, fronts, usize::from(level), block, x) {
+        Ok(first) => first,
+        Err(fault) => return Err(fault),
+    };
+    match first {
+        Front::At(next) if u64::from(next.key) < bound => Ok(Here::Ends(Looked::Found(next))),
+        Front::At(next) => look_before(view, block, next.place, low),
+        Front::Open(_, greatest) => Ok(end_before(greatest, low)),
+        Front::Full(greatest) if u64::from(greatest) < low => Ok(Here::Ends(Looked::NoKey)),
+        Front::Full(greatest) => Ok(Here::Beyond(greatest)),
+    }
+}
+
+/// What a block says whose key at this place is past the bound: whether the key before it, the greatest below the
+/// bound, is at or past low.
+fn look_before<V: View>(view: &mut V, block: u32, place: u8, low: u64) -> Result<Here, Fault>
+    requires inside { block + 256 ≤ (V.seen view.old).cells }
+    requires place { place < 128 }
+    ensures { LooksBefore block place low (V.seen view.old) (V.seen view.new) result }
+{
+    if place == 0 {
+        return Ok(Here::Ends(Looked::NoKey));
+    }
+    let found = match entry(view, block, place - 1) {
+        Ok(found) => found,
+        Err(fault) => return Err(fault),
+    };
+    match found {
+        Some(before) if u64::from(before.key) >= low => Ok(Here::Ends(Looked::Nothing)),
+        _ => Ok(Here::Ends(Looked::NoKey)),
+    }
+}
+
+/// What a block says whose keys end with this one, below the asked one: whether it is at or past low.
+fn end_before(greatest: Option<u32>, low: u64) -> Here
+    ensures { EndsBefore greatest low result }
+{
+    match greatest {
+        Some(key) if u64::from(key) >= low => Here::Ends(Looked::Nothing),
+        _ => Here::Ends(Looked::NoKey),
+    }
+}

@@ -1,0 +1,21 @@
+-- What a join of lists answers.
+use Rattle.std.specs.Prelude.{◌<◌, ◌≤◌, ℕ, Option, Some, None, Result, Ok, Err}
+use Rattle.cell_types.specs.declared.geometry.TheConstants.{MAX_SLOTS}
+use Rattle.cell_types.specs.declared.refusal.Fault.{Fault}
+use Rattle.zigzag_join.specs.Lists.{ListsState, FaultEnds}
+
+-- no list may pass the slot
+abbrev pub AllOwe : ListsState → ℕ → Type 0
+AllOwe s slot = (which : ℕ) → which < s.lists → s.owes which slot
+
+-- every list vouches for the slot
+abbrev pub AllVouch : ListsState → ℕ → Type 0
+AllVouch s slot = (which : ℕ) → which < s.lists → s.vouches which slot
+
+-- The next slot at or past one that all lists have: every list vouches for it at exit, and no slot before it was one
+-- that at entry no list could pass. None comes only where there is no such slot at all.
+abbrev pub JoinEnds : ℕ → ListsState → ListsState → Result (Option ℕ) Fault → Type 0
+JoinEnds from old new (Ok (Some n)) =
+    (from ≤ n) × (n < MAX_SLOTS) × AllVouch new n × ((slot : ℕ) → AllOwe old slot → from ≤ slot → n ≤ slot)
+JoinEnds from old new (Ok None) = (slot : ℕ) → AllOwe old slot → from ≤ slot → slot < MAX_SLOTS → ⊥
+JoinEnds from old new (Err fault) = FaultEnds old new fault

@@ -1,0 +1,52 @@
+-- Lists of slots: what they are for contracts, and what their calls answer.
+use Rattle.std.specs.Prelude.{◌≡◌, ◌<◌, ◌≤◌, ℕ, Bool, Option, Some, None, Result, Ok, Err, IsTrue}
+use Rattle.cell_types.specs.declared.geometry.TheConstants.{MAX_SLOTS}
+use Rattle.cell_types.specs.declared.refusal.Evidence.{Evidence}
+use Rattle.cell_types.specs.declared.refusal.Fault.{Fault}
+use Rattle.cell_types.specs.declared.refusal.Fault.TheVariants.{Tampered, ReadFault}
+use Rattle.worm_device.specs.Counts.{Rose, IsStill}
+
+-- The state of some lists.
+pub record ListsState : Type 1 where
+  -- how many lists there are
+  pub lists : ℕ
+  -- how many calls below have failed
+  pub faults : ℕ
+  -- how many cells somebody else has written
+  pub foreign_writes : ℕ
+  -- the list must not pass the slot
+  pub owes : ℕ → ℕ → Type 0
+  -- the list vouches for the slot
+  pub vouches : ℕ → ℕ → Type 0
+  -- the lists may name this evidence
+  pub may_name : Evidence → Type 0
+  -- the lists show this evidence
+  pub shows : Evidence → Type 0
+
+-- What every call keeps, and so every row of calls: the lists stay as many, no count falls, and what a list must not
+-- pass, vouches for or may name once it does ever after.
+pub record Keeps (old new : ListsState) : Type 0 where
+  pub lists : new.lists ≡ old.lists
+  pub faults : old.faults ≤ new.faults
+  pub foreign_writes : old.foreign_writes ≤ new.foreign_writes
+  pub owing : (which slot : ℕ) → old.owes which slot → new.owes which slot
+  pub vouching : (which slot : ℕ) → old.vouches which slot → new.vouches which slot
+  pub naming : (e : Evidence) → old.may_name e → new.may_name e
+
+-- Why there is no answer: a call below failed, or this is evidence that the lists may name, and that they show
+-- where nobody else wrote.
+abbrev pub FaultEnds : ListsState → ListsState → Fault → Type 0
+FaultEnds old new ReadFault = Rose old.faults new.faults
+FaultEnds old new (Tampered e) = new.may_name e × (IsStill old.foreign_writes new.foreign_writes → new.shows e)
+
+-- what a list answers that is asked for a slot at or past one
+abbrev pub NextEnds : ℕ → ℕ → ListsState → ListsState → Result (Option ℕ) Fault → Type 0
+NextEnds which from old new (Ok (Some n)) =
+    (from ≤ n) × (n < MAX_SLOTS) × ((slot : ℕ) → old.owes which slot → from ≤ slot → n ≤ slot)
+NextEnds which from old new (Ok None) = (slot : ℕ) → old.owes which slot → from ≤ slot → ⊥
+NextEnds which from old new (Err fault) = FaultEnds old new fault
+
+-- what a list answers that is asked whether it has a slot
+abbrev pub HasEnds : ℕ → ℕ → ListsState → ListsState → Result Bool Fault → Type 0
+HasEnds which slot old new (Ok there) = (old.owes which slot → IsTrue there) × (IsTrue there → new.vouches which slot)
+HasEnds which slot old new (Err fault) = FaultEnds old new fault

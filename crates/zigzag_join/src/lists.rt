@@ -1,0 +1,32 @@
+//! Lists of slots that can be asked for the next slot at or past one, and whether they have one.
+ghost use Rattle.std.specs.Prelude.{◌≡◌, ◌<◌, ◌≤◌};
+ghost use Rattle.cell_types.specs.declared.geometry.TheConstants.{MAX_SLOTS};
+ghost use Rattle.zigzag_join.specs.Lists.{ListsState, Keeps, NextEnds, HasEnds};
+
+use cell_types::Fault;
+
+/// Some lists of slots. A slot is a number below 16,777,216; the slot behind the last one may be asked for too.
+pub trait Lists {
+    /// What the lists are, for contracts: which slots they must not pass, for which they vouch, and what they may
+    /// name as evidence.
+    ghost state: { Self → ListsState };
+
+    /// How many lists there are.
+    fn count(&self) -> u32
+        ensures count { result ≡ (state self.now).lists };
+
+    /// A slot of a list at or past one, `None` where there is none. Between the two there is no slot that the list
+    /// must not pass.
+    fn next(&mut self, which: u32, from: u32) -> Result<Option<u32>, Fault>
+        requires which { which < (state self.old).lists }
+        requires from { from ≤ MAX_SLOTS }
+        ensures kept { Keeps (state self.old) (state self.new) }
+        ensures ends { NextEnds which from (state self.old) (state self.new) result };
+
+    /// Whether a list has the slot. It has each slot that it must not pass, and vouches for each that it has.
+    fn has(&mut self, which: u32, slot: u32) -> Result<bool, Fault>
+        requires which { which < (state self.old).lists }
+        requires slot { slot < MAX_SLOTS }
+        ensures kept { Keeps (state self.old) (state self.new) }
+        ensures ends { HasEnds which slot (state self.old) (state self.new) result };
+}
