@@ -1,4 +1,4 @@
-//! Where bytes come from and go to: sources and sinks, and files as devices, with their faults counted.
+//! Where bytes come from and go to: sources and sinks, with their faults counted.
 //!
 //! A source gives bytes until its end, and a sink takes them. Either may move fewer than it was asked to, and
 //! either may fail, which it counts. Contracts say what is left in a source and what a sink holds where these
@@ -18,26 +18,13 @@
 //! sink may have got some first bytes of the piece; one in memory gets none. No clause says that a reader or a
 //! writer of the host succeeds.
 //!
-//! A device over a file tells nothing either. Its reads are answered from sixteen pages of the file in memory:
-//!
-//!     open, a file of 16,007 bytes     1,000 cells
-//!     read cell 300                    bytes 4,096 to 8,191 of the file, and then byte 704 of those and on
-//!     read cell 301                    no byte of the file
-//!     write cell 301                   bytes 4,816 to 4,831 are read and, where they are zeros, written
-//!
-//! Stands on `worm_device`, for `Device`, `Failed` and the words on counts, and on `cell_types`, for `Cell` and
-//! `NoMemory`. Begin with `source.rt` and `file_device.rt`; `specs/Sources.antt` says what a call of a source does.
+//! Stands on `worm_device`, for `Failed` and the words on counts, and on `cell_types`, for `NoMemory`. Begin with
+//! `source.rt`; `specs/Sources.antt` says what a call of a source does.
 #![tactic(auto)]
 
 #[cfg(test)]
 mod callers;
-mod file_calls;
-mod file_device;
-#[cfg(test)]
-mod file_tests;
 mod memory;
-mod page;
-mod pages;
 mod schedule;
 mod sink;
 mod source;
@@ -45,9 +32,7 @@ mod standard;
 #[cfg(test)]
 mod tests;
 
-pub use file_device::{FileDevice, OpenFault};
 pub use memory::{MemorySink, MemorySource};
-pub use pages::Pages;
 pub use sink::Sink;
 pub use source::Source;
 pub use standard::{StdSink, StdSource};

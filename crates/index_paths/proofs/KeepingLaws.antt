@@ -1,6 +1,5 @@
 -- What is kept.
-use Rattle.std.proofs.Common.{◌≡◌, ◌<◌, ℕ, List, refl, ap, sym, subst, ◌∙◌}
-use Rattle.std.specs.Prelude.{Contains}
+use Rattle.std.proofs.Common.{◌≡◌, ℕ, List, ap, sym, subst, ◌∙◌}
 use Rattle.cell_types.specs.Image.{Image, Extends}
 use Rattle.cell_types.specs.Layout.{Layout, root_at}
 use Rattle.stored_documents.specs.Documents.{Document, Stands}
@@ -11,7 +10,8 @@ use Rattle.index_paths.proofs.HashTrails.{hash_trail_on, one_hash_trail}
 use Rattle.stored_documents.proofs.OneDocument.{one_document}
 use Rattle.index_paths.proofs.Trails.{trail_on}
 
-pub is_kept_on : {cells : ℕ} {old new : Image} {g : Layout} {d : Document} → Extends old new → IsKept cells old g d → IsKept cells new g d
+pub is_kept_on : {cells : ℕ} {old new : Image} {g : Layout} {d : Document} → Extends old new
+    → IsKept cells old g d → IsKept cells new g d
 is_kept_on e k = record {
   stands = stands_on e k.stands;
   postings = k.postings;
@@ -19,7 +19,8 @@ is_kept_on e k = record {
   path = hash_trail_on e k.path;
 }
 
-pub kept_on : {cells : ℕ} {old new : Image} {documents : List Document} → Extends old new → Kept cells old documents → Kept cells new documents
+pub kept_on : {cells : ℕ} {old new : Image} {documents : List Document} → Extends old new
+    → Kept cells old documents → Kept cells new documents
 kept_on e k = record { layout = k.layout; volume = volume_on e k.volume; each = λ d among. is_kept_on e (k.each d among) }
 
 abbrev document : ℕ → List ℕ → List ℕ → Document
@@ -29,7 +30,8 @@ pub documents : (a b : Document) → a.slot ≡ b.slot → a.id ≡ b.id → a.b
 documents a b p q r =
     ap (λ (n : ℕ). document n a.id a.body) p ∙ ap (λ (i : List ℕ). document b.slot i a.body) q ∙ ap (λ (t : List ℕ). document b.slot b.id t) r
 
-pub one_kept : (cells : ℕ) (image : Image) (g : Layout) (d e : Document) → IsKept cells image g d → IsKept cells image g e → d.id ≡ e.id → d ≡ e
+pub one_kept : (cells : ℕ) (image : Image) (g : Layout) (d e : Document) → IsKept cells image g d
+    → IsKept cells image g e → d.id ≡ e.id → d ≡ e
 one_kept cells image g d e k h same =
     let P : List ℕ → Type 0 = λ id. Stands cells image e.slot id e.body in
     let Q : List ℕ → Type 0 = λ id. HashTrail image (sought_in cells g id) e.slot (root_at g) 0 in

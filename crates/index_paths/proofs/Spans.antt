@@ -1,7 +1,7 @@
 -- Spans: a key lies in one of them, and each greater key lies in one.
-use Rattle.std.proofs.Common.{◌≡◌, ◌<◌, ◌≤◌, ◌+◌, ◌-◌, ◌*◌, ◌/◌, ◌%◌, ◌^◌, ◌⊎◌, ℕ, suc, zero, refl, inl, inr, ⊎_elim, arith, add-one, subst, sym, ◌≢◌, mul_comm}
+use Rattle.std.proofs.Common.{◌≡◌, ◌<◌, ◌≤◌, ◌+◌, ◌-◌, ◌*◌, ◌/◌, ◌^◌, ℕ, suc, zero, ⊎_elim, arith, subst, sym}
 use Rattle.std.proofs.lemmas.Bool.{cases_order, cases_lt}
-use Rattle.std.proofs.Math.Nat.{le-div_iff_mul-le, div-lt_iff_lt-mul, div-mul-le_self, lt-div-mul-add, pow-le-pow_right, one-le-pow, pow-succ', mul-le-mul_right, mul-le-mul_left}
+use Rattle.std.proofs.Math.Nat.{le-div_iff_mul-le, div-lt_iff_lt-mul, div-mul-le_self, lt-div-mul-add, pow-le-pow_right, one-le-pow, pow-succ', mul-le-mul_right}
 use Rattle.index_paths.specs.Blocks.{InSpan}
 
 -- a level's digits end where the next level begins
@@ -30,9 +30,9 @@ one_level l k i j m n s t =
     ⊎_elim
     (λ same. same)
     (λ differ. ⊎_elim
-        (λ below. absurd (omega (arith, lower_is_less l i j k m n k s t below)))
-        (λ above. absurd (omega (arith, lower_is_less l m n k i j k t s above)))
-        differ)
+    (λ below. absurd (omega (arith, lower_is_less l i j k m n k s t below)))
+    (λ above. absurd (omega (arith, lower_is_less l m n k i j k t s above)))
+    differ)
     (cases_order i m)
 
 one_digit : (l k i j n : ℕ) → InSpan l i j k → InSpan l i n k → j ≡ n
@@ -40,9 +40,9 @@ one_digit l k i j n s t =
     ⊎_elim
     (λ same. same)
     (λ differ. ⊎_elim
-        (λ below. absurd (omega (arith, lower_digit_is_less l i j k n k s t below)))
-        (λ above. absurd (omega (arith, lower_digit_is_less l i n k j k t s above)))
-        differ)
+    (λ below. absurd (omega (arith, lower_digit_is_less l i j k n k s t below)))
+    (λ above. absurd (omega (arith, lower_digit_is_less l i n k j k t s above)))
+    differ)
     (cases_order j n)
 
 pub apart : (l k i j m n : ℕ) → InSpan l i j k → InSpan l m n k → (i ≡ m) × (j ≡ n)

@@ -1,5 +1,5 @@
 -- Laws of posting blocks.
-use Rattle.std.specs.Prelude.{◌≡◌, ◌<◌, ◌≤◌, ◌+◌, ◌*◌, ◌^◌, ℕ}
+use Rattle.std.specs.Prelude.{◌≡◌, ◌<◌, ◌^◌, ℕ}
 use Rattle.cell_types.specs.Image.{Image, Extends}
 use Rattle.index_paths.specs.Blocks.{PostingFields, InFront, InSpan, Trail}
 

@@ -5,22 +5,23 @@ use Rattle.cell_types.specs.declared.record_cell.RecordCell.TheVariants.{Posting
 use Rattle.cell_types.specs.declared.record_cell.RecordCell.{RecordCell}
 use Rattle.stored_documents.specs.Volumes.{Holds}
 
-
 -- what a posting says
 pub record PostingFields : Type 0 where
   pub key : ℕ
   pub last : ℕ
   pub tag : List ℕ
 
+-- and its record
 abbrev pub posting_record : PostingFields → RecordCell
 posting_record p = Posting p.key p.last p.tag
 
 -- The place of the block is in its front and holds this posting: it is place 0, or the place before is in
--- the front and holds a smaller key.
+-- the front and holds a smaller key. A front ends at place 127: whoever speaks of one asks for a place below 128.
 pub data InFront (image : Image) (block : ℕ) : ℕ → PostingFields → Type 0 where
   at_the_start : (place : ℕ) (p : PostingFields) → place ≡ 0 → Holds image (block + place) (posting_record p)
       → InFront image block place p
-  behind : (place before : ℕ) (p q : PostingFields) → place ≡ before + 1 → InFront image block before q → q.key < p.key
+  behind : (place before : ℕ) (p q : PostingFields) → place ≡ before + 1 → InFront image block before q
+      → q.key < p.key
       → Holds image (block + place) (posting_record p) → InFront image block place p
 
 -- the block is full: all its entry places are in its front, and this is the greatest posting
@@ -60,8 +61,10 @@ pub record Hop (image : Image) (from to block k target : ℕ) : Type 0 where
 -- The posting in the cell at has a trail from the block: it is in the block's front, or the block leads on, for
 -- the posting's key, to a block from which it has one.
 pub data Trail (image : Image) (from to at : ℕ) (p : PostingFields) : ℕ → Type 0 where
-  here : (block place : ℕ) → at ≡ block + place → place < 128 → InFront image block place p → Trail image from to at p block
-  on : (block target : ℕ) → Hop image from to block p.key target → Trail image from to at p target → Trail image from to at p block
+  here : (block place : ℕ) → at ≡ block + place → place < 128 → InFront image block place p
+      → Trail image from to at p block
+  on : (block target : ℕ) → Hop image from to block p.key target → Trail image from to at p target
+      → Trail image from to at p block
 
 -- The blocks of a list whose first block is head: it, and each target of a jump cell that stands at its
 -- pointer place in a block of the list, where the target's cells lie in this range.

@@ -14,5 +14,6 @@ PathsHoldOn =
 -- of the slots that stand with an identifier one has a hash trail
 abbrev pub HashTrailsAreOne : Type 0
 HashTrailsAreOne =
-    (image : Image) (s : Sought) (n m node level : ℕ) (b c : List ℕ) → Stands s.cells image n s.id b → Stands s.cells image m s.id c
+    (image : Image) (s : Sought) (n m node level : ℕ) (b c : List ℕ) → Stands s.cells image n s.id b
+    → Stands s.cells image m s.id c
     → HashTrail image s n node level → HashTrail image s m node level → n ≡ m

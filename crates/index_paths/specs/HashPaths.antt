@@ -1,7 +1,6 @@
 -- The hash tree of identifiers: nodes of 16 buckets and 16 child cells, and the path of a digest through them.
-use Rattle.std.specs.Prelude.{◌≡◌, ◌≢◌, ◌<◌, ◌≤◌, ◌+◌, ◌*◌, ◌/◌, ◌%◌, ◌⊎◌, ◌==◌, if◌then◌else◌, ℕ, List, slice_index, take}
+use Rattle.std.specs.Prelude.{◌≡◌, ◌≢◌, ◌<◌, ◌≤◌, ◌+◌, ◌/◌, ◌%◌, ◌⊎◌, ◌==◌, if◌then◌else◌, ℕ, List, slice_index, take}
 use Rattle.cell_types.specs.Image.{Image}
-use Rattle.cell_types.specs.Layout.{Layout, root_at, pool_at}
 use Rattle.cell_types.specs.declared.record_cell.RecordCell.TheVariants.{Bucket, Child}
 use Rattle.stored_documents.specs.Volumes.{Holds}
 use Rattle.stored_documents.specs.Documents.{Stands}
@@ -14,7 +13,8 @@ nibble digest v = if v % 2 == 0 then slice_index digest (v / 2) / 16 else slice_
 abbrev pub fingerprint_of : List ℕ → List ℕ
 fingerprint_of digest = take 7 digest
 
--- an identifier and its digest, and the cells of the device and of the pool
+-- An identifier that is sought, by a digest, on a device of so many cells whose pool begins here. `sought_in` makes it
+-- with the identifier's own digest.
 pub record Sought : Type 0 where
   pub id : List ℕ
   pub digest : List ℕ
@@ -40,12 +40,15 @@ pub record LeadsDown (image : Image) (s : Sought) (node level target : ℕ) : Ty
 -- From a node of this level slot n has a hash trail: its bucket stands there, or the bucket there is passed, and
 -- it has a hash trail from the node below.
 pub data HashTrail (image : Image) (s : Sought) (n : ℕ) : ℕ → ℕ → Type 0 where
-  here : (node level : ℕ) → Holds image (node + nibble s.digest level) (Bucket n (fingerprint_of s.digest)) → HashTrail image s n node level
-  below : (node level target : ℕ) → IsPassed image s (node + nibble s.digest level) → LeadsDown image s node level target
+  here : (node level : ℕ) → Holds image (node + nibble s.digest level) (Bucket n (fingerprint_of s.digest))
+      → HashTrail image s n node level
+  below : (node level target : ℕ) → IsPassed image s (node + nibble s.digest level)
+      → LeadsDown image s node level target
       → HashTrail image s n target (level + 1) → HashTrail image s n node level
 
 -- Each bucket of the path from the root down to the node of this level, but not the node's own, is passed.
 pub data PassedTo (image : Image) (s : Sought) (root : ℕ) : ℕ → ℕ → Type 0 where
   at_root : (node level : ℕ) → node ≡ root → level ≡ 0 → PassedTo image s root node level
   down : (node level above before : ℕ) → level ≡ before + 1 → PassedTo image s root above before
-      → IsPassed image s (above + nibble s.digest before) → LeadsDown image s above before node → PassedTo image s root node level
+      → IsPassed image s (above + nibble s.digest before) → LeadsDown image s above before node
+      → PassedTo image s root node level

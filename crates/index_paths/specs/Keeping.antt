@@ -29,7 +29,8 @@ pub record Kept (cells : ℕ) (image : Image) (documents : List Document) : Type
 
 -- documents that are kept are kept in each extending image
 abbrev pub KeptHoldsOn : Type 0
-KeptHoldsOn = (cells : ℕ) (old new : Image) (documents : List Document) → Extends old new → Kept cells old documents → Kept cells new documents
+KeptHoldsOn = (cells : ℕ) (old new : Image) (documents : List Document) → Extends old new
+    → Kept cells old documents → Kept cells new documents
 
 -- of the kept documents one has an identifier
 abbrev pub KeptAreApart : Type 0

@@ -12,7 +12,7 @@ pub record IsBlockOf (g : Layout) (image : Image) (l block : ℕ) : Type 0 where
   pub list : l < g.lists
   pub leads : Leads image (pool_at g) g.cells block (list_at g l)
 
--- The nodes, by their levels: the root, and each target of a well-formed child cell of a node above level 63, where
+-- The nodes, by their levels: the root, and each target of a well-formed child cell of a node at a level below 63, where
 -- the target's cells lie in the pool.
 pub data IsNode (g : Layout) (image : Image) : ℕ → ℕ → Type 0 where
   root : (level node : ℕ) → level ≡ 0 → node ≡ root_at g → IsNode g image level node
@@ -23,7 +23,8 @@ pub data IsNode (g : Layout) (image : Image) : ℕ → ℕ → Type 0 where
 pub data IsOnPath (g : Layout) (image : Image) (digest : List ℕ) : ℕ → ℕ → Type 0 where
   root : (level node : ℕ) → level ≡ 0 → node ≡ root_at g → IsOnPath g image digest level node
   under : (level node v above : ℕ) → level ≡ v + 1 → IsOnPath g image digest v above → v < 63
-      → Holds image (above + 16 + nibble digest v) (Child node) → pool_at g ≤ node → node + 32 ≤ g.cells → IsOnPath g image digest level node
+      → Holds image (above + 16 + nibble digest v) (Child node) → pool_at g ≤ node → node + 32 ≤ g.cells
+      → IsOnPath g image digest level node
 
 -- the cells from a on, so many, and those from b on, so many, don't meet
 abbrev pub AreApart : ℕ → ℕ → ℕ → ℕ → Type 0

@@ -2,7 +2,7 @@
 --
 --     hello    SHA-256 begins 2c f2 4d ba 5f b0 a3 0e 26 e8: tag 2cf24dba5fb0, and a30e26e8 modulo the number of lists
 --              is its list
-use Rattle.std.specs.Prelude.{◌≡◌, ◌<◌, ◌≤◌, ◌+◌, ◌*◌, ◌%◌, ℕ, List, length, take, drop, slice_get, Some, Contains}
+use Rattle.std.specs.Prelude.{◌≡◌, ◌<◌, ◌≤◌, ◌+◌, ◌*◌, ◌%◌, ◌⊎◌, ℕ, List, length, take, drop, slice_get, Some, Contains}
 use Rattle.byteorder.specs.Endian.{big_number}
 use Rattle.sha2.specs.Sha256.{sha256}
 use Rattle.stored_documents.specs.Words.{HasWord}
@@ -30,6 +30,12 @@ pub record AreTags (lists : ℕ) (body : List ℕ) (l : ℕ) (tags : List (List 
   pub each : (tag : List ℕ) → Contains tags tag → HasTag lists body l tag
   pub all : (tag : List ℕ) → HasTag lists body l tag → Contains tags tag
 
+-- a body has one list of tags in a list
+abbrev pub TagsAreOne : Type 0
+TagsAreOne =
+    (lists : ℕ) (body : List ℕ) (l : ℕ) (one other : List (List ℕ)) → AreTags lists body l one → AreTags lists body l other
+    → one ≡ other
+
 -- The posting is one of slot n's document in list l: its tag's place among the tags is its ordinal, the key is 256
 -- times the slot and the ordinal, and `last` is the greatest ordinal.
 pub record IsPostingOf (lists : ℕ) (body : List ℕ) (n l : ℕ) (p : PostingFields) : Type 0 where
@@ -40,6 +46,25 @@ pub record IsPostingOf (lists : ℕ) (body : List ℕ) (n l : ℕ) (p : PostingF
   pub key : p.key ≡ 256 * n + ordinal
   pub last : p.last + 1 ≡ length tags
 
--- the postings exist: each list gets at most 256 tags of the body
+-- the document's postings exist: each list gets at most 256 tags of the body
 pub record HasPostings (lists : ℕ) (body : List ℕ) : Type 0 where
   pub each : (l : ℕ) → l < lists → (tags : List (List ℕ)) × AreTags lists body l tags × (length tags ≤ 256)
+
+-- a posting and its list
+pub record ListedPosting : Type 0 where
+  pub list : ℕ
+  pub posting : PostingFields
+
+-- the first comes before the second: its list is lower, or it is the same and its key is smaller
+abbrev pub ComesBefore : ListedPosting → ListedPosting → Type 0
+ComesBefore a b = (a.list < b.list) ⊎ ((a.list ≡ b.list) × (a.posting.key < b.posting.key))
+
+-- these are the postings of slot n's document, by list and ordinal; they exist
+pub record ArePostings (lists : ℕ) (body : List ℕ) (n : ℕ) (rows : List ListedPosting) : Type 0 where
+  pub exist : HasPostings lists body
+  pub order : (i j : ℕ) (a b : ListedPosting) → i < j → slice_get rows i ≡ Some a → slice_get rows j ≡ Some b
+      → ComesBefore a b
+  pub each : (i : ℕ) (a : ListedPosting) → slice_get rows i ≡ Some a
+      → (a.list < lists) × IsPostingOf lists body n a.list a.posting
+  pub all : (l : ℕ) (p : PostingFields) → l < lists → IsPostingOf lists body n l p
+      → (i : ℕ) × (slice_get rows i ≡ Some (record { list = l; posting = p }))

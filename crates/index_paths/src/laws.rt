@@ -3,6 +3,7 @@
 ghost use Rattle.index_paths.specs.BlockLaws.{FrontsRise, SpansAreApart, SpansCover, TrailHoldsOn, TrailsAreOne};
 ghost use Rattle.index_paths.specs.HashLaws.{HashTrailsAreOne, PathsHoldOn};
 ghost use Rattle.index_paths.specs.Keeping.{KeptAreApart, KeptHoldsOn};
+ghost use Rattle.index_paths.specs.Postings.{TagsAreOne};
 
 /// A trail stays a trail.
 #[tactic(auto, using(crate::proofs::Trails::trail_on))]
@@ -50,4 +51,9 @@ pub fn hash_trails_are_one()
 /// A passed bucket is passed in each extending image.
 pub fn paths_hold_on()
     ensures { PathsHoldOn }
+{}
+
+/// A body has one list of tags in a list.
+pub fn tags_are_one()
+    ensures { TagsAreOne }
 {}

@@ -61,6 +61,7 @@ stored_stands id body cells image g is_id is_body is_layout volume fits stored =
       done = record {
         commits = record {
           reserves = record {
+            slot = omega (arith, is_layout.some_slots);
             reserve = record {
               cell = _;
               stands = stored.reserve;
@@ -78,7 +79,7 @@ stored_stands id body cells image g is_id is_body is_layout volume fits stored =
             stands = stored.commit;
             is = record {
               fits = (omega (arith, count, is_id.most, is_body.most), omega arith);
-              well_formed = (omega (arith, count, is_id.some), omega (arith, count, is_id.most, is_body.most), refl);
+              well_formed = (omega (arith, count, is_id.some), omega (arith, count, is_id.most, is_body.most));
               same = refl;
             };
           };
@@ -126,9 +127,11 @@ module _ (id body : List ℕ) (s0 s1 s2 : DeviceState) (g : Layout) (is_id : IsI
 
   ends_at : (result : Result Unit Refusal) → Stores g (stored_bytes id body) s1 s2 result → PutEnds id body s0 s2 result
   ends_at (Ok u) stores = λ tells.
-      let tells_1 = subst IsTrue (sym called.tells) tells in
-      (stored_stands id body s2.cells s2.sure g is_id is_body is_layout
-      (subst (λ (n : ℕ). IsVolume n s2.sure g) (sym stores.called.cells) (volume_on (stores.synced tells_1) (volume tells))) fits (stores.sure tells_1), extends_then called.image (stores.synced tells_1))
+      let tells_1 = subst IsTrue (sym called.tells) tells in (
+        stored_stands id body s2.cells s2.sure g is_id is_body is_layout
+            (subst (λ (n : ℕ). IsVolume n s2.sure g) (sym stores.called.cells) (volume_on (stores.synced tells_1) (volume tells))) fits (stores.sure tells_1),
+        extends_then called.image (stores.synced tells_1),
+      )
   ends_at (Err refusal) stores = refused refusal stores.called stores.ends
 
   -- the document was put, or putting it was ended at a cell

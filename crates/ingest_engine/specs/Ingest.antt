@@ -37,8 +37,10 @@ PhaseEnds IsPlanned old new refusal = ⊥
 -- what it means that cells were put, or that putting them was ended
 pub record PutsCells (from : ℕ) (cells : List (List ℕ)) (old new : DeviceState) (result : Result Unit Refusal) : Type 0 where
   pub called : Called old new
-  pub only : IsStill old.foreign_writes new.foreign_writes → ChangesAsPlanned (IsAmongCells from cells) old.image new.image
-  pub sure : IsTrue old.tells → MatchResult result (λ _. (k : ℕ) (value : List ℕ) → slice_get cells k ≡ Some value → new.sure (from + k) ≡ Some value) (λ _. ⊤)
+  pub only : IsStill old.foreign_writes new.foreign_writes
+      → ChangesAsPlanned (IsAmongCells from cells) old.image new.image
+  pub sure : IsTrue old.tells → MatchResult result (λ _. (k : ℕ) (value : List ℕ)
+      → slice_get cells k ≡ Some value → new.sure (from + k) ≡ Some value) (λ _. ⊤)
   pub synced : IsTrue old.tells → MatchResult result (λ _. Extends old.image new.sure) (λ _. ⊤)
   pub ends : MatchResult result (λ _. new.faults ≡ old.faults) (PhaseEnds (IsAmongCells from cells) old new)
 

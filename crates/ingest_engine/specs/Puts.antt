@@ -34,22 +34,29 @@ CannotYet stored device at =
     ⊎ ((g : Layout) × IsVolume device.cells device.image g
     × (((at ≡ device.cells) × PassesTheEnd g stored) ⊎ IsTaken g stored device at))
 
+-- No write was asked for that wrote or failed: nothing has changed but what somebody else wrote, and no call failed.
+pub record IsUntouched (old new : DeviceState) : Type 0 where
+  pub quiet : IsStill old.foreign_writes new.foreign_writes → IsUnchanged old.image new.image
+  pub faults : new.faults ≡ old.faults
+
 -- how putting a document onto a device may end, and why
 abbrev pub PutEnds : List ℕ → List ℕ → DeviceState → DeviceState → Result Unit Refusal → Type 0
 PutEnds id body old new (Ok _) = IsTrue old.tells → Stands new.cells new.sure 0 id body × Extends old.image new.sure
 PutEnds id body old new (Err DeviceFault) = Rose old.faults new.faults
 PutEnds id body old new (Err (NotYet at)) = IsTrue old.tells → CannotYet (stored_bytes id body) new at
-PutEnds id body old new (Err NoMemory) = IsStill old.foreign_writes new.foreign_writes → IsUnchanged old.image new.image
+PutEnds id body old new (Err NoMemory) = IsUntouched old new
 PutEnds id body old new (Err refusal) = ⊥
 
 -- the value is planned for the cell, by the layout that the device's cell 0 states
 abbrev pub IsIngestCell : List ℕ → DeviceState → ℕ → List ℕ → Type 0
-IsIngestCell stored device at value = (g : Layout) × IsVolume device.cells device.image g × IsPlanned g stored at value
+IsIngestCell stored device at value = (g : Layout) × IsVolume device.cells device.image g
+    × IsPlanned g stored at value
 
 -- where nobody else writes, nothing but the document's cells is written
 abbrev pub WritesItsCells : List ℕ → DeviceState → DeviceState → Type 0
 WritesItsCells stored old new =
-    IsTrue old.tells → IsStill old.foreign_writes new.foreign_writes → ChangesAsPlanned (IsIngestCell stored new) old.image new.image
+    IsTrue old.tells → IsStill old.foreign_writes new.foreign_writes
+    → ChangesAsPlanned (IsIngestCell stored new) old.image new.image
 
 -- Where slot 0 had no outcome at old and nobody else wrote since, no crash since then could have left an outcome
 -- without the whole document.
@@ -57,7 +64,8 @@ abbrev pub CrashesLeaveWholeDocuments : List ℕ → DeviceState → DeviceState
 CrashesLeaveWholeDocuments stored old new =
     IsTrue old.tells → IsStill old.foreign_writes new.foreign_writes → old.image (outcome_at 0) ≡ None
     → (image : Image) → LeftSince new old.moment image
-    → (image (outcome_at 0) ≡ None) ⊎ ((g : Layout) × IsVolume new.cells new.image g × Spells image (pool_at g) stored)
+    → (image (outcome_at 0) ≡ None) ⊎ ((g : Layout) × IsVolume new.cells new.image g
+    × Spells image (pool_at g) stored)
 
 -- what it means that a document was put onto a device, or that this was ended
 pub record PutsDocument (id body : List ℕ) (old new : DeviceState) (result : Result Unit Refusal) : Type 0 where

@@ -110,6 +110,6 @@ not_taken id device old_source new_source sink refusal too_long source_fault no_
     (λ (e : refusal ≡ SourceFault). let h = source_fault e in
     subst (λ (r : Refusal). Ingests id old new (Err r)) (sym e) (ended_early id h.0 device old_source new_source sink sink h.2 (Err SourceFault) (h.1, h.3, refl, refl)))
     (λ (e : refusal ≡ NoMemory). let h = no_memory e in
-    subst (λ (r : Refusal). Ingests id old new (Err r)) (sym e) (ended_early id h.0 device old_source new_source sink sink h.2 (Err NoMemory) (h.1, λ still cell. refl, refl)))
+    subst (λ (r : Refusal). Ingests id old new (Err r)) (sym e) (ended_early id h.0 device old_source new_source sink sink h.2 (Err NoMemory) (h.1, record { quiet = λ still cell. refl; faults = refl }, refl)))
     other)
     which

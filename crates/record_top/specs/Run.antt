@@ -16,7 +16,7 @@ use Rattle.worm_device.specs.Calls.{Called}
 use Rattle.worm_device.specs.Counts.{Rose, IsStill}
 use Rattle.worm_device.specs.State.{DeviceState}
 use Rattle.ingest_engine.specs.Formats.{FormatEnds, volume_cell}
-use Rattle.ingest_engine.specs.Puts.{CannotYet, CrashesLeaveWholeDocuments, WritesItsCells}
+use Rattle.ingest_engine.specs.Puts.{CannotYet, CrashesLeaveWholeDocuments, IsUntouched, WritesItsCells}
 
 -- the text that acknowledges a document in this slot
 abbrev pub acknowledgement : ℕ → List ℕ
@@ -36,7 +36,8 @@ pub record TakesBody (given : List ℕ) (new : Ports) : Type 0 where
 -- the document stands in what no crash can take, where the device tells its image
 abbrev pub IsKept : List ℕ → List ℕ → Ports → Ports → Type 0
 IsKept id body old new =
-    IsTrue old.device.tells → Stands new.device.cells new.device.sure 0 id body × Extends old.device.image new.device.sure
+    IsTrue old.device.tells → Stands new.device.cells new.device.sure 0 id body
+    × Extends old.device.image new.device.sure
 
 -- the sink holds what it held
 abbrev pub KeepsSink : Ports → Ports → Type 0
@@ -51,14 +52,15 @@ IngestEnds id given old new (Err SinkFault) =
     × ((n : ℕ) × (n ≤ length (acknowledgement 0)) × Gets old.sink.held new.sink.held (take n (acknowledgement 0)))
 IngestEnds id given old new (Err SourceFault) =
     IsBody given × Rose old.source.faults new.source.faults × (new.device ≡ old.device) × KeepsSink old new
-IngestEnds id given old new (Err TooLong) = (length given ≡ MAX_BODY_BYTES + 1) × (new.device ≡ old.device) × KeepsSink old new
+IngestEnds id given old new (Err TooLong) = (length given ≡ MAX_BODY_BYTES + 1) × (new.device ≡ old.device)
+    × KeepsSink old new
 IngestEnds id given old new (Err DeviceFault) =
     TakesBody given new × Rose old.device.faults new.device.faults × KeepsSink old new
 IngestEnds id given old new (Err (NotYet at)) =
-    TakesBody given new × (IsTrue old.device.tells → CannotYet (stored_bytes id given) new.device at) × KeepsSink old new
+    TakesBody given new × (IsTrue old.device.tells → CannotYet (stored_bytes id given) new.device at)
+    × KeepsSink old new
 IngestEnds id given old new (Err NoMemory) =
-    (length given ≤ MAX_BODY_BYTES + 1)
-    × (IsStill old.device.foreign_writes new.device.foreign_writes → IsUnchanged old.device.image new.device.image) × KeepsSink old new
+    (length given ≤ MAX_BODY_BYTES + 1) × IsUntouched old.device new.device × KeepsSink old new
 IngestEnds id given old new (Err refusal) = ⊥
 
 -- what `ingest` of an identifier does

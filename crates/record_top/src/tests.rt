@@ -5,12 +5,9 @@ ghost use Rattle.cell_types.specs.declared.geometry.TheConstants.{MAX_CELLS};
 use crate::plain::{Document, State, document_of_slot_0, state_of_slot_0};
 use crate::{Outcome, run};
 use cell_types::{Cell, Refusal};
-use host_ports::{FileDevice, MemorySink, MemorySource, Pages};
+use host_ports::{MemorySink, MemorySource};
 use std::alloc::Global;
-use std::fs::{Metadata, OpenFile};
-use std::os::unix::fs::FileExt;
 use std::test::Fail;
-use std::{cell, fs, io};
 use stored_documents::{MAX_BODY_BYTES, MAX_IDENTIFIER_BYTES};
 use worm_device::{Device, Written};
 use worm_memory::{Change, MemoryDevice};
@@ -206,132 +203,6 @@ fn format_writes_cell_0_alone(rt: HostRuntime) -> Result<(), Fail> {
             let _ = device.write(at, cell(DONE)?)?;
             let (outcome, _) = outcome_of(alloc, "format|8|2", &mut device, b"")?;
             assert_eq!(rt; outcome, Err(Refusal::NotBlank(at)));
-        }
-    }
-    Ok(())
-}
-
-#[test]
-fn a_file_holds_the_cells_one_behind_the_other(rt: HostRuntime) -> Result<(), Fail> {
-    let alloc = rt.alloc();
-    let path = "a_file_holds_the_cells_one_behind_the_other.img";
-    fs::write(&rt, path, vec![in alloc; 0u8; 16_007]?)?;
-    for (words, body, text) in [
-        ("format|8|2", "", "formatted\n"),
-        ("ingest|a", "hello world", "acknowledged 0\n"),
-    ] {
-        let pages = Pages::new(alloc)?;
-        let Ok(mut device) = FileDevice::open(&rt, path, pages) else {
-            panic!(rt; "the file is there");
-        };
-        let (outcome, put) = outcome_of(alloc, words, &mut device, body.as_bytes())?;
-        assert_eq!(rt; outcome, Ok(()), "{words}");
-        assert_eq!(rt; put.as_slice(), text.as_bytes());
-    }
-    let mut bytes = Vec::new(alloc);
-    for at in 0..1_000 {
-        let cell = match at {
-            0 => VOLUME,
-            4 => RESERVE,
-            5 => COMMIT,
-            6 => DONE,
-            580 => DOCUMENT,
-            _ => [0; 16],
-        };
-        bytes.extend_from_slice(&cell)?;
-    }
-    bytes.extend_from_slice(&[0; 7])?;
-    assert_eq!(rt; fs::read(&rt, path)?, bytes);
-    fs::remove_file(&rt, path)?;
-    Ok(())
-}
-
-#[test]
-fn a_file_that_was_cut_short_is_a_device_fault(rt: HostRuntime) -> Result<(), Fail> {
-    let alloc = rt.alloc();
-    let path = "a_file_that_was_cut_short_is_a_device_fault.img";
-    for words in ["format|8|2", "ingest|a"] {
-        fs::write(&rt, path, vec![in alloc; 0u8; 16_000]?)?;
-        let Ok(mut device) = FileDevice::open(&rt, path, Pages::new(alloc)?) else {
-            panic!(rt; "the file is there");
-        };
-        fs::write(&rt, path, [0; 15])?;
-        let (outcome, put) = outcome_of(alloc, words, &mut device, b"hello world")?;
-        assert_eq!(rt; outcome, Err(Refusal::DeviceFault), "{words}");
-        assert_eq!(rt; put.len(), 0);
-        assert_eq!(rt; fs::read(&rt, path)?.as_slice(), [0; 15].as_slice());
-    }
-    fs::remove_file(&rt, path)?;
-    Ok(())
-}
-
-/// A file of 580 blank cells that is not kept anywhere. Its call of one number fails, from 1.
-#[derive(Drop)]
-struct FailingFile {
-    calls: cell::Cell<u32>,
-    fails: u32,
-}
-
-impl FailingFile {
-    /// Counts a call, and fails where it is the one that is to fail.
-    fn begin(&self) -> io::Result<()> {
-        self.calls.set(self.calls.get().saturating_add(1));
-        if self.calls.get() == self.fails {
-            return Err(io::Error::from(io::ErrorKind::Other));
-        }
-        Ok(())
-    }
-}
-
-impl FileExt for FailingFile {
-    fn read_at(&self, buf: &mut [u8], _offset: u64) -> io::Result<usize> {
-        self.begin()?;
-        buf.fill(0);
-        Ok(buf.len())
-    }
-
-    fn write_at(&self, buf: &[u8], _offset: u64) -> io::Result<usize> {
-        self.begin()?;
-        Ok(buf.len())
-    }
-}
-
-impl OpenFile for FailingFile {
-    fn metadata(&self) -> io::Result<Metadata> {
-        Err(io::Error::from(io::ErrorKind::Unsupported))
-    }
-
-    fn set_len(&self, _size: u64) -> io::Result<()> {
-        Err(io::Error::from(io::ErrorKind::Unsupported))
-    }
-
-    fn sync_all(&self) -> io::Result<()> {
-        self.begin()
-    }
-
-    fn sync_data(&self) -> io::Result<()> {
-        self.begin()
-    }
-}
-
-/// Three pages are read, cell 0 is asked for and written, and synced.
-#[test]
-fn format_fails_where_a_call_of_the_file_fails(rt: HostRuntime) -> Result<(), Fail> {
-    let alloc = rt.alloc();
-    for fails in 1..8 {
-        let file = FailingFile {
-            calls: cell::Cell::new(0),
-            fails,
-        };
-        let Ok(mut device) = FileDevice::over(file, 9_280, Pages::new(alloc)?) else {
-            panic!(rt; "580 cells are a device");
-        };
-        let (outcome, put) = outcome_of(alloc, "format|8|2", &mut device, b"")?;
-        if fails < 7 {
-            assert_eq!(rt; outcome, Err(Refusal::DeviceFault), "call {fails}");
-            assert_eq!(rt; put.len(), 0);
-        } else {
-            assert_eq!(rt; outcome, Ok(()));
         }
     }
     Ok(())

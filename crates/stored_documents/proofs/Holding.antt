@@ -13,4 +13,4 @@ pub one_record_holds : (image : Image) (at : ℕ) (r s : RecordCell) → Holds i
 one_record_holds image at r s h k =
     let same : h.cell ≡ k.cell = some_is h.cell k.cell (sym h.stands ∙ k.stands) in
     body_is_one r s h.is.fits k.is.fits
-        (body_in r at h.cell h.is ∙ ap (λ (c : List ℕ). take 12 c) same ∙ sym (body_in s at k.cell k.is))
+    (body_in r at h.cell h.is ∙ ap (λ (c : List ℕ). take 12 c) same ∙ sym (body_in s at k.cell k.is))

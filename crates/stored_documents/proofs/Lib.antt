@@ -1,4 +1,5 @@
 pub mod Extending
 pub mod Holding
+pub mod Lists
 pub mod OneDocument
 pub mod Words

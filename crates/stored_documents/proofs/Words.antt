@@ -8,17 +8,20 @@ bool_cases true = inl refl
 bool_cases false = inr refl
 
 -- what is read of the next byte, where it is a byte of a word
-read_on : (run bytes : List ℕ) (b : ℕ) → is_word_byte b ≡ true → words_from run (b ∷ bytes) ≡ words_from (run ++ lowered b ∷ []) bytes
+read_on : (run bytes : List ℕ) (b : ℕ) → is_word_byte b ≡ true
+    → words_from run (b ∷ bytes) ≡ words_from (run ++ lowered b ∷ []) bytes
 read_on run bytes b e =
     ap (λ (d : Bool). if d then words_from (run ++ lowered b ∷ []) bytes else ended run ++ words_from [] bytes) e
 
 -- and where it is none
-read_end : (run bytes : List ℕ) (b : ℕ) → is_word_byte b ≡ false → words_from run (b ∷ bytes) ≡ ended run ++ words_from [] bytes
+read_end : (run bytes : List ℕ) (b : ℕ) → is_word_byte b ≡ false
+    → words_from run (b ∷ bytes) ≡ ended run ++ words_from [] bytes
 read_end run bytes b e =
     ap (λ (d : Bool). if d then words_from (run ++ lowered b ∷ []) bytes else ended run ++ words_from [] bytes) e
 
 -- a byte of a gap may come before
-skip : (b : ℕ) (bytes : List ℕ) (words : List (List ℕ)) → is_word_byte b ≡ false → AreWords bytes words → AreWords (b ∷ bytes) words
+skip : (b : ℕ) (bytes : List ℕ) (words : List (List ℕ)) → is_word_byte b ≡ false → AreWords bytes words
+    → AreWords (b ∷ bytes) words
 skip b bytes [] off are = (off, are)
 skip b bytes (w ∷ ws) off (gap, first, run, rest, whole, is_gap, of_words, apart, word, are) =
     (b ∷ gap, first, run, rest, ap (λ (l : List ℕ). b ∷ l) whole, (off, is_gap), of_words, apart, word, are)
@@ -45,7 +48,7 @@ read_words (b ∷ bytes) run are = elim (bool_cases (is_word_byte b)) [
   | inl on ↦
       subst (AreWords (run ++ b ∷ bytes)) (ap (λ (r : List ℕ). words_from r bytes) (map_last run b) ∙ sym (read_on (map lowered run) bytes b on))
       (subst (λ (l : List ℕ). AreWords l (words_from (map lowered (run ++ b ∷ [])) bytes)) (append_assoc run (b ∷ []) bytes)
-          (read_words bytes (run ++ b ∷ []) (bytes_last run b are on)))
+      (read_words bytes (run ++ b ∷ []) (bytes_last run b are on)))
   | inr off ↦
       subst (AreWords (run ++ b ∷ bytes)) (sym (read_end (map lowered run) bytes b off))
       (closes b bytes (words_from [] bytes) off run are (skip b bytes (words_from [] bytes) off (read_words bytes [] tt)))
@@ -59,13 +62,15 @@ past_gap : (gap bytes : List ℕ) → AreGap gap → words_from [] (gap ++ bytes
 past_gap [] bytes are = refl
 past_gap (b ∷ gap) bytes are = read_end [] (gap ++ bytes) b are.0 ∙ past_gap gap bytes are.1
 
-past_run : (run bytes before : List ℕ) → AreWordBytes run → words_from before (run ++ bytes) ≡ words_from (before ++ map lowered run) bytes
+past_run : (run bytes before : List ℕ) → AreWordBytes run
+    → words_from before (run ++ bytes) ≡ words_from (before ++ map lowered run) bytes
 past_run [] bytes before are = ap (λ (r : List ℕ). words_from r bytes) (sym (append-nil before))
 past_run (b ∷ run) bytes before are =
     read_on before (run ++ bytes) b are.0 ∙ past_run run bytes (before ++ lowered b ∷ []) are.1
     ∙ ap (λ (r : List ℕ). words_from r bytes) (append_assoc before (lowered b ∷ []) (map lowered run))
 
-closed_run : (r : ℕ) (run rest : List ℕ) → BeginsApart rest → words_from (r ∷ run) rest ≡ (r ∷ run) ∷ words_from [] rest
+closed_run : (r : ℕ) (run rest : List ℕ) → BeginsApart rest
+    → words_from (r ∷ run) rest ≡ (r ∷ run) ∷ words_from [] rest
 closed_run r run [] apart = refl
 closed_run r run (b ∷ rest) apart =
     read_end (r ∷ run) rest b apart ∙ ap (λ (l : List (List ℕ)). (r ∷ run) ∷ l) (sym (read_end [] rest b apart))
@@ -75,8 +80,8 @@ only : (words : List (List ℕ)) (bytes : List ℕ) → AreWords bytes words →
 only [] bytes are = sym (gap_words bytes are)
 only (w ∷ ws) bytes (gap, first, run, rest, whole, is_gap, of_words, apart, word, are) =
     let read : words_from [] bytes ≡ map lowered (first ∷ run) ∷ words_from [] rest =
-        ap (words_from []) whole ∙ past_gap gap ((first ∷ run) ++ rest) is_gap ∙ past_run (first ∷ run) rest [] of_words
-        ∙ closed_run (lowered first) (map lowered run) rest apart in
+    ap (words_from []) whole ∙ past_gap gap ((first ∷ run) ++ rest) is_gap ∙ past_run (first ∷ run) rest [] of_words
+    ∙ closed_run (lowered first) (map lowered run) rest apart in
     ap (λ (v : List ℕ). v ∷ ws) word ∙ ap (λ (l : List (List ℕ)). map lowered (first ∷ run) ∷ l) (only ws rest are) ∙ sym read
 
 pub words_are_one : WordsAreOne

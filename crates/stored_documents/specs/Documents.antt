@@ -69,6 +69,12 @@ pub record AreDocuments (cells : ℕ) (image : Image) (documents : List Document
   pub rise : Rise 0 documents
   pub each : (d : Document) → IsDocument cells image d.slot d.id d.body ↔ Contains documents d
 
+-- a volume has one list of its documents
+abbrev pub ListsAreOne : Type 0
+ListsAreOne =
+    (cells : ℕ) (image : Image) (one other : List Document) → AreDocuments cells image one → AreDocuments cells image other
+    → one ≡ other
+
 -- a document that stands goes on standing, whatever is written into blank cells
 abbrev pub StandsHoldsOn : Type 0
 StandsHoldsOn =
@@ -84,4 +90,5 @@ DocumentsHoldOn =
 -- a slot has one document
 abbrev pub DocumentsAreOne : Type 0
 DocumentsAreOne =
-    (cells : ℕ) (image : Image) (n : ℕ) (a b c d : List ℕ) → Stands cells image n a b → Stands cells image n c d → (a ≡ c) × (b ≡ d)
+    (cells : ℕ) (image : Image) (n : ℕ) (a b c d : List ℕ) → Stands cells image n a b
+    → Stands cells image n c d → (a ≡ c) × (b ≡ d)

@@ -3,7 +3,7 @@
 -- A state is said of two images, one of which extends the other: what it needs written stands in the later one,
 -- and what it needs blank was blank in the earlier one. So a call that reads three cells while somebody else
 -- writes can say what it saw. A state in one image is that state where both are this image.
-use Rattle.std.specs.Prelude.{◌≡◌, ◌≢◌, ◌<◌, ◌≤◌, ◌+◌, ◌/◌, ◌⊎◌, ℕ, List, Some, None}
+use Rattle.std.specs.Prelude.{◌≡◌, ◌<◌, ◌≤◌, ◌+◌, ◌/◌, ◌⊎◌, ℕ, None}
 use Rattle.cell_types.specs.Image.{Image}
 use Rattle.cell_types.specs.Layout.{Layout, reserve_at, outcome_at, done_at, pool_at}
 use Rattle.cell_types.specs.declared.record_cell.RecordCell.TheVariants.{Reserve, Commit, Abandon, Done}
@@ -25,7 +25,7 @@ pub record Abandons (g : Layout) (image : Image) (n start length : ℕ) : Type 0
   pub reserves : Reserves g image n start length
   pub outcome : Holds image (outcome_at n) Abandon
 
--- slot n has a document of so many stored bytes and a journal of so many cells, which fit into its cells
+-- slot n states a document of so many stored bytes and a journal of so many cells, which fit into its cells
 pub record Commits (g : Layout) (image : Image) (n start length bytes journal : ℕ) : Type 0 where
   pub reserves : Reserves g image n start length
   pub outcome : Holds image (outcome_at n) (Commit bytes journal)
@@ -49,12 +49,12 @@ pub record IsAbandoned (g : Layout) (before after : Image) (n start length : ℕ
   pub abandons : Abandons g after n start length
   pub done : before (done_at n) ≡ None
 
--- slot n's document is stored, and its journal not yet carried out
+-- slot n states its document, and has no done cell
 pub record IsCommitted (g : Layout) (before after : Image) (n start length bytes journal : ℕ) : Type 0 where
   pub commits : Commits g after n start length bytes journal
   pub done : before (done_at n) ≡ None
 
--- slot n's document is stored, and all is done that its journal asks
+-- slot n states its document, and has its done cell
 pub record IsDone (g : Layout) (image : Image) (n start length bytes journal : ℕ) : Type 0 where
   pub commits : Commits g image n start length bytes journal
   pub done : Holds image (done_at n) (Done n)

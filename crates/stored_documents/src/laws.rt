@@ -1,6 +1,6 @@
 //! Laws: what the definitions mean together, over all images. Each is a function that does nothing and whose
 //! contract is the law.
-ghost use Rattle.stored_documents.specs.Documents.{DocumentsAreOne, DocumentsHoldOn, StandsHoldsOn};
+ghost use Rattle.stored_documents.specs.Documents.{DocumentsAreOne, DocumentsHoldOn, ListsAreOne, StandsHoldsOn};
 ghost use Rattle.stored_documents.specs.Laws.{SeenFurther};
 ghost use Rattle.stored_documents.specs.Words.{WordsAreOne};
 
@@ -27,4 +27,9 @@ pub fn documents_are_one()
 /// A body has one list of words, and reading it from its first byte on gives it.
 pub fn words_are_one()
     ensures { WordsAreOne }
+{}
+
+/// A volume has one list of its documents.
+pub fn lists_are_one()
+    ensures { ListsAreOne }
 {}

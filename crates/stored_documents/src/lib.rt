@@ -1,8 +1,31 @@
-//! TODO
+//! What a volume is, in which state a slot is, when a document stands, and which words it has.
+//!
+//! All is said of images alone, so that it holds of a device whoever wrote it. In the volume of 8 slots and 2 lists on
+//! 1,000 cells that holds the document `a` with the body `hello world`, and no index yet:
+//!
+//!     cell 0    volume             the layout: the pool begins at cell 580
+//!     cell 4    reserve 580, 1     slot 0 reserves cell 580
+//!     cell 5    commit 13, 0       its document has 13 stored bytes, in one cell, and no journal
+//!     cell 6    done 0             slot 0 is done
+//!     cell 580  content            01 61 `hello world`: a length, the identifier, the body
+//!
+//! so `Stands 1000 image 0 "a" "hello world"`, and the words of the body are `hello` and `world`. Slot 1 is unused: 1 is
+//! a **horizon**, and the end of slot 0's cells, 581, an **edge**. On an image that somebody else has written there may
+//! be several.
+//!
+//! A state is said of two images: what it needs written stands in the later one, and what it needs blank was blank in
+//! the earlier one. So a call that reads three cells, while somebody else writes, can say what it saw. What is said of
+//! written cells alone goes on in every image that extends the first: that is what the laws here say.
+//!
+//! There is no code beside the laws. The definitions are in specs/: `Volumes`, `Slots`, `Documents`, `Words`, in this
+//! order.
 #![tactic(auto)]
 
 mod laws;
 mod limits;
 
-pub use laws::{documents_are_one, documents_hold_on, seen_further, stands_holds_on, words_are_one};
+pub use laws::{
+    documents_are_one, documents_hold_on, lists_are_one, seen_further, stands_holds_on,
+    words_are_one,
+};
 pub use limits::{MAX_BODY_BYTES, MAX_IDENTIFIER_BYTES};

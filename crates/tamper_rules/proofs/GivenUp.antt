@@ -1,23 +1,38 @@
 -- A slot that is given up at the horizon of a settled image: where the cells of the image are as they were.
-use Rattle.std.proofs.Common.{◌≡◌, ◌<◌, ◌≤◌, ◌+◌, ◌*◌, ◌⊎◌, ⊎_elim, inl, inr, ℕ, suc, zero, List, Some, None, refl, sym, ◌∙◌, subst, ap, arith, length}
+use Rattle.std.proofs.Common.{◌≡◌, ◌<◌, ◌≤◌, ◌+◌, ◌⊎◌, ⊎_elim, inl, inr, ℕ, suc, zero, List, Some, None, refl, sym, ◌∙◌, subst, ap, arith, length}
 use Rattle.std.proofs.lemmas.Option.{none-some}
-use Rattle.std.proofs.lemmas.Bool.{cases_order, cases_lt}
+use Rattle.std.proofs.lemmas.Bool.{cases_order}
 use Rattle.cell_types.specs.Image.{Image, Extends}
-use Rattle.cell_types.specs.Layout.{Layout, reserve_at, outcome_at, done_at, list_at, root_at, pool_at}
+use Rattle.cell_types.specs.Layout.{Layout, reserve_at, outcome_at, done_at, list_at, pool_at}
 use Rattle.cell_types.specs.declared.record_cell.RecordCell.{RecordCell}
-use Rattle.cell_types.specs.declared.record_cell.RecordCell.TheVariants.{Reserve, Commit, Abandon, Done, Jump, Child, Volume}
+use Rattle.cell_types.specs.declared.record_cell.RecordCell.TheVariants.{Commit, Abandon, Jump, Child, Volume}
 use Rattle.index_paths.specs.Blocks.{Leads, arrived, onwards, pointer_at}
 use Rattle.stored_documents.specs.Documents.{Stands, Spells, document_at}
 use Rattle.index_paths.specs.Nodes.{IsBlockOf, IsNode, root, under}
 use Rattle.tamper_rules.specs.Rules.{Pointers, Children, LeadsWell, LeadsDownWell}
-use Rattle.tamper_rules.specs.Settling.{IsSettled, IsGivenUp, IsOf, of_reserve, of_outcome, of_range}
+use Rattle.tamper_rules.specs.Settling.{IsSettled}
 use Rattle.stored_documents.specs.Slots.{cells_for, Reserves, Commits, Stores, IsAbandonedSlot, IsDoneSlot, IsDone, HasEnded, IsHorizon, EndsBelow, IsEdge}
 use Rattle.stored_documents.specs.Volumes.{Holds, IsWritten, IsVolume, volume_record}
 use Rattle.stored_documents.proofs.Extending.{holds_on, blank_before, reserves_on, done_on}
 use Rattle.stored_documents.proofs.Holding.{one_record_holds}
 use Rattle.tamper_rules.proofs.Images.{look}
-use Rattle.stored_documents.proofs.OneDocument.{reserves}
 use Rattle.tamper_rules.proofs.Settled.{written, taken_below, taken_to, below_horizon, ends_before, edge_horizon, one_end}
+
+-- the cell is the reserve cell or the outcome cell of slot n, or one of those that it reserves
+pub data IsOf (n start length cell : ℕ) : Type 0 where
+  of_reserve : cell ≡ reserve_at n → IsOf n start length cell
+  of_outcome : cell ≡ outcome_at n → IsOf n start length cell
+  of_range : start ≤ cell → cell < start + length → IsOf n start length cell
+
+-- New is old with slot n, at a horizon of old, given up: it reserves cells from the edge on, in which anything may
+-- have been written, and has its abandon cell.
+pub record IsGivenUp (g : Layout) (old new : Image) (n start length : ℕ) : Type 0 where
+  pub horizon : IsHorizon g old old n
+  pub keeps : Extends old new
+  pub reserves : Reserves g new n start length
+  pub begins : EndsBelow g old n start
+  pub outcome : Holds new (outcome_at n) Abandon
+  pub only : (cell : ℕ) (value : List ℕ) → new cell ≡ Some value → (old cell ≡ Some value) ⊎ IsOf n start length cell
 
 abbrev IsNoAbandon : RecordCell → Type 0
 IsNoAbandon Abandon = ⊥
@@ -34,7 +49,8 @@ pub children : (a b : ℕ) → Child a ≡ Child b → a ≡ b
 children a b e = cc
 
 -- one more block behind the last
-pub leads_further : {image : Image} {from to last block : ℕ} → Leads image from to last block → (level digit target : ℕ) → level < 8 → 1 ≤ digit → digit ≤ 15
+pub leads_further : {image : Image} {from to last block : ℕ} → Leads image from to last block
+    → (level digit target : ℕ) → level < 8 → 1 ≤ digit → digit ≤ 15
     → Holds image (pointer_at last level digit) (Jump target) → from ≤ target → target + 256 ≤ to → Leads image from to target block
 leads_further {image} {from} {to} {last} (arrived block is) level digit target l s d jump f t =
     onwards block level digit target l s d (subst (λ (b : ℕ). Holds image (pointer_at b level digit) (Jump target)) (sym is) jump) f t (arrived target refl)
@@ -46,7 +62,8 @@ module _ {g : Layout} {old new : Image} {n start size : ℕ} (s : IsSettled g ol
   free = u.reserves.slot
 
   -- cells of the log
-  pub log_was : (cell : ℕ) (value : List ℕ) → cell < list_at g 0 → (cell ≡ reserve_at n → ⊥) → (cell ≡ outcome_at n → ⊥) → new cell ≡ Some value → old cell ≡ Some value
+  pub log_was : (cell : ℕ) (value : List ℕ) → cell < list_at g 0 → (cell ≡ reserve_at n → ⊥)
+      → (cell ≡ outcome_at n → ⊥) → new cell ≡ Some value → old cell ≡ Some value
   log_was cell value low no_reserve no_outcome is = ⊎_elim (λ was. was) (λ of. absurd (none of)) (u.only cell value is)
     where
       none : IsOf n start size cell → ⊥
@@ -55,7 +72,8 @@ module _ {g : Layout} {old new : Image} {n start size : ℕ} (s : IsSettled g ol
       none (of_range from to) = omega (arith, u.reserves.from)
 
   -- cells behind the log and before the edge
-  pub was : (cell : ℕ) (value : List ℕ) → list_at g 0 ≤ cell → cell < start → new cell ≡ Some value → old cell ≡ Some value
+  pub was : (cell : ℕ) (value : List ℕ) → list_at g 0 ≤ cell → cell < start → new cell ≡ Some value
+      → old cell ≡ Some value
   was cell value low high is = ⊎_elim (λ h. h) (λ of. absurd (none of)) (u.only cell value is)
     where
       none : IsOf n start size cell → ⊥
@@ -72,10 +90,12 @@ module _ {g : Layout} {old new : Image} {n start size : ℕ} (s : IsSettled g ol
   pub reserve_was : {m : ℕ} → m < g.slots → (m ≡ n → ⊥) → IsWritten new (reserve_at m) → IsWritten old (reserve_at m)
   reserve_was {m} inside other w = record { found = w.found; stands = log_was (reserve_at m) w.found (omega arith) (λ same. other (omega arith)) (λ same. omega arith) w.stands }
 
-  pub reserve_held : {m : ℕ} {r : RecordCell} → m < g.slots → (m ≡ n → ⊥) → Holds new (reserve_at m) r → Holds old (reserve_at m) r
+  pub reserve_held : {m : ℕ} {r : RecordCell} → m < g.slots → (m ≡ n → ⊥) → Holds new (reserve_at m) r
+      → Holds old (reserve_at m) r
   reserve_held {m} inside other h = record { cell = h.cell; stands = log_was (reserve_at m) h.cell (omega arith) (λ same. other (omega arith)) (λ same. omega arith) h.stands; is = h.is }
 
-  pub outcome_held : {m : ℕ} {r : RecordCell} → m < g.slots → (m ≡ n → ⊥) → Holds new (outcome_at m) r → Holds old (outcome_at m) r
+  pub outcome_held : {m : ℕ} {r : RecordCell} → m < g.slots → (m ≡ n → ⊥) → Holds new (outcome_at m) r
+      → Holds old (outcome_at m) r
   outcome_held {m} inside other h = record { cell = h.cell; stands = log_was (outcome_at m) h.cell (omega arith) (λ same. omega arith) (λ same. other (omega arith)) h.stands; is = h.is }
 
   pub done_held : {m : ℕ} {r : RecordCell} → m < g.slots → Holds new (done_at m) r → Holds old (done_at m) r
@@ -91,25 +111,30 @@ module _ {g : Layout} {old new : Image} {n start size : ℕ} (s : IsSettled g ol
   is_other {m} {start'} {length'} {bytes} {journal} c same = no_abandon bytes journal
       (one_record_holds new (outcome_at n) (Commit bytes journal) Abandon (subst (λ (k : ℕ). Holds new (outcome_at k) (Commit bytes journal)) same c.outcome) u.outcome)
 
-  pub reserves_back : {m start' length' : ℕ} → (m ≡ n → ⊥) → Reserves g new m start' length' → Reserves g old m start' length'
+  pub reserves_back : {m start' length' : ℕ} → (m ≡ n → ⊥) → Reserves g new m start' length'
+      → Reserves g old m start' length'
   reserves_back other r = record { slot = r.slot; reserve = reserve_held r.slot other r.reserve; from = r.from; to = r.to }
 
-  pub commits_back : {m start' length' bytes journal : ℕ} → Commits g new m start' length' bytes journal → Commits g old m start' length' bytes journal
+  pub commits_back : {m start' length' bytes journal : ℕ} → Commits g new m start' length' bytes journal
+      → Commits g old m start' length' bytes journal
   commits_back c = record { reserves = reserves_back (is_other c) c.reserves; outcome = outcome_held c.reserves.slot (is_other c) c.outcome; fits = c.fits }
 
-  pub stores_back : {m start' length' bytes journal : ℕ} → Stores g new m start' length' bytes journal → Stores g old m start' length' bytes journal
+  pub stores_back : {m start' length' bytes journal : ℕ} → Stores g new m start' length' bytes journal
+      → Stores g old m start' length' bytes journal
   stores_back c = record {
     commits = commits_back c.commits;
     done = ⊎_elim (λ none. inl (blank_before u.keeps none)) (λ h. inr (done_held c.commits.reserves.slot h)) c.done;
   }
 
-  pub done_back : {m start' length' bytes journal : ℕ} → IsDone g new m start' length' bytes journal → IsDone g old m start' length' bytes journal
+  pub done_back : {m start' length' bytes journal : ℕ} → IsDone g new m start' length' bytes journal
+      → IsDone g old m start' length' bytes journal
   done_back d = record { commits = commits_back d.commits; done = done_held d.commits.reserves.slot d.done }
 
   pub ended_on : {m : ℕ} → HasEnded g old old m → HasEnded g new new m
   ended_on {m} h = ⊎_elim
       (λ (a : IsAbandonedSlot g old old m). inl (record {
-        start = a.start; length = a.length;
+        start = a.start;
+        length = a.length;
         abandoned = record {
           abandons = record { reserves = reserves_on u.keeps a.abandoned.abandons.reserves; outcome = holds_on u.keeps a.abandoned.abandons.outcome };
           done = done_blank m a.abandoned.abandons.reserves.slot a.abandoned.done;
@@ -130,10 +155,11 @@ module _ {g : Layout} {old new : Image} {n start size : ℕ} (s : IsSettled g ol
       low less = ⊎_elim
           (λ same. none-some _ (sym (h.free (omega (arith, free))) ∙ ap (λ (i : ℕ). new (reserve_at i)) same ∙ u.reserves.reserve.stands))
           (λ differ. ⊎_elim
-              (λ below. let w = taken_to g old s n u.horizon k below in
-                  none-some _ (sym (h.free (omega (arith, free))) ∙ u.keeps.keeps (reserve_at k) w.found w.stands))
-              (λ above. absurd (omega arith)) differ)
+          (λ below. let w = taken_to g old s n u.horizon k below in
+          none-some _ (sym (h.free (omega (arith, free))) ∙ u.keeps.keeps (reserve_at k) w.found w.stands))
+          (λ above. absurd (omega arith)) differ)
           (cases_order k n)
+
       high : (k : ℕ) → IsHorizon g new new k → n + 1 < k → ⊥
       high zero h above = omega arith
       high (suc m) h above =
@@ -160,7 +186,8 @@ module _ {g : Layout} {old new : Image} {n start size : ℕ} (s : IsSettled g ol
     pub low : list_at g 0 ≤ block
     pub high : block + 256 ≤ start
 
-  old_target : {l block level digit target : ℕ} → IsOldBlock l block → level < 8 → 1 ≤ digit → digit ≤ 15 → Holds new (pointer_at block level digit) (Jump target)
+  old_target : {l block level digit target : ℕ} → IsOldBlock l block → level < 8 → 1 ≤ digit → digit ≤ 15
+      → Holds new (pointer_at block level digit) (Jump target)
       → pool_at g ≤ target → target + 256 ≤ g.cells → IsOldBlock l target
   old_target {l} {block} {level} {digit} {target} b ls d1 d2 jump from to =
       let jump' : Holds old (pointer_at block level digit) (Jump target) = held (omega (arith, b.low)) (omega (arith, b.high)) jump in
@@ -201,7 +228,8 @@ module _ {g : Layout} {old new : Image} {n start size : ℕ} (s : IsSettled g ol
       record { is = under v node w above x is a.is xs less child' from to; low = omega arith; high = omega arith }
 
   -- a document that stands stood before
-  pub spells_back : {m from reserved : ℕ} (journal : ℕ) (stored : List ℕ) → Reserves g old m from reserved → cells_for (length stored) + journal ≤ reserved
+  pub spells_back : {m from reserved : ℕ} (journal : ℕ) (stored : List ℕ) → Reserves g old m from reserved
+      → cells_for (length stored) + journal ≤ reserved
       → Spells new (document_at from reserved (length stored) journal) stored → Spells old (document_at from reserved (length stored) journal) stored
   spells_back {m} {from} {reserved} journal stored r fits spells = λ k below.
       was _ _ (omega (arith, r.from, fits)) (omega (arith, ends r, fits, below)) (spells k below)
@@ -214,9 +242,11 @@ layout_of _ = record { slots = 0; lists = 0; cells = 0 }
 volumes : (g h : Layout) → volume_record g ≡ volume_record h → g ≡ h
 volumes g h e = ap layout_of e
 
-pub one_layout : {cells more : ℕ} {image : Image} (g h : Layout) → IsVolume cells image g → IsVolume more image h → g ≡ h
+pub one_layout : {cells more : ℕ} {image : Image} (g h : Layout) → IsVolume cells image g
+    → IsVolume more image h → g ≡ h
 one_layout {cells} {more} {image} g h v w = volumes g h (one_record_holds image 0 (volume_record g) (volume_record h) v.volume w.volume)
 
 -- a document stands in a slot of the volume
-pub stands_inside : {g : Layout} {cells n : ℕ} {image : Image} {id body : List ℕ} → IsVolume g.cells image g → Stands cells image n id body → n < g.slots
+pub stands_inside : {g : Layout} {cells n : ℕ} {image : Image} {id body : List ℕ} → IsVolume g.cells image g
+    → Stands cells image n id body → n < g.slots
 stands_inside {g} {cells} {n} {image} v t = subst (λ (h : Layout). n < h.slots) (one_layout t.layout g t.volume v) t.slot

@@ -1,25 +1,24 @@
 -- A slot that is given up at the horizon of a settled image leaves it settled: each rule is kept.
-use Rattle.std.proofs.Common.{◌≡◌, ◌<◌, ◌≤◌, ◌+◌, ◌*◌, ◌⊎◌, ⊎_elim, inl, inr, ℕ, suc, zero, List, [], ◌∷◌, Some, None, refl, sym, ◌∙◌, subst, ap, arith, length}
-use Rattle.std.specs.Prelude.{Contains}
+use Rattle.std.proofs.Common.{◌≡◌, ◌<◌, ◌≤◌, ◌+◌, ◌⊎◌, ⊎_elim, inl, inr, ℕ, List, [], ◌∷◌, Some, None, refl, sym, ◌∙◌, subst, ap, arith, length}
 use Rattle.std.proofs.lemmas.Option.{none-some}
 use Rattle.std.proofs.lemmas.Bool.{cases_order, cases_lt}
-use Rattle.cell_types.specs.Image.{Image, Extends}
-use Rattle.cell_types.specs.Layout.{Layout, reserve_at, outcome_at, done_at, spare_at, list_at, root_at, pool_at}
+use Rattle.cell_types.specs.Image.{Image}
+use Rattle.cell_types.specs.Layout.{Layout, reserve_at, outcome_at, done_at, list_at, pool_at}
 use Rattle.cell_types.specs.declared.record_cell.RecordCell.{RecordCell}
-use Rattle.cell_types.specs.declared.record_cell.RecordCell.TheVariants.{Reserve, Commit, Abandon, Done, Jump, Child}
+use Rattle.cell_types.specs.declared.record_cell.RecordCell.TheVariants.{Commit, Abandon}
 use Rattle.index_paths.specs.Blocks.{PostingFields, posting_record}
 use Rattle.stored_documents.specs.Documents.{Stands, stored_bytes, document_at}
 use Rattle.tamper_rules.specs.Journals.{journal_at, Copies}
 use Rattle.tamper_rules.specs.Rules
 use Rattle.tamper_rules.specs.Rules.{Rule, IsMet, ReserveRule, OutcomeRule, DoneRule, DocumentRule, HasDocument, JournalRule, RedoneRule, BlankRule, IsDoneIndexCell, HoldsInOrder, EntryRule, IsTruePosting, PostingRule, LeadsWell, PointerRule, IsTrueBucket, BucketRule, LeadsDownWell, ChildRule, TrailRule, PathRule, HasJump, HasChild, IsSize, Tile, TilingRule}
-use Rattle.tamper_rules.specs.Settling.{IsSettled, IsGivenUp, IsOf, of_reserve, of_outcome, of_range}
+use Rattle.tamper_rules.specs.Settling.{IsSettled}
 use Rattle.stored_documents.specs.Slots.{Commits, IsCommitted, IsAbandonedSlot, IsDoneSlot, IsDone, HasEnded, IsHorizon, IsLive}
 use Rattle.stored_documents.specs.Volumes.{Holds, IsWritten, IsVolume}
 use Rattle.stored_documents.proofs.Extending.{holds_on, written_on, blank_before, volume_on, reserves_on, ends_on, live_on, spells_on, stands_on}
 use Rattle.stored_documents.proofs.Holding.{one_record_holds}
 use Rattle.index_paths.proofs.Fronts.{front_on}
 use Rattle.tamper_rules.proofs.FullFronts.{ends_full, full_ends}
-use Rattle.tamper_rules.proofs.GivenUp.{no_abandon, log_was, held, stood, reserve_was, reserve_held, done_blank, stores_back, done_back, ended_on, ends, horizon_is, edge_is, old_edge, block_was, node_was, spells_back, one_layout}
+use Rattle.tamper_rules.proofs.GivenUp.{no_abandon, log_was, held, stood, reserve_was, reserve_held, done_blank, stores_back, done_back, ended_on, ends, horizon_is, edge_is, old_edge, block_was, node_was, spells_back, one_layout, IsGivenUp, IsOf, of_reserve, of_outcome, of_range}
 use Rattle.tamper_rules.proofs.GoingOn.{copies_on, copies_back, blocks_on, in_order_on, named_on, on_path_on, stores_go_on}
 use Rattle.index_paths.proofs.HashTrails.{hash_trail_on}
 use Rattle.tamper_rules.proofs.Images.{look}
@@ -31,17 +30,19 @@ module _ {g : Layout} {old new : Image} {n start size : ℕ} (v : IsVolume g.cel
   rule_1 m inside w = ⊎_elim
       (λ same. subst (λ (k : ℕ). ReserveRule g new k) (sym same) mine)
       (λ differ. let r : ReserveRule g old m = s.met Rules.ReserveCells (reserve_at m) (reserve_was s u inside (λ same. ⊎_elim (λ less. omega arith) (λ above. omega arith) differ) w) m inside refl in
-          record {
-            start = r.start; length = r.length;
-            reserves = reserves_on u.keeps r.reserves;
-            begins = ends_on u.keeps u.keeps r.begins;
-            before = λ k is. ended_on s u (r.before k is);
-          })
+      record {
+        start = r.start;
+        length = r.length;
+        reserves = reserves_on u.keeps r.reserves;
+        begins = ends_on u.keeps u.keeps r.begins;
+        before = λ k is. ended_on s u (r.before k is);
+      })
       (cases_order m n)
     where
       mine : ReserveRule g new n
       mine = record {
-        start = start; length = size;
+        start = start;
+        length = size;
         reserves = u.reserves;
         begins = ends_on u.keeps u.keeps u.begins;
         before = λ k is. ended_on s u (s.ended n k u.horizon (omega arith));
@@ -51,15 +52,15 @@ module _ {g : Layout} {old new : Image} {n start size : ℕ} (v : IsVolume g.cel
   rule_2 m inside w = ⊎_elim
       (λ same. subst (λ (k : ℕ). OutcomeRule new k) (sym same) (record { reserve = written u.reserves; outcome = inl u.outcome }))
       (λ differ.
-          let other : m ≡ n → ⊥ = λ same. ⊎_elim (λ less. omega arith) (λ above. omega arith) differ in
-          let before : IsWritten old (outcome_at m) = record { found = w.found; stands = log_was s u (outcome_at m) w.found (omega arith) (λ same. omega arith) (λ same. other (omega arith)) w.stands } in
-          let r : OutcomeRule old m = s.met Rules.OutcomeCells (outcome_at m) before m inside refl in
-          record {
-            reserve = written_on u.keeps r.reserve;
-            outcome = ⊎_elim (λ h. inl (holds_on u.keeps h))
-                (λ h. inr (h.0, h.1, holds_on u.keeps h.2, λ from reserved r. h.3 from reserved (reserve_held s u inside other r)))
-                r.outcome;
-          })
+      let other : m ≡ n → ⊥ = λ same. ⊎_elim (λ less. omega arith) (λ above. omega arith) differ in
+      let before : IsWritten old (outcome_at m) = record { found = w.found; stands = log_was s u (outcome_at m) w.found (omega arith) (λ same. omega arith) (λ same. other (omega arith)) w.stands } in
+      let r : OutcomeRule old m = s.met Rules.OutcomeCells (outcome_at m) before m inside refl in
+      record {
+        reserve = written_on u.keeps r.reserve;
+        outcome = ⊎_elim (λ h. inl (holds_on u.keeps h))
+            (λ h. inr (h.0, h.1, holds_on u.keeps h.2, λ from reserved r. h.3 from reserved (reserve_held s u inside other r)))
+            r.outcome;
+      })
       (cases_order m n)
 
   rule_3 : (m : ℕ) → m < g.slots → IsWritten new (done_at m) → DoneRule new m
@@ -77,12 +78,12 @@ module _ {g : Layout} {old new : Image} {n start size : ℕ} (v : IsVolume g.cel
 
   rule_5 : (cell : ℕ) → IsWritten new cell → JournalRule g new cell
   rule_5 cell w = record {
-    entry = λ m from reserved bytes journal place c below at.
+    copy = λ m from reserved bytes journal place c below at.
         let b = stores_back s u c in
         let e = ends s u b.commits.reserves in
         let before : IsWritten old cell = stood s u (omega (arith, at, b.commits.fits, b.commits.reserves.from)) (omega (arith, at, e, below, b.commits.fits)) w in
         let r : JournalRule g old cell = s.met Rules.Journals cell before in
-        in_order_on u.keeps (done_blank s u) (r.entry m from reserved bytes journal place b below at);
+        in_order_on u.keeps (done_blank s u) (r.copy m from reserved bytes journal place b below at);
     commit = λ m from reserved bytes journal place c below at.
         let b = stores_back s u c in
         let before : IsWritten old (outcome_at m) = record { found = b.commits.outcome.cell; stands = b.commits.outcome.stands } in
@@ -98,13 +99,15 @@ module _ {g : Layout} {old new : Image} {n start size : ℕ} (v : IsVolume g.cel
       (s.ended n m u.horizon (below_horizon g old s n m u.reserves.slot u.horizon c.commits.reserves.slot (written c.commits.reserves)))
 
   -- a journal cell of a slot stood before
-  entry_stood : {m from reserved bytes journal place : ℕ} → Commits g old m from reserved bytes journal → place < journal
+  entry_stood : {m from reserved bytes journal place : ℕ} → Commits g old m from reserved bytes journal
+      → place < journal
       → IsWritten new (journal_at from reserved journal + place) → IsWritten old (journal_at from reserved journal + place)
   entry_stood c below w =
       let e = ends s u c.reserves in
       stood s u (omega (arith, c.fits, c.reserves.from)) (omega (arith, e, below, c.fits)) w
 
-  copies_was : {m from reserved bytes journal place target : ℕ} {r : RecordCell} → Commits g old m from reserved bytes journal
+  copies_was : {m from reserved bytes journal place target : ℕ} {r : RecordCell}
+      → Commits g old m from reserved bytes journal
       → Copies new from reserved journal place target r → Copies old from reserved journal place target r
   copies_was c k = copies_back u.keeps (entry_stood c k.below (record { found = k.entry; stands = k.stands })) k
 
@@ -151,9 +154,9 @@ module _ {g : Layout} {old new : Image} {n start size : ℕ} (v : IsVolume g.cel
   rule_7 cell w = record {
     kept_blank = λ one. ⊎_elim
         (λ less.
-            let before : IsWritten old cell = record { found = w.found; stands = log_was s u cell w.found (omega arith) (λ same. omega arith) (λ same. omega arith) w.stands } in
-            let r : BlankRule g old cell = s.met Rules.StrayCells cell before in
-            r.kept_blank one)
+        let before : IsWritten old cell = record { found = w.found; stands = log_was s u cell w.found (omega arith) (λ same. omega arith) (λ same. omega arith) w.stands } in
+        let r : BlankRule g old cell = s.met Rules.StrayCells cell before in
+        r.kept_blank one)
         (λ le. le)
         (cases_lt cell 4);
     spare = λ m inside same.
@@ -171,11 +174,13 @@ module _ {g : Layout} {old new : Image} {n start size : ℕ} (v : IsVolume g.cel
       of_new at is pool (of_reserve same) = absurd (omega (arith, u.reserves.slot))
       of_new at is pool (of_outcome same) = absurd (omega (arith, u.reserves.slot))
       of_new at is pool (of_range from to) = omega arith
-      in_range : (at : ℕ) → at ≡ start + size → pool_at g ≤ cell → (old cell ≡ Some w.found) ⊎ IsOf n start size cell → cell < at
+
+      in_range : (at : ℕ) → at ≡ start + size → pool_at g ≤ cell
+          → (old cell ≡ Some w.found) ⊎ IsOf n start size cell → cell < at
       in_range at is pool h = ⊎_elim
           (λ before.
-              let r : BlankRule g old cell = s.met Rules.StrayCells cell (record { found = w.found; stands = before }) in
-              let less : cell < start = r.edge start (old_edge s u) pool in omega arith)
+          let r : BlankRule g old cell = s.met Rules.StrayCells cell (record { found = w.found; stands = before }) in
+          let less : cell < start = r.edge start (old_edge s u) pool in omega arith)
           (of_new at is pool)
           h
 
@@ -186,10 +191,11 @@ module _ {g : Layout} {old new : Image} {n start size : ℕ} (v : IsVolume g.cel
         let r : EntryRule g old cell = s.met Rules.Entries cell (stood s u (omega (arith, k.low)) (omega (arith, k.high)) w) in
         let h : HoldsInOrder old block place = r.entry l block place k.is below at in
         record {
-          p = h.p; holds = holds_on u.keeps h.holds;
+          p = h.p;
+          holds = holds_on u.keeps h.holds;
           rises = ⊎_elim inl
               (λ (x : (before : ℕ) × (q : PostingFields) × (place ≡ before + 1) × Holds old (block + before) (posting_record q) × (q.key < h.p.key)).
-                  inr (x.0, x.1, x.2, holds_on u.keeps x.3, x.4))
+              inr (x.0, x.1, x.2, holds_on u.keeps x.3, x.4))
               h.rises;
         };
     blank = λ l block place b from to at.
@@ -216,8 +222,8 @@ module _ {g : Layout} {old new : Image} {n start size : ℕ} (v : IsVolume g.cel
       let r : PointerRule g old cell = s.met Rules.Pointers cell (stood s u (omega (arith, k.low)) (omega (arith, k.high)) w) in
       let t : LeadsWell g old l block level digit = r l block level digit k.is ls d1 d2 at in
       let entries : (place : ℕ) → place < 128 → HoldsInOrder old block place = λ place below.
-          let e : EntryRule g old (block + place) = s.met Rules.Entries (block + place) (t.full place below) in
-          e.entry l block place k.is below refl in
+      let e : EntryRule g old (block + place) = s.met Rules.Entries (block + place) (t.full place below) in
+      e.entry l block place k.is below refl in
       record {
         target = t.target;
         jump = holds_on u.keeps t.jump;
@@ -226,8 +232,8 @@ module _ {g : Layout} {old new : Image} {n start size : ℕ} (v : IsVolume g.cel
         to = t.to;
         edge = λ at e. let is = edge_is s u at e in let less = t.edge start (old_edge s u) in omega arith;
         owner = t.owner;
-        first = blocks_on u.keeps (done_blank s u) t.first;
-        last = blocks_on u.keeps (done_blank s u) t.last;
+        owns_first = blocks_on u.keeps (done_blank s u) t.owns_first;
+        owns_last = blocks_on u.keeps (done_blank s u) t.owns_last;
         greatest = t.greatest;
         ends = full_ends (front_on u.keeps (ends_full entries t.ends));
         place = t.place;
@@ -245,10 +251,12 @@ module _ {g : Layout} {old new : Image} {n start size : ℕ} (v : IsVolume g.cel
       let r : BucketRule g old cell = s.met Rules.Buckets cell (stood s u (omega (arith, k.low)) (omega (arith, k.high)) w) in
       let t : IsTrueBucket g old node x = r level node x k.is less at in
       record {
-        slot = t.slot; fingerprint = t.fingerprint;
+        slot = t.slot;
+        fingerprint = t.fingerprint;
         bucket = holds_on u.keeps t.bucket;
         live = live t.live;
-        id = t.id; body = t.body;
+        id = t.id;
+        body = t.body;
         stands = stands_on u.keeps t.stands;
         same = t.same;
         level = t.level;
@@ -269,15 +277,20 @@ module _ {g : Layout} {old new : Image} {n start size : ℕ} (v : IsVolume g.cel
         from = t.from;
         to = t.to;
         edge = λ at e. let is = edge_is s u at e in let less = t.edge start (old_edge s u) in omega arith;
-        owner = t.owner; start = t.start; reserved = t.reserved; bytes = t.bytes; journal = t.journal;
+        owner = t.owner;
+        start = t.start;
+        reserved = t.reserved;
+        bytes = t.bytes;
+        journal = t.journal;
         stores = stores_go_on u.keeps (done_blank s u) t.stores;
-        place = t.place; in_journal = t.in_journal;
+        place = t.place;
+        in_journal = t.in_journal;
         same = u.keeps.keeps _ _ (t.same ∙ t.child.stands) ∙ sym (u.keeps.keeps _ _ t.child.stands);
         in_blocks = t.in_blocks;
         before_document = t.before_document;
-        first = λ w other y o less lower child.
+        once = λ w other y o less lower child.
             let i = node_was s u o in
-            t.first w other y i.is less lower (held s u (omega (arith, i.low)) (omega (arith, i.high)) child);
+            t.once w other y i.is less lower (held s u (omega (arith, i.low)) (omega (arith, i.high)) child);
         blocks = λ j other o. t.blocks j other ((block_was s u o).is);
         nodes = λ w other o. t.nodes w other ((node_was s u o).is);
       }
@@ -286,10 +299,13 @@ module _ {g : Layout} {old new : Image} {n start size : ℕ} (v : IsVolume g.cel
   stands_back {m} {id} {body} t =
       let same : t.layout ≡ g = one_layout t.layout g t.volume (volume_on u.keeps v) in
       let d : IsDone g new m t.start t.reserved (length (stored_bytes id body)) t.journal =
-          subst (λ (h : Layout). IsDone h new m t.start t.reserved (length (stored_bytes id body)) t.journal) same t.done in
+      subst (λ (h : Layout). IsDone h new m t.start t.reserved (length (stored_bytes id body)) t.journal) same t.done in
       let b = done_back s u d in
       record {
-        layout = g; start = t.start; reserved = t.reserved; journal = t.journal;
+        layout = g;
+        start = t.start;
+        reserved = t.reserved;
+        journal = t.journal;
         volume = v;
         slot = b.commits.reserves.slot;
         done = b;
@@ -311,9 +327,10 @@ module _ {g : Layout} {old new : Image} {n start size : ℕ} (v : IsVolume g.cel
   rule_14 m id body t =
       let b = stands_back t in
       let r : PathRule g old m id = s.met Rules.Paths (done_at m) (done_written b) m id body refl b in
-      record { path = hash_trail_on u.keeps r.path; first = λ k other less there. r.first k other less (stands_back there) }
+      record { path = hash_trail_on u.keeps r.path; alone = λ k other less there. r.alone k other less (stands_back there) }
 
-  rule_15 : (m from reserved bytes journal : ℕ) → IsDone g new m from reserved bytes journal → TilingRule new from reserved bytes journal
+  rule_15 : (m from reserved bytes journal : ℕ) → IsDone g new m from reserved bytes journal
+      → TilingRule new from reserved bytes journal
   rule_15 m from reserved bytes journal d =
       let r : TilingRule old from reserved bytes journal = s.met Rules.Tilings (outcome_at m) (record { found = b.commits.outcome.cell; stands = b.commits.outcome.stands }) m from reserved bytes journal refl b in
       record {
@@ -327,17 +344,26 @@ module _ {g : Layout} {old new : Image} {n start size : ℕ} (v : IsVolume g.cel
     where
       b : IsDone g old m from reserved bytes journal
       b = done_back s u d
+
       jump_back : {target : ℕ} → HasJump new from reserved journal target → HasJump old from reserved journal target
       jump_back h = (h.0, h.1, copies_was b.commits h.2)
+
       jump_on : {target : ℕ} → HasJump old from reserved journal target → HasJump new from reserved journal target
       jump_on h = (h.0, h.1, copies_on u.keeps h.2)
-      child_back : {target : ℕ} → HasChild new from reserved journal target → HasChild old from reserved journal target
+
+      child_back : {target : ℕ} → HasChild new from reserved journal target
+          → HasChild old from reserved journal target
       child_back h = (h.0, h.1, copies_was b.commits h.2)
+
       child_on : {target : ℕ} → HasChild old from reserved journal target → HasChild new from reserved journal target
       child_on h = (h.0, h.1, copies_on u.keeps h.2)
-      size_on : {target count : ℕ} → IsSize old from reserved journal target count → IsSize new from reserved journal target count
+
+      size_on : {target count : ℕ} → IsSize old from reserved journal target count
+          → IsSize new from reserved journal target count
       size_on h = ⊎_elim (λ x. inl (x.0, jump_on x.1)) (λ x. inr (x.0, λ j. x.1 (jump_back j))) h
-      tile_on : (targets : List ℕ) (low high : ℕ) → Tile old from reserved journal low high targets → Tile new from reserved journal low high targets
+
+      tile_on : (targets : List ℕ) (low high : ℕ) → Tile old from reserved journal low high targets
+          → Tile new from reserved journal low high targets
       tile_on [] low high t = t
       tile_on (target ∷ targets) low high t = (t.0, t.1, size_on t.2, tile_on targets (low + t.1) high t.3)
 
@@ -362,18 +388,23 @@ module _ {g : Layout} {old new : Image} {n start size : ℕ} (v : IsVolume g.cel
   given_up_is_settled = record { met = all_met; ended = all_ended }
     where
       last : HasEnded g new new n
-      last = inl (record { start = start; length = size; abandoned = record {
-        abandons = record { reserves = u.reserves; outcome = u.outcome };
-        done = done_blank s u n u.reserves.slot nothing_done;
-      } })
+      last = inl (record {
+        start = start;
+        length = size;
+        abandoned = record {
+          abandons = record { reserves = u.reserves; outcome = u.outcome };
+          done = done_blank s u n u.reserves.slot nothing_done;
+        };
+      })
         where
           nothing_done : old (done_at n) ≡ None
           nothing_done = ⊎_elim (λ none. none)
               (λ h.
-                  let r : DoneRule old n = s.met Rules.DoneCells (done_at n) (record { found = h.0; stands = h.1 }) n u.reserves.slot refl in
-                  let o : OutcomeRule old n = s.met Rules.OutcomeCells (outcome_at n) (record { found = r.commit.cell; stands = r.commit.stands }) n u.reserves.slot refl in
-                  absurd (none-some _ (sym (u.horizon.free u.reserves.slot) ∙ o.reserve.stands)))
+              let r : DoneRule old n = s.met Rules.DoneCells (done_at n) (record { found = h.0; stands = h.1 }) n u.reserves.slot refl in
+              let o : OutcomeRule old n = s.met Rules.OutcomeCells (outcome_at n) (record { found = r.commit.cell; stands = r.commit.stands }) n u.reserves.slot refl in
+              absurd (none-some _ (sym (u.horizon.free u.reserves.slot) ∙ o.reserve.stands)))
               (look old (done_at n))
+
       all_ended : (k m : ℕ) → IsHorizon g new new k → m < k → HasEnded g new new m
       all_ended k m h less =
           let is : k ≡ n + 1 = horizon_is s u k h in

@@ -1,5 +1,5 @@
 -- What is said of journals, blocks and nodes goes on holding in each image that extends the first.
-use Rattle.std.proofs.Common.{◌≡◌, ◌<◌, ◌≤◌, ◌+◌, ◌⊎◌, ⊎_elim, inl, inr, ℕ, List, Some, None, refl, sym, ◌∙◌, subst, ap, arith}
+use Rattle.std.proofs.Common.{◌≡◌, ◌<◌, ◌+◌, ⊎_elim, inl, inr, ℕ, List, Some, None, sym, ◌∙◌, subst, ap}
 use Rattle.cell_types.specs.Image.{Image, Extends}
 use Rattle.cell_types.specs.Layout.{Layout, done_at}
 use Rattle.cell_types.specs.Records.{IsRecordCell}
@@ -33,7 +33,8 @@ one_copy image start length journal place t u r s a b =
     (one.0, one.1, same)
 
 -- a slot that is committed or done is so, where its done cell is not written in between by another value
-pub stores_on : {g : Layout} {old new : Image} {n start length bytes journal : ℕ} → Extends old new → (old (done_at n) ≡ None → new (done_at n) ≡ None)
+pub stores_on : {g : Layout} {old new : Image} {n start length bytes journal : ℕ} → Extends old new
+    → (old (done_at n) ≡ None → new (done_at n) ≡ None)
     → Stores g old n start length bytes journal → Stores g new n start length bytes journal
 stores_on {g} {old} {new} {n} e blank s = record {
   commits = commits_on e s.commits;
@@ -41,7 +42,8 @@ stores_on {g} {old} {new} {n} e blank s = record {
 }
 
 module _ {g : Layout} {old new : Image} (e : Extends old new) (blank : (n : ℕ) → n < g.slots → old (done_at n) ≡ None → new (done_at n) ≡ None) where
-  pub stores_go_on : {n start length bytes journal : ℕ} → Stores g old n start length bytes journal → Stores g new n start length bytes journal
+  pub stores_go_on : {n start length bytes journal : ℕ} → Stores g old n start length bytes journal
+      → Stores g new n start length bytes journal
   stores_go_on {n} s = stores_on e (blank n s.commits.reserves.slot) s
 
   pub blocks_on : {m cell : ℕ} → LiesInBlocks g old m cell → LiesInBlocks g new m cell
@@ -52,7 +54,8 @@ module _ {g : Layout} {old new : Image} (e : Extends old new) (blank : (n : ℕ)
   index_on (of_root lies) = of_root lies
   index_on (of_slot m le b) = of_slot m le (blocks_on b)
 
-  pub in_order_on : {n start length bytes journal place : ℕ} → IsInOrder g old n start length bytes journal place → IsInOrder g new n start length bytes journal place
+  pub in_order_on : {n start length bytes journal place : ℕ}
+      → IsInOrder g old n start length bytes journal place → IsInOrder g new n start length bytes journal place
   in_order_on {n} {start} {length} {bytes} {journal} {place} o = record {
     target = o.target;
     copied = o.copied;
@@ -65,15 +68,23 @@ module _ {g : Layout} {old new : Image} (e : Extends old new) (blank : (n : ℕ)
 
 pub named_on : {g : Layout} {old new : Image} {cell : ℕ} → Extends old new → IsNamed g old cell → IsNamed g new cell
 named_on e h = record {
-  m = h.m; start = h.start; length = h.length; bytes = h.bytes; journal = h.journal;
+  m = h.m;
+  start = h.start;
+  length = h.length;
+  bytes = h.bytes;
+  journal = h.journal;
   done = done_on e h.done;
-  place = h.place; copied = h.copied; copies = copies_on e h.copies;
+  place = h.place;
+  copied = h.copied;
+  copies = copies_on e h.copies;
 }
 
-pub leads_to_on : {old new : Image} {from to last block : ℕ} → Extends old new → Leads old from to last block → Leads new from to last block
+pub leads_to_on : {old new : Image} {from to last block : ℕ} → Extends old new → Leads old from to last block
+    → Leads new from to last block
 leads_to_on e (arrived block is) = arrived block is
 leads_to_on e (onwards block level digit target l s d jump f t rest) = onwards block level digit target l s d (holds_on e jump) f t (leads_to_on e rest)
 
-pub on_path_on : {g : Layout} {old new : Image} {digest : List ℕ} {level node : ℕ} → Extends old new → IsOnPath g old digest level node → IsOnPath g new digest level node
+pub on_path_on : {g : Layout} {old new : Image} {digest : List ℕ} {level node : ℕ} → Extends old new
+    → IsOnPath g old digest level node → IsOnPath g new digest level node
 on_path_on e (root level node is at) = root level node is at
 on_path_on e (under level node v above is rest less child f t) = under level node v above is (on_path_on e rest) less (holds_on e child) f t

@@ -1,5 +1,5 @@
 -- Images that are the same in each cell.
-use Rattle.std.proofs.Common.{◌≡◌, ◌⊎◌, ⊎_elim, inl, inr, ℕ, List, Option, Some, None, refl, sym, ◌∙◌, subst}
+use Rattle.std.proofs.Common.{◌≡◌, ◌⊎◌, ⊎_elim, inl, inr, ℕ, List, Option, Some, None, refl, sym, ◌∙◌}
 use Rattle.cell_types.specs.Image.{Image, Extends, IsUnchanged}
 use Rattle.tamper_rules.specs.Settling.{IsWith}
 use Rattle.stored_documents.proofs.Extending.{blank_before}
@@ -28,14 +28,16 @@ pub extends_self : (image : Image) → Extends image image
 extends_self image = record { keeps = λ cell value is. is }
 
 -- an image that lies between one and it with some cells, and has all of these
-pub all_of_it : {rows : ℕ → List ℕ → Type 0} {old new image : Image} → IsWith rows old new → Extends old image → Extends image new
+pub all_of_it : {rows : ℕ → List ℕ → Type 0} {old new image : Image} → IsWith rows old new → Extends old image
+    → Extends image new
     → ((cell : ℕ) (value : List ℕ) → rows cell value → image cell ≡ Some value) → image ≡ new
 all_of_it {rows} {old} {new} {image} w e f has = same_both
     (record { keeps = λ cell value is. ⊎_elim (λ was. e.keeps cell value was) (λ row. has cell value row) (w.only cell value is) })
     f
 
 -- an image that lies between one and it with some cells is made into the latter by these cells
-pub rest_of_it : {rows : ℕ → List ℕ → Type 0} {old new image : Image} → IsWith rows old new → Extends old image → Extends image new → IsWith rows image new
+pub rest_of_it : {rows : ℕ → List ℕ → Type 0} {old new image : Image} → IsWith rows old new
+    → Extends old image → Extends image new → IsWith rows image new
 rest_of_it w e f = record {
   keeps = f;
   adds = w.adds;

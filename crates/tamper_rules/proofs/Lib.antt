@@ -11,4 +11,5 @@ pub mod SameDocuments
 pub mod Settled
 pub mod SettledLaws
 pub mod SettlingGoesOn
+pub mod Steady
 pub mod Writing

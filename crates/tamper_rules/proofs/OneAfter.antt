@@ -1,9 +1,8 @@
 -- Settling makes one image of an image.
-use Rattle.std.proofs.Common.{◌≡◌, ◌<◌, ◌+◌, ◌⊎◌, ⊎_elim, inl, inr, ℕ, List, Some, None, refl, sym, ◌∙◌, subst, ap, arith}
+use Rattle.std.proofs.Common.{◌≡◌, ◌+◌, ◌⊎◌, ⊎_elim, ℕ, List, sym, ◌∙◌, subst, ap, arith}
 use Rattle.std.proofs.lemmas.Option.{none-some}
-use Rattle.cell_types.specs.Image.{Image, Extends, IsUnchanged}
-use Rattle.cell_types.specs.Layout.{Layout, reserve_at, outcome_at, done_at}
-use Rattle.cell_types.specs.declared.record_cell.RecordCell.{RecordCell}
+use Rattle.cell_types.specs.Image.{Image, Extends}
+use Rattle.cell_types.specs.Layout.{Layout, reserve_at, outcome_at}
 use Rattle.cell_types.specs.declared.record_cell.RecordCell.TheVariants.{Reserve, Commit, Abandon}
 use Rattle.tamper_rules.specs.Settling.{IsSettled, Settled, IsOneHorizon, IsWith, AbandonRow, JournalRow, DoneRow, After, nothing, abandoned, completed}
 use Rattle.stored_documents.specs.Slots.{IsReserved, IsCommitted, IsAbandonedSlot, IsDoneSlot, HasEnded, IsHorizon}
@@ -21,45 +20,51 @@ pub one_with : {rows : ℕ → List ℕ → Type 0} {old a b : Image} → IsWith
 one_with v w = same_both (into w v) (into v w)
 
 module _ {cells : ℕ} {image : Image} where
-  slot_ended : (g : Layout) (n : ℕ) → Settled cells image → IsVolume cells image g → IsOneHorizon g image (n + 1) → HasEnded g image image n
+  slot_ended : (g : Layout) (n : ℕ) → Settled cells image → IsVolume cells image g
+      → IsOneHorizon g image (n + 1) → HasEnded g image image n
   slot_ended g n s v h =
       let settled : IsSettled g image = subst (λ (k : Layout). IsSettled k image) (one_layout s.layout g s.volume v) s.settled in
       settled.ended (n + 1) n h.is (omega arith)
 
-  not_reserved : (g : Layout) (n start reserved : ℕ) → Settled cells image → IsVolume cells image g → IsOneHorizon g image (n + 1) → IsReserved g image image n start reserved → ⊥
+  not_reserved : (g : Layout) (n start reserved : ℕ) → Settled cells image → IsVolume cells image g
+      → IsOneHorizon g image (n + 1) → IsReserved g image image n start reserved → ⊥
   not_reserved g n start reserved s v h r = ⊎_elim
       (λ (a : IsAbandonedSlot g image image n). none-some _ (sym r.outcome ∙ a.abandoned.abandons.outcome.stands))
       (λ (d : IsDoneSlot g image n). none-some _ (sym r.outcome ∙ d.done.commits.outcome.stands))
       (slot_ended g n s v h)
 
-  not_committed : (g : Layout) (n start reserved bytes journal : ℕ) → Settled cells image → IsVolume cells image g → IsOneHorizon g image (n + 1)
+  not_committed : (g : Layout) (n start reserved bytes journal : ℕ) → Settled cells image
+      → IsVolume cells image g → IsOneHorizon g image (n + 1)
       → IsCommitted g image image n start reserved bytes journal → ⊥
   not_committed g n start reserved bytes journal s v h r = ⊎_elim
       (λ (a : IsAbandonedSlot g image image n). no_abandon bytes journal (one_record_holds image (outcome_at n) (Commit bytes journal) Abandon r.commits.outcome a.abandoned.abandons.outcome))
       (λ (d : IsDoneSlot g image n). none-some _ (sym r.done ∙ d.done.done.stands))
       (slot_ended g n s v h)
 
-  one_slot : (g h : Layout) (n m : ℕ) → IsVolume cells image g → IsVolume cells image h → IsOneHorizon g image (n + 1) → IsOneHorizon h image (m + 1) → n ≡ m
+  one_slot : (g h : Layout) (n m : ℕ) → IsVolume cells image g → IsVolume cells image h
+      → IsOneHorizon g image (n + 1) → IsOneHorizon h image (m + 1) → n ≡ m
   one_slot g h n m v w a b =
       let other : IsHorizon g image image (m + 1) = subst (λ (k : Layout). IsHorizon k image image (m + 1)) (one_layout h g w v) b.is in
       let same : m + 1 ≡ n + 1 = a.one (m + 1) other in
       omega (arith, same)
 
-  not_both : (g h : Layout) (n start reserved m from more bytes journal : ℕ) → IsVolume cells image g → IsVolume cells image h → IsOneHorizon g image (n + 1) → IsOneHorizon h image (m + 1)
+  not_both : (g h : Layout) (n start reserved m from more bytes journal : ℕ) → IsVolume cells image g
+      → IsVolume cells image h → IsOneHorizon g image (n + 1) → IsOneHorizon h image (m + 1)
       → IsReserved g image image n start reserved → IsCommitted h image image m from more bytes journal → ⊥
   not_both g h n start reserved m from more bytes journal v w a b r c =
       none-some _ (sym r.outcome ∙ ap (λ (k : ℕ). image (outcome_at k)) (one_slot g h n m v w a b) ∙ c.commits.outcome.stands)
 
-  both_completed : (g h : Layout) (n start reserved bytes journal m from more count entries : ℕ) → IsVolume cells image g → IsVolume cells image h
+  both_completed : (g h : Layout) (n start reserved bytes journal m from more count entries : ℕ)
+      → IsVolume cells image g → IsVolume cells image h
       → IsOneHorizon g image (n + 1) → IsOneHorizon h image (m + 1)
       → IsCommitted g image image n start reserved bytes journal → IsCommitted h image image m from more count entries
       → (n ≡ m) × (start ≡ from) × (reserved ≡ more) × (journal ≡ entries)
   both_completed g h n start reserved bytes journal m from more count entries v w a b c d =
       let same = one_slot g h n m v w a b in
       let r = reserves start reserved from more (one_record_holds image (reserve_at m) (Reserve start reserved) (Reserve from more)
-          (subst (λ (k : ℕ). Holds image (reserve_at k) (Reserve start reserved)) same c.commits.reserves.reserve) d.commits.reserves.reserve) in
+      (subst (λ (k : ℕ). Holds image (reserve_at k) (Reserve start reserved)) same c.commits.reserves.reserve) d.commits.reserves.reserve) in
       let o = commits bytes journal count entries (one_record_holds image (outcome_at m) (Commit bytes journal) (Commit count entries)
-          (subst (λ (k : ℕ). Holds image (outcome_at k) (Commit bytes journal)) same c.commits.outcome) d.commits.outcome) in
+      (subst (λ (k : ℕ). Holds image (outcome_at k) (Commit bytes journal)) same c.commits.outcome) d.commits.outcome) in
       (same, r.0, r.1, o.1)
 
 abbrev Rows : Image → ℕ → ℕ → ℕ → ℕ → ℕ → List ℕ → Type 0

@@ -1,10 +1,8 @@
 -- Sound images with the same commit cells hold the same documents.
 use Rattle.std.proofs.Common.{◌≡◌, ◌<◌, ◌≤◌, ◌+◌, ◌*◌, ◌⊎◌, ⊎_elim, inl, inr, ℕ, suc, zero, List, Some, None, refl, sym, ◌∙◌, subst, ap, arith, length, slice_index, take, drop}
-use Rattle.std.specs.Prelude.{Contains}
 use Rattle.std.proofs.lemmas.Option.{none-some}
-use Rattle.cell_types.specs.Contents.{content_bytes}
-use Rattle.cell_types.specs.Image.{Image, Extends, IsUnchanged}
-use Rattle.cell_types.specs.Layout.{Layout, reserve_at, outcome_at, done_at, list_at, pool_at}
+use Rattle.cell_types.specs.Image.{Image, Extends}
+use Rattle.cell_types.specs.Layout.{Layout, reserve_at, outcome_at, list_at}
 use Rattle.cell_types.specs.Records.{IsRecordCell, record_bytes}
 use Rattle.cell_types.specs.declared.record_cell.RecordCell.{RecordCell}
 use Rattle.cell_types.specs.declared.record_cell.RecordCell.TheVariants.{Volume, Reserve, Commit, Abandon, Done, Posting, Jump, Bucket, Child}
@@ -35,27 +33,31 @@ kind_low (Bucket slot fingerprint) at = omega arith
 kind_low (Child target) at = omega arith
 
 -- a record is no content cell
-no_content : {r : RecordCell} {at : ℕ} {value : List ℕ} (stored : List ℕ) (k : ℕ) → IsRecordCell r at value → value ≡ content_at stored k → ⊥
+no_content : {r : RecordCell} {at : ℕ} {value : List ℕ} (stored : List ℕ) (k : ℕ) → IsRecordCell r at value
+    → value ≡ content_at stored k → ⊥
 no_content {r} {at} {value} stored k is same =
     let low : slice_index (record_bytes r at) 0 ≤ 9 = kind_low r at in
     let kind : slice_index (record_bytes r at) 0 ≡ 16 + length (take 15 (drop (15 * k) stored)) = ap (λ (v : List ℕ). slice_index v 0) (sym is.same ∙ same) in
     omega (arith, low, kind)
 
 -- a content cell stood before settling
-content_stood : {cells : ℕ} {image after : Image} → After cells image after → (cell : ℕ) (stored : List ℕ) (k : ℕ) → after cell ≡ Some (content_at stored k) → image cell ≡ Some (content_at stored k)
+content_stood : {cells : ℕ} {image after : Image} → After cells image after
+    → (cell : ℕ) (stored : List ℕ) (k : ℕ) → after cell ≡ Some (content_at stored k)
+    → image cell ≡ Some (content_at stored k)
 content_stood (nothing s same) cell stored k is = sym (same cell) ∙ is
 content_stood (abandoned g n start reserved v h r w) cell stored k is = ⊎_elim (λ was. was)
     (λ (row : AbandonRow n cell (content_at stored k)). absurd (no_content stored k row.is refl))
     (w.only cell (content_at stored k) is)
 content_stood {cells} {image} (completed g n start reserved bytes journal v h c ready w) cell stored k is = ⊎_elim (λ was. was)
     (λ rows. absurd (⊎_elim
-        (λ (row : JournalRow image start reserved journal cell (content_at stored k)).
-            let e = row.copies in no_content stored k e.is (some_is e.entry (content_at stored k) (sym e.stands ∙ row.stands)))
-        (λ (row : DoneRow n cell (content_at stored k)). no_content stored k row.is refl) rows))
+    (λ (row : JournalRow image start reserved journal cell (content_at stored k)).
+    let e = row.copies in no_content stored k e.is (some_is e.entry (content_at stored k) (sym e.stands ∙ row.stands)))
+    (λ (row : DoneRow n cell (content_at stored k)). no_content stored k row.is refl) rows))
     (w.only cell (content_at stored k) is)
 
 -- so did a reserve cell
-reserve_stood : {cells : ℕ} {image after : Image} → After cells image after → (m : ℕ) (value : List ℕ) (g : Layout) → m < g.slots → IsVolume cells image g
+reserve_stood : {cells : ℕ} {image after : Image} → After cells image after
+    → (m : ℕ) (value : List ℕ) (g : Layout) → m < g.slots → IsVolume cells image g
     → after (reserve_at m) ≡ Some value → image (reserve_at m) ≡ Some value
 reserve_stood (nothing s same) m value g inside v is = sym (same (reserve_at m)) ∙ is
 reserve_stood (abandoned k n start reserved v h r w) m value g inside vol is = ⊎_elim (λ was. was)
@@ -63,12 +65,12 @@ reserve_stood (abandoned k n start reserved v h r w) m value g inside vol is = �
     (w.only (reserve_at m) value is)
 reserve_stood {cells} {image} (completed k n start reserved bytes journal v h c ready w) m value g inside vol is = ⊎_elim (λ was. was)
     (λ rows. absurd (⊎_elim
-        (λ (row : JournalRow image start reserved journal (reserve_at m) value).
-            let same : k ≡ g = one_layout k g v vol in
-            let far : list_at k 0 ≤ reserve_at m = target_behind_log ready.entries row.copies in
-            let low : reserve_at m < list_at k 0 = subst (λ (j : Layout). reserve_at m < list_at j 0) (sym same) (let z : reserve_at m < list_at g 0 = omega arith in z) in
-            omega arith)
-        (λ (row : DoneRow n (reserve_at m) value). omega (arith, row.at)) rows))
+    (λ (row : JournalRow image start reserved journal (reserve_at m) value).
+    let same : k ≡ g = one_layout k g v vol in
+    let far : list_at k 0 ≤ reserve_at m = target_behind_log ready.in_order row.copies in
+    let low : reserve_at m < list_at k 0 = subst (λ (j : Layout). reserve_at m < list_at j 0) (sym same) (let z : reserve_at m < list_at g 0 = omega arith in z) in
+    omega arith)
+    (λ (row : DoneRow n (reserve_at m) value). omega (arith, row.at)) rows))
     (w.only (reserve_at m) value is)
 
 module _ {g : Layout} {lower upper a b : Image} (v : IsVolume g.cells lower g) (e : Extends lower upper)
@@ -90,16 +92,22 @@ module _ {g : Layout} {lower upper a b : Image} (v : IsVolume g.cells lower g) (
   stands_up {m} {id} {body} t =
       let layout : t.layout ≡ g = one_layout t.layout g t.volume va in
       let d : IsDone g a m t.start t.reserved (length (stored_bytes id body)) t.journal =
-          subst (λ (h : Layout). IsDone h a m t.start t.reserved (length (stored_bytes id body)) t.journal) layout t.done in
+      subst (λ (h : Layout). IsDone h a m t.start t.reserved (length (stored_bytes id body)) t.journal) layout t.done in
       let r = d.commits.reserves in
       let outcome : Holds b (outcome_at m) (Commit (length (stored_bytes id body)) t.journal) = up (commit_stood x m (length (stored_bytes id body)) t.journal g r.slot v d.commits.outcome) in
       let reserve = up (record { cell = r.reserve.cell; stands = reserve_stood x m r.reserve.cell g r.slot v r.reserve.stands; is = r.reserve.is }) in
       let done : IsDoneSlot g b m = commit_done g b sb m (length (stored_bytes id body)) t.journal r.slot outcome in
       record {
-        layout = g; start = t.start; reserved = t.reserved; journal = t.journal; volume = vb; slot = r.slot;
+        layout = g;
+        start = t.start;
+        reserved = t.reserved;
+        journal = t.journal;
+        volume = vb;
+        slot = r.slot;
         done = record { commits = record { reserves = record { slot = r.slot; reserve = reserve; from = r.from; to = r.to }; outcome = outcome; fits = d.commits.fits }; done = done.done.done };
         spells = λ k below. (after_keeps y).keeps _ _ (e.keeps _ _ (content_stood x _ (stored_bytes id body) k (t.spells k below)));
-        is_identifier = t.is_identifier; is_body = t.is_body;
+        is_identifier = t.is_identifier;
+        is_body = t.is_body;
       }
 
   document_up : (d : Document) → IsDocument g.cells a d.slot d.id d.body → IsDocument g.cells b d.slot d.id d.body
@@ -110,11 +118,13 @@ module _ {g : Layout} {lower upper a b : Image} (v : IsVolume g.cells lower g) (
   document_down d t =
       let inside : d.slot < g.slots = stands_inside vb t.stands in
       let c : Holds upper (outcome_at d.slot) (Commit (length (stored_bytes d.id d.body)) t.stands.journal) =
-          commit_stood y d.slot (length (stored_bytes d.id d.body)) t.stands.journal g inside vu t.stands.done.commits.outcome in
+      commit_stood y d.slot (length (stored_bytes d.id d.body)) t.stands.journal g inside vu t.stands.done.commits.outcome in
       let w = same d.slot (length (stored_bytes d.id d.body)) t.stands.journal inside c in
       let low : Holds a (outcome_at d.slot) (Commit (length (stored_bytes d.id d.body)) t.stands.journal) = record {
-        cell = w.found; stands = (after_keeps x).keeps _ _ w.stands;
-        is = subst (λ (k : List ℕ). IsRecordCell (Commit (length (stored_bytes d.id d.body)) t.stands.journal) (outcome_at d.slot) k) (some_is c.cell w.found (sym c.stands ∙ e.keeps _ _ w.stands)) c.is } in
+        cell = w.found;
+        stands = (after_keeps x).keeps _ _ w.stands;
+        is = subst (λ (k : List ℕ). IsRecordCell (Commit (length (stored_bytes d.id d.body)) t.stands.journal) (outcome_at d.slot) k) (some_is c.cell w.found (sym c.stands ∙ e.keeps _ _ w.stands)) c.is;
+      } in
       let done : IsDoneSlot g a d.slot = commit_done g a sa d.slot (length (stored_bytes d.id d.body)) t.stands.journal inside low in
       let u = some_horizon g a sa in
       let z = done_stands va sa u.0 u.1 done in
@@ -129,17 +139,20 @@ module _ {g : Layout} {lower upper a b : Image} (v : IsVolume g.cells lower g) (
   documents_down ds are = record { rise = are.rise; each = λ d. (λ t. (are.each d).0 (document_up d t), λ c. document_down d ((are.each d).1 c)) }
 
 -- the after of a sound image, settled for this layout
-settled_for : {g : Layout} {image : Image} → IsVolume g.cells image g → (t : Sound g.cells image) → IsSettled g (t.after)
+settled_for : {g : Layout} {image : Image} → IsVolume g.cells image g → (t : Sound g.cells image)
+    → IsSettled g (t.after)
 settled_for {g} {image} v t = subst (λ (k : Layout). IsSettled k t.after) (one_layout t.settled.layout g t.settled.volume (volume_on (after_keeps t.is) v)) t.settled.settled
 
 -- a sound image has a horizon
-horizon_of : {g : Layout} {image : Image} → IsVolume g.cells image g → (after : Image) → After g.cells image after → IsSettled g after → (u : ℕ) × IsHorizon g image image u
+horizon_of : {g : Layout} {image : Image} → IsVolume g.cells image g → (after : Image)
+    → After g.cells image after → IsSettled g after → (u : ℕ) × IsHorizon g image image u
 horizon_of {g} {image} v after (nothing s same) settled = some_horizon g image (subst (λ (i : Image). IsSettled g i) (same_image same) settled)
 horizon_of {g} {image} v after (abandoned k n start reserved w h r x) settled = (n + 1, subst (λ (j : Layout). IsHorizon j image image (n + 1)) (one_layout k g w v) h.is)
 horizon_of {g} {image} v after (completed k n start reserved bytes journal w h c ready x) settled = (n + 1, subst (λ (j : Layout). IsHorizon j image image (n + 1)) (one_layout k g w v) h.is)
 
 -- what a sound image holds
-held_of : {g : Layout} {image : Image} → IsVolume g.cells image g → (t : Sound g.cells image) → (ds : List Document) → Held g.cells image ds → AreDocuments g.cells (t.after) ds
+held_of : {g : Layout} {image : Image} → IsVolume g.cells image g → (t : Sound g.cells image)
+    → (ds : List Document) → Held g.cells image ds → AreDocuments g.cells (t.after) ds
 held_of {g} {image} v t ds (none blank is) = absurd (none-some _ (sym (blank 0) ∙ v.volume.stands))
 held_of {g} {image} v t ds (of_after after a are) = subst (λ (i : Image). AreDocuments g.cells i ds) (one_after g.cells image after t.after a t.is) are
 
@@ -167,45 +180,53 @@ module _ {g : Layout} {low high image : Image} (v : IsVolume g.cells low g)
   low_horizon = horizon_of v at_low.after at_low.is (settled_for v at_low)
 
   -- a commit cell that low lacks is of the slot below the horizon
-  new_commit : (m bytes journal : ℕ) → m < g.slots → low (outcome_at m) ≡ None → Holds high (outcome_at m) (Commit bytes journal) → low_horizon.0 ≡ m + 1
+  new_commit : (m bytes journal : ℕ) → m < g.slots → low (outcome_at m) ≡ None
+      → Holds high (outcome_at m) (Commit bytes journal) → low_horizon.0 ≡ m + 1
   new_commit m bytes journal inside blank h =
       let one = one_commit all_up steady g v m bytes journal inside blank h in one.one low_horizon.0 low_horizon.1
 
-  as_low : ((m bytes journal : ℕ) → m < g.slots → Holds image (outcome_at m) (Commit bytes journal) → IsWritten low (outcome_at m))
+  as_low : ((m bytes journal : ℕ) → m < g.slots → Holds image (outcome_at m) (Commit bytes journal)
+      → IsWritten low (outcome_at m))
       → (ds : List Document) → Held g.cells low ds → Held g.cells image ds
   as_low same ds h = of_after here.after here.is (documents_up v e at_low.is here.is (settled_for v at_low) (settled_for vi here) same ds (held_of v at_low ds h))
 
-  as_high : ((m bytes journal : ℕ) → m < g.slots → Holds high (outcome_at m) (Commit bytes journal) → IsWritten image (outcome_at m))
+  as_high : ((m bytes journal : ℕ) → m < g.slots → Holds high (outcome_at m) (Commit bytes journal)
+      → IsWritten image (outcome_at m))
       → (ds : List Document) → Held g.cells high ds → Held g.cells image ds
   as_high same ds h = of_after here.after here.is (documents_down vi f here.is at_high.is (settled_for vi here) (settled_for vh at_high) same ds (held_of vh at_high ds h))
 
-  by_commit : (n : ℕ) → low_horizon.0 ≡ n + 1 → ((ds : List Document) → Held g.cells low ds → Held g.cells image ds) ⊎ ((ds : List Document) → Held g.cells high ds → Held g.cells image ds)
+  by_commit : (n : ℕ) → low_horizon.0 ≡ n + 1
+      → ((ds : List Document) → Held g.cells low ds → Held g.cells image ds)
+      ⊎ ((ds : List Document) → Held g.cells high ds → Held g.cells image ds)
   by_commit n is = ⊎_elim
       (λ blank. inl (as_low (λ m bytes journal inside h. ⊎_elim
-          (λ lacks. absurd (
-              let at = new_commit m bytes journal inside lacks (holds_on f h) in
-              let same : m ≡ n = omega (arith, at, is) in
-              none-some _ (sym blank ∙ ap (λ (k : ℕ). image (outcome_at k)) (sym same) ∙ h.stands)))
-          (λ x. record { found = x.0; stands = x.1 })
-          (look low (outcome_at m)))))
+      (λ lacks. absurd (
+      let at = new_commit m bytes journal inside lacks (holds_on f h) in
+      let same : m ≡ n = omega (arith, at, is) in
+      none-some _ (sym blank ∙ ap (λ (k : ℕ). image (outcome_at k)) (sym same) ∙ h.stands)))
+      (λ x. record { found = x.0; stands = x.1 })
+      (look low (outcome_at m)))))
       (λ z. inr (as_high (λ m bytes journal inside h. ⊎_elim
-          (λ lacks.
-              let at = new_commit m bytes journal inside (blank_before e lacks) h in
-              let same : m ≡ n = omega (arith, at, is) in
-              record { found = z.0; stands = ap (λ (k : ℕ). image (outcome_at k)) same ∙ z.1 })
-          (λ x. record { found = x.0; stands = x.1 })
-          (look image (outcome_at m)))))
+      (λ lacks.
+      let at = new_commit m bytes journal inside (blank_before e lacks) h in
+      let same : m ≡ n = omega (arith, at, is) in
+      record { found = z.0; stands = ap (λ (k : ℕ). image (outcome_at k)) same ∙ z.1 })
+      (λ x. record { found = x.0; stands = x.1 })
+      (look image (outcome_at m)))))
       (look image (outcome_at n))
 
-  no_commit : low_horizon.0 ≡ 0 → ((ds : List Document) → Held g.cells low ds → Held g.cells image ds) ⊎ ((ds : List Document) → Held g.cells high ds → Held g.cells image ds)
+  no_commit : low_horizon.0 ≡ 0 → ((ds : List Document) → Held g.cells low ds → Held g.cells image ds)
+      ⊎ ((ds : List Document) → Held g.cells high ds → Held g.cells image ds)
   no_commit is = inl (as_low (λ m bytes journal inside h. ⊎_elim
       (λ lacks. absurd (let at = new_commit m bytes journal inside lacks (holds_on f h) in omega (arith, at, is)))
       (λ x. record { found = x.0; stands = x.1 })
       (look low (outcome_at m))))
 
-  pub holds_two : ((ds : List Document) → Held g.cells low ds → Held g.cells image ds) ⊎ ((ds : List Document) → Held g.cells high ds → Held g.cells image ds)
+  pub holds_two : ((ds : List Document) → Held g.cells low ds → Held g.cells image ds)
+      ⊎ ((ds : List Document) → Held g.cells high ds → Held g.cells image ds)
   holds_two = by low_horizon.0 refl
     where
-      by : (u : ℕ) → low_horizon.0 ≡ u → ((ds : List Document) → Held g.cells low ds → Held g.cells image ds) ⊎ ((ds : List Document) → Held g.cells high ds → Held g.cells image ds)
+      by : (u : ℕ) → low_horizon.0 ≡ u → ((ds : List Document) → Held g.cells low ds → Held g.cells image ds)
+          ⊎ ((ds : List Document) → Held g.cells high ds → Held g.cells image ds)
       by zero is = no_commit is
       by (suc n) is = by_commit n (omega (arith, is))

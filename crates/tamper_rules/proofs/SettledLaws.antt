@@ -1,9 +1,8 @@
 -- Laws of settled images.
-use Rattle.std.proofs.Common.{◌≡◌, ◌<◌, ◌≤◌, ◌+◌, ◌*◌, ◌⊎◌, ⊎_elim, inl, inr, ℕ, suc, zero, List, [], Some, None, refl, sym, ◌∙◌, subst, ap, arith}
-use Rattle.std.specs.Prelude.{Contains}
+use Rattle.std.proofs.Common.{◌≡◌, ◌<◌, ◌≤◌, ℕ, suc, zero, [], None, refl, sym, ◌∙◌, subst, arith}
 use Rattle.std.proofs.lemmas.Option.{none-some}
-use Rattle.cell_types.specs.Image.{Image, IsUnchanged}
-use Rattle.cell_types.specs.Layout.{Layout, IsLayout, reserve_at, outcome_at, done_at, spare_at, list_at, root_at, pool_at}
+use Rattle.cell_types.specs.Image.{Image}
+use Rattle.cell_types.specs.Layout.{Layout, IsLayout, reserve_at, pool_at}
 use Rattle.cell_types.specs.declared.record_cell.RecordCell.{RecordCell}
 use Rattle.index_paths.specs.Blocks.{pointer_at}
 use Rattle.stored_documents.specs.Documents.{AreDocuments}
@@ -15,9 +14,9 @@ use Rattle.tamper_rules.specs.Settling.{Settled}
 use Rattle.stored_documents.specs.Slots.{Reserves, IsHorizon}
 use Rattle.stored_documents.specs.Volumes.{Holds, IsWritten, IsVolume}
 use Rattle.tamper_rules.proofs.GivenUp.{one_layout}
-use Rattle.tamper_rules.proofs.Settled.{written}
 
-pub unbroken : (cells : ℕ) (image : Image) (number cell : ℕ) → Settled cells image → IsBroken cells image number cell → ⊥
+pub unbroken : (cells : ℕ) (image : Image) (number cell : ℕ) → Settled cells image
+    → IsBroken cells image number cell → ⊥
 unbroken cells image number cell s b =
     let same : s.layout ≡ b.layout = one_layout s.layout b.layout s.volume b.volume in
     b.not_met (subst (λ (g : Layout). IsMet g image b.rule cell) same (s.settled.met b.rule cell b.written))
@@ -52,7 +51,7 @@ module _ {cells : ℕ} {image : Image} {g : Layout} (l : IsLayout g) (v : IsVolu
   met_0 Rules.DoneCells = λ m inside at. absurd (omega arith)
   met_0 Rules.Documents = λ m inside at. absurd (omega arith)
   met_0 Rules.Journals = record {
-    entry = λ n from reserved bytes journal place c below at. absurd (no_slot c.commits.reserves);
+    copy = λ n from reserved bytes journal place c below at. absurd (no_slot c.commits.reserves);
     commit = λ n from reserved bytes journal place c below at. absurd (no_slot c.commits.reserves);
   }
   met_0 Rules.Targets = record {
@@ -83,9 +82,13 @@ module _ {cells : ℕ} {image : Image} {g : Layout} (l : IsLayout g) (v : IsVolu
 
   pub formatted : Settled cells image × AreDocuments cells image []
   formatted = (
-    record { layout = g; volume = v; settled = record {
-      met = λ rule cell w. subst (λ (c : ℕ). IsMet g image rule c) (sym (only_0 cell w)) (met_0 rule);
-      ended = λ u m h less. absurd (no_horizon u m h less);
-    } },
+    record {
+      layout = g;
+      volume = v;
+      settled = record {
+        met = λ rule cell w. subst (λ (c : ℕ). IsMet g image rule c) (sym (only_0 cell w)) (met_0 rule);
+        ended = λ u m h less. absurd (no_horizon u m h less);
+      };
+    },
     record { rise = tt; each = λ d. (λ t. absurd (none_at (reserve_at d.slot) (omega arith) t.stands.done.commits.reserves.reserve), λ among. absurd (omega (arith, among.1))) },
   )

@@ -2,7 +2,7 @@
 use Rattle.std.proofs.Common.{◌≡◌, ◌<◌, ◌≤◌, ◌+◌, ◌⊎◌, ⊎_elim, inl, inr, ℕ, List, Some, None, refl, sym, ◌∙◌, subst, ap, arith}
 use Rattle.std.proofs.lemmas.Option.{none-some}
 use Rattle.cell_types.specs.Image.{Image, Extends, IsUnchanged}
-use Rattle.cell_types.specs.Layout.{Layout, FirstBlock, Root, LiesIn, reserve_at, outcome_at, done_at, list_at, pool_at}
+use Rattle.cell_types.specs.Layout.{Layout, reserve_at, outcome_at, done_at, list_at}
 use Rattle.cell_types.specs.declared.record_cell.RecordCell.{RecordCell}
 use Rattle.tamper_rules.specs.Journals.{journal_at, Copies, IsIndexCell, of_list, of_root, of_slot, IsInOrder}
 use Rattle.tamper_rules.specs.Settling.{Settled, IsOneHorizon, IsWith, AbandonRow, JournalRow, DoneRow, IsReady, After, nothing, abandoned, completed}
@@ -40,24 +40,27 @@ module _ {cells : ℕ} {old after image : Image} (settled : Settled cells after)
 
   after_abandoned : (n : ℕ) → After cells old after → IsWith (AbandonRow n) old after → After cells image after
   after_abandoned n a w = ⊎_elim
-      (λ blank. as_before a (same_both e (record { keeps = λ cell value is. ⊎_elim (λ was. was)
-          (λ (row : AbandonRow n cell value). absurd (none-some _ (sym blank ∙ ap image (sym row.at) ∙ is)))
-          (w.only cell value (f.keeps cell value is)) })))
+      (λ blank. as_before a (same_both e (record {
+        keeps = λ cell value is. ⊎_elim (λ was. was)
+            (λ (row : AbandonRow n cell value). absurd (none-some _ (sym blank ∙ ap image (sym row.at) ∙ is)))
+            (w.only cell value (f.keeps cell value is));
+      })))
       (λ h. as_after (all_of_it w e f (λ cell value row.
-          let there : image cell ≡ Some h.0 = ap image row.at ∙ h.1 in
-          let same : value ≡ h.0 = some_is value h.0 (sym (w.adds cell value row) ∙ f.keeps cell h.0 there) in
-          there ∙ ap (λ (v : List ℕ). Some v) (sym same))))
+      let there : image cell ≡ Some h.0 = ap image row.at ∙ h.1 in
+      let same : value ≡ h.0 = some_is value h.0 (sym (w.adds cell value row) ∙ f.keeps cell h.0 there) in
+      there ∙ ap (λ (v : List ℕ). Some v) (sym same))))
       (look image (outcome_at n))
 
   module _ (g : Layout) (n start reserved bytes journal : ℕ) (v : IsVolume cells old g) (h : IsOneHorizon g old (n + 1)) (c : IsCommitted g old old n start reserved bytes journal)
       (ready : IsReady g old n start reserved bytes journal)
       (w : IsWith (λ cell value. JournalRow old start reserved journal cell value ⊎ DoneRow n cell value) old after) where
     -- the log changes in the done cell alone
-    log_was : (cell : ℕ) (value : List ℕ) → cell < list_at g 0 → (cell ≡ done_at n → ⊥) → image cell ≡ Some value → old cell ≡ Some value
+    log_was : (cell : ℕ) (value : List ℕ) → cell < list_at g 0 → (cell ≡ done_at n → ⊥)
+        → image cell ≡ Some value → old cell ≡ Some value
     log_was cell value low other is = ⊎_elim (λ was. was)
         (λ rows. absurd (⊎_elim
-            (λ (row : JournalRow old start reserved journal cell value). let far : list_at g 0 ≤ cell = target_behind_log ready.entries row.copies in omega arith)
-            (λ (row : DoneRow n cell value). other row.at) rows))
+        (λ (row : JournalRow old start reserved journal cell value). let far : list_at g 0 ≤ cell = target_behind_log ready.in_order row.copies in omega arith)
+        (λ (row : DoneRow n cell value). other row.at) rows))
         (w.only cell value (f.keeps cell value is))
 
     log_blank : (cell : ℕ) → cell < list_at g 0 → (cell ≡ done_at n → ⊥) → old cell ≡ None → image cell ≡ None
@@ -65,17 +68,20 @@ module _ {cells : ℕ} {old after image : Image} (settled : Settled cells after)
         (λ h. absurd (none-some _ (sym blank ∙ log_was cell h.0 low other h.1)))
         (look image cell)
 
-    row_back : {cell : ℕ} {value : List ℕ} → JournalRow image start reserved journal cell value → JournalRow old start reserved journal cell value
+    row_back : {cell : ℕ} {value : List ℕ} → JournalRow image start reserved journal cell value
+        → JournalRow old start reserved journal cell value
     row_back {cell} {value} row =
-        let o = ready.entries row.place row.copies.below in
+        let o = ready.in_order row.place row.copies.below in
         let was : old (journal_at start reserved journal + row.place) ≡ Some o.copies.entry = o.copies.stands in
         record {
-          place = row.place; copied = row.copied;
+          place = row.place;
+          copied = row.copied;
           copies = copies_back e (record { found = o.copies.entry; stands = was }) row.copies;
           stands = was ∙ sym (e.keeps _ _ was) ∙ row.stands;
         }
 
-    row_on : {cell : ℕ} {value : List ℕ} → JournalRow old start reserved journal cell value → JournalRow image start reserved journal cell value
+    row_on : {cell : ℕ} {value : List ℕ} → JournalRow old start reserved journal cell value
+        → JournalRow image start reserved journal cell value
     row_on row = record { place = row.place; copied = row.copied; copies = copies_on e row.copies; stands = e.keeps _ _ row.stands }
 
     horizon_back : (u : ℕ) → IsHorizon g image image u → IsHorizon g old old u
@@ -95,36 +101,39 @@ module _ {cells : ℕ} {old after image : Image} (settled : Settled cells after)
     going_on : image (done_at n) ≡ None → After cells image after
     going_on blank =
         let dones : (m : ℕ) → m < g.slots → old (done_at m) ≡ None → image (done_at m) ≡ None = λ m inside none. ⊎_elim (λ still. still)
-            (λ x. absurd (none-some _ (sym none ∙ log_was (done_at m) x.0 (omega arith)
-                (λ same. none-some _ (sym blank ∙ ap image (sym same) ∙ x.1)) x.1)))
-            (look image (done_at m)) in
+        (λ x. absurd (none-some _ (sym none ∙ log_was (done_at m) x.0 (omega arith)
+        (λ same. none-some _ (sym blank ∙ ap image (sym same) ∙ x.1)) x.1)))
+        (look image (done_at m)) in
         completed g n start reserved bytes journal (volume_on e v)
-            (record { is = horizon_on (n + 1) h.is; one = λ u k. h.one u (horizon_back u k) })
-            (record { commits = commits_on e c.commits; done = blank })
-            (record {
-              entries = λ place below. in_order_on e dones (ready.entries place below);
-              free = λ cell value row. ⊎_elim inl
-                  (λ x. inr (x.1 ∙ sym (f.keeps cell x.0 x.1) ∙ w.adds cell value (inl (row_back row))))
-                  (look image cell);
-            })
-            (record {
-              keeps = f;
-              adds = λ cell value rows. ⊎_elim (λ row. w.adds cell value (inl (row_back row))) (λ row. w.adds cell value (inr row)) rows;
-              only = λ cell value is. ⊎_elim (λ was. inl (e.keeps cell value was))
-                  (λ rows. ⊎_elim (λ row. inr (inl (row_on row))) (λ row. inr (inr row)) rows)
-                  (w.only cell value is);
-            })
+        (record { is = horizon_on (n + 1) h.is; one = λ u k. h.one u (horizon_back u k) })
+        (record { commits = commits_on e c.commits; done = blank })
+        (record {
+          in_order = λ place below. in_order_on e dones (ready.in_order place below);
+          free = λ cell value row. ⊎_elim inl
+              (λ x. inr (x.1 ∙ sym (f.keeps cell x.0 x.1) ∙ w.adds cell value (inl (row_back row))))
+              (look image cell);
+        })
+        (record {
+          keeps = f;
+          adds = λ cell value rows. ⊎_elim (λ row. w.adds cell value (inl (row_back row))) (λ row. w.adds cell value (inr row)) rows;
+          only = λ cell value is. ⊎_elim (λ was. inl (e.keeps cell value was))
+              (λ rows. ⊎_elim (λ row. inr (inl (row_on row))) (λ row. inr (inr row)) rows)
+              (w.only cell value is);
+        })
 
-    finished : IsWritten image (done_at n) → ((cell : ℕ) (value : List ℕ) → JournalRow old start reserved journal cell value → image cell ≡ Some value) → After cells image after
+    finished : IsWritten image (done_at n) → ((cell : ℕ) (value : List ℕ)
+        → JournalRow old start reserved journal cell value → image cell ≡ Some value) → After cells image after
     finished done all = as_after (all_of_it w e f (λ cell value rows. ⊎_elim (all cell value)
         (λ (row : DoneRow n cell value).
-            let there : image cell ≡ Some done.found = ap image row.at ∙ done.stands in
-            let same : value ≡ done.found = some_is value done.found (sym (w.adds cell value (inr row)) ∙ f.keeps cell done.found there) in
-            there ∙ ap (λ (x : List ℕ). Some x) (sym same)) rows))
+        let there : image cell ≡ Some done.found = ap image row.at ∙ done.stands in
+        let same : value ≡ done.found = some_is value done.found (sym (w.adds cell value (inr row)) ∙ f.keeps cell done.found there) in
+        there ∙ ap (λ (x : List ℕ). Some x) (sym same)) rows))
 
-pub goes_on : (cells : ℕ) (old after image : Image) → After cells old after → Settled cells after → Extends old image → Extends image after
-    → ((g : Layout) (n start reserved bytes journal : ℕ) → IsCommitted g old old n start reserved bytes journal → IsWritten image (done_at n)
-        → (cell : ℕ) (value : List ℕ) → JournalRow old start reserved journal cell value → image cell ≡ Some value)
+pub goes_on : (cells : ℕ) (old after image : Image) → After cells old after → Settled cells after
+    → Extends old image → Extends image after
+    → ((g : Layout) (n start reserved bytes journal : ℕ) → IsVolume cells old g → IsCommitted g old old n start reserved bytes journal
+    → IsWritten image (done_at n)
+    → (cell : ℕ) (value : List ℕ) → JournalRow old start reserved journal cell value → image cell ≡ Some value)
     → After cells image after
 goes_on cells old after image (nothing is same) settled e f all = after_nothing settled e f (nothing is same) same
 goes_on cells old after image (abandoned g n start reserved v h r w) settled e f all = after_abandoned settled e f n (abandoned g n start reserved v h r w) w
@@ -132,5 +141,5 @@ goes_on cells old after image (completed g n start reserved bytes journal v h c 
     ⊎_elim
     (λ blank. going_on settled e f g n start reserved bytes journal v h c ready w blank)
     (λ x. let done : IsWritten image (done_at n) = record { found = x.0; stands = x.1 } in
-        finished settled e f g n start reserved bytes journal v h c ready w done (all g n start reserved bytes journal c done))
+    finished settled e f g n start reserved bytes journal v h c ready w done (all g n start reserved bytes journal v c done))
     (look image (done_at n))

@@ -65,6 +65,7 @@ pub record IsInOrder (g : Layout) (image : Image) (n start length bytes journal 
   pub copied : RecordCell
   pub copies : Copies image start length journal place target copied
   pub rises : (place ≡ 0)
-      ⊎ ((before : ℕ) × (lower : ℕ) × (other : RecordCell) × (place ≡ before + 1) × Copies image start length journal before lower other × (lower < target))
+      ⊎ ((before : ℕ) × (lower : ℕ) × (other : RecordCell) × (place ≡ before + 1)
+      × Copies image start length journal before lower other × (lower < target))
   pub before_document : target < document_at start length bytes journal
   pub index : IsIndexCell g image n target

@@ -1,12 +1,12 @@
 -- The fifteen rules of a volume. Each is said as what holds at a written cell where it is kept; it is broken at a
 -- written cell of its place where that does not hold.
-use Rattle.std.specs.Prelude.{◌≡◌, ◌≢◌, ◌<◌, ◌≤◌, ◌+◌, ◌/◌, ◌⊎◌, ◌↔◌, ℕ, List, [], ◌∷◌, length, Some, None, Contains}
+use Rattle.std.specs.Prelude.{◌≡◌, ◌≢◌, ◌<◌, ◌≤◌, ◌+◌, ◌/◌, ◌⊎◌, ◌↔◌, ℕ, List, [], ◌∷◌, length, None, Contains}
 use Rattle.sha2.specs.Sha256.{sha256}
 use Rattle.cell_types.specs.Image.{Image}
 use Rattle.cell_types.specs.Layout.{Layout, FirstBlock, Root, LiesIn, reserve_at, outcome_at, done_at, spare_at, list_at, root_at, pool_at}
 use Rattle.cell_types.specs.declared.record_cell.RecordCell.{RecordCell}
 use Rattle.cell_types.specs.declared.record_cell.RecordCell.TheVariants.{Reserve, Commit, Abandon, Done, Jump, Bucket, Child}
-use Rattle.index_paths.specs.Blocks.{PostingFields, posting_record, InFront, IsFull, InSpan, pointer_at, Trail}
+use Rattle.index_paths.specs.Blocks.{PostingFields, posting_record, InFront, InSpan, pointer_at, Trail}
 use Rattle.stored_documents.specs.Documents.{IsIdentifier, IsBody, Spells, Stands, stored_bytes, document_at}
 use Rattle.index_paths.specs.HashPaths.{HashTrail, fingerprint_of, nibble}
 use Rattle.tamper_rules.specs.Journals.{journal_at, Copies, LiesInBlocks, IsNamed, IsInOrder}
@@ -18,7 +18,7 @@ use Rattle.stored_documents.specs.Volumes.{Holds, IsWritten, IsVolume}
 use Rattle.index_paths.specs.Postings.{IsPostingOf, HasPostings}
 
 -- Rule 1, at the reserve cell of slot n: it reserves cells of the pool, which begin where those of the slot before
--- end, or where the pool begins; and the slot before is abandoned or done.
+-- end, and for slot 0 where the pool begins; and the slot before is abandoned or done.
 pub record ReserveRule (g : Layout) (image : Image) (n : ℕ) : Type 0 where
   pub start : ℕ
   pub length : ℕ
@@ -27,12 +27,13 @@ pub record ReserveRule (g : Layout) (image : Image) (n : ℕ) : Type 0 where
   pub before : (m : ℕ) → n ≡ m + 1 → HasEnded g image image m
 
 -- Rule 2, at the outcome cell of slot n: the slot's reserve cell is written, and the cell is an abandon cell, or a
--- commit cell of no more cells than the slot reserves.
+-- commit cell of no more cells than the reserve cell states, where this is well-formed.
 pub record OutcomeRule (image : Image) (n : ℕ) : Type 0 where
   pub reserve : IsWritten image (reserve_at n)
   pub outcome : Holds image (outcome_at n) Abandon
       ⊎ ((bytes : ℕ) × (journal : ℕ) × Holds image (outcome_at n) (Commit bytes journal)
-      × ((start reserved : ℕ) → Holds image (reserve_at n) (Reserve start reserved) → cells_for bytes + journal ≤ reserved))
+      × ((start reserved : ℕ) → Holds image (reserve_at n) (Reserve start reserved)
+      → cells_for bytes + journal ≤ reserved))
 
 -- Rule 3, at the done cell of slot n: it is the done cell of this slot, and the outcome cell is a commit cell.
 pub record DoneRule (image : Image) (n : ℕ) : Type 0 where
@@ -56,21 +57,25 @@ DocumentRule g image n =
     (start reserved bytes journal : ℕ) → Stores g image n start reserved bytes journal
     → HasDocument image (document_at start reserved bytes journal) bytes
 
--- Rule 5, at a journal cell of a slot that is committed or done: it is in order; and at such a slot's commit cell:
--- each journal cell is written.
+-- Rule 5, at a journal cell of a slot that is committed or done: it is in order, so that one behind a cell that copies
+-- nothing is not; and at such a slot's commit cell: each journal cell is written.
 pub record JournalRule (g : Layout) (image : Image) (cell : ℕ) : Type 0 where
-  pub entry : (n start reserved bytes journal place : ℕ) → Stores g image n start reserved bytes journal → place < journal
+  pub copy : (n start reserved bytes journal place : ℕ) → Stores g image n start reserved bytes journal
+      → place < journal
       → cell ≡ journal_at start reserved journal + place → IsInOrder g image n start reserved bytes journal place
-  pub commit : (n start reserved bytes journal place : ℕ) → Stores g image n start reserved bytes journal → place < journal
+  pub commit : (n start reserved bytes journal place : ℕ) → Stores g image n start reserved bytes journal
+      → place < journal
       → cell ≡ outcome_at n → IsWritten image (journal_at start reserved journal + place)
 
 -- Rule 6, at a journal cell: where the slot is done its target holds the same; where the slot is committed its target
 -- holds the same or is blank.
 pub record RedoneRule (g : Layout) (image : Image) (cell : ℕ) : Type 0 where
-  pub done : (n start reserved bytes journal place target : ℕ) (copied : RecordCell) → IsDone g image n start reserved bytes journal
+  pub done : (n start reserved bytes journal place target : ℕ) (copied : RecordCell)
+      → IsDone g image n start reserved bytes journal
       → Copies image start reserved journal place target copied → cell ≡ journal_at start reserved journal + place
       → image target ≡ image cell
-  pub committed : (n start reserved bytes journal place target : ℕ) (copied : RecordCell) → IsCommitted g image image n start reserved bytes journal
+  pub committed : (n start reserved bytes journal place target : ℕ) (copied : RecordCell)
+      → IsCommitted g image image n start reserved bytes journal
       → Copies image start reserved journal place target copied → cell ≡ journal_at start reserved journal + place
       → (image target ≡ None) ⊎ (image target ≡ image cell)
 
@@ -89,16 +94,19 @@ pub record BlankRule (g : Layout) (image : Image) (cell : ℕ) : Type 0 where
   pub named : IsDoneIndexCell g image cell → IsNamed g image cell
   pub edge : (at : ℕ) → IsEdge g image image at → pool_at g ≤ cell → cell < at
 
--- Rule 8, at a cell of a block before its pointers or behind them: it lies before them and holds a posting, and is
--- the first, or the place before holds a posting with a smaller key.
+-- the place of the block holds a posting, and is the first, or the place before holds one with a smaller key
 pub record HoldsInOrder (image : Image) (block place : ℕ) : Type 0 where
   pub p : PostingFields
   pub holds : Holds image (block + place) (posting_record p)
   pub rises : (place ≡ 0)
-      ⊎ ((before : ℕ) × (q : PostingFields) × (place ≡ before + 1) × Holds image (block + before) (posting_record q) × (q.key < p.key))
+      ⊎ ((before : ℕ) × (q : PostingFields) × (place ≡ before + 1)
+      × Holds image (block + before) (posting_record q) × (q.key < p.key))
 
+-- Rule 8, at a cell of a block before its pointers or behind them: before them it is in order, and behind them nothing
+-- stands.
 pub record EntryRule (g : Layout) (image : Image) (cell : ℕ) : Type 0 where
-  pub entry : (l block place : ℕ) → IsBlockOf g image l block → place < 128 → cell ≡ block + place → HoldsInOrder image block place
+  pub entry : (l block place : ℕ) → IsBlockOf g image l block → place < 128 → cell ≡ block + place
+      → HoldsInOrder image block place
   pub blank : (l block place : ℕ) → IsBlockOf g image l block → 248 ≤ place → place < 256 → cell ≢ block + place
 
 -- slot n is live, and the posting is one of its document's in list l
@@ -123,7 +131,7 @@ pub record EndsFront (image : Image) (block : ℕ) (greatest : PostingFields) : 
   pub in_front : InFront image block place greatest
   pub ends : place + 1 < 128 → (next : PostingFields) → InFront image block (place + 1) next → ⊥
 
--- Rule 10, at a pointer place of a block of list l: it is a jump cell; each entry place of its block is written; the
+-- The pointer of a level and a digit leads well from a block of list l: it is a jump cell; each entry place of its block is written; the
 -- target's cells lie in the pool, before each edge, and in the block part of one slot that is committed or done; some
 -- key of the target's front lies in the pointer's span; and the target's cells meet no block that begins elsewhere,
 -- none of another list, and no node.
@@ -135,8 +143,8 @@ pub record LeadsWell (g : Layout) (image : Image) (l block level digit : ℕ) : 
   pub to : target + 256 ≤ g.cells
   pub edge : (at : ℕ) → IsEdge g image image at → target + 256 ≤ at
   pub owner : ℕ
-  pub first : LiesInBlocks g image owner target
-  pub last : LiesInBlocks g image owner (target + 255)
+  pub owns_first : LiesInBlocks g image owner target
+  pub owns_last : LiesInBlocks g image owner (target + 255)
   pub greatest : PostingFields
   pub ends : EndsFront image block greatest
   pub place : ℕ
@@ -144,15 +152,17 @@ pub record LeadsWell (g : Layout) (image : Image) (l block level digit : ℕ) : 
   pub in_places : place < 128
   pub in_front : InFront image target place some
   pub in_span : InSpan greatest.key level digit some.key
-  pub blocks : (k other : ℕ) → IsBlockOf g image k other → ((other ≡ target) × (k ≡ l)) ⊎ AreApart target 256 other 256
+  pub blocks : (k other : ℕ) → IsBlockOf g image k other
+      → ((other ≡ target) × (k ≡ l)) ⊎ AreApart target 256 other 256
   pub nodes : (v node : ℕ) → IsNode g image v node → AreApart target 256 node 32
 
+-- Rule 10, at a pointer place of a block: the pointer leads well.
 abbrev pub PointerRule : Layout → Image → ℕ → Type 0
 PointerRule g image cell =
     (l block level digit : ℕ) → IsBlockOf g image l block → level < 8 → 1 ≤ digit → digit ≤ 15
     → cell ≡ pointer_at block level digit → LeadsWell g image l block level digit
 
--- Rule 11, at bucket x of a node: it is a bucket; its slot is live; its fingerprint is that of the identifier of the
+-- Bucket x of a node is a true one: it is a bucket; its slot is live; its fingerprint is that of the identifier of the
 -- slot's document, and it is on this identifier's path.
 pub record IsTrueBucket (g : Layout) (image : Image) (node x : ℕ) : Type 0 where
   pub slot : ℕ
@@ -167,11 +177,13 @@ pub record IsTrueBucket (g : Layout) (image : Image) (node x : ℕ) : Type 0 whe
   pub on_path : IsOnPath g image (sha256 id) level node
   pub here : x ≡ nibble (sha256 id) level
 
+-- Rule 11, at a bucket of a node: it is a true one.
 abbrev pub BucketRule : Layout → Image → ℕ → Type 0
-BucketRule g image cell = (v node x : ℕ) → IsNode g image v node → x < 16 → cell ≡ node + x → IsTrueBucket g image node x
+BucketRule g image cell = (v node x : ℕ) → IsNode g image v node → x < 16 → cell ≡ node + x
+    → IsTrueBucket g image node x
 
--- Rule 12, at child cell x of a node: it is a child cell; the bucket of the same half byte is written; the node is
--- above level 63; the target's cells lie in the pool and before each edge; some slot that is committed or done has
+-- Child cell x of a node leads down well: it is a child cell; the bucket of the same half byte is written; the node is
+-- at a level below 63; the target's cells lie in the pool and before each edge; some slot that is committed or done has
 -- this cell in its journal and the target in its block part; no lower child cell of a node has the same target; and
 -- the target's cells meet no block and no other node.
 pub record LeadsDownWell (g : Layout) (image : Image) (v node x : ℕ) : Type 0 where
@@ -193,12 +205,15 @@ pub record LeadsDownWell (g : Layout) (image : Image) (v node x : ℕ) : Type 0 
   pub same : image (journal_at start reserved journal + place) ≡ image (node + 16 + x)
   pub in_blocks : start ≤ target
   pub before_document : target < document_at start reserved bytes journal
-  pub first : (w other y : ℕ) → IsNode g image w other → y < 16 → other + 16 + y < node + 16 + x → Holds image (other + 16 + y) (Child target) → ⊥
+  pub once : (w other y : ℕ) → IsNode g image w other → y < 16 → other + 16 + y < node + 16 + x
+      → Holds image (other + 16 + y) (Child target) → ⊥
   pub blocks : (k other : ℕ) → IsBlockOf g image k other → AreApart target 32 other 256
   pub nodes : (w other : ℕ) → IsNode g image w other → (other ≡ target) ⊎ AreApart target 32 other 32
 
+-- Rule 12, at a child cell of a node: it leads down well.
 abbrev pub ChildRule : Layout → Image → ℕ → Type 0
-ChildRule g image cell = (v node x : ℕ) → IsNode g image v node → x < 16 → cell ≡ node + 16 + x → LeadsDownWell g image v node x
+ChildRule g image cell = (v node x : ℕ) → IsNode g image v node → x < 16 → cell ≡ node + 16 + x
+    → LeadsDownWell g image v node x
 
 -- Rule 13, at the done cell of slot n: the postings of its document exist, and each of them has a trail.
 pub record TrailRule (g : Layout) (image : Image) (n : ℕ) (body : List ℕ) : Type 0 where
@@ -210,14 +225,17 @@ pub record TrailRule (g : Layout) (image : Image) (n : ℕ) (body : List ℕ) : 
 -- identifier.
 pub record PathRule (g : Layout) (image : Image) (n : ℕ) (id : List ℕ) : Type 0 where
   pub path : HashTrail image (sought_in g.cells g id) n (root_at g) 0
-  pub first : (m : ℕ) (other : List ℕ) → m < n → Stands g.cells image m id other → ⊥
+  pub alone : (m : ℕ) (other : List ℕ) → m < n → Stands g.cells image m id other → ⊥
 
--- the journal has a jump cell to this target, or a child cell to it
+-- the journal has a jump cell to this target
 abbrev pub HasJump : Image → ℕ → ℕ → ℕ → ℕ → Type 0
-HasJump image start reserved journal target = (place : ℕ) × (at : ℕ) × Copies image start reserved journal place at (Jump target)
+HasJump image start reserved journal target = (place : ℕ) × (at : ℕ)
+    × Copies image start reserved journal place at (Jump target)
 
+-- and a child cell to it
 abbrev pub HasChild : Image → ℕ → ℕ → ℕ → ℕ → Type 0
-HasChild image start reserved journal target = (place : ℕ) × (at : ℕ) × Copies image start reserved journal place at (Child target)
+HasChild image start reserved journal target = (place : ℕ) × (at : ℕ)
+    × Copies image start reserved journal place at (Child target)
 
 -- so many cells belong to this target: 256 where a jump cell leads to it, and 32 otherwise
 abbrev pub IsSize : Image → ℕ → ℕ → ℕ → ℕ → ℕ → Type 0
@@ -236,7 +254,8 @@ Tile image start reserved journal from to (target ∷ targets) =
 -- that lie in its own block part tile that part, in rising order.
 pub record TilingRule (image : Image) (start reserved bytes journal : ℕ) : Type 0 where
   pub targets : List ℕ
-  pub each : (target : ℕ) → ((HasJump image start reserved journal target ⊎ HasChild image start reserved journal target)
+  pub each : (target : ℕ)
+      → ((HasJump image start reserved journal target ⊎ HasChild image start reserved journal target)
       × (start ≤ target) × (target < document_at start reserved bytes journal)) ↔ Contains targets target
   pub tile : Tile image start reserved journal start (document_at start reserved bytes journal) targets
 
@@ -290,8 +309,10 @@ IsMet g image Postings cell = PostingRule g image cell
 IsMet g image Pointers cell = PointerRule g image cell
 IsMet g image Buckets cell = BucketRule g image cell
 IsMet g image Children cell = ChildRule g image cell
-IsMet g image Trails cell = (n : ℕ) (id body : List ℕ) → cell ≡ done_at n → Stands g.cells image n id body → TrailRule g image n body
-IsMet g image Paths cell = (n : ℕ) (id body : List ℕ) → cell ≡ done_at n → Stands g.cells image n id body → PathRule g image n id
+IsMet g image Trails cell = (n : ℕ) (id body : List ℕ) → cell ≡ done_at n → Stands g.cells image n id body
+    → TrailRule g image n body
+IsMet g image Paths cell = (n : ℕ) (id body : List ℕ) → cell ≡ done_at n → Stands g.cells image n id body
+    → PathRule g image n id
 IsMet g image Tilings cell =
     (n start reserved bytes journal : ℕ) → cell ≡ outcome_at n → IsDone g image n start reserved bytes journal
     → TilingRule image start reserved bytes journal
@@ -300,6 +321,7 @@ IsMet g image Tilings cell =
 abbrev pub IsOfSlot : Layout → (ℕ → ℕ) → ℕ → Type 0
 IsOfSlot g place cell = (n : ℕ) × (n < g.slots) × (cell ≡ place n)
 
+-- the cell lies in the pool
 abbrev pub IsOfPool : Layout → ℕ → Type 0
 IsOfPool g cell = (pool_at g ≤ cell) × (cell < g.cells)
 
@@ -311,7 +333,8 @@ IsPlace g DoneCells cell = IsOfSlot g done_at cell
 IsPlace g Documents cell = IsOfSlot g outcome_at cell
 IsPlace g Journals cell = IsOfSlot g outcome_at cell ⊎ IsOfPool g cell
 IsPlace g Targets cell = IsOfPool g cell
-IsPlace g StrayCells cell = ((1 ≤ cell) × (cell ≤ 3)) ⊎ IsOfSlot g spare_at cell ⊎ ((list_at g 0 ≤ cell) × (cell < g.cells))
+IsPlace g StrayCells cell = ((1 ≤ cell) × (cell ≤ 3)) ⊎ IsOfSlot g spare_at cell
+    ⊎ ((list_at g 0 ≤ cell) × (cell < g.cells))
 IsPlace g Entries cell = ((l : ℕ) × LiesIn g (FirstBlock l) cell) ⊎ IsOfPool g cell
 IsPlace g Postings cell = ((l : ℕ) × LiesIn g (FirstBlock l) cell) ⊎ IsOfPool g cell
 IsPlace g Pointers cell = ((l : ℕ) × LiesIn g (FirstBlock l) cell) ⊎ IsOfPool g cell
@@ -320,6 +343,10 @@ IsPlace g Children cell = LiesIn g Root cell ⊎ IsOfPool g cell
 IsPlace g Trails cell = IsOfSlot g done_at cell
 IsPlace g Paths cell = IsOfSlot g done_at cell
 IsPlace g Tilings cell = IsOfSlot g outcome_at cell
+
+-- the cell is one of those where the rule of this number can have its evidence
+abbrev pub IsPlaceOf : Layout → ℕ → ℕ → Type 0
+IsPlaceOf g number cell = (rule : Rule) × (number ≡ number_of rule) × IsPlace g rule cell
 
 -- the rule of this number is broken at the cell: the cell is written and one of the rule's places, and the rule is
 -- not kept there

@@ -1,15 +1,15 @@
 -- What it means that a volume is settled, what settling makes of it, and when a volume is sound.
-use Rattle.std.specs.Prelude.{◌≡◌, ◌<◌, ◌≤◌, ◌+◌, ◌⊎◌, ℕ, List, [], Some, None}
+use Rattle.std.specs.Prelude.{◌≡◌, ◌<◌, ◌+◌, ◌⊎◌, ℕ, List, [], Some, None}
 use Rattle.cell_types.specs.Image.{Image, Extends, IsUnchanged}
-use Rattle.cell_types.specs.Layout.{Layout, reserve_at, outcome_at, done_at}
+use Rattle.cell_types.specs.Layout.{Layout, outcome_at, done_at}
 use Rattle.cell_types.specs.Records.{IsRecordCell}
 use Rattle.cell_types.specs.declared.record_cell.RecordCell.{RecordCell}
 use Rattle.cell_types.specs.declared.record_cell.RecordCell.TheVariants.{Abandon, Done}
 use Rattle.stored_documents.specs.Documents.{Document, AreDocuments}
 use Rattle.tamper_rules.specs.Journals.{journal_at, Copies, IsInOrder}
 use Rattle.tamper_rules.specs.Rules.{Rule, IsMet}
-use Rattle.stored_documents.specs.Slots.{Reserves, IsReserved, IsCommitted, HasEnded, IsHorizon, EndsBelow}
-use Rattle.stored_documents.specs.Volumes.{Holds, IsWritten, IsVolume}
+use Rattle.stored_documents.specs.Slots.{IsReserved, IsCommitted, HasEnded, IsHorizon}
+use Rattle.stored_documents.specs.Volumes.{IsWritten, IsVolume}
 
 -- each rule is kept at each written cell, and each slot below a horizon is abandoned or done
 pub record IsSettled (g : Layout) (image : Image) : Type 0 where
@@ -55,7 +55,7 @@ pub record JournalRow (image : Image) (start reserved journal cell : ℕ) (value
 -- the journal of slot n, which is committed, may be carried out: each of its cells is in order, and each target is
 -- blank or holds what it is to hold
 pub record IsReady (g : Layout) (image : Image) (n start reserved bytes journal : ℕ) : Type 0 where
-  pub entries : (place : ℕ) → place < journal → IsInOrder g image n start reserved bytes journal place
+  pub in_order : (place : ℕ) → place < journal → IsInOrder g image n start reserved bytes journal place
   pub free : (cell : ℕ) (value : List ℕ) → JournalRow image start reserved journal cell value
       → (image cell ≡ None) ⊎ (image cell ≡ Some value)
 
@@ -66,7 +66,8 @@ pub data After (cells : ℕ) (image after : Image) : Type 0 where
   nothing : Settled cells image → IsUnchanged image after → After cells image after
   abandoned : (g : Layout) (n start reserved : ℕ) → IsVolume cells image g → IsOneHorizon g image (n + 1)
       → IsReserved g image image n start reserved → IsWith (AbandonRow n) image after → After cells image after
-  completed : (g : Layout) (n start reserved bytes journal : ℕ) → IsVolume cells image g → IsOneHorizon g image (n + 1)
+  completed : (g : Layout) (n start reserved bytes journal : ℕ) → IsVolume cells image g
+      → IsOneHorizon g image (n + 1)
       → IsCommitted g image image n start reserved bytes journal → IsReady g image n start reserved bytes journal
       → IsWith (λ cell value. JournalRow image start reserved journal cell value ⊎ DoneRow n cell value) image after
       → After cells image after
@@ -77,23 +78,12 @@ pub record Sound (cells : ℕ) (image : Image) : Type 0 where
   pub is : After cells image after
   pub settled : Settled cells after
 
+-- no cell is written, or settling makes a settled image of it: what a crash may leave at any moment
+abbrev pub IsBlankOrSound : ℕ → Image → Type 0
+IsBlankOrSound cells image = ((cell : ℕ) → image cell ≡ None) ⊎ Sound cells image
+
 -- The documents that a sound image holds: those that stand once it is settled; none where no cell is written.
 pub data Held (cells : ℕ) (image : Image) (documents : List Document) : Type 0 where
   none : ((cell : ℕ) → image cell ≡ None) → documents ≡ [] → Held cells image documents
-  of_after : (after : Image) → After cells image after → AreDocuments cells after documents → Held cells image documents
-
--- the cell is the reserve cell or the outcome cell of slot n, or one of those that it reserves
-pub data IsOf (n start length cell : ℕ) : Type 0 where
-  of_reserve : cell ≡ reserve_at n → IsOf n start length cell
-  of_outcome : cell ≡ outcome_at n → IsOf n start length cell
-  of_range : start ≤ cell → cell < start + length → IsOf n start length cell
-
--- New is old with slot n, at a horizon of old, given up: it reserves cells from the edge on, in which anything may
--- have been written, and has its abandon cell.
-pub record IsGivenUp (g : Layout) (old new : Image) (n start length : ℕ) : Type 0 where
-  pub horizon : IsHorizon g old old n
-  pub keeps : Extends old new
-  pub reserves : Reserves g new n start length
-  pub begins : EndsBelow g old n start
-  pub outcome : Holds new (outcome_at n) Abandon
-  pub only : (cell : ℕ) (value : List ℕ) → new cell ≡ Some value → (old cell ≡ Some value) ⊎ IsOf n start length cell
+  of_after : (after : Image) → After cells image after → AreDocuments cells after documents
+      → Held cells image documents

@@ -1,6 +1,6 @@
 //! Laws: what the definitions mean together, over all images. Each is a function that does nothing and whose
 //! contract is the law.
-ghost use Rattle.tamper_rules.specs.SettlingLaws.{AfterIsOne, DocumentsExist, EdgeIsOne, FormattedIsSettled, SettledIsUnbroken, SettledKeeps, SettlingGoesOn, SteadyHoldsTwo};
+ghost use Rattle.tamper_rules.specs.SettlingLaws.{AfterIsOne, DocumentsExist, EdgeIsOne, FormattedIsSettled, HeldIsOne, SettledIsUnbroken, SettledKeeps, SettlingGoesOn, SteadyHoldsTwo};
 
 /// A settled image has one horizon and one edge.
 pub fn edge_is_one()
@@ -37,7 +37,13 @@ pub fn documents_exist()
     ensures { DocumentsExist }
 {}
 
-/// Where each image that a crash may leave is sound, it holds the documents of the least or those of the greatest.
+/// An image holds one list of documents.
+pub fn held_is_one()
+    ensures { HeldIsOne }
+{}
+
+/// Where each image that a crash may leave is blank or sound, it holds the documents of the least or those of the
+/// greatest.
 pub fn steady_holds_two()
     ensures { SteadyHoldsTwo }
 {}

@@ -1,16 +1,14 @@
 -- A plan whose cells are all written: the log, the documents, the journals and the blank cells.
-use Rattle.std.proofs.Common.{◌≡◌, ◌≢◌, ◌<◌, ◌≤◌, ◌+◌, ◌-◌, ◌*◌, ◌^◌, ◌⊎◌, ⊎_elim, inl, inr, ℕ, suc, zero, List, [], ◌∷◌, Some, None, refl, sym, ◌∙◌, subst, ap, arith, length}
-use Rattle.std.specs.Prelude.{Contains, slice_get}
+use Rattle.std.proofs.Common.{◌≡◌, ◌≢◌, ◌<◌, ◌≤◌, ◌+◌, ⊎_elim, inl, inr, ℕ, suc, zero, List, [], ◌∷◌, Some, None, refl, sym, ◌∙◌, subst, ap, arith, length}
 use Rattle.std.proofs.lemmas.Option.{none-some, slice_get_within, slice_get-get_or}
-use Rattle.std.proofs.lemmas.Bool.{cases_order, cases_lt}
+use Rattle.std.proofs.lemmas.Bool.{cases_order}
 use Rattle.cell_types.specs.Image.{Image, Extends}
-use Rattle.cell_types.specs.Layout.{Layout, reserve_at, outcome_at, done_at, spare_at, list_at, root_at, pool_at}
-use Rattle.cell_types.specs.Records.{IsRecordCell}
+use Rattle.cell_types.specs.Layout.{Layout, reserve_at, outcome_at, done_at, spare_at, list_at, pool_at}
 use Rattle.cell_types.specs.declared.record_cell.RecordCell.{RecordCell}
-use Rattle.cell_types.specs.declared.record_cell.RecordCell.TheVariants.{Reserve, Commit, Abandon, Done}
+use Rattle.cell_types.specs.declared.record_cell.RecordCell.TheVariants.{Reserve, Commit, Abandon}
 use Rattle.stored_documents.specs.Documents.{Stands, stored_bytes, document_at}
-use Rattle.volume_growth.specs.Filling.{blocks_end, IsEntry, IsPlannedEntry, IsFilled}
-use Rattle.volume_growth.specs.Ingesting.{Plan, Phase, Reserving, Storing, Committing, Applying, Finishing, stored_of, ContentRow, EntryRow, AppliedRow, Row, AnyRow}
+use Rattle.volume_growth.specs.Filling.{blocks_end, IsCopy, IsPlannedCopy, IsFilled}
+use Rattle.volume_growth.specs.Ingesting.{Plan, Phase, Reserving, Storing, Committing, Applying, Finishing, stored_of, ContentRow, CopyRow, AppliedRow, Row, AnyRow}
 use Rattle.tamper_rules.specs.Journals.{journal_at, Copies, IsIndexCell, of_list, of_root, of_slot, IsInOrder, IsNamed}
 use Rattle.tamper_rules.specs.Rules
 use Rattle.tamper_rules.specs.Rules.{ReserveRule, OutcomeRule, DoneRule, DocumentRule, HasDocument, JournalRule, RedoneRule, BlankRule, IsDoneIndexCell, HasJump, HasChild, IsSize, Tile, TilingRule}
@@ -19,7 +17,7 @@ use Rattle.stored_documents.specs.Volumes.{Holds, IsWritten}
 use Rattle.stored_documents.proofs.Extending.{holds_on, written_on, blank_before, volume_on, reserves_on, commits_on, done_on, ends_on, spells_on}
 use Rattle.stored_documents.proofs.Holding.{one_record_holds, some_is}
 use Rattle.tamper_rules.proofs.GivenUp.{no_abandon, one_layout}
-use Rattle.tamper_rules.proofs.GoingOn.{copies_on, copies_back, one_copy, index_on, in_order_on, named_on}
+use Rattle.tamper_rules.proofs.GoingOn.{copies_on, copies_back, one_copy, named_on}
 use Rattle.tamper_rules.proofs.Images.{look}
 use Rattle.volume_growth.proofs.Ingests.{IsLogCell, is_reserve, is_outcome, is_done}
 use Rattle.stored_documents.proofs.OneDocument.{reserves, commits}
@@ -34,34 +32,40 @@ module _ {g : Layout} {old new : Image} {p : Plan} (u : IsFilled g old new p) wh
   pub keeps : Extends old new
   keeps = u.rows.keeps
 
-  pub mine : IsDone g new p.slot p.start p.reserved (length (stored_of p)) (length p.entries)
+  pub mine : IsDone g new p.slot p.start p.reserved (length (stored_of p)) (length p.journal)
   mine = record { commits = record { reserves = u.reserves; outcome = u.commit; fits = u.fits }; done = u.done }
 
   -- the journal of the plan
-  pub applied_entry : {cell : ℕ} {value : List ℕ} → (row : AppliedRow p cell value) → IsEntry p row.place cell row.copied
+  pub applied_entry : {cell : ℕ} {value : List ℕ} → (row : AppliedRow p cell value)
+      → IsCopy p row.place cell row.copied
   applied_entry {cell} {value} row = record { value = value; entry = row.entry; index = row.index; address = row.address; is = row.is }
 
-  pub entry_copies : {place target : ℕ} {r : RecordCell} → IsEntry p place target r → Copies new p.start p.reserved (length p.entries) place target r
+  pub entry_copies : {place target : ℕ} {r : RecordCell} → IsCopy p place target r
+      → Copies new p.start p.reserved (length p.journal) place target r
   entry_copies {place} {target} {r} e = record {
-    below = slice_get_within p.entries place e.value e.entry;
+    below = slice_get_within p.journal place e.value e.entry;
     entry = e.value;
-    stands = u.rows.adds (journal_at p.start p.reserved (length p.entries) + place) e.value (Storing, inr (record { place = place; entry = e.entry; at = refl }));
-    index = e.index; address = e.address; is = e.is;
+    stands = u.rows.adds (journal_at p.start p.reserved (length p.journal) + place) e.value (Storing, inr (record { place = place; entry = e.entry; at = refl }));
+    index = e.index;
+    address = e.address;
+    is = e.is;
   }
 
   -- what a place copies is applied
-  copies_applied : {place target : ℕ} {r : RecordCell} → (c : Copies new p.start p.reserved (length p.entries) place target r) → AppliedRow p target c.entry
+  copies_applied : {place target : ℕ} {r : RecordCell}
+      → (c : Copies new p.start p.reserved (length p.journal) place target r) → AppliedRow p target c.entry
   copies_applied {place} {target} {r} c =
-      let found = slice_get-get_or p.entries place [] c.below in
-      let there = u.rows.adds (journal_at p.start p.reserved (length p.entries) + place) _ (Storing, inr (record { place = place; entry = found; at = refl })) in
+      let found = slice_get-get_or p.journal place [] c.below in
+      let there = u.rows.adds (journal_at p.start p.reserved (length p.journal) + place) _ (Storing, inr (record { place = place; entry = found; at = refl })) in
       let same = some_is _ c.entry (sym there ∙ c.stands) in
       record { place = place; entry = found ∙ ap (λ (v : List ℕ). Some v) same; copied = r; index = c.index; address = c.address; is = c.is }
 
-  row_target : {cell : ℕ} {value : List ℕ} → (row : AppliedRow p cell value) → (q : IsPlannedEntry g old p row.place) × (cell ≡ q.target)
+  row_target : {cell : ℕ} {value : List ℕ} → (row : AppliedRow p cell value)
+      → (q : IsPlannedCopy g old p row.place) × (cell ≡ q.target)
   row_target {cell} {value} row =
       let e = entry_copies (applied_entry row) in
-      let q = u.entries row.place e.below in
-      (q, (one_copy new p.start p.reserved (length p.entries) row.place cell q.target row.copied q.copied e (entry_copies q.entry)).1)
+      let q = u.in_order row.place e.below in
+      (q, (one_copy new p.start p.reserved (length p.journal) row.place cell q.target row.copied q.copied e (entry_copies q.entry)).1)
 
   pub applied_far : {cell : ℕ} {value : List ℕ} → AppliedRow p cell value → list_at g 0 ≤ cell
   applied_far row = let q = row_target row in ⊎_elim (λ old. omega (arith, behind_log old, q.1)) (λ from. omega (arith, from, u.reserves.from, q.1)) (q.0).index
@@ -72,13 +76,13 @@ module _ {g : Layout} {old new : Image} {p : Plan} (u : IsFilled g old new p) wh
   pub stored_from : {cell : ℕ} {value : List ℕ} → Row p Storing cell value → blocks_end p ≤ cell
   stored_from {cell} {value} row = ⊎_elim
       (λ (c : ContentRow p cell value). omega (arith, c.at))
-      (λ (c : EntryRow p cell value). omega (arith, c.at))
+      (λ (c : CopyRow p cell value). omega (arith, c.at))
       row
 
   stored_to : {cell : ℕ} {value : List ℕ} → Row p Storing cell value → cell < p.start + p.reserved
   stored_to {cell} {value} row = ⊎_elim
       (λ (c : ContentRow p cell value). omega (arith, c.at, c.below, u.fits))
-      (λ (c : EntryRow p cell value). let below : c.place < length p.entries = slice_get_within p.entries c.place value c.entry in omega (arith, c.at, u.fits))
+      (λ (c : CopyRow p cell value). let below : c.place < length p.journal = slice_get_within p.journal c.place value c.entry in omega (arith, c.at, u.fits))
       row
 
   pub blocks_from : p.start ≤ blocks_end p
@@ -88,14 +92,16 @@ module _ {g : Layout} {old new : Image} {p : Plan} (u : IsFilled g old new p) wh
   blocks_to = omega arith
 
   -- the log changes in three cells
-  pub log_row : (cell : ℕ) (value : List ℕ) → cell < list_at g 0 → (phase : Phase) → Row p phase cell value → IsLogCell p.slot cell
+  pub log_row : (cell : ℕ) (value : List ℕ) → cell < list_at g 0 → (phase : Phase) → Row p phase cell value
+      → IsLogCell p.slot cell
   log_row cell value low Reserving row = is_reserve row.at
   log_row cell value low Storing row = absurd (let far = stored_from row in omega (arith, far, blocks_from, u.reserves.from))
   log_row cell value low Committing row = is_outcome row.at
   log_row cell value low Applying row = absurd (let far = applied_far row in omega arith)
   log_row cell value low Finishing row = is_done row.at
 
-  log_was : (cell : ℕ) (value : List ℕ) → cell < list_at g 0 → (IsLogCell p.slot cell → ⊥) → new cell ≡ Some value → old cell ≡ Some value
+  log_was : (cell : ℕ) (value : List ℕ) → cell < list_at g 0 → (IsLogCell p.slot cell → ⊥)
+      → new cell ≡ Some value → old cell ≡ Some value
   log_was cell value low other is = ⊎_elim (λ was. was) (λ (row : AnyRow p cell value). absurd (other (log_row cell value low row.0 row.1))) (u.rows.only cell value is)
 
   no_reserve : {m : ℕ} → (m ≡ p.slot → ⊥) → IsLogCell p.slot (reserve_at m) → ⊥
@@ -113,24 +119,29 @@ module _ {g : Layout} {old new : Image} {p : Plan} (u : IsFilled g old new p) wh
   no_done other (is_outcome at) = omega arith
   no_done other (is_done at) = other (omega arith)
 
-  log_held : {cell : ℕ} {r : RecordCell} → cell < list_at g 0 → (IsLogCell p.slot cell → ⊥) → Holds new cell r → Holds old cell r
+  log_held : {cell : ℕ} {r : RecordCell} → cell < list_at g 0 → (IsLogCell p.slot cell → ⊥) → Holds new cell r
+      → Holds old cell r
   log_held {cell} low other h = record { cell = h.cell; stands = log_was cell h.cell low other h.stands; is = h.is }
 
-  pub log_stood : {cell : ℕ} → cell < list_at g 0 → (IsLogCell p.slot cell → ⊥) → IsWritten new cell → IsWritten old cell
+  pub log_stood : {cell : ℕ} → cell < list_at g 0 → (IsLogCell p.slot cell → ⊥) → IsWritten new cell
+      → IsWritten old cell
   log_stood {cell} low other w = record { found = w.found; stands = log_was cell w.found low other w.stands }
 
   module _ {m : ℕ} (other : m ≡ p.slot → ⊥) where
-    commits_back : {from reserved bytes journal : ℕ} → Commits g new m from reserved bytes journal → Commits g old m from reserved bytes journal
+    commits_back : {from reserved bytes journal : ℕ} → Commits g new m from reserved bytes journal
+        → Commits g old m from reserved bytes journal
     commits_back c = record {
       reserves = record { slot = c.reserves.slot; reserve = log_held (omega (arith, c.reserves.slot)) (no_reserve other) c.reserves.reserve; from = c.reserves.from; to = c.reserves.to };
       outcome = log_held (omega (arith, c.reserves.slot)) (no_outcome other) c.outcome;
       fits = c.fits;
     }
 
-    done_back : {from reserved bytes journal : ℕ} → IsDone g new m from reserved bytes journal → IsDone g old m from reserved bytes journal
+    done_back : {from reserved bytes journal : ℕ} → IsDone g new m from reserved bytes journal
+        → IsDone g old m from reserved bytes journal
     done_back d = record { commits = commits_back d.commits; done = log_held (omega (arith, d.commits.reserves.slot)) (no_done other) d.done }
 
-    stores_back : {from reserved bytes journal : ℕ} → Stores g new m from reserved bytes journal → Stores g old m from reserved bytes journal
+    stores_back : {from reserved bytes journal : ℕ} → Stores g new m from reserved bytes journal
+        → Stores g old m from reserved bytes journal
     stores_back c = record {
       commits = commits_back c.commits;
       done = ⊎_elim (λ none. inl (blank_before keeps none)) (λ h. inr (log_held (omega (arith, c.commits.reserves.slot)) (no_done other) h)) c.done;
@@ -140,17 +151,19 @@ module _ {g : Layout} {old new : Image} {p : Plan} (u : IsFilled g old new p) wh
   outcome_blank : old (outcome_at p.slot) ≡ None
   outcome_blank = ⊎_elim (λ none. none)
       (λ h. let o : OutcomeRule old p.slot = u.before.met Rules.OutcomeCells (outcome_at p.slot) (record { found = h.0; stands = h.1 }) p.slot free refl in
-          absurd (none-some _ (sym (u.horizon.free free) ∙ o.reserve.stands)))
+      absurd (none-some _ (sym (u.horizon.free free) ∙ o.reserve.stands)))
       (look old (outcome_at p.slot))
 
   -- the old image has no committed slot, so a blank done cell stays so
-  done_blank : (m from reserved bytes journal : ℕ) → Commits g old m from reserved bytes journal → old (done_at m) ≡ None → ⊥
+  done_blank : (m from reserved bytes journal : ℕ) → Commits g old m from reserved bytes journal
+      → old (done_at m) ≡ None → ⊥
   done_blank m from reserved bytes journal c none = ⊎_elim
       (λ (a : IsAbandonedSlot g old old m). no_abandon bytes journal (one_record_holds old (outcome_at m) (Commit bytes journal) Abandon c.outcome a.abandoned.abandons.outcome))
       (λ (d : IsDoneSlot g old m). none-some _ (sym none ∙ d.done.done.stands))
       (u.before.ended p.slot m u.horizon (below_horizon g old u.before p.slot m free u.horizon c.reserves.slot (written c.reserves)))
 
-  pub stores_on' : {m from reserved bytes journal : ℕ} → Stores g old m from reserved bytes journal → Stores g new m from reserved bytes journal
+  pub stores_on' : {m from reserved bytes journal : ℕ} → Stores g old m from reserved bytes journal
+      → Stores g new m from reserved bytes journal
   stores_on' {m} {from} {reserved} {bytes} {journal} c = record {
     commits = commits_on keeps c.commits;
     done = ⊎_elim (λ none. absurd (done_blank m from reserved bytes journal c.commits none)) (λ h. inr (holds_on keeps h)) c.done;
@@ -161,49 +174,55 @@ module _ {g : Layout} {old new : Image} {p : Plan} (u : IsFilled g old new p) wh
   index_on' (of_root lies) = of_root lies
   index_on' (of_slot m le b) = of_slot m le (record { start = b.start; length = b.length; bytes = b.bytes; journal = b.journal; stores = stores_on' b.stores; from = b.from; below = b.below })
 
-  in_order_on' : {n from reserved bytes journal place : ℕ} → IsInOrder g old n from reserved bytes journal place → IsInOrder g new n from reserved bytes journal place
+  in_order_on' : {n from reserved bytes journal place : ℕ}
+      → IsInOrder g old n from reserved bytes journal place → IsInOrder g new n from reserved bytes journal place
   in_order_on' {n} {from} {reserved} {bytes} {journal} {place} o = record {
-    target = o.target; copied = o.copied; copies = copies_on keeps o.copies;
+    target = o.target;
+    copied = o.copied;
+    copies = copies_on keeps o.copies;
     rises = ⊎_elim inl (λ (h : (before : ℕ) × (lower : ℕ) × (other : RecordCell) × (place ≡ before + 1) × Copies old from reserved journal before lower other × (lower < o.target)).
         inr (h.0, h.1, h.2, h.3, copies_on keeps h.4, h.5)) o.rises;
-    before_document = o.before_document; index = index_on' o.index;
+    before_document = o.before_document;
+    index = index_on' o.index;
   }
 
   -- a slot that is done is the plan's, with its numbers, or another
   same_numbers : {m from reserved bytes journal : ℕ} → Commits g new m from reserved bytes journal → m ≡ p.slot
-      → (from ≡ p.start) × (reserved ≡ p.reserved) × (bytes ≡ length (stored_of p)) × (journal ≡ length p.entries)
+      → (from ≡ p.start) × (reserved ≡ p.reserved) × (bytes ≡ length (stored_of p)) × (journal ≡ length p.journal)
   same_numbers {m} {from} {reserved} {bytes} {journal} c same =
       let r = reserves from reserved p.start p.reserved (one_record_holds new (reserve_at p.slot) (Reserve from reserved) (Reserve p.start p.reserved)
-          (subst (λ (k : ℕ). Holds new (reserve_at k) (Reserve from reserved)) same c.reserves.reserve) u.reserves.reserve) in
-      let o = commits bytes journal (length (stored_of p)) (length p.entries) (one_record_holds new (outcome_at p.slot) (Commit bytes journal) (Commit (length (stored_of p)) (length p.entries))
-          (subst (λ (k : ℕ). Holds new (outcome_at k) (Commit bytes journal)) same c.outcome) u.commit) in
+      (subst (λ (k : ℕ). Holds new (reserve_at k) (Reserve from reserved)) same c.reserves.reserve) u.reserves.reserve) in
+      let o = commits bytes journal (length (stored_of p)) (length p.journal) (one_record_holds new (outcome_at p.slot) (Commit bytes journal) (Commit (length (stored_of p)) (length p.journal))
+      (subst (λ (k : ℕ). Holds new (outcome_at k) (Commit bytes journal)) same c.outcome) u.commit) in
       (r.0, r.1, o.0, o.1)
 
   -- what holds of the plan's numbers holds of these
-  by_plan : (P : ℕ → ℕ → ℕ → ℕ → ℕ → Type 0) {m from reserved bytes journal : ℕ} → Commits g new m from reserved bytes journal → m ≡ p.slot
-      → P p.slot p.start p.reserved (length (stored_of p)) (length p.entries) → P m from reserved bytes journal
+  by_plan : (P : ℕ → ℕ → ℕ → ℕ → ℕ → Type 0) {m from reserved bytes journal : ℕ}
+      → Commits g new m from reserved bytes journal → m ≡ p.slot
+      → P p.slot p.start p.reserved (length (stored_of p)) (length p.journal) → P m from reserved bytes journal
   by_plan P {m} {from} {reserved} {bytes} {journal} c same h =
       let e = same_numbers c same in
-      let h1 : P m p.start p.reserved (length (stored_of p)) (length p.entries) = subst (λ (k : ℕ). P k p.start p.reserved (length (stored_of p)) (length p.entries)) (sym same) h in
-      let h2 : P m from p.reserved (length (stored_of p)) (length p.entries) = subst (λ (k : ℕ). P m k p.reserved (length (stored_of p)) (length p.entries)) (sym e.0) h1 in
-      let h3 : P m from reserved (length (stored_of p)) (length p.entries) = subst (λ (k : ℕ). P m from k (length (stored_of p)) (length p.entries)) (sym e.1) h2 in
-      let h4 : P m from reserved bytes (length p.entries) = subst (λ (k : ℕ). P m from reserved k (length p.entries)) (sym e.2) h3 in
+      let h1 : P m p.start p.reserved (length (stored_of p)) (length p.journal) = subst (λ (k : ℕ). P k p.start p.reserved (length (stored_of p)) (length p.journal)) (sym same) h in
+      let h2 : P m from p.reserved (length (stored_of p)) (length p.journal) = subst (λ (k : ℕ). P m k p.reserved (length (stored_of p)) (length p.journal)) (sym e.0) h1 in
+      let h3 : P m from reserved (length (stored_of p)) (length p.journal) = subst (λ (k : ℕ). P m from k (length (stored_of p)) (length p.journal)) (sym e.1) h2 in
+      let h4 : P m from reserved bytes (length p.journal) = subst (λ (k : ℕ). P m from reserved k (length p.journal)) (sym e.2) h3 in
       subst (λ (k : ℕ). P m from reserved bytes k) (sym e.3) h4
 
   ended_on : {m : ℕ} → HasEnded g old old m → HasEnded g new new m
   ended_on {m} h = ⊎_elim
       (λ (a : IsAbandonedSlot g old old m).
-          let r = a.abandoned.abandons.reserves in
-          let other : m ≡ p.slot → ⊥ = λ same. none-some _ (sym (u.horizon.free free) ∙ ap (λ (k : ℕ). old (reserve_at k)) (sym same) ∙ r.reserve.stands) in
-          inl (record {
-            start = a.start; length = a.length;
-            abandoned = record {
-              abandons = record { reserves = reserves_on keeps r; outcome = holds_on keeps a.abandoned.abandons.outcome };
-              done = ⊎_elim (λ none. none)
-                  (λ x. absurd (none-some _ (sym a.abandoned.done ∙ log_was (done_at m) x.0 (omega (arith, r.slot)) (no_done other) x.1)))
-                  (look new (done_at m));
-            };
-          }))
+      let r = a.abandoned.abandons.reserves in
+      let other : m ≡ p.slot → ⊥ = λ same. none-some _ (sym (u.horizon.free free) ∙ ap (λ (k : ℕ). old (reserve_at k)) (sym same) ∙ r.reserve.stands) in
+      inl (record {
+        start = a.start;
+        length = a.length;
+        abandoned = record {
+          abandons = record { reserves = reserves_on keeps r; outcome = holds_on keeps a.abandoned.abandons.outcome };
+          done = ⊎_elim (λ none. none)
+              (λ x. absurd (none-some _ (sym a.abandoned.done ∙ log_was (done_at m) x.0 (omega (arith, r.slot)) (no_done other) x.1)))
+              (look new (done_at m));
+        };
+      }))
       (λ (d : IsDoneSlot g old m). inr (record { start = d.start; length = d.length; bytes = d.bytes; journal = d.journal; done = done_on keeps d.done }))
       h
 
@@ -211,17 +230,19 @@ module _ {g : Layout} {old new : Image} {p : Plan} (u : IsFilled g old new p) wh
   rule_1 m inside w = ⊎_elim
       (λ same. subst (λ (k : ℕ). ReserveRule g new k) (sym same) here)
       (λ other. let r : ReserveRule g old m = u.before.met Rules.ReserveCells (reserve_at m) (log_stood (omega arith) (no_reserve other) w) m inside refl in
-          record {
-            start = r.start; length = r.length;
-            reserves = reserves_on keeps r.reserves;
-            begins = ends_on keeps keeps r.begins;
-            before = λ k is. ended_on (r.before k is);
-          })
+      record {
+        start = r.start;
+        length = r.length;
+        reserves = reserves_on keeps r.reserves;
+        begins = ends_on keeps keeps r.begins;
+        before = λ k is. ended_on (r.before k is);
+      })
       (same_or_not m p.slot)
     where
       here : ReserveRule g new p.slot
       here = record {
-        start = p.start; length = p.reserved;
+        start = p.start;
+        length = p.reserved;
         reserves = u.reserves;
         begins = ends_on keeps keeps u.begins;
         before = λ k is. ended_on (u.before.ended p.slot k u.horizon (omega arith));
@@ -231,84 +252,101 @@ module _ {g : Layout} {old new : Image} {p : Plan} (u : IsFilled g old new p) wh
   rule_2 m inside w = ⊎_elim
       (λ same. subst (λ (k : ℕ). OutcomeRule new k) (sym same) here)
       (λ other.
-          let r : OutcomeRule old m = u.before.met Rules.OutcomeCells (outcome_at m) (log_stood (omega arith) (no_outcome other) w) m inside refl in
-          record {
-            reserve = written_on keeps r.reserve;
-            outcome = ⊎_elim (λ h. inl (holds_on keeps h))
-                (λ h. inr (h.0, h.1, holds_on keeps h.2, λ from reserved r. h.3 from reserved (log_held (omega arith) (no_reserve other) r)))
-                r.outcome;
-          })
+      let r : OutcomeRule old m = u.before.met Rules.OutcomeCells (outcome_at m) (log_stood (omega arith) (no_outcome other) w) m inside refl in
+      record {
+        reserve = written_on keeps r.reserve;
+        outcome = ⊎_elim (λ h. inl (holds_on keeps h))
+            (λ h. inr (h.0, h.1, holds_on keeps h.2, λ from reserved r. h.3 from reserved (log_held (omega arith) (no_reserve other) r)))
+            r.outcome;
+      })
       (same_or_not m p.slot)
     where
       here : OutcomeRule new p.slot
       here = record {
         reserve = written u.reserves;
-        outcome = inr (length (stored_of p), length p.entries, u.commit, λ from reserved h.
-            let e = reserves from reserved p.start p.reserved (one_record_holds new (reserve_at p.slot) (Reserve from reserved) (Reserve p.start p.reserved) h u.reserves.reserve) in
-            omega (arith, e.1, u.fits));
+        outcome = inr (
+          length (stored_of p),
+          length p.journal,
+          u.commit,
+          λ from reserved h.
+              let e = reserves from reserved p.start p.reserved (one_record_holds new (reserve_at p.slot) (Reserve from reserved) (Reserve p.start p.reserved) h u.reserves.reserve) in
+              omega (arith, e.1, u.fits),
+        );
       }
 
   pub rule_3 : (m : ℕ) → m < g.slots → IsWritten new (done_at m) → DoneRule new m
   rule_3 m inside w = ⊎_elim
-      (λ same. subst (λ (k : ℕ). DoneRule new k) (sym same) (record { done = u.done; bytes = length (stored_of p); journal = length p.entries; commit = u.commit }))
+      (λ same. subst (λ (k : ℕ). DoneRule new k) (sym same) (record { done = u.done; bytes = length (stored_of p); journal = length p.journal; commit = u.commit }))
       (λ other.
-          let r : DoneRule old m = u.before.met Rules.DoneCells (done_at m) (log_stood (omega arith) (no_done other) w) m inside refl in
-          record { done = holds_on keeps r.done; bytes = r.bytes; journal = r.journal; commit = holds_on keeps r.commit })
+      let r : DoneRule old m = u.before.met Rules.DoneCells (done_at m) (log_stood (omega arith) (no_done other) w) m inside refl in
+      record { done = holds_on keeps r.done; bytes = r.bytes; journal = r.journal; commit = holds_on keeps r.commit })
       (same_or_not m p.slot)
 
   pub rule_4 : (m : ℕ) → DocumentRule g new m
   rule_4 m from reserved bytes journal c = ⊎_elim
       (λ same. by_plan (λ m from reserved bytes journal. HasDocument new (document_at from reserved bytes journal) bytes) c.commits same here)
       (λ other.
-          let b = stores_back other c in
-          let r : DocumentRule g old m = u.before.met Rules.Documents (outcome_at m) (record { found = b.commits.outcome.cell; stands = b.commits.outcome.stands }) m b.commits.reserves.slot refl in
-          let d : HasDocument old (document_at from reserved bytes journal) bytes = r from reserved bytes journal b in
-          record { id = d.id; body = d.body; count = d.count; spells = spells_on _ _ keeps d.spells; is_identifier = d.is_identifier; is_body = d.is_body })
+      let b = stores_back other c in
+      let r : DocumentRule g old m = u.before.met Rules.Documents (outcome_at m) (record { found = b.commits.outcome.cell; stands = b.commits.outcome.stands }) m b.commits.reserves.slot refl in
+      let d : HasDocument old (document_at from reserved bytes journal) bytes = r from reserved bytes journal b in
+      record { id = d.id; body = d.body; count = d.count; spells = spells_on _ _ keeps d.spells; is_identifier = d.is_identifier; is_body = d.is_body })
       (same_or_not m p.slot)
     where
-      here : HasDocument new (document_at p.start p.reserved (length (stored_of p)) (length p.entries)) (length (stored_of p))
+      here : HasDocument new (document_at p.start p.reserved (length (stored_of p)) (length p.journal)) (length (stored_of p))
       here = record {
-        id = p.id; body = p.body; count = refl;
+        id = p.id;
+        body = p.body;
+        count = refl;
         spells = λ k below. u.rows.adds _ _ (Storing, inl (record { place = k; below = below; at = refl; is = refl }));
-        is_identifier = u.is_identifier; is_body = u.is_body;
+        is_identifier = u.is_identifier;
+        is_body = u.is_body;
       }
 
   -- each journal cell of an old slot stood, and was in order
-  old_entry : {m from reserved bytes journal : ℕ} → Stores g old m from reserved bytes journal → (place : ℕ) → place < journal → IsWritten old (journal_at from reserved journal + place)
+  old_entry : {m from reserved bytes journal : ℕ} → Stores g old m from reserved bytes journal → (place : ℕ)
+      → place < journal → IsWritten old (journal_at from reserved journal + place)
   old_entry {m} {from} {reserved} {bytes} {journal} b place below =
       let r : JournalRule g old (outcome_at m) = u.before.met Rules.Journals (outcome_at m) (record { found = b.commits.outcome.cell; stands = b.commits.outcome.stands }) in
       r.commit m from reserved bytes journal place b below refl
 
-  copies_was : {m from reserved bytes journal place target : ℕ} {r : RecordCell} → Stores g old m from reserved bytes journal
+  copies_was : {m from reserved bytes journal place target : ℕ} {r : RecordCell}
+      → Stores g old m from reserved bytes journal
       → Copies new from reserved journal place target r → Copies old from reserved journal place target r
   copies_was {m} {from} {reserved} {bytes} {journal} {place} b c = copies_back keeps (old_entry b place c.below) c
 
-  planned_order : (place : ℕ) → place < length p.entries → IsInOrder g new p.slot p.start p.reserved (length (stored_of p)) (length p.entries) place
+  planned_order : (place : ℕ) → place < length p.journal
+      → IsInOrder g new p.slot p.start p.reserved (length (stored_of p)) (length p.journal) place
   planned_order place below =
-      let q = u.entries place below in
+      let q = u.in_order place below in
       record {
-        target = q.target; copied = q.copied; copies = entry_copies q.entry;
-        rises = ⊎_elim inl (λ (h : (before : ℕ) × (lower : ℕ) × (other : RecordCell) × (place ≡ before + 1) × IsEntry p before lower other × (lower < q.target)).
+        target = q.target;
+        copied = q.copied;
+        copies = entry_copies q.entry;
+        rises = ⊎_elim inl (λ (h : (before : ℕ) × (lower : ℕ) × (other : RecordCell) × (place ≡ before + 1) × IsCopy p before lower other × (lower < q.target)).
             inr (h.0, h.1, h.2, h.3, entry_copies h.4, h.5)) q.rises;
         before_document = q.before_document;
         index = ⊎_elim index_on'
             (λ from. of_slot p.slot (omega arith) (record {
-              start = p.start; length = p.reserved; bytes = length (stored_of p); journal = length p.entries;
+              start = p.start;
+              length = p.reserved;
+              bytes = length (stored_of p);
+              journal = length p.journal;
               stores = record { commits = mine.commits; done = inr u.done };
-              from = from; below = q.before_document;
+              from = from;
+              below = q.before_document;
             }))
             q.index;
       }
 
   pub rule_5 : (cell : ℕ) → IsWritten new cell → JournalRule g new cell
   rule_5 cell w = record {
-    entry = λ m from reserved bytes journal place c below at. ⊎_elim
+    copy = λ m from reserved bytes journal place c below at. ⊎_elim
         (λ same. in_order_at m from reserved bytes journal place c same below)
         (λ other.
-            let b = stores_back other c in
-            let before = old_entry b place below in
-            let r : JournalRule g old (journal_at from reserved journal + place) = u.before.met Rules.Journals (journal_at from reserved journal + place) before in
-            in_order_on' (r.entry m from reserved bytes journal place b below refl))
+        let b = stores_back other c in
+        let before = old_entry b place below in
+        let r : JournalRule g old (journal_at from reserved journal + place) = u.before.met Rules.Journals (journal_at from reserved journal + place) before in
+        in_order_on' (r.copy m from reserved bytes journal place b below refl))
         (same_or_not m p.slot);
     commit = λ m from reserved bytes journal place c below at. ⊎_elim
         (λ same. let o = in_order_at m from reserved bytes journal place c same below in record { found = o.copies.entry; stands = o.copies.stands })
@@ -316,7 +354,8 @@ module _ {g : Layout} {old new : Image} {p : Plan} (u : IsFilled g old new p) wh
         (same_or_not m p.slot);
   }
     where
-      in_order_at : (m from reserved bytes journal place : ℕ) → Stores g new m from reserved bytes journal → m ≡ p.slot → place < journal → IsInOrder g new m from reserved bytes journal place
+      in_order_at : (m from reserved bytes journal place : ℕ) → Stores g new m from reserved bytes journal
+          → m ≡ p.slot → place < journal → IsInOrder g new m from reserved bytes journal place
       in_order_at m from reserved bytes journal place c same below =
           by_plan (λ m from reserved bytes journal. place < journal → IsInOrder g new m from reserved bytes journal place) c.commits same (planned_order place) below
 
@@ -324,14 +363,14 @@ module _ {g : Layout} {old new : Image} {p : Plan} (u : IsFilled g old new p) wh
   rule_6 cell w = record {
     done = λ m from reserved bytes journal place target copied d k at. ⊎_elim
         (λ same. by_plan (λ m from reserved bytes journal. Copies new from reserved journal place target copied → new target ≡ new (journal_at from reserved journal + place))
-            d.commits same (λ c. u.rows.adds target c.entry (Applying, copies_applied c) ∙ sym c.stands) k ∙ sym (ap new at))
+        d.commits same (λ c. u.rows.adds target c.entry (Applying, copies_applied c) ∙ sym c.stands) k ∙ sym (ap new at))
         (λ other.
-            let b = done_back other d in
-            let c = copies_was (record { commits = b.commits; done = inr b.done }) k in
-            let here : old cell ≡ Some c.entry = ap old at ∙ c.stands in
-            let r : RedoneRule g old cell = u.before.met Rules.Targets cell (record { found = c.entry; stands = here }) in
-            let same : old target ≡ old cell = r.done m from reserved bytes journal place target copied b c at in
-            keeps.keeps _ _ (same ∙ here) ∙ sym (keeps.keeps _ _ here))
+        let b = done_back other d in
+        let c = copies_was (record { commits = b.commits; done = inr b.done }) k in
+        let here : old cell ≡ Some c.entry = ap old at ∙ c.stands in
+        let r : RedoneRule g old cell = u.before.met Rules.Targets cell (record { found = c.entry; stands = here }) in
+        let same : old target ≡ old cell = r.done m from reserved bytes journal place target copied b c at in
+        keeps.keeps _ _ (same ∙ here) ∙ sym (keeps.keeps _ _ here))
         (same_or_not m p.slot);
     committed = λ m from reserved bytes journal place target copied d k at. ⊎_elim
         (λ same. absurd (none-some _ (sym d.done ∙ ap (λ (k : ℕ). new (done_at k)) same ∙ u.done.stands)))
@@ -347,10 +386,11 @@ module _ {g : Layout} {old new : Image} {p : Plan} (u : IsFilled g old new p) wh
       low less = ⊎_elim
           (λ same. none-some _ (sym (h.free (omega (arith, free))) ∙ ap (λ (i : ℕ). new (reserve_at i)) same ∙ u.reserves.reserve.stands))
           (λ differ. ⊎_elim
-              (λ below. let w = taken_to g old u.before p.slot u.horizon k below in
-                  none-some _ (sym (h.free (omega (arith, free))) ∙ keeps.keeps (reserve_at k) w.found w.stands))
-              (λ above. absurd (omega arith)) differ)
+          (λ below. let w = taken_to g old u.before p.slot u.horizon k below in
+          none-some _ (sym (h.free (omega (arith, free))) ∙ keeps.keeps (reserve_at k) w.found w.stands))
+          (λ above. absurd (omega arith)) differ)
           (cases_order k p.slot)
+
       high : (k : ℕ) → IsHorizon g new new k → p.slot + 1 < k → ⊥
       high zero h above = omega arith
       high (suc m) h above =
@@ -374,7 +414,7 @@ module _ {g : Layout} {old new : Image} {p : Plan} (u : IsFilled g old new p) wh
   all_ended k m h less =
       let is : k ≡ p.slot + 1 = horizon_is k h in
       ⊎_elim
-      (λ same. inr (subst (λ (i : ℕ). IsDoneSlot g new i) (sym same) (record { start = p.start; length = p.reserved; bytes = length (stored_of p); journal = length p.entries; done = mine })))
+      (λ same. inr (subst (λ (i : ℕ). IsDoneSlot g new i) (sym same) (record { start = p.start; length = p.reserved; bytes = length (stored_of p); journal = length p.journal; done = mine })))
       (λ other. ended_on (u.before.ended p.slot m u.horizon (below m less is other)))
       (same_or_not m p.slot)
     where
@@ -388,14 +428,15 @@ module _ {g : Layout} {old new : Image} {p : Plan} (u : IsFilled g old new p) wh
       r.edge p.start old_edge pool
 
   -- an index cell of the new image that is old was one of the old
-  old_index : (cell : ℕ) (value : List ℕ) → old cell ≡ Some value → IsDoneIndexCell g new cell → IsDoneIndexCell g old cell
+  old_index : (cell : ℕ) (value : List ℕ) → old cell ≡ Some value → IsDoneIndexCell g new cell
+      → IsDoneIndexCell g old cell
   old_index cell value is (Rules.IsDoneIndexCell.of_list l lies) = Rules.IsDoneIndexCell.of_list l lies
   old_index cell value is (Rules.IsDoneIndexCell.of_root lies) = Rules.IsDoneIndexCell.of_root lies
   old_index cell value is (Rules.IsDoneIndexCell.of_slot m from reserved bytes journal d low high) = ⊎_elim
       (λ same. absurd (
-          let e = same_numbers d.commits same in
-          let before = old_low cell value is (omega (arith, d.commits.reserves.from)) in
-          omega (arith, e.0)))
+      let e = same_numbers d.commits same in
+      let before = old_low cell value is (omega (arith, d.commits.reserves.from)) in
+      omega (arith, e.0)))
       (λ other. Rules.IsDoneIndexCell.of_slot m from reserved bytes journal (done_back other d) low high)
       (same_or_not m p.slot)
 
@@ -410,13 +451,13 @@ module _ {g : Layout} {old new : Image} {p : Plan} (u : IsFilled g old new p) wh
   no_stored_index cell far (Rules.IsDoneIndexCell.of_root lies) = let b = blocks_from in let f = u.reserves.from in omega (arith, lies.below)
   no_stored_index cell far (Rules.IsDoneIndexCell.of_slot m from reserved bytes journal d least high) = ⊎_elim
       (λ same.
-          let here : blocks_end p ≤ cell → cell < document_at from reserved bytes journal → ⊥ =
-              by_plan (λ m from reserved bytes journal. blocks_end p ≤ cell → cell < document_at from reserved bytes journal → ⊥) d.commits same (λ far high. omega arith) in
-          here far high)
+      let here : blocks_end p ≤ cell → cell < document_at from reserved bytes journal → ⊥ =
+      by_plan (λ m from reserved bytes journal. blocks_end p ≤ cell → cell < document_at from reserved bytes journal → ⊥) d.commits same (λ far high. omega arith) in
+      here far high)
       (λ other.
-          let b = done_back other d in
-          let e = ends b.commits.reserves in
-          let f = blocks_from in omega (arith, b.commits.fits))
+      let b = done_back other d in
+      let e = ends b.commits.reserves in
+      let f = blocks_from in omega (arith, b.commits.fits))
       (same_or_not m p.slot)
 
   -- each cell of the plan lies where it may
@@ -428,51 +469,68 @@ module _ {g : Layout} {old new : Image} {p : Plan} (u : IsFilled g old new p) wh
 
   row_lies : (cell : ℕ) (value : List ℕ) → (phase : Phase) → Row p phase cell value → LiesWell cell
   row_lies cell value Reserving row = record {
-    kept_blank = omega (arith, row.at); spare = λ n inside same. omega (arith, row.at);
-    named = λ i. absurd (no_log_index cell (omega (arith, row.at, free)) i); edge = λ pool. absurd (omega (arith, row.at, free));
+    kept_blank = omega (arith, row.at);
+    spare = λ n inside same. omega (arith, row.at);
+    named = λ i. absurd (no_log_index cell (omega (arith, row.at, free)) i);
+    edge = λ pool. absurd (omega (arith, row.at, free));
   }
   row_lies cell value Storing row = let low = stored_from row in let high = stored_to row in let b = blocks_from in let f = u.reserves.from in record {
-    kept_blank = omega arith; spare = λ n inside same. omega arith;
-    named = λ i. absurd (no_stored_index cell low i); edge = λ pool. high;
+    kept_blank = omega arith;
+    spare = λ n inside same. omega arith;
+    named = λ i. absurd (no_stored_index cell low i);
+    edge = λ pool. high;
   }
   row_lies cell value Committing row = record {
-    kept_blank = omega (arith, row.at); spare = λ n inside same. omega (arith, row.at);
-    named = λ i. absurd (no_log_index cell (omega (arith, row.at, free)) i); edge = λ pool. absurd (omega (arith, row.at, free));
+    kept_blank = omega (arith, row.at);
+    spare = λ n inside same. omega (arith, row.at);
+    named = λ i. absurd (no_log_index cell (omega (arith, row.at, free)) i);
+    edge = λ pool. absurd (omega (arith, row.at, free));
   }
   row_lies cell value Applying row = let low = applied_far row in let high = applied_low row in let b = blocks_to in record {
-    kept_blank = omega arith; spare = λ n inside same. omega arith;
+    kept_blank = omega arith;
+    spare = λ n inside same. omega arith;
     named = λ i. record {
-      m = p.slot; start = p.start; length = p.reserved; bytes = length (stored_of p); journal = length p.entries; done = mine;
-      place = row.place; copied = row.copied; copies = entry_copies (applied_entry row);
+      m = p.slot;
+      start = p.start;
+      length = p.reserved;
+      bytes = length (stored_of p);
+      journal = length p.journal;
+      done = mine;
+      place = row.place;
+      copied = row.copied;
+      copies = entry_copies (applied_entry row);
     };
     edge = λ pool. omega arith;
   }
   row_lies cell value Finishing row = record {
-    kept_blank = omega (arith, row.at); spare = λ n inside same. omega (arith, row.at);
-    named = λ i. absurd (no_log_index cell (omega (arith, row.at, free)) i); edge = λ pool. absurd (omega (arith, row.at, free));
+    kept_blank = omega (arith, row.at);
+    spare = λ n inside same. omega (arith, row.at);
+    named = λ i. absurd (no_log_index cell (omega (arith, row.at, free)) i);
+    edge = λ pool. absurd (omega (arith, row.at, free));
   }
 
   pub rule_7 : (cell : ℕ) → IsWritten new cell → BlankRule g new cell
   rule_7 cell w = ⊎_elim
       (λ was.
-          let r : BlankRule g old cell = u.before.met Rules.StrayCells cell (record { found = w.found; stands = was }) in
-          record {
-            kept_blank = r.kept_blank;
-            spare = r.spare;
-            named = λ i. named_on keeps (r.named (old_index cell w.found was i));
-            edge = λ at e pool. let is = edge_is at e in let less = r.edge p.start old_edge pool in omega arith;
-          })
+      let r : BlankRule g old cell = u.before.met Rules.StrayCells cell (record { found = w.found; stands = was }) in
+      record {
+        kept_blank = r.kept_blank;
+        spare = r.spare;
+        named = λ i. named_on keeps (r.named (old_index cell w.found was i));
+        edge = λ at e pool. let is = edge_is at e in let less = r.edge p.start old_edge pool in omega arith;
+      })
       (λ (row : AnyRow p cell w.found).
-          let r = row_lies cell w.found row.0 row.1 in
-          record {
-            kept_blank = λ one. r.kept_blank;
-            spare = r.spare;
-            named = r.named;
-            edge = λ at e pool. let is = edge_is at e in let less = r.edge pool in omega arith;
-          })
+      let r = row_lies cell w.found row.0 row.1 in
+      record {
+        kept_blank = λ one. r.kept_blank;
+        spare = r.spare;
+        named = r.named;
+        edge = λ at e pool. let is = edge_is at e in let less = r.edge pool in omega arith;
+      })
       (u.rows.only cell w.found w.stands)
 
-  pub rule_15 : (m from reserved bytes journal : ℕ) → IsDone g new m from reserved bytes journal → TilingRule new from reserved bytes journal
+  pub rule_15 : (m from reserved bytes journal : ℕ) → IsDone g new m from reserved bytes journal
+      → TilingRule new from reserved bytes journal
   rule_15 m from reserved bytes journal d = ⊎_elim
       (λ same. by_plan (λ m from reserved bytes journal. TilingRule new from reserved bytes journal) d.commits same u.tiles)
       (λ other. old_tiles (done_back other d))
@@ -491,35 +549,52 @@ module _ {g : Layout} {old new : Image} {p : Plan} (u : IsFilled g old new p) wh
             tile = tile_on st r.targets from (document_at from reserved bytes journal) r.tile;
           }
         where
-          jump_back : Stores g old m from reserved bytes journal → {target : ℕ} → HasJump new from reserved journal target → HasJump old from reserved journal target
+          jump_back : Stores g old m from reserved bytes journal → {target : ℕ}
+              → HasJump new from reserved journal target → HasJump old from reserved journal target
           jump_back st h = (h.0, h.1, copies_was st h.2)
+
           jump_on : {target : ℕ} → HasJump old from reserved journal target → HasJump new from reserved journal target
           jump_on h = (h.0, h.1, copies_on keeps h.2)
-          child_back : Stores g old m from reserved bytes journal → {target : ℕ} → HasChild new from reserved journal target → HasChild old from reserved journal target
+
+          child_back : Stores g old m from reserved bytes journal → {target : ℕ}
+              → HasChild new from reserved journal target → HasChild old from reserved journal target
           child_back st h = (h.0, h.1, copies_was st h.2)
-          child_on : {target : ℕ} → HasChild old from reserved journal target → HasChild new from reserved journal target
+
+          child_on : {target : ℕ} → HasChild old from reserved journal target
+              → HasChild new from reserved journal target
           child_on h = (h.0, h.1, copies_on keeps h.2)
-          size_on : Stores g old m from reserved bytes journal → {target count : ℕ} → IsSize old from reserved journal target count → IsSize new from reserved journal target count
+
+          size_on : Stores g old m from reserved bytes journal → {target count : ℕ}
+              → IsSize old from reserved journal target count → IsSize new from reserved journal target count
           size_on st h = ⊎_elim (λ x. inl (x.0, jump_on x.1)) (λ x. inr (x.0, λ j. x.1 (jump_back st j))) h
-          tile_on : Stores g old m from reserved bytes journal → (targets : List ℕ) (low high : ℕ) → Tile old from reserved journal low high targets → Tile new from reserved journal low high targets
+
+          tile_on : Stores g old m from reserved bytes journal → (targets : List ℕ) (low high : ℕ)
+              → Tile old from reserved journal low high targets → Tile new from reserved journal low high targets
           tile_on st [] low high t = t
           tile_on st (target ∷ targets) low high t = (t.0, t.1, size_on st t.2, tile_on st targets (low + t.1) high t.3)
 
   -- a document of another slot stood before
-  pub stands_back : {m : ℕ} {id body : List ℕ} → (m ≡ p.slot → ⊥) → Stands g.cells new m id body → Stands g.cells old m id body
+  pub stands_back : {m : ℕ} {id body : List ℕ} → (m ≡ p.slot → ⊥) → Stands g.cells new m id body
+      → Stands g.cells old m id body
   stands_back {m} {id} {body} other t =
       let same : t.layout ≡ g = one_layout t.layout g t.volume (volume_on keeps u.volume) in
       let d : IsDone g new m t.start t.reserved (length (stored_bytes id body)) t.journal =
-          subst (λ (h : Layout). IsDone h new m t.start t.reserved (length (stored_bytes id body)) t.journal) same t.done in
+      subst (λ (h : Layout). IsDone h new m t.start t.reserved (length (stored_bytes id body)) t.journal) same t.done in
       let b = done_back other d in
       let r : DocumentRule g old m = u.before.met Rules.Documents (outcome_at m) (record { found = b.commits.outcome.cell; stands = b.commits.outcome.stands }) m b.commits.reserves.slot refl in
       let k : HasDocument old (document_at t.start t.reserved (length (stored_bytes id body)) t.journal) (length (stored_bytes id body)) =
-          r t.start t.reserved (length (stored_bytes id body)) t.journal (record { commits = b.commits; done = inr b.done }) in
+      r t.start t.reserved (length (stored_bytes id body)) t.journal (record { commits = b.commits; done = inr b.done }) in
       record {
-        layout = g; start = t.start; reserved = t.reserved; journal = t.journal;
-        volume = u.volume; slot = b.commits.reserves.slot; done = b;
+        layout = g;
+        start = t.start;
+        reserved = t.reserved;
+        journal = t.journal;
+        volume = u.volume;
+        slot = b.commits.reserves.slot;
+        done = b;
         spells = λ j below.
             let there = k.spells j (subst (λ (n : ℕ). j < cells_for n) k.count below) in
             there ∙ sym (keeps.keeps _ _ there) ∙ t.spells j below;
-        is_identifier = t.is_identifier; is_body = t.is_body;
+        is_identifier = t.is_identifier;
+        is_body = t.is_body;
       }

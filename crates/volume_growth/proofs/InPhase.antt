@@ -1,35 +1,38 @@
 -- An image that was left in one phase of an ingest.
-use Rattle.std.proofs.Common.{◌≡◌, ◌<◌, ◌≤◌, ◌+◌, ◌-◌, ◌⊎◌, ⊎_elim, inl, inr, ℕ, List, Some, None, refl, sym, ◌∙◌, arith, length}
-use Rattle.std.proofs.lemmas.Option.{none-some, slice_get_within}
+use Rattle.std.proofs.Common.{◌<◌, ◌≤◌, ⊎_elim, ℕ, List, sym, ◌∙◌, arith, length}
+use Rattle.std.proofs.lemmas.Option.{none-some}
 use Rattle.std.proofs.lemmas.Bool.{cases_lt}
-use Rattle.cell_types.specs.Image.{Image, Extends}
-use Rattle.cell_types.specs.Layout.{Layout, reserve_at, outcome_at, done_at, list_at, pool_at}
+use Rattle.cell_types.specs.Image.{Image}
+use Rattle.cell_types.specs.Layout.{Layout, pool_at}
 use Rattle.stored_documents.specs.Documents.{document_at}
-use Rattle.volume_growth.specs.Ingesting.{Plan, Phase, Reserving, Storing, Committing, Applying, Finishing, order_of, stored_of, ContentRow, EntryRow, AppliedRow, Row, IsInPhases, IsIngest, IsLeftIn, LeavesSound}
+use Rattle.volume_growth.specs.Ingesting.{Plan, Phase, Reserving, Storing, Committing, Applying, Finishing, order_of, stored_of, ContentRow, CopyRow, AppliedRow, Row, IsInPhases, IsIngest, IsLeftIn, LeavesSound}
 use Rattle.tamper_rules.proofs.GoingOn.{one_copy}
 use Rattle.volume_growth.proofs.Ingests.{slot_reserves, in_order, applied_copies, applied_far, stored_from}
 use Rattle.volume_growth.proofs.IngestLeaves.{leaves_sound}
 
 module _ {g : Layout} {old new : Image} {p : Plan} (i : IsIngest g old new p) where
   -- what is applied lies before the document, and what is stored does not
-  applied_low : {cell : ℕ} {value : List ℕ} → AppliedRow p cell value → cell < document_at p.start p.reserved (length (stored_of p)) (length p.entries)
+  applied_low : {cell : ℕ} {value : List ℕ} → AppliedRow p cell value
+      → cell < document_at p.start p.reserved (length (stored_of p)) (length p.journal)
   applied_low {cell} row =
       let c = applied_copies i row in
       let o = in_order i row.place c.below in
-      let same = one_copy new p.start p.reserved (length p.entries) row.place cell o.target row.copied o.copied c o.copies in
+      let same = one_copy new p.start p.reserved (length p.journal) row.place cell o.target row.copied o.copied c o.copies in
       omega (arith, o.before_document, same.1)
 
-  stored_high : {cell : ℕ} {value : List ℕ} → Row p Storing cell value → document_at p.start p.reserved (length (stored_of p)) (length p.entries) ≤ cell
+  stored_high : {cell : ℕ} {value : List ℕ} → Row p Storing cell value
+      → document_at p.start p.reserved (length (stored_of p)) (length p.journal) ≤ cell
   stored_high {cell} {value} row = ⊎_elim
       (λ (c : ContentRow p cell value). omega (arith, c.at))
-      (λ (c : EntryRow p cell value). omega (arith, c.at))
+      (λ (c : CopyRow p cell value). omega (arith, c.at))
       row
 
   pool_from : pool_at g ≤ p.start
   pool_from = let r = slot_reserves i in r.from
 
   -- no cell is of two phases
-  apart : (one : Phase) (two : Phase) → order_of one < order_of two → (cell : ℕ) (v w : List ℕ) → Row p one cell v → Row p two cell w → ⊥
+  apart : (one : Phase) (two : Phase) → order_of one < order_of two → (cell : ℕ) (v w : List ℕ)
+      → Row p one cell v → Row p two cell w → ⊥
   apart Reserving Reserving less cell v w a b = omega arith
   apart Reserving Storing less cell v w a b = let far = stored_from i b in omega (arith, far, a.at, i.free, pool_from)
   apart Reserving Committing less cell v w a b = omega (arith, a.at, b.at)
@@ -60,15 +63,18 @@ module _ {g : Layout} {old new : Image} {p : Plan} (i : IsIngest g old new p) wh
   in_phases {image} phase l earlier later less cell value row none is other held first = ⊎_elim
       (λ was. absurd (none-some _ (sym none ∙ was)))
       (λ (h : (one : Phase) × (order_of one ≤ order_of phase) × Row p one cell value). ⊎_elim
-          (λ low. absurd (apart h.0 later low cell value value h.2 row))
-          (λ high. l.before earlier (omega (arith, h.1)) other held first)
-          (cases_lt (order_of h.0) (order_of later)))
+      (λ low. absurd (apart h.0 later low cell value value h.2 row))
+      (λ high. l.before earlier (omega (arith, h.1)) other held first)
+      (cases_lt (order_of h.0) (order_of later)))
       (l.only cell value is)
 
-  pub left_sound : (image : Image) (phase : Phase) → IsLeftIn p old image phase → LeavesSound g.cells old new p.slot image
+  pub left_sound : (image : Image) (phase : Phase) → IsLeftIn p old image phase
+      → LeavesSound g.cells old new p.slot image
   left_sound image phase l = leaves_sound i l.keeps
-      (record { keeps = λ cell value is. ⊎_elim
-          (λ was. i.rows.keeps.keeps cell value was)
-          (λ (h : (one : Phase) × (order_of one ≤ order_of phase) × Row p one cell value). i.rows.adds cell value (h.0, h.2))
-          (l.only cell value is) })
+      (record {
+        keeps = λ cell value is. ⊎_elim
+            (λ was. i.rows.keeps.keeps cell value was)
+            (λ (h : (one : Phase) × (order_of one ≤ order_of phase) × Row p one cell value). i.rows.adds cell value (h.0, h.2))
+            (l.only cell value is);
+      })
       (in_phases phase l)

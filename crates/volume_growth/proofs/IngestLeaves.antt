@@ -1,21 +1,20 @@
 -- What an ingest that is cut short leaves.
-use Rattle.std.proofs.Common.{◌≡◌, ◌<◌, ◌≤◌, ◌+◌, ◌-◌, ◌*◌, ◌^◌, ◌⊎◌, ⊎_elim, inl, inr, ℕ, suc, zero, List, [], Some, None, refl, sym, ◌∙◌, subst, ap, arith, length}
-use Rattle.std.specs.Prelude.{Contains, slice_get}
-use Rattle.std.proofs.lemmas.Option.{none-some, slice_get_within, slice_get-get_or}
+use Rattle.std.proofs.Common.{◌≡◌, ◌<◌, ◌+◌, ◌⊎◌, ⊎_elim, inl, inr, ℕ, List, [], Some, None, refl, sym, ◌∙◌, subst, ap, arith, length}
+use Rattle.std.proofs.lemmas.Option.{none-some, slice_get-get_or}
 use Rattle.cell_types.specs.Image.{Image, Extends}
-use Rattle.cell_types.specs.Layout.{Layout, reserve_at, outcome_at, done_at, list_at, root_at, pool_at}
+use Rattle.cell_types.specs.Layout.{Layout, reserve_at, outcome_at, done_at, list_at}
 use Rattle.cell_types.specs.Records.{IsRecordCell, record_bytes}
 use Rattle.cell_types.specs.declared.record_cell.RecordCell.{RecordCell}
-use Rattle.cell_types.specs.declared.record_cell.RecordCell.TheVariants.{Reserve, Commit, Abandon, Done}
+use Rattle.cell_types.specs.declared.record_cell.RecordCell.TheVariants.{Abandon}
 use Rattle.stored_documents.specs.Documents.{Document, AreDocuments}
 use Rattle.volume_growth.specs.Ingesting.{Plan, Phase, Reserving, Storing, Committing, Applying, Finishing, order_of, stored_of, Row, AnyRow, IsInPhases, IsIngest, LeavesSound}
 use Rattle.tamper_rules.specs.Journals.{journal_at, Copies, IsIndexCell, of_list, of_root, of_slot, IsInOrder}
-use Rattle.tamper_rules.specs.Settling.{Settled, IsOneHorizon, JournalRow, DoneRow, After, nothing, abandoned, completed, of_after, IsGivenUp, IsOf, of_reserve, of_outcome, of_range}
+use Rattle.tamper_rules.specs.Settling.{Settled, IsOneHorizon, JournalRow, DoneRow, After, nothing, abandoned, completed, of_after}
 use Rattle.stored_documents.specs.Slots.{Reserves, Commits, Stores, IsHorizon}
 use Rattle.stored_documents.specs.Volumes.{Holds, IsWritten}
 use Rattle.stored_documents.proofs.Extending.{volume_on, written_on, blank_before, reserves_on, document_on}
 use Rattle.stored_documents.proofs.Holding.{some_is}
-use Rattle.tamper_rules.proofs.GivenUp.{stands_inside}
+use Rattle.tamper_rules.proofs.GivenUp.{stands_inside, IsGivenUp, IsOf, of_reserve, of_outcome, of_range}
 use Rattle.tamper_rules.proofs.GivenUpRules.{given_up_is_settled, given_up_stands}
 use Rattle.tamper_rules.proofs.GoingOn.{copies_on, copies_back}
 use Rattle.tamper_rules.proofs.Images.{same_both, look, all_of_it}
@@ -29,7 +28,8 @@ one_cell a b = a.same ∙ sym b.same
 
 module _ {g : Layout} {old new image : Image} {p : Plan} (i : IsIngest g old new p) (e : Extends old image) (f : Extends image new) (phases : IsInPhases p old image) where
   -- what stands in the image stood before, or is of the plan
-  row_of : (cell : ℕ) (value : List ℕ) → image cell ≡ Some value → (old cell ≡ Some value) ⊎ ((old cell ≡ None) × AnyRow p cell value)
+  row_of : (cell : ℕ) (value : List ℕ) → image cell ≡ Some value
+      → (old cell ≡ Some value) ⊎ ((old cell ≡ None) × AnyRow p cell value)
   row_of cell value is = ⊎_elim
       (λ none. ⊎_elim (λ was. inl was) (λ row. inr (none, row)) (i.rows.only cell value (f.keeps cell value is)))
       (λ h. inl (h.1 ∙ ap (λ (v : List ℕ). Some v) (some_is h.0 value (sym (e.keeps cell h.0 h.1) ∙ is))))
@@ -45,24 +45,30 @@ module _ {g : Layout} {old new image : Image} {p : Plan} (i : IsIngest g old new
   done_row = record { at = refl; is = i.done.is }
 
   -- with a commit cell all stands that comes before it, and so on
-  has_reserve : (phase : Phase) → order_of Reserving < order_of phase → (cell : ℕ) (value : List ℕ) → Row p phase cell value → old cell ≡ None → image cell ≡ Some value
+  has_reserve : (phase : Phase) → order_of Reserving < order_of phase → (cell : ℕ) (value : List ℕ)
+      → Row p phase cell value → old cell ≡ None → image cell ≡ Some value
       → image (reserve_at p.slot) ≡ Some i.reserve.cell
   has_reserve phase later cell value row none is = phases Reserving phase later cell value row none is (reserve_at p.slot) i.reserve.cell reserve_row
 
-  has_commit : (phase : Phase) → order_of Committing < order_of phase → (cell : ℕ) (value : List ℕ) → Row p phase cell value → old cell ≡ None → image cell ≡ Some value
+  has_commit : (phase : Phase) → order_of Committing < order_of phase → (cell : ℕ) (value : List ℕ)
+      → Row p phase cell value → old cell ≡ None → image cell ≡ Some value
       → image (outcome_at p.slot) ≡ Some i.commit.cell
   has_commit phase later cell value row none is = phases Committing phase later cell value row none is (outcome_at p.slot) i.commit.cell commit_row
 
-  same_found : (cell : ℕ) (value found : List ℕ) → new cell ≡ Some value → image cell ≡ Some found → image cell ≡ Some value
+  same_found : (cell : ℕ) (value found : List ℕ) → new cell ≡ Some value → image cell ≡ Some found
+      → image cell ≡ Some value
   same_found cell value found there is = is ∙ sym (f.keeps cell found is) ∙ there
 
   -- 1. no reserve cell: nothing is written
   untouched : image (reserve_at p.slot) ≡ None → image ≡ old
-  untouched blank = same_both e (record { keeps = λ cell value is. ⊎_elim (λ was. was)
-      (λ (h : (old cell ≡ None) × AnyRow p cell value). absurd (no_row cell value h.0 is (h.1).0 (h.1).1))
-      (row_of cell value is) })
+  untouched blank = same_both e (record {
+    keeps = λ cell value is. ⊎_elim (λ was. was)
+        (λ (h : (old cell ≡ None) × AnyRow p cell value). absurd (no_row cell value h.0 is (h.1).0 (h.1).1))
+        (row_of cell value is);
+  })
     where
-      no_row : (cell : ℕ) (value : List ℕ) → old cell ≡ None → image cell ≡ Some value → (phase : Phase) → Row p phase cell value → ⊥
+      no_row : (cell : ℕ) (value : List ℕ) → old cell ≡ None → image cell ≡ Some value → (phase : Phase)
+          → Row p phase cell value → ⊥
       no_row cell value none is Reserving row = none-some _ (sym blank ∙ ap image (sym row.at) ∙ is)
       no_row cell value none is Storing row = none-some _ (sym blank ∙ has_reserve Storing (omega arith) cell value row none is)
       no_row cell value none is Committing row = none-some _ (sym blank ∙ has_reserve Committing (omega arith) cell value row none is)
@@ -71,7 +77,8 @@ module _ {g : Layout} {old new image : Image} {p : Plan} (i : IsIngest g old new
 
   -- with the reserve cell the image has the new image's horizon
   module _ (reserved : image (reserve_at p.slot) ≡ Some i.reserve.cell) where
-    reserve_stands : (m : ℕ) (value : List ℕ) → m < g.slots → new (reserve_at m) ≡ Some value → image (reserve_at m) ≡ Some value
+    reserve_stands : (m : ℕ) (value : List ℕ) → m < g.slots → new (reserve_at m) ≡ Some value
+        → image (reserve_at m) ≡ Some value
     reserve_stands m value inside is = ⊎_elim (λ was. e.keeps (reserve_at m) value was)
         (λ of. here of)
         (log_of i (reserve_at m) value (omega arith) is)
@@ -119,15 +126,18 @@ module _ {g : Layout} {old new image : Image} {p : Plan} (i : IsIngest g old new
       elsewhere cell other = put_other image (outcome_at p.slot) (record_bytes Abandon (outcome_at p.slot)) cell other
 
       to_given : Extends image given
-      to_given = record { keeps = λ cell value is. ⊎_elim
-          (λ same. absurd (none-some _ (sym blank ∙ ap image (sym same) ∙ is)))
-          (λ other. elsewhere cell other ∙ is)
-          (same_or_not cell (outcome_at p.slot)) }
+      to_given = record {
+        keeps = λ cell value is. ⊎_elim
+            (λ same. absurd (none-some _ (sym blank ∙ ap image (sym same) ∙ is)))
+            (λ other. elsewhere cell other ∙ is)
+            (same_or_not cell (outcome_at p.slot));
+      }
 
       from_old : Extends old given
       from_old = record { keeps = λ cell value is. to_given.keeps cell value (e.keeps cell value is) }
 
-      of_row : (cell : ℕ) (value : List ℕ) → old cell ≡ None → image cell ≡ Some value → (phase : Phase) → Row p phase cell value → IsOf p.slot p.start p.reserved cell
+      of_row : (cell : ℕ) (value : List ℕ) → old cell ≡ None → image cell ≡ Some value → (phase : Phase)
+          → Row p phase cell value → IsOf p.slot p.start p.reserved cell
       of_row cell value none is Reserving row = of_reserve row.at
       of_row cell value none is Storing row = of_range (stored_from i row) (stored_to i row)
       of_row cell value none is Committing row = of_outcome row.at
@@ -144,7 +154,7 @@ module _ {g : Layout} {old new image : Image} {p : Plan} (i : IsIngest g old new
         only = λ cell value is. ⊎_elim
             (λ same. inr (of_outcome same))
             (λ other. let here : image cell ≡ Some value = sym (elsewhere cell other) ∙ is in
-                ⊎_elim inl (λ (h : (old cell ≡ None) × AnyRow p cell value). inr (of_row cell value h.0 here (h.1).0 (h.1).1)) (row_of cell value here))
+            ⊎_elim inl (λ (h : (old cell ≡ None) × AnyRow p cell value). inr (of_row cell value h.0 here (h.1).0 (h.1).1)) (row_of cell value here))
             (same_or_not cell (outcome_at p.slot));
       }
 
@@ -154,7 +164,7 @@ module _ {g : Layout} {old new image : Image} {p : Plan} (i : IsIngest g old new
       undone : image (done_at p.slot) ≡ None
       undone = ⊎_elim (λ none. none)
           (λ h. absurd (none-some _ (sym blank ∙ has_commit Finishing (omega arith) (done_at p.slot) i.done.cell done_row (done_blank i)
-              (same_found (done_at p.slot) i.done.cell h.0 i.done.stands h.1))))
+          (same_found (done_at p.slot) i.done.cell h.0 i.done.stands h.1))))
           (look image (done_at p.slot))
 
       pub given_after : After g.cells image given
@@ -169,13 +179,14 @@ module _ {g : Layout} {old new image : Image} {p : Plan} (i : IsIngest g old new
                 (same_or_not cell (outcome_at p.slot));
           })
 
-      pub given_documents : (documents : List Document) → AreDocuments g.cells old documents → AreDocuments g.cells given documents
+      pub given_documents : (documents : List Document) → AreDocuments g.cells old documents
+          → AreDocuments g.cells given documents
       given_documents documents are = record {
         rise = are.rise;
         each = λ d. (
           λ t.
-            let stands = given_up_stands i.volume i.before given_up t.stands in
-            (are.each d).0 (record { stands = stands; taken = taken_below g old i.before d.slot (stands_inside i.volume stands) (written stands.done.commits.reserves) }),
+              let stands = given_up_stands i.volume i.before given_up t.stands in
+              (are.each d).0 (record { stands = stands; taken = taken_below g old i.before d.slot (stands_inside i.volume stands) (written stands.done.commits.reserves) }),
           λ among. document_on from_old ((are.each d).1 among),
         );
       }
@@ -188,7 +199,8 @@ module _ {g : Layout} {old new image : Image} {p : Plan} (i : IsIngest g old new
     reserved : image (reserve_at p.slot) ≡ Some i.reserve.cell
     reserved = has_reserve Committing (omega arith) (outcome_at p.slot) i.commit.cell commit_row (outcome_blank i) committed
 
-    log_here : (cell : ℕ) (value : List ℕ) → cell < list_at g 0 → (cell ≡ done_at p.slot → ⊥) → new cell ≡ Some value → image cell ≡ Some value
+    log_here : (cell : ℕ) (value : List ℕ) → cell < list_at g 0 → (cell ≡ done_at p.slot → ⊥)
+        → new cell ≡ Some value → image cell ≡ Some value
     log_here cell value low other is = ⊎_elim (λ was. e.keeps cell value was) here (log_of i cell value low is)
       where
         here : IsLogCell p.slot cell → image cell ≡ Some value
@@ -196,31 +208,36 @@ module _ {g : Layout} {old new image : Image} {p : Plan} (i : IsIngest g old new
         here (is_outcome at) = same_found cell value i.commit.cell is (ap image at ∙ committed)
         here (is_done at) = absurd (other at)
 
-    holds_here : {cell : ℕ} {r : RecordCell} → cell < list_at g 0 → (cell ≡ done_at p.slot → ⊥) → Holds new cell r → Holds image cell r
+    holds_here : {cell : ℕ} {r : RecordCell} → cell < list_at g 0 → (cell ≡ done_at p.slot → ⊥)
+        → Holds new cell r → Holds image cell r
     holds_here {cell} low other h = record { cell = h.cell; stands = log_here cell h.cell low other h.stands; is = h.is }
 
-    commits_here : {m from reserved bytes journal : ℕ} → Commits g new m from reserved bytes journal → Commits g image m from reserved bytes journal
+    commits_here : {m from reserved bytes journal : ℕ} → Commits g new m from reserved bytes journal
+        → Commits g image m from reserved bytes journal
     commits_here c = record {
       reserves = record { slot = c.reserves.slot; reserve = holds_here (omega (arith, c.reserves.slot)) (λ same. omega arith) c.reserves.reserve; from = c.reserves.from; to = c.reserves.to };
       outcome = holds_here (omega (arith, c.reserves.slot)) (λ same. omega arith) c.outcome;
       fits = c.fits;
     }
 
-    copies_here : {place target : ℕ} {r : RecordCell} → Copies new p.start p.reserved (length p.entries) place target r → Copies image p.start p.reserved (length p.entries) place target r
+    copies_here : {place target : ℕ} {r : RecordCell}
+        → Copies new p.start p.reserved (length p.journal) place target r
+        → Copies image p.start p.reserved (length p.journal) place target r
     copies_here {place} c =
-        let entry = slice_get-get_or p.entries place [] c.below in
-        copies_back f (record { found = _; stands = stored (journal_at p.start p.reserved (length p.entries) + place) _ (inr (record { place = place; entry = entry; at = refl })) }) c
+        let entry = slice_get-get_or p.journal place [] c.below in
+        copies_back f (record { found = _; stands = stored (journal_at p.start p.reserved (length p.journal) + place) _ (inr (record { place = place; entry = entry; at = refl })) }) c
 
     -- 3. no done cell: settling completes the slot
     module _ (undone : image (done_at p.slot) ≡ None) where
-      stores_here : {m from reserved bytes journal : ℕ} → Stores g new m from reserved bytes journal → Stores g image m from reserved bytes journal
+      stores_here : {m from reserved bytes journal : ℕ} → Stores g new m from reserved bytes journal
+          → Stores g image m from reserved bytes journal
       stores_here {m} c = record {
         commits = commits_here c.commits;
         done = ⊎_elim (λ none. inl (blank_before f none))
             (λ h. ⊎_elim
-                (λ same. inl (ap (λ (k : ℕ). image (done_at k)) same ∙ undone))
-                (λ other. inr (holds_here (omega (arith, c.commits.reserves.slot)) (λ same. other (omega arith)) h))
-                (same_or_not m p.slot))
+            (λ same. inl (ap (λ (k : ℕ). image (done_at k)) same ∙ undone))
+            (λ other. inr (holds_here (omega (arith, c.commits.reserves.slot)) (λ same. other (omega arith)) h))
+            (same_or_not m p.slot))
             c.done;
       }
 
@@ -229,39 +246,42 @@ module _ {g : Layout} {old new image : Image} {p : Plan} (i : IsIngest g old new
       index_here (of_root lies) = of_root lies
       index_here (of_slot m le b) = of_slot m le (record { start = b.start; length = b.length; bytes = b.bytes; journal = b.journal; stores = stores_here b.stores; from = b.from; below = b.below })
 
-      order_here : (place : ℕ) → place < length p.entries → IsInOrder g image p.slot p.start p.reserved (length (stored_of p)) (length p.entries) place
+      order_here : (place : ℕ) → place < length p.journal
+          → IsInOrder g image p.slot p.start p.reserved (length (stored_of p)) (length p.journal) place
       order_here place below =
           let o = in_order i place below in
           record {
             target = o.target;
             copied = o.copied;
             copies = copies_here o.copies;
-            rises = ⊎_elim inl (λ (h : (before : ℕ) × (lower : ℕ) × (other : RecordCell) × (place ≡ before + 1) × Copies new p.start p.reserved (length p.entries) before lower other × (lower < o.target)).
+            rises = ⊎_elim inl (λ (h : (before : ℕ) × (lower : ℕ) × (other : RecordCell) × (place ≡ before + 1) × Copies new p.start p.reserved (length p.journal) before lower other × (lower < o.target)).
                 inr (h.0, h.1, h.2, h.3, copies_here h.4, h.5)) o.rises;
             before_document = o.before_document;
             index = index_here o.index;
           }
 
-      applied : {cell : ℕ} {value : List ℕ} → JournalRow image p.start p.reserved (length p.entries) cell value → new cell ≡ Some value
+      applied : {cell : ℕ} {value : List ℕ}
+          → JournalRow image p.start p.reserved (length p.journal) cell value → new cell ≡ Some value
       applied {cell} {value} row = redone i row.place cell row.copied value (copies_on f row.copies) (f.keeps _ _ row.stands)
 
       rest_row : (cell : ℕ) (value : List ℕ) → new cell ≡ Some value → (phase : Phase) → Row p phase cell value
-          → (image cell ≡ Some value) ⊎ (JournalRow image p.start p.reserved (length p.entries) cell value ⊎ DoneRow p.slot cell value)
+          → (image cell ≡ Some value) ⊎ (JournalRow image p.start p.reserved (length p.journal) cell value ⊎ DoneRow p.slot cell value)
       rest_row cell value is Reserving row = inl (same_found cell value i.reserve.cell is (ap image row.at ∙ reserved))
       rest_row cell value is Storing row = inl (stored cell value row)
       rest_row cell value is Committing row = inl (same_found cell value i.commit.cell is (ap image row.at ∙ committed))
       rest_row cell value is Applying row = inr (inl (record {
-        place = row.place; copied = row.copied;
+        place = row.place;
+        copied = row.copied;
         copies = copies_here (applied_copies i row);
-        stands = stored (journal_at p.start p.reserved (length p.entries) + row.place) value (inr (record { place = row.place; entry = row.entry; at = refl }));
+        stands = stored (journal_at p.start p.reserved (length p.journal) + row.place) value (inr (record { place = row.place; entry = row.entry; at = refl }));
       }))
       rest_row cell value is Finishing row = inr (inr row)
 
       pub completed_after : After g.cells image new
-      completed_after = completed g p.slot p.start p.reserved (length (stored_of p)) (length p.entries) (volume_on e i.volume) (here_horizon reserved)
+      completed_after = completed g p.slot p.start p.reserved (length (stored_of p)) (length p.journal) (volume_on e i.volume) (here_horizon reserved)
           (record { commits = commits_here (slot_commits i); done = undone })
           (record {
-            entries = order_here;
+            in_order = order_here;
             free = λ cell value row. ⊎_elim inl
                 (λ x. inr (same_found cell value x.0 (applied row) x.1))
                 (look image cell);
@@ -302,7 +322,8 @@ module _ {g : Layout} {old new image : Image} {p : Plan} (i : IsIngest g old new
         written = λ w documents are. absurd (none-some _ (sym (outcome_blank i) ∙ ap (λ (x : Image). x (outcome_at p.slot)) (sym same) ∙ w.stands));
       }
 
-  is_new : After g.cells image new → ((image (outcome_at p.slot) ≡ None) → ⊥) → LeavesSound g.cells old new p.slot image
+  is_new : After g.cells image new → ((image (outcome_at p.slot) ≡ None) → ⊥)
+      → LeavesSound g.cells old new p.slot image
   is_new after some = record {
     sound = record { after = new; is = after; settled = new_settled };
     blank = λ none documents are. absurd (some none);
@@ -313,8 +334,8 @@ module _ {g : Layout} {old new image : Image} {p : Plan} (i : IsIngest g old new
   with_commit committed = ⊎_elim
       (λ undone. is_new (completed_after i e f phases committed undone) (λ none. none-some _ (sym none ∙ committed)))
       (λ x.
-          let same : image ≡ new = finished i e f phases (same_found i e f phases (done_at p.slot) i.done.cell x.0 i.done.stands x.1) in
-          is_new (subst (λ (y : Image). After g.cells y new) (sym same) (nothing new_settled (λ cell. refl))) (λ none. none-some _ (sym none ∙ committed)))
+      let same : image ≡ new = finished i e f phases (same_found i e f phases (done_at p.slot) i.done.cell x.0 i.done.stands x.1) in
+      is_new (subst (λ (y : Image). After g.cells y new) (sym same) (nothing new_settled (λ cell. refl))) (λ none. none-some _ (sym none ∙ committed)))
       (look image (done_at p.slot))
 
   with_reserve : image (reserve_at p.slot) ≡ Some i.reserve.cell → LeavesSound g.cells old new p.slot image

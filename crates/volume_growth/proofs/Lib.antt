@@ -3,9 +3,11 @@ pub mod InPhase
 pub mod IngestLeaves
 pub mod Ingests
 pub mod ListShapes
+pub mod Needs
 pub mod OneWay
 pub mod PlanAdds
 pub mod PlanLeaves
 pub mod PlanSettled
 pub mod SettledShapes
+pub mod SettledTrails
 pub mod TreeShapes

@@ -1,9 +1,8 @@
 -- A node is reached in one way.
-use Rattle.std.proofs.Common.{◌≡◌, ◌<◌, ◌≤◌, ◌+◌, ◌*◌, ◌/◌, ◌%◌, ◌⊎◌, ⊎_elim, inl, inr, ℕ, suc, zero, List, Some, refl, sym, ◌∙◌, subst, ap, arith, length, slice_index, Bool, true, false, eqb, cond}
-use Rattle.std.proofs.lemmas.Bool.{cases_order}
+use Rattle.std.proofs.Common.{◌≡◌, ◌<◌, ◌+◌, ◌*◌, ◌/◌, ◌%◌, ⊎_elim, ℕ, List, refl, sym, ◌∙◌, subst, ap, arith, length, slice_index}
 use Rattle.cell_types.specs.Bytes.{AreBytes}
 use Rattle.cell_types.specs.Image.{Image}
-use Rattle.cell_types.specs.Layout.{Layout, root_at, pool_at}
+use Rattle.cell_types.specs.Layout.{Layout}
 use Rattle.cell_types.specs.declared.record_cell.RecordCell.TheVariants.{Child}
 use Rattle.std.proofs.Common.{ext_get_or}
 use Rattle.sha2.specs.Sha256.{sha256}
@@ -18,6 +17,7 @@ use Rattle.stored_documents.specs.Volumes.{IsWritten}
 use Rattle.tamper_rules.proofs.Settled.{some_horizon, some_edge}
 use Rattle.volume_growth.proofs.SettledShapes.{settled_rooted}
 use Rattle.volume_growth.proofs.TreeShapes.{one_level}
+use Rattle.index_paths.proofs.Digests.{digest_is_bytes}
 use Rattle.index_paths.specs.HashPaths.{nibble, fingerprint_of}
 use Rattle.index_paths.specs.Nodes.{IsNode, IsOnPath}
 use Rattle.index_paths.specs.Nodes
@@ -28,27 +28,29 @@ use Rattle.tamper_rules.proofs.Writing.{same_or_not}
 nibble_low : (d : List ℕ) → AreBytes d → (v : ℕ) → nibble d v < 16
 nibble_low d bytes v = let b = bytes.each (v / 2) in grind (arith, b)
 
-on_node : {g : Layout} {image : Image} {d : List ℕ} {v node : ℕ} → AreBytes d → IsOnPath g image d v node → IsNode g image v node
+on_node : {g : Layout} {image : Image} {d : List ℕ} {v node : ℕ} → AreBytes d → IsOnPath g image d v node
+    → IsNode g image v node
 on_node bytes (Nodes.IsOnPath.root v node is at) = Nodes.IsNode.root v node is at
 on_node {d = d} bytes (Nodes.IsOnPath.under v node u above is rest less child from to) =
     Nodes.IsNode.under v node u above (nibble d u) is (on_node bytes rest) (nibble_low d bytes u) less child from to
 
 -- two ways to a node go by the same half bytes
-pub same_way : {g : Layout} {image : Image} {to : ℕ} {d e : List ℕ} → IsWellRooted g image to → AreBytes d → AreBytes e → {v node : ℕ} → IsOnPath g image d v node
+pub same_way : {g : Layout} {image : Image} {to : ℕ} {d e : List ℕ} → IsWellRooted g image to → AreBytes d
+    → AreBytes e → {v node : ℕ} → IsOnPath g image d v node
     → (k : ℕ) → k < v → (w other : ℕ) → w ≡ v → other ≡ node → IsOnPath g image e w other → nibble d k ≡ nibble e k
 same_way r a b (Nodes.IsOnPath.root v node is at) k below w other same here way = absurd (omega arith)
 same_way {g} {image} r a b (Nodes.IsOnPath.under v node u above is rest less child from to) k below w other same here (Nodes.IsOnPath.root _ _ is' at') = absurd (omega arith)
 same_way {g} {image} {d = d} {e = e} r a b (Nodes.IsOnPath.under v node u above is rest less child from to) k below w other same here (Nodes.IsOnPath.under _ _ j behind is' rest' less' child' from' to') =
-    let h = r.first u above (nibble d u) j behind (nibble e j) node (on_node a rest) (nibble_low d a u) (on_node b rest') (nibble_low e b j) child
-            (subst (λ (t : ℕ). Holds image (behind + 16 + nibble e j) (Child t)) here child') in
+    let h = r.once u above (nibble d u) j behind (nibble e j) node (on_node a rest) (nibble_low d a u) (on_node b rest') (nibble_low e b j) child
+    (subst (λ (t : ℕ). Holds image (behind + 16 + nibble e j) (Child t)) here child') in
     let x = nibble_low d a u in
     let y = nibble_low e b j in
     let there : above ≡ behind = ⊎_elim (λ s. s) (λ far. absurd (⊎_elim (λ low. omega arith) (λ high. omega arith) far)) (r.apart u above j behind (on_node a rest) (on_node b rest')) in
     let level : j ≡ u = omega arith in
     ⊎_elim
     (λ last.
-        let equal : nibble d u ≡ nibble e j = omega arith in
-        ap (λ (i : ℕ). nibble d i) last ∙ equal ∙ ap (λ (i : ℕ). nibble e i) (level ∙ sym last))
+    let equal : nibble d u ≡ nibble e j = omega arith in
+    ap (λ (i : ℕ). nibble d i) last ∙ equal ∙ ap (λ (i : ℕ). nibble e i) (level ∙ sym last))
     (λ other. same_way r a b rest k (lower k u v is below other) j behind level (sym there) rest')
     (same_or_not k u)
   where
@@ -64,17 +66,19 @@ half_bytes d i =
     grind (arith, a, b, c, e)
 
 -- digests with the same half bytes are the same
-pub same_digest : (d e : List ℕ) → length d ≡ 32 → length e ≡ 32 → ((k : ℕ) → k < 64 → nibble d k ≡ nibble e k) → d ≡ e
+pub same_digest : (d e : List ℕ) → length d ≡ 32 → length e ≡ 32
+    → ((k : ℕ) → k < 64 → nibble d k ≡ nibble e k) → d ≡ e
 same_digest d e long also same = ext_get_or 0 d e (long ∙ sym also) (λ i below.
     let h = same (2 * i) (omega (arith, long, below)) in
     let l = same (2 * i + 1) (omega (arith, long, below)) in
     half_bytes d i ∙ ap (λ (n : ℕ). 16 * n + nibble d (2 * i + 1)) h ∙ ap (λ (n : ℕ). 16 * nibble e (2 * i) + n) l ∙ sym (half_bytes e i))
 
-pub last_bucket : (g : Layout) (image : Image) (id : List ℕ) (node : ℕ) → IsLayout g → IsSettled g image → ((m : List ℕ) → AreBytes (sha256 m))
+pub last_bucket : (g : Layout) (image : Image) (id : List ℕ) (node : ℕ) → IsLayout g → IsSettled g image
     → IsOnPath g image (sha256 id) 63 node → IsWritten image (node + nibble (sha256 id) 63)
     → (slot : ℕ) × (other : List ℕ) × (body : List ℕ) × Holds image (node + nibble (sha256 id) 63) (Bucket slot (fingerprint_of (sha256 other)))
     × Stands g.cells image slot other body × (sha256 other ≡ sha256 id)
-last_bucket g image id node layout s bytes way w =
+last_bucket g image id node layout s way w =
+    let bytes = digest_is_bytes in
     let u = some_horizon g image s in
     let at = some_edge g image s u.0 u.1 in
     let rooted : IsWellRooted g image at.0 = settled_rooted layout s at.1 in
@@ -83,12 +87,17 @@ last_bucket g image id node layout s bytes way w =
     let t : IsTrueBucket g image node (nibble (sha256 id) 63) = r 63 node (nibble (sha256 id) 63) n (nibble_low (sha256 id) (bytes id) 63) refl in
     let level : t.level ≡ 63 = one_level rooted (on_node (bytes t.id) t.on_path) 63 n in
     let bucket : Holds image (node + nibble (sha256 id) 63) (Bucket t.slot (fingerprint_of (sha256 t.id))) =
-        subst (λ (f : List ℕ). Holds image (node + nibble (sha256 id) 63) (Bucket t.slot f)) t.same t.bucket in
-    (t.slot, t.id, t.body, bucket, t.stands,
-     same_digest (sha256 t.id) (sha256 id) (length-sha256 t.id) (length-sha256 id) (λ k below. ⊎_elim
-        (λ last. ap (λ (i : ℕ). nibble (sha256 t.id) i) (last ∙ sym level) ∙ sym t.here ∙ ap (λ (i : ℕ). nibble (sha256 id) i) (sym last))
-        (λ other. sym (same_way rooted (bytes id) (bytes t.id) way k (lower k below other) t.level node level refl t.on_path))
-        (same_or_not k 63)))
+    subst (λ (f : List ℕ). Holds image (node + nibble (sha256 id) 63) (Bucket t.slot f)) t.same t.bucket in (
+      t.slot,
+      t.id,
+      t.body,
+      bucket,
+      t.stands,
+      same_digest (sha256 t.id) (sha256 id) (length-sha256 t.id) (length-sha256 id) (λ k below. ⊎_elim
+          (λ last. ap (λ (i : ℕ). nibble (sha256 t.id) i) (last ∙ sym level) ∙ sym t.here ∙ ap (λ (i : ℕ). nibble (sha256 id) i) (sym last))
+          (λ other. sym (same_way rooted (bytes id) (bytes t.id) way k (lower k below other) t.level node level refl t.on_path))
+          (same_or_not k 63)),
+    )
   where
     lower : (k : ℕ) → k < 64 → (k ≡ 63 → ⊥) → k < 63
     lower k below other = omega arith

@@ -1,11 +1,10 @@
 -- A plan keeps a volume settled.
-use Rattle.std.proofs.Common.{◌≡◌, ◌≢◌, ◌<◌, ◌≤◌, ◌+◌, ◌-◌, ◌*◌, ◌/◌, ◌⊎◌, ⊎_elim, inl, inr, ℕ, suc, zero, List, Some, None, refl, sym, ◌∙◌, subst, ap, arith, length}
+use Rattle.std.proofs.Common.{◌≡◌, ◌<◌, ◌≤◌, ◌+◌, ◌⊎◌, ⊎_elim, inl, inr, ℕ, List, Some, None, refl, sym, ◌∙◌, subst, ap, arith, length}
 use Rattle.std.proofs.lemmas.Option.{none-some}
 use Rattle.sha2.specs.Sha256.{sha256}
-use Rattle.cell_types.specs.Image.{Image, Extends}
-use Rattle.cell_types.specs.Layout.{Layout, reserve_at, outcome_at, done_at, list_at, root_at, pool_at}
-use Rattle.cell_types.specs.declared.record_cell.RecordCell.{RecordCell}
-use Rattle.cell_types.specs.declared.record_cell.RecordCell.TheVariants.{Jump, Child, Bucket}
+use Rattle.cell_types.specs.Image.{Image}
+use Rattle.cell_types.specs.Layout.{Layout, done_at, list_at, pool_at}
+use Rattle.cell_types.specs.declared.record_cell.RecordCell.TheVariants.{Jump, Child}
 use Rattle.index_paths.specs.Blocks.{PostingFields, posting_record, InFront, at_the_start, behind, pointer_at, Leads}
 use Rattle.stored_documents.specs.Documents.{Stands, document_at}
 use Rattle.volume_growth.specs.Filling.{blocks_end, IsFilled, IsWellPlanned}
@@ -37,7 +36,8 @@ use Rattle.index_paths.proofs.Trails.{trail_on}
 use Rattle.tamper_rules.proofs.Writing.{same_or_not}
 
 -- each place up to one in the front is written
-pub front_written : {image : Image} {block j : ℕ} {q : PostingFields} → InFront image block j q → (i : ℕ) → i ≤ j → IsWritten image (block + i)
+pub front_written : {image : Image} {block j : ℕ} {q : PostingFields} → InFront image block j q → (i : ℕ)
+    → i ≤ j → IsWritten image (block + i)
 front_written {image} {block} (at_the_start j q is holds) i le =
     let same : j ≡ i = omega arith in
     subst (λ (k : ℕ). IsWritten image (block + k)) same (record { found = holds.cell; stands = holds.stands })
@@ -67,139 +67,172 @@ module _ {g : Layout} {old new : Image} {p : Plan} (w : IsWellPlanned g old new 
 
   mine_stands : Stands g.cells new p.slot p.id p.body
   mine_stands = record {
-    layout = g; start = p.start; reserved = p.reserved; journal = length p.entries;
+    layout = g;
+    start = p.start;
+    reserved = p.reserved;
+    journal = length p.journal;
     volume = volume_on (keeps u) u.volume;
-    slot = free u; done = mine u;
+    slot = free u;
+    done = mine u;
     spells = λ k below. u.rows.adds _ _ (Storing, inl (record { place = k; below = below; at = refl; is = refl }));
-    is_identifier = u.is_identifier; is_body = u.is_body;
+    is_identifier = u.is_identifier;
+    is_body = u.is_body;
   }
 
   pub mine_live : IsLive g new p.slot
   mine_live = record {
     slot = free u;
-    done = record { start = p.start; length = p.reserved; bytes = length (stored_of p); journal = length p.entries; done = mine u };
+    done = record { start = p.start; length = p.reserved; bytes = length (stored_of p); journal = length p.journal; done = mine u };
     taken = λ m below. written_on (keeps u) (taken_to g old u.before p.slot u.horizon m below);
   }
 
   rule_9 : (cell : ℕ) → IsWritten new cell → PostingRule g new cell
   rule_9 cell is l block place q b below at h = ⊎_elim
       (λ none.
-          let k = w.postings l block place q b below (ap old (sym at) ∙ none) (subst (λ (c : ℕ). Holds new c (posting_record q)) at h) in
-          record {
-            live = subst (λ (m : ℕ). IsLive g new m) (sym k.0) mine_live;
-            id = p.id; body = p.body;
-            stands = subst (λ (m : ℕ). Stands g.cells new m p.id p.body) (sym k.0) mine_stands;
-            postings = w.has_postings;
-            is = subst (λ (m : ℕ). IsPostingOf g.lists p.body m l q) (sym k.0) k.1;
-          })
+      let k = w.postings l block place q b below (ap old (sym at) ∙ none) (subst (λ (c : ℕ). Holds new c (posting_record q)) at h) in
+      record {
+        live = subst (λ (m : ℕ). IsLive g new m) (sym k.0) mine_live;
+        id = p.id;
+        body = p.body;
+        stands = subst (λ (m : ℕ). Stands g.cells new m p.id p.body) (sym k.0) mine_stands;
+        postings = w.has_postings;
+        is = subst (λ (m : ℕ). IsPostingOf g.lists p.body m l q) (sym k.0) k.1;
+      })
       (λ x. ⊎_elim
-          (λ was.
-              let r : PostingRule g old cell = u.before.met Rules.Postings cell (record { found = x.0; stands = x.1 }) in
-              let held : Holds old cell (posting_record q) = record { cell = h.cell; stands = x.1 ∙ sym (same x.0 x.1) ∙ refl; is = h.is } in
-              let t : IsTruePosting g old l q = r l block place q was below at held in
-              record { live = live_on (keeps u) (keeps u) t.live; id = t.id; body = t.body; stands = stands_on (keeps u) t.stands; postings = t.postings; is = t.is })
-          (λ fresh. absurd (
-              let inside : pool_at g ≤ cell = omega (arith, fresh, at, u.reserves.from) in
-              let less = old_low u cell x.0 x.1 inside in omega arith))
-          (w.blocks l block b))
+      (λ was.
+      let r : PostingRule g old cell = u.before.met Rules.Postings cell (record { found = x.0; stands = x.1 }) in
+      let held : Holds old cell (posting_record q) = record { cell = h.cell; stands = x.1 ∙ sym (same x.0 x.1) ∙ refl; is = h.is } in
+      let t : IsTruePosting g old l q = r l block place q was below at held in
+      record { live = live_on (keeps u) (keeps u) t.live; id = t.id; body = t.body; stands = stands_on (keeps u) t.stands; postings = t.postings; is = t.is })
+      (λ fresh. absurd (
+      let inside : pool_at g ≤ cell = omega (arith, fresh, at, u.reserves.from) in
+      let less = old_low u cell x.0 x.1 inside in omega arith))
+      (w.blocks l block b))
       (look old cell)
     where
       same : (v : List ℕ) → old cell ≡ Some v → Some h.cell ≡ Some v
       same v was = sym h.stands ∙ (keeps u).keeps cell v was
 
-  target_listed : {l block level digit target : ℕ} → IsBlockOf g new l block → level < 8 → 1 ≤ digit → digit ≤ 15 → Holds new (pointer_at block level digit) (Jump target)
+  target_listed : {l block level digit target : ℕ} → IsBlockOf g new l block → level < 8 → 1 ≤ digit
+      → digit ≤ 15 → Holds new (pointer_at block level digit) (Jump target)
       → pool_at g ≤ target → target + 256 ≤ g.cells → IsBlockOf g new l target
   target_listed {l} {block} {level} {digit} {target} b ls d1 d2 jump from to = record { list = b.list; leads = leads_further b.leads level digit target ls d1 d2 jump from to }
 
   rule_10 : (cell : ℕ) → IsWritten new cell → PointerRule g new cell
   rule_10 cell is l block level digit b ls d1 d2 at =
       let k : PointsWell new (pool_at g) (blocks_end p) block level digit =
-          (w.lists l b.list).pointers block level digit (narrowed b) ls d1 d2 (subst (λ (c : ℕ). IsWritten new c) at is) in
+      (w.lists l b.list).pointers block level digit (narrowed b) ls d1 d2 (subst (λ (c : ℕ). IsWritten new c) at is) in
       let to : k.target + 256 ≤ g.cells = omega (arith, k.inside_to, end_in_device) in
       let t : IsBlockOf g new l k.target = target_listed b ls d1 d2 k.jump k.inside_from to in
       let o = owner k.target t k.inside_from in
       record {
-        target = k.target; jump = k.jump;
+        target = k.target;
+        jump = k.jump;
         full = λ place below. front_written k.is_full place (omega arith);
-        from = k.inside_from; to = to;
+        from = k.inside_from;
+        to = to;
         edge = λ at e. let same = edge_is u at e in let b = blocks_to u in omega (arith, k.inside_to);
-        owner = o.0; first = o.1; last = o.2;
-        greatest = k.greatest; ends = full_ends k.is_full;
-        place = k.place; some = k.some; in_places = k.in_places; in_front = k.in_front; in_span = k.in_span;
+        owner = o.0;
+        owns_first = o.1;
+        owns_last = o.2;
+        greatest = k.greatest;
+        ends = full_ends k.is_full;
+        place = k.place;
+        some = k.some;
+        in_places = k.in_places;
+        in_front = k.in_front;
+        in_span = k.in_span;
         blocks = λ j other x. w.apart l j k.target other t x;
         nodes = λ v node x. w.apart_nodes l k.target v node t x;
       }
     where
-      owner : (target : ℕ) → IsBlockOf g new l target → pool_at g ≤ target → (m : ℕ) × LiesInBlocks g new m target × LiesInBlocks g new m (target + 255)
+      owner : (target : ℕ) → IsBlockOf g new l target → pool_at g ≤ target
+          → (m : ℕ) × LiesInBlocks g new m target × LiesInBlocks g new m (target + 255)
       owner target t from = ⊎_elim (λ first. absurd (omega (arith, t.list))) (λ o. o) (w.owners l target t)
 
   rule_13 : (m : ℕ) (id body : List ℕ) → Stands g.cells new m id body → TrailRule g new m body
   rule_13 m id body t = ⊎_elim
       (λ same.
-          let e = one_document g.cells new p.slot id body p.id p.body (subst (λ (k : ℕ). Stands g.cells new k id body) same t) mine_stands in
-          subst (λ (k : ℕ). TrailRule g new k body) (sym same) (subst (λ (b : List ℕ). TrailRule g new p.slot b) (sym e.1)
-              (record { postings = w.has_postings; trails = w.trails })))
+      let e = one_document g.cells new p.slot id body p.id p.body (subst (λ (k : ℕ). Stands g.cells new k id body) same t) mine_stands in
+      subst (λ (k : ℕ). TrailRule g new k body) (sym same) (subst (λ (b : List ℕ). TrailRule g new p.slot b) (sym e.1)
+      (record { postings = w.has_postings; trails = w.trails })))
       (λ other.
-          let b = stands_back u other t in
-          let r : TrailRule g old m body = u.before.met Rules.Trails (done_at m) (record { found = b.done.done.cell; stands = b.done.done.stands }) m id body refl b in
-          record { postings = r.postings; trails = λ l q below is. let k = r.trails l q below is in (k.0, trail_on (keeps u) k.1) })
+      let b = stands_back u other t in
+      let r : TrailRule g old m body = u.before.met Rules.Trails (done_at m) (record { found = b.done.done.cell; stands = b.done.done.stands }) m id body refl b in
+      record { postings = r.postings; trails = λ l q below is. let k = r.trails l q below is in (k.0, trail_on (keeps u) k.1) })
       (same_or_not m p.slot)
 
   rule_14 : (m : ℕ) (id body : List ℕ) → Stands g.cells new m id body → PathRule g new m id
   rule_14 m id body t = ⊎_elim
       (λ same.
-          let e = one_document g.cells new p.slot id body p.id p.body (subst (λ (k : ℕ). Stands g.cells new k id body) same t) mine_stands in
-          subst (λ (k : ℕ). PathRule g new k id) (sym same) (subst (λ (i : List ℕ). PathRule g new p.slot i) (sym e.0)
-              (record { path = w.path; first = λ k other less there. w.absent k other (stands_back u (λ is. omega arith) there) })))
+      let e = one_document g.cells new p.slot id body p.id p.body (subst (λ (k : ℕ). Stands g.cells new k id body) same t) mine_stands in
+      subst (λ (k : ℕ). PathRule g new k id) (sym same) (subst (λ (i : List ℕ). PathRule g new p.slot i) (sym e.0)
+      (record { path = w.path; alone = λ k other less there. w.absent k other (stands_back u (λ is. omega arith) there) })))
       (λ differ.
-          let b = stands_back u differ t in
-          let r : PathRule g old m id = u.before.met Rules.Paths (done_at m) (record { found = b.done.done.cell; stands = b.done.done.stands }) m id body refl b in
-          record {
-            path = hash_trail_on (keeps u) r.path;
-            first = λ k other less there. ⊎_elim
-                (λ same.
-                    let e = one_document g.cells new p.slot id other p.id p.body (subst (λ (j : ℕ). Stands g.cells new j id other) same there) mine_stands in
-                    w.absent m body (subst (λ (i : List ℕ). Stands g.cells old m i body) e.0 b))
-                (λ apart. r.first k other less (stands_back u apart there))
-                (same_or_not k p.slot);
-          })
+      let b = stands_back u differ t in
+      let r : PathRule g old m id = u.before.met Rules.Paths (done_at m) (record { found = b.done.done.cell; stands = b.done.done.stands }) m id body refl b in
+      record {
+        path = hash_trail_on (keeps u) r.path;
+        alone = λ k other less there. ⊎_elim
+            (λ same.
+            let e = one_document g.cells new p.slot id other p.id p.body (subst (λ (j : ℕ). Stands g.cells new j id other) same there) mine_stands in
+            w.absent m body (subst (λ (i : List ℕ). Stands g.cells old m i body) e.0 b))
+            (λ apart. r.alone k other less (stands_back u apart there))
+            (same_or_not k p.slot);
+      })
       (same_or_not m p.slot)
 
   -- where a node lies
-  node_low : {v node : ℕ} → IsNode g new v node → (list_at g 0 ≤ node) × ((node + 32 ≤ pool_at g) ⊎ (node + 32 ≤ blocks_end p))
+  node_low : {v node : ℕ} → IsNode g new v node
+      → (list_at g 0 ≤ node) × ((node + 32 ≤ pool_at g) ⊎ (node + 32 ≤ blocks_end p))
   node_low n = ⊎_elim (λ is. (omega arith, inl (omega arith))) (λ h. (omega (arith, h.0), inr h.1)) (node_place w.tree n)
 
   node_high : {v node : ℕ} → IsNode g new v node → node + 32 ≤ blocks_end p
   node_high n = ⊎_elim (λ low. let b = blocks_from u in let f = u.reserves.from in omega arith) (λ high. high) ((node_low n).1)
 
   -- a written cell of a node that was written before is in an old node
-  old_node : {v node i : ℕ} (value : List ℕ) → IsNode g new v node → i < 32 → old (node + i) ≡ Some value → IsNode g old v node
+  old_node : {v node i : ℕ} (value : List ℕ) → IsNode g new v node → i < 32 → old (node + i) ≡ Some value
+      → IsNode g old v node
   old_node {v} {node} {i} value n less was = ⊎_elim (λ o. o)
       (λ fresh. absurd (
-          let f = u.reserves.from in
-          let low = old_low u (node + i) value was (omega arith) in omega arith))
+      let f = u.reserves.from in
+      let low = old_low u (node + i) value was (omega arith) in omega arith))
       (w.nodes v node n)
 
   rule_11 : (cell : ℕ) → IsWritten new cell → BucketRule g new cell
   rule_11 cell is v node x n xs at = ⊎_elim
       (λ none.
-          let k = w.new_buckets v node x n xs none here in
-          record {
-            slot = p.slot; fingerprint = fingerprint_of (sha256 p.id);
-            bucket = k.0; live = mine_live; id = p.id; body = p.body; stands = mine_stands; same = refl;
-            level = v; on_path = k.1; here = k.2;
-          })
+      let k = w.new_buckets v node x n xs none here in
+      record {
+        slot = p.slot;
+        fingerprint = fingerprint_of (sha256 p.id);
+        bucket = k.0;
+        live = mine_live;
+        id = p.id;
+        body = p.body;
+        stands = mine_stands;
+        same = refl;
+        level = v;
+        on_path = k.1;
+        here = k.2;
+      })
       (λ z.
-          let o = old_node {i = x} z.0 n (omega arith) z.1 in
-          let r : BucketRule g old (node + x) = u.before.met Rules.Buckets (node + x) (record { found = z.0; stands = z.1 }) in
-          let t : IsTrueBucket g old node x = r v node x o xs refl in
-          record {
-            slot = t.slot; fingerprint = t.fingerprint;
-            bucket = holds_on (keeps u) t.bucket;
-            live = live_on (keeps u) (keeps u) t.live;
-            id = t.id; body = t.body; stands = stands_on (keeps u) t.stands; same = t.same;
-            level = t.level; on_path = on_path_on (keeps u) t.on_path; here = t.here;
-          })
+      let o = old_node {i = x} z.0 n (omega arith) z.1 in
+      let r : BucketRule g old (node + x) = u.before.met Rules.Buckets (node + x) (record { found = z.0; stands = z.1 }) in
+      let t : IsTrueBucket g old node x = r v node x o xs refl in
+      record {
+        slot = t.slot;
+        fingerprint = t.fingerprint;
+        bucket = holds_on (keeps u) t.bucket;
+        live = live_on (keeps u) (keeps u) t.live;
+        id = t.id;
+        body = t.body;
+        stands = stands_on (keeps u) t.stands;
+        same = t.same;
+        level = t.level;
+        on_path = on_path_on (keeps u) t.on_path;
+        here = t.here;
+      })
       (look old (node + x))
     where
       here : IsWritten new (node + x)
@@ -219,39 +252,53 @@ module _ {g : Layout} {old new : Image} {p : Plan} (w : IsWellPlanned g old new 
     in_blocks : start ≤ target
     before_document : target < document_at start reserved bytes journal
 
-  applied_row : (v node x : ℕ) (value : List ℕ) → IsNode g new v node → x < 16 → (phase : Phase) → Row p phase (node + 16 + x) value → AppliedRow p (node + 16 + x) value
+  applied_row : (v node x : ℕ) (value : List ℕ) → IsNode g new v node → x < 16 → (phase : Phase)
+      → Row p phase (node + 16 + x) value → AppliedRow p (node + 16 + x) value
   applied_row v node x value n xs Reserving row = absurd (let low = (node_low n).0 in let f = free u in omega (arith, row.at))
   applied_row v node x value n xs Storing row = absurd (let high = node_high n in let from = stored_from u row in omega arith)
   applied_row v node x value n xs Committing row = absurd (let low = (node_low n).0 in let f = free u in omega (arith, row.at))
   applied_row v node x value n xs Applying row = row
   applied_row v node x value n xs Finishing row = absurd (let low = (node_low n).0 in let f = free u in omega (arith, row.at))
 
-  new_owner : (v node x : ℕ) → IsNode g new v node → x < 16 → (c : ChildWell g new (blocks_end p) v node x) → old (node + 16 + x) ≡ None → ChildOwner (node + 16 + x) c.target
+  new_owner : (v node x : ℕ) → IsNode g new v node → x < 16 → (c : ChildWell g new (blocks_end p) v node x)
+      → old (node + 16 + x) ≡ None → ChildOwner (node + 16 + x) c.target
   new_owner v node x n xs c none = ⊎_elim
       (λ was. absurd (none-some _ (sym none ∙ was)))
       (λ (row : AnyRow p (node + 16 + x) c.child.cell).
-          let r = applied_row v node x c.child.cell n xs row.0 row.1 in
-          let k = entry_copies u (applied_entry u r) in
-          record {
-            owner = p.slot; start = p.start; reserved = p.reserved; bytes = length (stored_of p); journal = length p.entries;
-            stores = record { commits = (mine u).commits; done = inr u.done };
-            place = r.place; in_journal = k.below;
-            same = u.rows.adds _ _ (Storing, inr (record { place = r.place; entry = r.entry; at = refl })) ∙ sym c.child.stands;
-            in_blocks = w.new_children v node x c.target n xs none c.child;
-            before_document = omega (arith, c.inside);
-          })
+      let r = applied_row v node x c.child.cell n xs row.0 row.1 in
+      let k = entry_copies u (applied_entry u r) in
+      record {
+        owner = p.slot;
+        start = p.start;
+        reserved = p.reserved;
+        bytes = length (stored_of p);
+        journal = length p.journal;
+        stores = record { commits = (mine u).commits; done = inr u.done };
+        place = r.place;
+        in_journal = k.below;
+        same = u.rows.adds _ _ (Storing, inr (record { place = r.place; entry = r.entry; at = refl })) ∙ sym c.child.stands;
+        in_blocks = w.new_children v node x c.target n xs none c.child;
+        before_document = omega (arith, c.inside);
+      })
       (u.rows.only (node + 16 + x) c.child.cell c.child.stands)
 
-  old_owner : (v node x : ℕ) (value : List ℕ) → IsNode g new v node → x < 16 → (c : ChildWell g new (blocks_end p) v node x) → old (node + 16 + x) ≡ Some value → ChildOwner (node + 16 + x) c.target
+  old_owner : (v node x : ℕ) (value : List ℕ) → IsNode g new v node → x < 16
+      → (c : ChildWell g new (blocks_end p) v node x) → old (node + 16 + x) ≡ Some value
+      → ChildOwner (node + 16 + x) c.target
   old_owner v node x value n xs c was =
       let o = old_node {i = 16 + x} value n (omega arith) (ap old (let z : node + (16 + x) ≡ node + 16 + x = omega arith in z) ∙ was) in
       let r : ChildRule g old (node + 16 + x) = u.before.met Rules.Children (node + 16 + x) (record { found = value; stands = was }) in
       let t : LeadsDownWell g old v node x = r v node x o xs refl in
       let same : t.target ≡ c.target = children t.target c.target (one_record_holds new (node + 16 + x) (Child t.target) (Child c.target) (holds_on (keeps u) t.child) c.child) in
       record {
-        owner = t.owner; start = t.start; reserved = t.reserved; bytes = t.bytes; journal = t.journal;
+        owner = t.owner;
+        start = t.start;
+        reserved = t.reserved;
+        bytes = t.bytes;
+        journal = t.journal;
         stores = stores_on' u t.stores;
-        place = t.place; in_journal = t.in_journal;
+        place = t.place;
+        in_journal = t.in_journal;
         same = (keeps u).keeps _ _ (t.same ∙ t.child.stands) ∙ sym ((keeps u).keeps _ _ t.child.stands);
         in_blocks = omega (arith, t.in_blocks, same);
         before_document = omega (arith, t.before_document, same);
@@ -264,11 +311,25 @@ module _ {g : Layout} {old new : Image} {p : Plan} (w : IsWellPlanned g old new 
       let below : IsNode g new (v + 1) c.target = under (v + 1) c.target v node x refl n xs c.level c.child c.from to in
       let o : ChildOwner (node + 16 + x) c.target = ⊎_elim (λ none. new_owner v node x n xs c none) (λ z. old_owner v node x z.0 n xs c z.1) (look old (node + 16 + x)) in
       record {
-        target = c.target; child = c.child; bucket = c.bucket; level = c.level; from = c.from; to = to;
+        target = c.target;
+        child = c.child;
+        bucket = c.bucket;
+        level = c.level;
+        from = c.from;
+        to = to;
         edge = λ at e. let same = edge_is u at e in let b = blocks_to u in omega (arith, c.inside);
-        owner = o.owner; start = o.start; reserved = o.reserved; bytes = o.bytes; journal = o.journal;
-        stores = o.stores; place = o.place; in_journal = o.in_journal; same = o.same; in_blocks = o.in_blocks; before_document = o.before_document;
-        first = λ k other y m ys lower h. let same = w.tree.first v node x k other y c.target n xs m ys c.child h in omega arith;
+        owner = o.owner;
+        start = o.start;
+        reserved = o.reserved;
+        bytes = o.bytes;
+        journal = o.journal;
+        stores = o.stores;
+        place = o.place;
+        in_journal = o.in_journal;
+        same = o.same;
+        in_blocks = o.in_blocks;
+        before_document = o.before_document;
+        once = λ k other y m ys lower h. let same = w.tree.once v node x k other y c.target n xs m ys c.child h in omega arith;
         blocks = λ j other b. ⊎_elim inr inl (w.apart_nodes j other (v + 1) c.target b below);
         nodes = λ k other m. ⊎_elim (λ same. inl (sym same)) inr (w.tree.apart (v + 1) c.target k other below m);
       }

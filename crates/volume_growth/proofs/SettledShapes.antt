@@ -1,9 +1,8 @@
 -- The lists and the tree of a settled image have their shapes.
-use Rattle.std.proofs.Common.{◌≡◌, ◌<◌, ◌≤◌, ◌+◌, ◌*◌, ◌⊎◌, ⊎_elim, inl, inr, ℕ, suc, zero, List, Some, None, refl, sym, ◌∙◌, subst, ap, arith}
-use Rattle.std.proofs.lemmas.Option.{none-some}
+use Rattle.std.proofs.Common.{◌≡◌, ◌<◌, ◌≤◌, ◌+◌, ◌⊎◌, ⊎_elim, inl, inr, ℕ, List, Some, refl, sym, ◌∙◌, subst, arith}
 use Rattle.std.proofs.lemmas.Bool.{cases_order}
 use Rattle.cell_types.specs.Image.{Image}
-use Rattle.cell_types.specs.Layout.{Layout, IsLayout, list_at, root_at, pool_at}
+use Rattle.cell_types.specs.Layout.{Layout, IsLayout, list_at, pool_at}
 use Rattle.cell_types.specs.declared.record_cell.RecordCell.TheVariants.{Jump, Child}
 use Rattle.index_paths.specs.Blocks.{Leads, arrived, onwards, pointer_at}
 use Rattle.volume_growth.specs.ListShapes.{IsWellListed}
@@ -19,7 +18,8 @@ use Rattle.tamper_rules.proofs.FullFronts.{ends_full}
 use Rattle.tamper_rules.proofs.GivenUp.{jumps, children, leads_further}
 use Rattle.tamper_rules.proofs.Images.{look}
 
-pub leads_wider : {image : Image} {from to more last block : ℕ} → to ≤ more → Leads image from to last block → Leads image from more last block
+pub leads_wider : {image : Image} {from to more last block : ℕ} → to ≤ more → Leads image from to last block
+    → Leads image from more last block
 leads_wider le (arrived block is) = arrived block is
 leads_wider le (onwards block level digit target l s d jump f t rest) = onwards block level digit target l s d jump f (omega arith) (leads_wider le rest)
 
@@ -46,13 +46,20 @@ module _ {g : Layout} {image : Image} {at l : ℕ} (layout : IsLayout g) (s : Is
     jump : Holds image (pointer_at from level digit) (Jump block)
     pool : pool_at g ≤ block
 
-  last_hop : {last cur : ℕ} → Leads image (pool_at g) g.cells last cur → IsBlockOf g image l cur → (last ≡ cur) ⊎ LastHop last
+  last_hop : {last cur : ℕ} → Leads image (pool_at g) g.cells last cur → IsBlockOf g image l cur
+      → (last ≡ cur) ⊎ LastHop last
   last_hop (arrived cur is) b = inl (sym is)
   last_hop {last} (onwards cur level digit target ls d1 d2 jump f t rest) b =
       let next : IsBlockOf g image l target = record { list = list; leads = leads_further b.leads level digit target ls d1 d2 jump f t } in
       ⊎_elim
       (λ same. inr (record {
-        from = cur; level = level; digit = digit; is = b; levels = ls; low = d1; high = d2;
+        from = cur;
+        level = level;
+        digit = digit;
+        is = b;
+        levels = ls;
+        low = d1;
+        high = d2;
         jump = subst (λ (k : ℕ). Holds image (pointer_at cur level digit) (Jump k)) (sym same) jump;
         pool = omega (arith, f, same);
       }))
@@ -62,7 +69,8 @@ module _ {g : Layout} {image : Image} {at l : ℕ} (layout : IsLayout g) (s : Is
   reached : {block : ℕ} → IsBlockOf g image l block → (block ≡ list_at g l) ⊎ LastHop block
   reached b = last_hop b.leads (record { list = list; leads = arrived (list_at g l) refl })
 
-  rule_of : {block level digit : ℕ} {cell : List ℕ} → IsBlockOf g image l block → level < 8 → 1 ≤ digit → digit ≤ 15 → image (pointer_at block level digit) ≡ Some cell → LeadsWell g image l block level digit
+  rule_of : {block level digit : ℕ} {cell : List ℕ} → IsBlockOf g image l block → level < 8 → 1 ≤ digit
+      → digit ≤ 15 → image (pointer_at block level digit) ≡ Some cell → LeadsWell g image l block level digit
   rule_of {block} {level} {digit} {cell} b ls d1 d2 is =
       let r : PointerRule g image (pointer_at block level digit) = s.met Rules.Pointers (pointer_at block level digit) (record { found = cell; stands = is }) in
       r l block level digit b ls d1 d2 refl
@@ -76,9 +84,9 @@ module _ {g : Layout} {image : Image} {at l : ℕ} (layout : IsLayout g) (s : Is
   blocks_apart : {a b : ℕ} → IsBlockOf g image l a → IsBlockOf g image l b → (a ≡ b) ⊎ AreApart a 256 b 256
   blocks_apart {a} {b} x y = ⊎_elim
       (λ first. ⊎_elim
-          (λ also. inl (first ∙ sym also))
-          (λ h. inr (inl (let p = h.pool in omega arith)))
-          (reached y))
+      (λ also. inl (first ∙ sym also))
+      (λ h. inr (inl (let p = h.pool in omega arith)))
+      (reached y))
       (λ h. far_apart h y)
       (reached x)
 
@@ -90,26 +98,35 @@ module _ {g : Layout} {image : Image} {at l : ℕ} (layout : IsLayout g) (s : Is
         r.entry l block place (block_of b) below refl;
     blank = λ block place b low high. ⊎_elim (λ none. none)
         (λ h. let r : EntryRule g image (block + place) = s.met Rules.Entries (block + place) (record { found = h.0; stands = h.1 }) in
-            absurd (r.blank l block place (block_of b) low high refl))
+        absurd (r.blank l block place (block_of b) low high refl))
         (look image (block + place));
     pointers = λ block level digit b ls d1 d2 w. let r = rule_of (block_of b) ls d1 d2 w.stands in record {
-      target = r.target; jump = r.jump; greatest = r.greatest;
+      target = r.target;
+      jump = r.jump;
+      greatest = r.greatest;
       is_full = ends_full (λ place below.
           let e : EntryRule g image (block + place) = s.met Rules.Entries (block + place) (r.full place below) in
           e.entry l block place (block_of b) below refl) r.ends;
-      inside_from = r.from; inside_to = r.edge at e;
-      place = r.place; some = r.some; in_places = r.in_places; in_front = r.in_front; in_span = r.in_span;
+      inside_from = r.from;
+      inside_to = r.edge at e;
+      place = r.place;
+      some = r.some;
+      in_places = r.in_places;
+      in_front = r.in_front;
+      in_span = r.in_span;
     };
     apart = λ a b x y. blocks_apart (block_of x) (block_of y);
   }
 
 module _ {g : Layout} {image : Image} {at : ℕ} (layout : IsLayout g) (s : IsSettled g image) (e : IsEdge g image image at) where
-  child_rule : {v node x : ℕ} → IsNode g image v node → x < 16 → IsWritten image (node + 16 + x) → LeadsDownWell g image v node x
+  child_rule : {v node x : ℕ} → IsNode g image v node → x < 16 → IsWritten image (node + 16 + x)
+      → LeadsDownWell g image v node x
   child_rule {v} {node} {x} n xs w =
       let r : ChildRule g image (node + 16 + x) = s.met Rules.Children (node + 16 + x) w in
       r v node x n xs refl
 
-  nodes_apart : {v u node other : ℕ} → IsNode g image v node → IsNode g image u other → (node ≡ other) ⊎ AreApart node 32 other 32
+  nodes_apart : {v u node other : ℕ} → IsNode g image v node → IsNode g image u other
+      → (node ≡ other) ⊎ AreApart node 32 other 32
   nodes_apart (root v node is at) (root u other is' at') = inl (at ∙ sym at')
   nodes_apart (root v node is at) (under u other k above x is' rest xs less child from inside) = inr (inl (omega arith))
   nodes_apart {u = u} {other = other} (under v node k above x is rest xs less child from inside) m =
@@ -122,13 +139,13 @@ module _ {g : Layout} {image : Image} {at : ℕ} (layout : IsLayout g) (s : IsSe
   one_parent {v} {node} {x} {u} {other} {y} {target} n xs m ys h i less =
       let r = child_rule m ys (record { found = i.cell; stands = i.stands }) in
       let same : target ≡ r.target = children target r.target (one_record_holds image (other + 16 + y) (Child target) (Child r.target) i r.child) in
-      r.first v node x n xs less (subst (λ (t : ℕ). Holds image (node + 16 + x) (Child t)) same h)
+      r.once v node x n xs less (subst (λ (t : ℕ). Holds image (node + 16 + x) (Child t)) same h)
 
   pub settled_rooted : IsWellRooted g image at
   settled_rooted = record {
     room = edge_inside layout e;
     children = λ v node x n xs w. let r = child_rule n xs w in record { target = r.target; child = r.child; bucket = r.bucket; level = r.level; from = r.from; inside = r.edge at e };
-    first = λ v node x u other y target n xs m ys h i. ⊎_elim (λ same. same)
+    once = λ v node x u other y target n xs m ys h i. ⊎_elim (λ same. same)
         (λ differ. absurd (⊎_elim (λ less. one_parent n xs m ys h i less) (λ more. one_parent m ys n xs i h more) differ))
         (cases_order (node + 16 + x) (other + 16 + y));
     apart = λ v node u other n m. nodes_apart n m;

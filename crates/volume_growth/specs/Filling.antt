@@ -2,10 +2,10 @@
 use Rattle.std.specs.Prelude.{◌≡◌, ◌<◌, ◌≤◌, ◌+◌, ◌/◌, ◌^◌, ◌⊎◌, ℕ, List, [], ◌∷◌, ◌++◌, length, slice_get, Some, None}
 use Rattle.sha2.specs.Sha256.{sha256}
 use Rattle.cell_types.specs.Image.{Image}
-use Rattle.cell_types.specs.Layout.{Layout, reserve_at, outcome_at, done_at, list_at, root_at, pool_at}
+use Rattle.cell_types.specs.Layout.{Layout, outcome_at, done_at, list_at, root_at, pool_at}
 use Rattle.cell_types.specs.Records.{IsRecordCell}
 use Rattle.cell_types.specs.declared.record_cell.RecordCell.{RecordCell}
-use Rattle.cell_types.specs.declared.record_cell.RecordCell.TheVariants.{Reserve, Commit, Done, Bucket, Child}
+use Rattle.cell_types.specs.declared.record_cell.RecordCell.TheVariants.{Commit, Done, Bucket, Child}
 use Rattle.index_paths.specs.Blocks.{PostingFields, posting_record, Trail}
 use Rattle.stored_documents.specs.Documents.{Document, AreDocuments, IsIdentifier, IsBody, Stands, document_at}
 use Rattle.index_paths.specs.HashPaths.{HashTrail, fingerprint_of, nibble}
@@ -23,22 +23,23 @@ use Rattle.stored_documents.specs.Volumes.{Holds, IsWritten, IsVolume}
 
 -- where a plan's block part ends and its document begins
 abbrev pub blocks_end : Plan → ℕ
-blocks_end p = document_at p.start p.reserved (length (stored_of p)) (length p.entries)
+blocks_end p = document_at p.start p.reserved (length (stored_of p)) (length p.journal)
 
 -- this place of a plan's journal copies this index cell
-pub record IsEntry (p : Plan) (place target : ℕ) (copied : RecordCell) : Type 0 where
+pub record IsCopy (p : Plan) (place target : ℕ) (copied : RecordCell) : Type 0 where
   pub value : List ℕ
-  pub entry : slice_get p.entries place ≡ Some value
+  pub entry : slice_get p.journal place ≡ Some value
   pub index : IsIndexRecord copied
   pub address : target < 2 ^ 32
   pub is : IsRecordCell copied target value
 
 -- the place is in order: a later target than that before, an index cell of the old image or a cell of the new blocks
-pub record IsPlannedEntry (g : Layout) (old : Image) (p : Plan) (place : ℕ) : Type 0 where
+pub record IsPlannedCopy (g : Layout) (old : Image) (p : Plan) (place : ℕ) : Type 0 where
   pub target : ℕ
   pub copied : RecordCell
-  pub entry : IsEntry p place target copied
-  pub rises : (place ≡ 0) ⊎ ((before : ℕ) × (lower : ℕ) × (other : RecordCell) × (place ≡ before + 1) × IsEntry p before lower other × (lower < target))
+  pub entry : IsCopy p place target copied
+  pub rises : (place ≡ 0) ⊎ ((before : ℕ) × (lower : ℕ) × (other : RecordCell) × (place ≡ before + 1)
+      × IsCopy p before lower other × (lower < target))
   pub before_document : target < blocks_end p
   pub index : IsIndexCell g old p.slot target ⊎ (p.start ≤ target)
 
@@ -50,14 +51,14 @@ pub record IsFilled (g : Layout) (old new : Image) (p : Plan) : Type 0 where
   pub horizon : IsHorizon g old old p.slot
   pub begins : EndsBelow g old p.slot p.start
   pub reserves : Reserves g new p.slot p.start p.reserved
-  pub commit : Holds new (outcome_at p.slot) (Commit (length (stored_of p)) (length p.entries))
+  pub commit : Holds new (outcome_at p.slot) (Commit (length (stored_of p)) (length p.journal))
   pub done : Holds new (done_at p.slot) (Done p.slot)
-  pub fits : cells_for (length (stored_of p)) + length p.entries ≤ p.reserved
+  pub fits : cells_for (length (stored_of p)) + length p.journal ≤ p.reserved
   pub rows : IsWith (AnyRow p) old new
   pub is_identifier : IsIdentifier p.id
   pub is_body : IsBody p.body
-  pub entries : (place : ℕ) → place < length p.entries → IsPlannedEntry g old p place
-  pub tiles : TilingRule new p.start p.reserved (length (stored_of p)) (length p.entries)
+  pub in_order : (place : ℕ) → place < length p.journal → IsPlannedCopy g old p place
+  pub tiles : TilingRule new p.start p.reserved (length (stored_of p)) (length p.journal)
 
 -- A settled image with a filled plan, and what its index shows then.
 --
@@ -69,25 +70,31 @@ pub record IsFilled (g : Layout) (old new : Image) (p : Plan) : Type 0 where
 pub record IsWellPlanned (g : Layout) (old new : Image) (p : Plan) : Type 0 where
   pub filled : IsFilled g old new p
   pub lists : (l : ℕ) → l < g.lists → IsWellListed new (pool_at g) (blocks_end p) (list_at g l)
-  pub owners : (l block : ℕ) → IsBlockOf g new l block → (block ≡ list_at g l) ⊎ ((m : ℕ) × LiesInBlocks g new m block × LiesInBlocks g new m (block + 255))
+  pub owners : (l block : ℕ) → IsBlockOf g new l block
+      → (block ≡ list_at g l) ⊎ ((m : ℕ) × LiesInBlocks g new m block × LiesInBlocks g new m (block + 255))
   pub apart : (l k a b : ℕ) → IsBlockOf g new l a → IsBlockOf g new k b → ((b ≡ a) × (k ≡ l)) ⊎ AreApart a 256 b 256
   pub apart_nodes : (l a v node : ℕ) → IsBlockOf g new l a → IsNode g new v node → AreApart a 256 node 32
   pub blocks : (l block : ℕ) → IsBlockOf g new l block → IsBlockOf g old l block ⊎ (p.start ≤ block)
-  pub postings : (l block place : ℕ) (q : PostingFields) → IsBlockOf g new l block → place < 128 → old (block + place) ≡ None
+  pub postings : (l block place : ℕ) (q : PostingFields) → IsBlockOf g new l block → place < 128
+      → old (block + place) ≡ None
       → Holds new (block + place) (posting_record q) → (q.key / 256 ≡ p.slot) × IsPostingOf g.lists p.body p.slot l q
   pub has_postings : HasPostings g.lists p.body
-  pub trails : (l : ℕ) (q : PostingFields) → l < g.lists → IsPostingOf g.lists p.body p.slot l q → (at : ℕ) × Trail new (pool_at g) g.cells at q (list_at g l)
+  pub trails : (l : ℕ) (q : PostingFields) → l < g.lists → IsPostingOf g.lists p.body p.slot l q
+      → (at : ℕ) × Trail new (pool_at g) g.cells at q (list_at g l)
   pub tree : IsWellRooted g new (blocks_end p)
   pub nodes : (v node : ℕ) → IsNode g new v node → IsNode g old v node ⊎ (p.start ≤ node)
-  pub new_children : (v node x target : ℕ) → IsNode g new v node → x < 16 → old (node + 16 + x) ≡ None → Holds new (node + 16 + x) (Child target) → p.start ≤ target
+  pub new_children : (v node x target : ℕ) → IsNode g new v node → x < 16 → old (node + 16 + x) ≡ None
+      → Holds new (node + 16 + x) (Child target) → p.start ≤ target
   pub new_buckets : (v node x : ℕ) → IsNode g new v node → x < 16 → old (node + x) ≡ None → IsWritten new (node + x)
-      → Holds new (node + x) (Bucket p.slot (fingerprint_of (sha256 p.id))) × IsOnPath g new (sha256 p.id) v node × (x ≡ nibble (sha256 p.id) v)
+      → Holds new (node + x) (Bucket p.slot (fingerprint_of (sha256 p.id)))
+      × IsOnPath g new (sha256 p.id) v node × (x ≡ nibble (sha256 p.id) v)
   pub path : HashTrail new (sought_in g.cells g p.id) p.slot (root_at g) 0
   pub absent : (m : ℕ) (other : List ℕ) → Stands g.cells old m p.id other → ⊥
 
 -- a plan keeps a volume settled
 abbrev pub PlanIsSettled : Type 0
-PlanIsSettled = (g : Layout) (old new : Image) (p : Plan) → IsWellPlanned g old new p → IsSettled g new × Stands g.cells new p.slot p.id p.body
+PlanIsSettled = (g : Layout) (old new : Image) (p : Plan) → IsWellPlanned g old new p
+    → IsSettled g new × Stands g.cells new p.slot p.id p.body
 
 -- a plan that is written in phases, and cut short in any of them, leaves a sound volume
 abbrev pub PlanLeavesSound : Type 0
@@ -98,5 +105,6 @@ PlanLeavesSound =
 -- and has the documents that there were, and its own behind them
 abbrev pub PlanAddsOne : Type 0
 PlanAddsOne =
-    (g : Layout) (old new : Image) (p : Plan) (documents : List Document) → IsWellPlanned g old new p → AreDocuments g.cells old documents
+    (g : Layout) (old new : Image) (p : Plan) (documents : List Document) → IsWellPlanned g old new p
+    → AreDocuments g.cells old documents
     → AreDocuments g.cells new (documents ++ record { slot = p.slot; id = p.id; body = p.body } ∷ [])

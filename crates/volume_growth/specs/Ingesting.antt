@@ -18,7 +18,7 @@ pub record Plan : Type 0 where
   pub reserved : ℕ
   pub id : List ℕ
   pub body : List ℕ
-  pub entries : List (List ℕ)
+  pub journal : List (List ℕ)
 
 -- the phases
 pub data Phase : Type 0 where
@@ -44,19 +44,19 @@ stored_of p = stored_bytes p.id p.body
 pub record ContentRow (p : Plan) (cell : ℕ) (value : List ℕ) : Type 0 where
   pub place : ℕ
   pub below : place < cells_for (length (stored_of p))
-  pub at : cell ≡ document_at p.start p.reserved (length (stored_of p)) (length p.entries) + place
+  pub at : cell ≡ document_at p.start p.reserved (length (stored_of p)) (length p.journal) + place
   pub is : value ≡ content_at (stored_of p) place
 
 -- a cell of the journal
-pub record EntryRow (p : Plan) (cell : ℕ) (value : List ℕ) : Type 0 where
+pub record CopyRow (p : Plan) (cell : ℕ) (value : List ℕ) : Type 0 where
   pub place : ℕ
-  pub entry : slice_get p.entries place ≡ Some value
-  pub at : cell ≡ journal_at p.start p.reserved (length p.entries) + place
+  pub entry : slice_get p.journal place ≡ Some value
+  pub at : cell ≡ journal_at p.start p.reserved (length p.journal) + place
 
 -- a cell of the journal at its own address
 pub record AppliedRow (p : Plan) (cell : ℕ) (value : List ℕ) : Type 0 where
   pub place : ℕ
-  pub entry : slice_get p.entries place ≡ Some value
+  pub entry : slice_get p.journal place ≡ Some value
   pub copied : RecordCell
   pub index : IsIndexRecord copied
   pub address : cell < 2 ^ 32
@@ -65,8 +65,8 @@ pub record AppliedRow (p : Plan) (cell : ℕ) (value : List ℕ) : Type 0 where
 -- in this phase the cell gets this value
 abbrev pub Row : Plan → Phase → ℕ → List ℕ → Type 0
 Row p Reserving cell value = RecordRow (Reserve p.start p.reserved) (reserve_at p.slot) cell value
-Row p Storing cell value = ContentRow p cell value ⊎ EntryRow p cell value
-Row p Committing cell value = RecordRow (Commit (length (stored_of p)) (length p.entries)) (outcome_at p.slot) cell value
+Row p Storing cell value = ContentRow p cell value ⊎ CopyRow p cell value
+Row p Committing cell value = RecordRow (Commit (length (stored_of p)) (length p.journal)) (outcome_at p.slot) cell value
 Row p Applying cell value = AppliedRow p cell value
 Row p Finishing cell value = DoneRow p.slot cell value
 
@@ -89,7 +89,7 @@ pub record IsIngest (g : Layout) (old new : Image) (p : Plan) : Type 0 where
   pub horizon : IsHorizon g old old p.slot
   pub free : p.slot < g.slots
   pub reserve : Holds new (reserve_at p.slot) (Reserve p.start p.reserved)
-  pub commit : Holds new (outcome_at p.slot) (Commit (length (stored_of p)) (length p.entries))
+  pub commit : Holds new (outcome_at p.slot) (Commit (length (stored_of p)) (length p.journal))
   pub done : Holds new (done_at p.slot) (Done p.slot)
   pub rows : IsWith (AnyRow p) old new
 
@@ -97,9 +97,12 @@ pub record IsIngest (g : Layout) (old new : Image) (p : Plan) : Type 0 where
 -- and the new ones otherwise.
 pub record LeavesSound (cells : ℕ) (old new : Image) (n : ℕ) (image : Image) : Type 0 where
   pub sound : Sound cells image
-  pub blank : image (outcome_at n) ≡ None → (documents : List Document) → AreDocuments cells old documents → Held cells image documents
-  pub written : IsWritten image (outcome_at n) → (documents : List Document) → AreDocuments cells new documents → Held cells image documents
+  pub blank : image (outcome_at n) ≡ None → (documents : List Document) → AreDocuments cells old documents
+      → Held cells image documents
+  pub written : IsWritten image (outcome_at n) → (documents : List Document)
+      → AreDocuments cells new documents → Held cells image documents
 
+-- an ingest that is cut short anywhere, with cells of a phase only where all of those before are there
 abbrev pub IngestLeavesSound : Type 0
 IngestLeavesSound =
     (g : Layout) (old new image : Image) (p : Plan)
@@ -109,10 +112,12 @@ IngestLeavesSound =
 -- The image was left in this phase: it has all cells of the phases before, and none of those behind.
 pub record IsLeftIn (p : Plan) (old image : Image) (phase : Phase) : Type 0 where
   pub keeps : Extends old image
-  pub before : (earlier : Phase) → order_of earlier < order_of phase → (cell : ℕ) (value : List ℕ) → Row p earlier cell value → image cell ≡ Some value
+  pub before : (earlier : Phase) → order_of earlier < order_of phase → (cell : ℕ) (value : List ℕ)
+      → Row p earlier cell value → image cell ≡ Some value
   pub only : (cell : ℕ) (value : List ℕ) → image cell ≡ Some value
       → (old cell ≡ Some value) ⊎ ((one : Phase) × (order_of one ≤ order_of phase) × Row p one cell value)
 
+-- an ingest that is cut short in one phase
 abbrev pub PhasesLeaveSound : Type 0
 PhasesLeaveSound =
     (g : Layout) (old new image : Image) (p : Plan) (phase : Phase)

@@ -1,6 +1,6 @@
 -- The shape of one list: what its own blocks and pointers keep of the rules of blocks, and how it stays kept when a
 -- posting or a pointer is added.
-use Rattle.std.specs.Prelude.{◌≡◌, ◌≢◌, ◌<◌, ◌≤◌, ◌+◌, ◌⊎◌, ℕ, List, Some, None}
+use Rattle.std.specs.Prelude.{◌≡◌, ◌≢◌, ◌<◌, ◌≤◌, ◌+◌, ◌⊎◌, ℕ, None}
 use Rattle.cell_types.specs.Image.{Image, Extends}
 use Rattle.cell_types.specs.declared.record_cell.RecordCell.TheVariants.{Jump}
 use Rattle.index_paths.specs.Blocks.{PostingFields, posting_record, InFront, IsFull, InSpan, pointer_at, Leads}
@@ -27,13 +27,15 @@ pub record PointsWell (image : Image) (from to block level digit : ℕ) : Type 0
 -- place 0 on, the places behind the pointers are blank, pointers lead well, and no two blocks meet.
 pub record IsWellListed (image : Image) (from to head : ℕ) : Type 0 where
   pub before : head + 256 ≤ from
-  pub entries : (block place : ℕ) → Leads image from to block head → place < 128 → IsWritten image (block + place) → HoldsInOrder image block place
-  pub blank : (block place : ℕ) → Leads image from to block head → 248 ≤ place → place < 256 → image (block + place) ≡ None
+  pub entries : (block place : ℕ) → Leads image from to block head → place < 128
+      → IsWritten image (block + place) → HoldsInOrder image block place
+  pub blank : (block place : ℕ) → Leads image from to block head → 248 ≤ place → place < 256
+      → image (block + place) ≡ None
   pub pointers : (block level digit : ℕ) → Leads image from to block head → level < 8 → 1 ≤ digit → digit ≤ 15
       → IsWritten image (pointer_at block level digit) → PointsWell image from to block level digit
   pub apart : (a b : ℕ) → Leads image from to a head → Leads image from to b head → (a ≡ b) ⊎ AreApart a 256 b 256
 
--- new is old with something in one cell that was blank
+-- new is old but for one cell, which was blank in old
 pub record Adds (at : ℕ) (old new : Image) : Type 0 where
   pub was : old at ≡ None
   pub others : (cell : ℕ) → cell ≢ at → new cell ≡ old cell
@@ -47,7 +49,8 @@ WellApart =
 
 -- more room leaves a list as it was
 abbrev pub WellWider : Type 0
-WellWider = (image : Image) (from to wider head : ℕ) → to ≤ wider → IsWellListed image from to head → IsWellListed image from wider head
+WellWider = (image : Image) (from to wider head : ℕ) → to ≤ wider → IsWellListed image from to head
+    → IsWellListed image from wider head
 
 -- a posting is put at the first blank place of a block
 abbrev pub WellWithEntry : Type 0
@@ -55,11 +58,12 @@ WellWithEntry =
     (old new : Image) (from to head block place : ℕ) (p : PostingFields)
     → IsWellListed old from to head → Leads old from to block head → place < 128
     → Adds (block + place) old new → Holds new (block + place) (posting_record p)
-    → ((place ≡ 0) ⊎ ((before : ℕ) × (q : PostingFields) × (place ≡ before + 1) × Holds old (block + before) (posting_record q) × (q.key < p.key)))
+    → ((place ≡ 0) ⊎ ((before : ℕ) × (q : PostingFields) × (place ≡ before + 1)
+    × Holds old (block + before) (posting_record q) × (q.key < p.key)))
     → IsWellListed new from to head
 
--- The block at target may become one of the list: it is one, or its cells meet no block of the list, its postings
--- are in order, and it has no others.
+-- The cells at target may become a block of the list: they meet no block of it, what stands at their entry places is
+-- in order, and their other places are blank.
 pub record IsNewBlock (image : Image) (from to head target : ℕ) : Type 0 where
   pub apart : (b : ℕ) → Leads image from to b head → AreApart target 256 b 256
   pub entries : (place : ℕ) → place < 128 → IsWritten image (target + place) → HoldsInOrder image target place

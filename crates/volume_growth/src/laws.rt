@@ -3,8 +3,9 @@
 ghost use Rattle.volume_growth.specs.Filling.{PlanAddsOne, PlanIsSettled, PlanLeavesSound};
 ghost use Rattle.volume_growth.specs.Ingesting.{IngestLeavesSound, PhasesLeaveSound};
 ghost use Rattle.volume_growth.specs.ListShapes.{WellApart, WellWider, WellWithEntry, WellWithJump};
-ghost use Rattle.volume_growth.specs.SettledShapes.{LastBucketIsSame, NodesHaveOneLevel, SettledListed, SettledRooted};
-ghost use Rattle.volume_growth.specs.TreeShapes.{RootedApart, RootedWithChild};
+ghost use Rattle.volume_growth.specs.Needs.{NeedIsBounded};
+ghost use Rattle.volume_growth.specs.SettledShapes.{LastBucketIsSame, NodesHaveOneLevel, NodesHaveOneWay, SettledListed, SettledRooted, SettledTrails};
+ghost use Rattle.volume_growth.specs.TreeShapes.{RootedApart, RootedWider, RootedWithChild};
 
 /// Ingesting, cut short anywhere, leaves a sound volume with the old documents or the new ones.
 pub fn ingest_leaves_sound()
@@ -79,4 +80,24 @@ pub fn nodes_have_one_level()
 /// A written bucket at the last level of an identifier's path names an identifier of the same digest.
 pub fn last_bucket_is_same()
     ensures { LastBucketIsSame }
+{}
+
+/// The need of a document with d cells and P postings is at least d + P + 1 and at most d + 258 P + 34.
+pub fn need_is_bounded()
+    ensures { NeedIsBounded }
+{}
+
+/// Each posting of a list of a settled image has a trail from the list's first block.
+pub fn settled_trails()
+    ensures { SettledTrails }
+{}
+
+/// Each node is reached from the root in one way.
+pub fn nodes_have_one_way()
+    ensures { NodesHaveOneWay }
+{}
+
+/// More room leaves the tree as it was.
+pub fn rooted_wider()
+    ensures { RootedWider }
 {}

@@ -5,7 +5,11 @@
 //!     worm volume.img ingest invoice-4711 < invoice.txt
 //!
 //! IMAGE is the path of a file that exists; a new device is a file of zeros. Where IMAGE is `-`, the device is one
-//! in memory that holds a small volume, so what is stored there is gone when the program ends.
+//! in memory that holds a small volume, so what is stored there is gone when the program ends. No other IMAGE begins
+//! with a hyphen.
+//!
+//! One program at a time works on a file: the second waits, from its first look at the file on, until the first has
+//! ended. Where standard input, output or error is closed, the file does not take its place.
 //!
 //! Where the command is not done, one line on standard error says why, and the status tells it too: 0 is done, 1 is
 //! words that are no command, 5 a file that cannot be opened, and every other is that of `run`'s refusal.
@@ -15,7 +19,9 @@ mod small;
 
 use crate::small::small_volume;
 use cell_types::Refusal;
-use host_ports::{FileDevice, Pages, StdSink, StdSource};
+use file_top::run_over_file;
+use host_files::{FileDevice, Hold, Pages};
+use host_ports::{StdSink, StdSource};
 use record_top::run;
 use std::alloc::Global;
 use std::os::unix::fs::FileExt;
@@ -57,7 +63,7 @@ fn main(rt: HostRuntime) -> ExitCode {
 
 /// Opens the device that the first word names, and carries out the command that the others ask for.
 fn carry_out(
-    rt: &(impl Env + Files<File: FileExt> + Input + Print + AllocGlobal),
+    rt: &(impl Env + Files<File: FileExt + Hold> + Input + Print + AllocGlobal),
 ) -> Result<(), Fault> {
     let words = words(rt)?;
     let (image, command) = words.split_first().ok_or(Refusal::Usage)?;
@@ -67,11 +73,15 @@ fn carry_out(
     if image.as_str() == "-" {
         let mut device = small_volume(alloc)?;
         run(alloc, command, &mut device, &mut source, &mut sink)?;
-    } else {
-        let pages = Pages::new(alloc).map_err(|_| Refusal::NoMemory)?;
-        let mut device = FileDevice::open(rt, image.as_str(), pages).map_err(|_| Fault::Image)?;
-        run(alloc, command, &mut device, &mut source, &mut sink)?;
+        return Ok(());
     }
+    // A word with a hyphen is meant as an option, and the program has none.
+    if image.as_str().starts_with('-') {
+        return Err(Fault::Refused(Refusal::Usage));
+    }
+    let pages = Pages::new(alloc).map_err(|_| Refusal::NoMemory)?;
+    let mut device = FileDevice::open(rt, image.as_str(), pages).map_err(|_| Fault::Image)?;
+    run_over_file(alloc, command, &mut device, &mut source, &mut sink)?;
     Ok(())
 }
 

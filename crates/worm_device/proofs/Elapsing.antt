@@ -30,7 +30,8 @@ elapses_then {a} {b} {c} p q = record {
 }
 
 -- what a device shows of one call, in the form that Called has
-pub elapsed_since : {old new : DeviceState} → Elapses old new → (earlier : DeviceState) → HasElapsed earlier old → HasElapsed earlier new
+pub elapsed_since : {old new : DeviceState} → Elapses old new → (earlier : DeviceState)
+    → HasElapsed earlier old → HasElapsed earlier new
 unfolding HasElapsed
 elapsed_since q earlier p = elapses_then p q
 
@@ -68,7 +69,8 @@ called_then {a} {b} {c} p q = record {
 }
 
 -- what a crash in a row of calls could leave
-pub crash_between : (a b : DeviceState) (image : Image) → Called a b → LeftSince b a.moment image → Between a.sure b.image image
+pub crash_between : (a b : DeviceState) (image : Image) → Called a b → LeftSince b a.moment image
+    → Between a.sure b.image image
 crash_between a b image called left =
     let later = elapses_of called in
     ⊎_elim
@@ -80,11 +82,13 @@ crash_between a b image called left =
     (later.adds a.moment image (omega arith) left)
 
 -- what a device shows of a crash in the middle of one call, in the form that its contract has
-pub leaves_all : (old new : DeviceState) → ((image : Image) → Between old.sure new.image image → LeftSince new old.moment image) → LeavesAll old new
+pub leaves_all : (old new : DeviceState) → ((image : Image) → Between old.sure new.image image
+    → LeftSince new old.moment image) → LeavesAll old new
 unfolding LeavesAll
 leaves_all old new h = h
 
 -- and what a caller reads off it
-pub leaves_of : (old new : DeviceState) → LeavesAll old new → (image : Image) → Between old.sure new.image image → LeftSince new old.moment image
+pub leaves_of : (old new : DeviceState) → LeavesAll old new → (image : Image)
+    → Between old.sure new.image image → LeftSince new old.moment image
 unfolding LeavesAll
 leaves_of old new h = h

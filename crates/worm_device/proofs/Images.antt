@@ -11,7 +11,8 @@ pub extends_then : {a b c : Image} → Extends a b → Extends b c → Extends a
 extends_then p q = record { keeps = λ cell value h. q.keeps cell value (p.keeps cell value h) }
 
 -- what is between two images is between any that lie further apart
-pub between_wider : {low low' high high' image : Image} → Extends low low' → Extends high' high → Between low' high' image → Between low high image
+pub between_wider : {low low' high high' image : Image} → Extends low low' → Extends high' high
+    → Between low' high' image → Between low high image
 between_wider p q b = record { above = extends_then p b.above; below = extends_then b.below q }
 
 -- what has not changed twice has not changed

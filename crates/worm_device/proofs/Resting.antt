@@ -19,7 +19,8 @@ rests_then {a} {b} {c} p q = record {
 }
 
 -- what a view shows of one call, in the form that Viewed has
-pub rested_since : {old new : ViewState} → Rests old new → (earlier : ViewState) → HasRested earlier old → HasRested earlier new
+pub rested_since : {old new : ViewState} → Rests old new → (earlier : ViewState) → HasRested earlier old
+    → HasRested earlier new
 unfolding HasRested
 rested_since q earlier p = rests_then p q
 

@@ -22,7 +22,8 @@ CrashesKeepWhatWasSure =
 
 -- LeavesAll says that each image from what was sure at a call's entry to what stands at its exit may be left
 abbrev pub ACrashInACall : Type 0
-ACrashInACall = (a b : DeviceState) (image : Image) → LeavesAll a b → Between a.sure b.image image → LeftSince b a.moment image
+ACrashInACall = (a b : DeviceState) (image : Image) → LeavesAll a b → Between a.sure b.image image
+    → LeftSince b a.moment image
 
 -- Viewed holds of no call, and of one row of calls after another
 abbrev pub ViewsCompose : Type 0

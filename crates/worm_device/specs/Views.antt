@@ -18,11 +18,11 @@ pub record ViewState : Type 0 where
   pub planned : Image
   -- whom each planned cell is for
   pub owners : ℕ → Option Owner
-  -- what stands below what is planned
+  -- what stands below what is planned: evidence speaks of it
   pub lower : Image
   -- from this cell on nothing below is asked: what is not planned reads as blank
   pub fresh : ℕ
-  -- the device at the bottom, whose counts and whose image causes and evidence speak of
+  -- the device at the bottom, whose counts causes speak of
   pub base : DeviceState
   -- The names of the loans that it holds. They stay, so that whoever lent knows what comes back.
   pub loans : List ℕ

@@ -20,7 +20,8 @@ use Rattle.worm_memory.proofs.Worlds.{after_append, image_is, written_here, writ
 use Rattle.worm_memory.proofs.Crashes.{left_still, elapses_counted, elapses_changed, image_after, sure_after}
 
 -- what every call keeps, where only counts rise
-called_counted : (m : Memory) (faults reads : ℕ) → m.faults ≤ faults → m.reads ≤ reads → Called (device_of m) (device_of (record m { faults = faults; reads = reads }))
+called_counted : (m : Memory) (faults reads : ℕ) → m.faults ≤ faults → m.reads ≤ reads
+    → Called (device_of m) (device_of (record m { faults = faults; reads = reads }))
 called_counted m faults reads more_faults more_reads = record {
   cells = refl;
   tells = refl;
@@ -34,7 +35,8 @@ called_counted m faults reads more_faults more_reads = record {
 }
 
 -- and where something changes
-called_changed : (m : Memory) (change : Change) → Adds change → Called (device_of m) (device_of (with_change m change))
+called_changed : (m : Memory) (change : Change) → Adds change
+    → Called (device_of m) (device_of (with_change m change))
 called_changed m change adds = record {
   cells = refl;
   tells = refl;
@@ -48,7 +50,8 @@ called_changed m change adds = record {
 }
 
 -- a read answers what stands
-pub reads_of : (m : Memory) (at : ℕ) → m.reads < 2 ^ 64 → Reads at (device_of m) (device_of (with_read m)) (Ok ((world m.changes).image at))
+pub reads_of : (m : Memory) (at : ℕ) → m.reads < 2 ^ 64
+    → Reads at (device_of m) (device_of (with_read m)) (Ok ((world m.changes).image at))
 reads_of m at fits = record {
   called = called_counted m m.faults (next_count m.reads) (omega arith) (omega arith);
   leaves = leaves_all _ _ (λ image between. inl between);
@@ -59,10 +62,12 @@ reads_of m at fits = record {
 }
 
 -- what stands in the cells after a blank one is written
-value_stands : (m : Memory) (at : ℕ) (value : List ℕ) → (world m.changes).image at ≡ None → (device_of (with_change m (Wrote at value))).image at ≡ Some value
+value_stands : (m : Memory) (at : ℕ) (value : List ℕ) → (world m.changes).image at ≡ None
+    → (device_of (with_change m (Wrote at value))).image at ≡ Some value
 value_stands m at value free = image_is m.changes (Wrote at value) at ∙ written_here (world m.changes).image at value free
 
-changes_one : (m : Memory) (at : ℕ) (value : List ℕ) → (world m.changes).image at ≡ None → ChangesOnly at value (device_of m).image (device_of (with_change m (Wrote at value))).image
+changes_one : (m : Memory) (at : ℕ) (value : List ℕ) → (world m.changes).image at ≡ None
+    → ChangesOnly at value (device_of m).image (device_of (with_change m (Wrote at value))).image
 changes_one m at value free = λ cell.
     let new = (device_of (with_change m (Wrote at value))).image in
     ⊎_elim
@@ -71,7 +76,8 @@ changes_one m at value free = λ cell.
     (eqb_tells cell at)
 
 -- a blank cell is written
-pub writes_done : (m : Memory) (at : ℕ) (value : List ℕ) → (world m.changes).image at ≡ None → Writes at value (device_of m) (device_of (with_change m (Wrote at value))) (Ok Done)
+pub writes_done : (m : Memory) (at : ℕ) (value : List ℕ) → (world m.changes).image at ≡ None
+    → Writes at value (device_of m) (device_of (with_change m (Wrote at value))) (Ok Done)
 writes_done m at value free = record {
   called = called_changed m (Wrote at value) tt;
   leaves = leaves_all _ _ (λ image between. inl (record { above = subst (λ (now : Instant). Extends now.sure image) (sym (after_append blank m.changes (Wrote at value))) between.above; below = between.below }));
@@ -82,7 +88,8 @@ writes_done m at value free = record {
 }
 
 -- a written cell stays
-pub writes_taken : (m : Memory) (at : ℕ) (value found : List ℕ) → (world m.changes).image at ≡ Some found → Writes at value (device_of m) (device_of m) (Ok (Taken found))
+pub writes_taken : (m : Memory) (at : ℕ) (value found : List ℕ) → (world m.changes).image at ≡ Some found
+    → Writes at value (device_of m) (device_of m) (Ok (Taken found))
 writes_taken m at value found stands = record {
   called = called_counted m m.faults m.reads (omega arith) (omega arith);
   leaves = leaves_all _ _ (λ image between. inl between);
@@ -93,7 +100,8 @@ writes_taken m at value found stands = record {
 }
 
 -- a write that fails changes nothing
-pub writes_failed : (m : Memory) (at : ℕ) (value : List ℕ) (failed : Failed) → m.faults < 2 ^ 64 → Writes at value (device_of m) (device_of (with_fault m)) (Err failed)
+pub writes_failed : (m : Memory) (at : ℕ) (value : List ℕ) (failed : Failed) → m.faults < 2 ^ 64
+    → Writes at value (device_of m) (device_of (with_fault m)) (Err failed)
 writes_failed m at value failed fits = record {
   called = called_counted m (next_count m.faults) m.reads (omega arith) (omega arith);
   leaves = leaves_all _ _ (λ image between. inl between);
@@ -115,7 +123,9 @@ syncs_done m = record {
   count = refl;
 }
 
-sure_too : (low high : Option (List ℕ)) (value : List ℕ) → ((found : List ℕ) → low ≡ Some found → high ≡ Some found) → high ≡ Some value → (low ≡ None → ⊥) → low ≡ Some value
+sure_too : (low high : Option (List ℕ)) (value : List ℕ)
+    → ((found : List ℕ) → low ≡ Some found → high ≡ Some found) → high ≡ Some value → (low ≡ None → ⊥)
+    → low ≡ Some value
 sure_too None high value keeps stands some = absurd (some refl)
 sure_too (Some found) high value keeps stands some = sym (keeps found refl) ∙ stands
 
@@ -134,7 +144,8 @@ syncs_idle m all_sure = record {
 }
 
 -- a sync that fails changes nothing
-pub syncs_failed : (m : Memory) (failed : Failed) → m.faults < 2 ^ 64 → Syncs (device_of m) (device_of (with_fault m)) (Err failed)
+pub syncs_failed : (m : Memory) (failed : Failed) → m.faults < 2 ^ 64
+    → Syncs (device_of m) (device_of (with_fault m)) (Err failed)
 syncs_failed m failed fits = record {
   called = called_counted m (next_count m.faults) m.reads (omega arith) (omega arith);
   leaves = leaves_all _ _ (λ image between. inl between);
@@ -145,7 +156,8 @@ syncs_failed m failed fits = record {
 }
 
 -- somebody else writes a blank cell: first the record grows, and then the count
-pub foreign_done : (m : Memory) (at : ℕ) (value : List ℕ) → m.foreign_writes < 2 ^ 64 → ForeignWrites (device_of m) (device_of (with_foreign m at value))
+pub foreign_done : (m : Memory) (at : ℕ) (value : List ℕ) → m.foreign_writes < 2 ^ 64
+    → ForeignWrites (device_of m) (device_of (with_foreign m at value))
 foreign_done m at value fits = record {
   called = called_then (called_changed m (Foreign at value) tt) (record {
     cells = refl;
@@ -158,11 +170,12 @@ foreign_done m at value fits = record {
     reads = omega arith;
     crashes = elapsed_since (elapses_counted (with_change m (Foreign at value)) m.faults m.reads (next_count m.foreign_writes));
   });
+  leaves = leaves_all _ _ (λ image between. inl (record { above = subst (λ (now : Instant). Extends now.sure image) (sym (after_append blank m.changes (Foreign at value))) between.above; below = between.below }));
   quiet = λ still. absurd (omega (arith, still.same, still.below));
 }
 
 pub foreign_taken : (m : Memory) → ForeignWrites (device_of m) (device_of m)
-foreign_taken m = record { called = called_self (device_of m); quiet = λ still cell. refl }
+foreign_taken m = record { called = called_self (device_of m); leaves = leaves_all _ _ (λ image between. inl between); quiet = λ still cell. refl }
 
 pub foreign_failed : (m : Memory) → m.faults < 2 ^ 64 → ForeignWrites (device_of m) (device_of (with_fault m))
-foreign_failed m fits = record { called = called_counted m (next_count m.faults) m.reads (omega arith) (omega arith); quiet = λ still cell. refl }
+foreign_failed m fits = record { called = called_counted m (next_count m.faults) m.reads (omega arith) (omega arith); leaves = leaves_all _ _ (λ image between. inl between); quiet = λ still cell. refl }

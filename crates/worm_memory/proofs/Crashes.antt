@@ -14,7 +14,8 @@ use Rattle.worm_memory.specs.Proper.{sure_stands, blank_stands}
 use Rattle.worm_memory.proofs.Worlds.{after_append, Adds, image_grows, sure_grows}
 
 -- counts rise, and the record stays: what a crash could have left stays too
-pub elapses_counted : (m : Memory) (faults reads foreign_writes : ℕ) → Elapses (device_of m) (device_of (record m { faults = faults; reads = reads; foreign_writes = foreign_writes }))
+pub elapses_counted : (m : Memory) (faults reads foreign_writes : ℕ)
+    → Elapses (device_of m) (device_of (record m { faults = faults; reads = reads; foreign_writes = foreign_writes }))
 elapses_counted m faults reads foreign_writes = record {
   later = omega arith;
   image = extends_self (world m.changes).image;
@@ -28,11 +29,13 @@ abbrev Left : Image → Instant → Type 0
 Left image now = Between now.sure now.image image
 
 -- what stood at each earlier moment is the same in a longer record
-past_stays : (changes : List Change) (change : Change) (moment : ℕ) → moment ≤ length changes → world (take moment (changes ++ change ∷ [])) ≡ world (take moment changes)
+past_stays : (changes : List Change) (change : Change) (moment : ℕ) → moment ≤ length changes
+    → world (take moment (changes ++ change ∷ [])) ≡ world (take moment changes)
 past_stays changes change moment within = ap world (take-append-le moment changes (change ∷ []) within)
 
 -- and the last of these moments is the one before the change
-past_now : (changes : List Change) (change : Change) (moment : ℕ) → moment ≡ length changes → world (take moment (changes ++ change ∷ [])) ≡ world changes
+past_now : (changes : List Change) (change : Change) (moment : ℕ) → moment ≡ length changes
+    → world (take moment (changes ++ change ∷ [])) ≡ world changes
 past_now changes change moment here =
     past_stays changes change moment (omega arith) ∙ ap world (ap (λ n. take n changes) here ∙ take-length changes)
 
@@ -40,7 +43,8 @@ one_longer : (changes : List Change) (change : Change) → length (changes ++ ch
 one_longer changes change = simp length-append
 
 -- one more change keeps what stands, and what is sure
-pub image_after : (m : Memory) (change : Change) → Adds change → Extends (device_of m).image (device_of (with_change m change)).image
+pub image_after : (m : Memory) (change : Change) → Adds change
+    → Extends (device_of m).image (device_of (with_change m change)).image
 image_after m change adds =
     subst (λ (now : Instant). Extends (world m.changes).image now.image) (sym (after_append blank m.changes change)) (image_grows (world m.changes) change adds)
 
@@ -49,7 +53,8 @@ sure_after m change =
     subst (λ (now : Instant). Extends (world m.changes).sure now.sure) (sym (after_append blank m.changes change)) (sure_grows (world m.changes) change (sure_stands blank m.changes blank_stands))
 
 -- what could be left before it can still be left: the present has become the last moment of the past
-pub left_still : (m : Memory) (change : Change) (since : ℕ) (image : Image) → since ≤ length m.changes → LeftSince (device_of m) since image → LeftSince (device_of (with_change m change)) since image
+pub left_still : (m : Memory) (change : Change) (since : ℕ) (image : Image) → since ≤ length m.changes
+    → LeftSince (device_of m) since image → LeftSince (device_of (with_change m change)) since image
 left_still m change since image le left =
     let longer : length (m.changes ++ change ∷ []) ≡ length m.changes + 1 = one_longer m.changes change in
     ⊎_elim
@@ -58,7 +63,9 @@ left_still m change since image le left =
     left
 
 -- what could be left at a moment of the longer past could be left before
-left_before : (m : Memory) (change : Change) (since : ℕ) (image : Image) (moment : ℕ) → since ≤ moment → moment < length (m.changes ++ change ∷ []) → Left image (world (take moment (m.changes ++ change ∷ []))) → LeftSince (device_of m) since image
+left_before : (m : Memory) (change : Change) (since : ℕ) (image : Image) (moment : ℕ) → since ≤ moment
+    → moment < length (m.changes ++ change ∷ []) → Left image (world (take moment (m.changes ++ change ∷ [])))
+    → LeftSince (device_of m) since image
 left_before m change since image moment le within left =
     let longer : length (m.changes ++ change ∷ []) ≡ length m.changes + 1 = one_longer m.changes change in
     ⊎_elim
@@ -67,7 +74,8 @@ left_before m change since image moment le within left =
     (cases_lt moment (length m.changes))
 
 -- one more change
-pub elapses_changed : (m : Memory) (change : Change) → Adds change → Elapses (device_of m) (device_of (with_change m change))
+pub elapses_changed : (m : Memory) (change : Change) → Adds change
+    → Elapses (device_of m) (device_of (with_change m change))
 elapses_changed m change adds =
     let longer : length (m.changes ++ change ∷ []) ≡ length m.changes + 1 = one_longer m.changes change in
     record {

@@ -1,12 +1,9 @@
 -- What the changes of a crash make of an instant.
-use Rattle.std.proofs.Common.{◌≡◌, ◌≤◌, ◌<◌, ◌==◌, if◌then◌else◌, ℕ, Bool, true, false, List, [], ◌∷◌, ◌++◌, length, set, get_or, Option, Some, None, refl, ap, sym, subst, ◌∙◌, ⊎_elim, arith}
+use Rattle.std.proofs.Common.{◌≡◌, ◌==◌, if◌then◌else◌, ℕ, Bool, true, false, List, [], ◌∷◌, Option, refl, ap, sym, ◌∙◌, ⊎_elim, arith}
 use Rattle.std.proofs.lemmas.Bool.Decides.{nat_tests, eqb_tells}
-use Rattle.std.proofs.lemmas.List.{get_or-set_same, get_or-set_other}
-use Rattle.cell_types.specs.Image.{Image, Extends}
 use Rattle.worm_device.specs.State.{Instant}
-use Rattle.worm_memory.specs.declared.change.Change.{Change}
-use Rattle.worm_memory.specs.declared.change.Change.TheVariants.{Lost, Crashed}
-use Rattle.worm_memory.specs.Worlds.{after_change, after_changes, fallen, Holds}
+use Rattle.worm_memory.specs.declared.change.Change.TheVariants.{Lost}
+use Rattle.worm_memory.specs.Worlds.{after_change, after_changes}
 use Rattle.worm_memory.specs.Losses.{is_among, kept_image, crash_changes, AllElseSure}
 
 module _ (keep : List ℕ) where
@@ -15,7 +12,8 @@ module _ (keep : List ℕ) where
   base false image sure e = e refl
 
   -- a cell that is kept is not the one that is lost
-  lost_kept : (here kept : Bool) (image sure : Option (List ℕ)) → (kept ≡ true → here ≡ false) → (if kept then (if here then sure else image) else sure) ≡ (if kept then image else sure)
+  lost_kept : (here kept : Bool) (image sure : Option (List ℕ)) → (kept ≡ true → here ≡ false)
+      → (if kept then (if here then sure else image) else sure) ≡ (if kept then image else sure)
   lost_kept here false image sure apart = refl
   lost_kept false true image sure apart = refl
   lost_kept true true image sure apart = absurd (let clash : true ≡ false = apart refl in cc)
@@ -31,7 +29,8 @@ module _ (keep : List ℕ) where
       (λ other. other.0)
       (eqb_tells n m)
 
-  fell : (here : Bool) (image sure : Option (List ℕ)) → (here ≡ false → image ≡ sure) → (if here then sure else image) ≡ sure
+  fell : (here : Bool) (image sure : Option (List ℕ)) → (here ≡ false → image ≡ sure)
+      → (if here then sure else image) ≡ sure
   fell true image sure e = refl
   fell false image sure e = e refl
 
@@ -48,7 +47,8 @@ module _ (keep : List ℕ) where
       keeps (after_change now (Lost at)) (λ c gone free. fell (c == at) (now.image c) (now.sure c) (λ other. all c (not_here (c == at) (is_among c unsure) other gone) free)) cell
       ∙ lost_kept (cell == at) (is_among cell keep) (now.image cell) (now.sure cell) (λ kept. turned at cell (apart cell at kept is))
 
-  pub crash_image : (unsure : List ℕ) (now : Instant) → AllElseSure keep unsure now → (cell : ℕ) → (after_changes now (crash_changes keep unsure)).image cell ≡ kept_image keep now.image now.sure cell
+  pub crash_image : (unsure : List ℕ) (now : Instant) → AllElseSure keep unsure now → (cell : ℕ)
+      → (after_changes now (crash_changes keep unsure)).image cell ≡ kept_image keep now.image now.sure cell
   crash_image [] now all cell = base (is_among cell keep) (now.image cell) (now.sure cell) (all cell refl)
   crash_image (at ∷ unsure) now all cell = one_more at unsure now all cell (is_among at keep) refl (crash_image unsure)
 
@@ -60,6 +60,7 @@ module _ (keep : List ℕ) where
   one_sure at unsure now cell true sure = sure now cell
   one_sure at unsure now cell false sure = sure (after_change now (Lost at)) cell
 
-  pub crash_sure : (unsure : List ℕ) (now : Instant) (cell : ℕ) → (after_changes now (crash_changes keep unsure)).sure cell ≡ (after_changes now (crash_changes keep unsure)).image cell
+  pub crash_sure : (unsure : List ℕ) (now : Instant) (cell : ℕ)
+      → (after_changes now (crash_changes keep unsure)).sure cell ≡ (after_changes now (crash_changes keep unsure)).image cell
   crash_sure [] now cell = refl
   crash_sure (at ∷ unsure) now cell = one_sure at unsure now cell (is_among at keep) (crash_sure unsure)

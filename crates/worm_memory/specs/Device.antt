@@ -1,9 +1,12 @@
 -- What a device in memory tells, read off its fields, and what a call does to it.
-use Rattle.std.specs.Prelude.{◌≡◌, List, ℕ, ◌+◌, ◌-◌, vec_len, vec_capacity}
+use Rattle.std.specs.Prelude.{◌≡◌, List, ℕ, ◌+◌, ◌-◌, None, Some, Result, Ok, Err, vec_len, vec_capacity}
 use Rattle.cell_types.specs.Image.{IsUnchanged}
-use Rattle.worm_device.specs.Calls.{Called}
+use Rattle.worm_device.specs.Calls.{Called, LeavesAll}
 use Rattle.worm_device.specs.Counts.{IsStill}
 use Rattle.worm_device.specs.State.{DeviceState}
+use Rattle.worm_device.specs.declared.device.Failed.{Failed}
+use Rattle.worm_device.specs.declared.device.Written.{Written}
+use Rattle.worm_device.specs.declared.device.Written.TheVariants.{Done, Taken}
 use Rattle.worm_memory.specs.Memory.{Memory, device_of, with_change, with_fault, with_foreign}
 use Rattle.worm_memory.specs.declared.change.Change.{Change}
 use Rattle.worm_memory.specs.declared.memory_device.MemoryDevice.{MemoryDevice}
@@ -40,9 +43,19 @@ CountsFault old new = (memory_of new ≡ with_fault (memory_of old)) × (room_of
 
 -- one more foreign write is in the record and in the count, and nothing else but the room has changed
 abbrev pub RecordsForeign : ℕ → List ℕ → MemoryDevice → MemoryDevice → Type 0
-RecordsForeign at value old new = (memory_of new ≡ with_foreign (memory_of old) at value) × (room_of new + 1 ≡ room_of old)
+RecordsForeign at value old new = (memory_of new ≡ with_foreign (memory_of old) at value)
+    × (room_of new + 1 ≡ room_of old)
 
--- what others do is a call as any, and shows in the count
+-- what others do keeps what every call keeps, and shows in the count of foreign writes
 pub record ForeignWrites (old new : DeviceState) : Type 0 where
   pub called : Called old new
+  pub leaves : LeavesAll old new
   pub quiet : IsStill old.foreign_writes new.foreign_writes → IsUnchanged old.image new.image
+
+-- How a foreign write may end, and why: a blank cell is written, and counted; a written one stays, and nothing is
+-- counted but that; and it fails exactly where a blank cell's change has no room in the record.
+abbrev pub ForeignEnds : ℕ → List ℕ → MemoryDevice → MemoryDevice → Result Written Failed → Type 0
+ForeignEnds at value old new (Ok Done) = ((state_of old).image at ≡ None) × RecordsForeign at value old new
+ForeignEnds at value old new (Ok (Taken found)) = ((state_of old).image at ≡ Some found) × Stays old new
+ForeignEnds at value old new (Err failed) =
+    ((state_of old).image at ≡ None) × (room_of old ≡ 0) × CountsFault old new

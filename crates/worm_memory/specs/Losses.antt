@@ -1,7 +1,8 @@
--- What a crash does: of the cells that are not sure those stay that are kept, and all that stands then is sure.
-use Rattle.std.specs.Prelude.{◌≡◌, ◌==◌, if◌then◌else◌, ℕ, Bool, true, false, List, [], ◌∷◌, Option, None, slice_set}
+-- What a crash does, as a row of changes: of the cells that are not sure those stay that are kept, and all that stands
+-- then is sure.
+use Rattle.std.specs.Prelude.{◌≡◌, ◌==◌, if◌then◌else◌, ℕ, Bool, true, false, List, [], ◌∷◌}
 use Rattle.cell_types.specs.Image.{Image}
-use Rattle.worm_device.specs.State.{Instant, DeviceState}
+use Rattle.worm_device.specs.State.{Instant}
 use Rattle.worm_memory.specs.Worlds.{after_changes}
 use Rattle.worm_memory.specs.declared.change.Change.{Change}
 use Rattle.worm_memory.specs.declared.change.Change.TheVariants.{Lost, Crashed}
@@ -20,19 +21,10 @@ abbrev pub crash_changes : List ℕ → List ℕ → List Change
 crash_changes keep [] = Crashed ∷ []
 crash_changes keep (at ∷ unsure) = if is_among at keep then crash_changes keep unsure else Lost at ∷ crash_changes keep unsure
 
--- and what it leaves in the cells
-abbrev pub crash_cells : List ℕ → List ℕ → List (Option (List ℕ)) → List (Option (List ℕ))
-crash_cells keep [] cells = cells
-crash_cells keep (at ∷ unsure) cells = crash_cells keep unsure (if is_among at keep then cells else slice_set cells at None)
-
--- after a crash: what was kept, or was sure, stands, and is sure
-pub record Crashes (keep : List ℕ) (old new : DeviceState) : Type 0 where
-  pub image : (cell : ℕ) → new.image cell ≡ kept_image keep old.image old.sure cell
-  pub sure : (cell : ℕ) → new.sure cell ≡ new.image cell
-
 -- each cell that is neither among these nor kept is sure as it stands
 abbrev pub AllElseSure : List ℕ → List ℕ → Instant → Type 0
-AllElseSure keep unsure now = (cell : ℕ) → is_among cell unsure ≡ false → is_among cell keep ≡ false → now.image cell ≡ now.sure cell
+AllElseSure keep unsure now = (cell : ℕ) → is_among cell unsure ≡ false → is_among cell keep ≡ false
+    → now.image cell ≡ now.sure cell
 
 -- a crash leaves what is kept and what is sure, and that is sure then
 abbrev pub ACrashKeeps : Type 0

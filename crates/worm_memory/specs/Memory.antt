@@ -44,9 +44,13 @@ IsUnsure m =
 abbrev pub with_change : Memory → Change → Memory
 with_change m change = record m { changes = m.changes ++ change ∷ [] }
 
+-- one more foreign write in the count
+abbrev pub with_foreign_write : Memory → Memory
+with_foreign_write m = record m { foreign_writes = next_count m.foreign_writes }
+
 -- one more foreign write
 abbrev pub with_foreign : Memory → ℕ → List ℕ → Memory
-with_foreign m at value = record m { changes = m.changes ++ Foreign at value ∷ []; foreign_writes = next_count m.foreign_writes }
+with_foreign m at value = with_foreign_write (with_change m (Foreign at value))
 
 -- one more fault
 abbrev pub with_fault : Memory → Memory

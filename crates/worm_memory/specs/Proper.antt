@@ -12,7 +12,7 @@ use Rattle.worm_device.proofs.Images.{extends_self, extends_then}
 use Rattle.worm_memory.specs.declared.change.Change.{Change}
 use Rattle.worm_memory.specs.declared.change.Change.TheVariants.{Wrote, Foreign, Synced, Lost, Crashed}
 use Rattle.worm_memory.specs.Memory.{Memory, device_of}
-use Rattle.worm_memory.specs.Worlds.{kept_or, written, fallen, after_change, after_changes, blank, AreChanges}
+use Rattle.worm_memory.specs.Worlds.{kept_or, written, after_change, after_changes, blank, AreChanges}
 
 still_found : (here : Bool) (old : Option (List ℕ)) (value found : List ℕ)
     → old ≡ Some found → (if here then kept_or old value else old) ≡ Some found
@@ -24,11 +24,14 @@ still_found true None value found stands = absurd (none-some found stands)
 pub kept : (image : Image) (at : ℕ) (value : List ℕ) → Extends image (written image at value)
 kept image at value = record { keeps = λ cell found stands. still_found (cell == at) (image cell) value found stands }
 
-fallen_keeps : (here : Bool) (sure image : Option (List ℕ)) (found : List ℕ) → image ≡ Some found → sure ≡ Some found → (if here then sure else image) ≡ Some found
+fallen_keeps : (here : Bool) (sure image : Option (List ℕ)) (found : List ℕ) → image ≡ Some found
+    → sure ≡ Some found → (if here then sure else image) ≡ Some found
 fallen_keeps true sure image found stands is = is
 fallen_keeps false sure image found stands is = stands
 
-fallen_from : (P : List ℕ → Type 0) (here : Bool) (sure image : Option (List ℕ)) (found : List ℕ) → (sure ≡ Some found → P found) → (image ≡ Some found → P found) → (if here then sure else image) ≡ Some found → P found
+fallen_from : (P : List ℕ → Type 0) (here : Bool) (sure image : Option (List ℕ)) (found : List ℕ)
+    → (sure ≡ Some found → P found) → (image ≡ Some found → P found)
+    → (if here then sure else image) ≡ Some found → P found
 fallen_from P true sure image found of_sure of_image is = of_sure is
 fallen_from P false sure image found of_sure of_image is = of_image is
 
@@ -49,7 +52,8 @@ pub blank_stands : Extends blank.sure blank.image
 blank_stands = extends_self blank.image
 
 from_either : (P : List ℕ → Type 0) (here : Bool) (old : Option (List ℕ)) (value found : List ℕ)
-    → (here ≡ true → P value) → (old ≡ Some found → P found) → (if here then kept_or old value else old) ≡ Some found → P found
+    → (here ≡ true → P value) → (old ≡ Some found → P found)
+    → (if here then kept_or old value else old) ≡ Some found → P found
 from_either P false old value found of_value of_old stands = of_old stands
 from_either P true (Some standing) value found of_value of_old stands = of_old stands
 from_either P true None value found of_value of_old stands = subst P (ap (λ o. unwrap_or o value) stands) (of_value refl)
@@ -67,7 +71,8 @@ written_inside cells image at value inside within is_cell cell found stands =
     stands
 
 changes_inside : (cells : ℕ) (now : Instant) (changes : List Change)
-    → Extends now.sure now.image → IsInside cells now.image → AreChanges cells now changes → IsInside cells (after_changes now changes).image
+    → Extends now.sure now.image → IsInside cells now.image → AreChanges cells now changes
+    → IsInside cells (after_changes now changes).image
 changes_inside cells now [] stands inside all = inside
 changes_inside cells now (Wrote at value ∷ changes) stands inside all =
     changes_inside cells (after_change now (Wrote at value)) changes (extends_then stands (kept now.image at value))
@@ -78,7 +83,8 @@ changes_inside cells now (Foreign at value ∷ changes) stands inside all =
 changes_inside cells now (Synced ∷ changes) stands inside all = changes_inside cells (after_change now Synced) changes (extends_self now.image) inside all
 changes_inside cells now (Lost at ∷ changes) stands inside all = changes_inside cells (after_change now (Lost at)) changes
     (record { keeps = λ cell found is. fallen_keeps (cell == at) (now.sure cell) (now.image cell) found (stands.keeps cell found is) is })
-    (λ cell found is. fallen_from (λ v. (cell < cells) × IsCell v) (cell == at) (now.sure cell) (now.image cell) found (λ sure. inside cell found (stands.keeps cell found sure)) (inside cell found) is)
+    (λ cell found is. fallen_from (λ v. (cell < cells)
+    × IsCell v) (cell == at) (now.sure cell) (now.image cell) found (λ sure. inside cell found (stands.keeps cell found sure)) (inside cell found) is)
     all
 changes_inside cells now (Crashed ∷ changes) stands inside all = changes_inside cells (after_change now Crashed) changes (extends_self now.image) inside all
 

@@ -29,6 +29,11 @@ after_change now Synced = record { image = now.image; sure = now.image }
 after_change now (Lost at) = record { image = fallen now.image now.sure at; sure = now.sure }
 after_change now Crashed = record { image = now.image; sure = now.image }
 
+-- the change puts this value into this cell, whoever writes
+pub data IsPut (at : ℕ) (value : List ℕ) : Change → Type 0 where
+  ours : IsPut at value (Wrote at value)
+  theirs : IsPut at value (Foreign at value)
+
 -- what a row of changes makes of it
 abbrev pub after_changes : Instant → List Change → Instant
 after_changes now [] = now

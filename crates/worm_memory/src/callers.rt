@@ -1,6 +1,8 @@
 //! Callers that need no proof: what a device in memory tells those who hold one.
 ghost use Rattle.std.specs.Prelude.{◌≡◌, ◌<◌, ◌≤◌, Some, None, IsTrue, IsErr, IfOk};
-ghost use Rattle.worm_device.specs.Counts.{Rose};
+ghost use Rattle.cell_types.specs.Image.{Extends};
+ghost use Rattle.worm_device.specs.Calls.{Called};
+ghost use Rattle.worm_device.specs.Counts.{IsStill, Rose};
 ghost use Rattle.worm_memory.specs.Device.{memory_of, room_of, state_of};
 
 use crate::MemoryDevice;
@@ -39,4 +41,25 @@ fn keep(device: &mut MemoryDevice, at: u32, value: Cell) -> bool
     ensures sure { (state_of device.new).sure at ≡ Some value }
 {
     device.write(at, value).is_ok() && device.sync().is_ok()
+}
+
+/// Reads one cell twice, while somebody else may write it in between. What a generic caller says of others' writes is
+/// known of this device too: where its count of foreign writes did not rise, both reads answer the same.
+fn look_twice<D: Device>(device: &mut D, at: u32) -> Result<bool, Failed>
+    requires { at < (D.state device.old).cells }
+    ensures same { IsTrue (D.state device.old).tells →
+        IsStill (D.state device.old).foreign_writes (D.state device.new).foreign_writes → IfOk result (λ same. IsTrue same) }
+{
+    let first = device.read(at)?;
+    let second = device.read(at)?;
+    Ok(first == second)
+}
+
+/// Somebody else writes, and then makes nothing sure: what was sure stays, and a crash may leave the foreign cell.
+fn write_as_another(device: &mut MemoryDevice, at: u32, value: Cell) -> Result<Written, Failed>
+    requires { at < (memory_of device.old).cells }
+    ensures called { Called (state_of device.old) (state_of device.new) }
+    ensures sure { Extends (state_of device.old).sure (state_of device.new).sure }
+{
+    device.foreign(at, value)
 }

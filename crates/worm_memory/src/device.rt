@@ -7,7 +7,7 @@ ghost use Rattle.worm_memory.specs.Device.{memory_of, room_of, state_of, Stays, 
 ghost use Rattle.worm_memory.specs.declared.change.Change.TheVariants.{Wrote, Synced};
 ghost use Rattle.worm_memory.specs.Proper.{is_device};
 
-use crate::MemoryDevice;
+use crate::{Change, MemoryDevice};
 use cell_types::Cell;
 use worm_device::{Device, Failed, Written};
 
@@ -47,7 +47,7 @@ impl Device for MemoryDevice {
         if self.room() == 0 {
             return Err(self.fail());
         }
-        self.record_write(at, value);
+        self.put(at, value, Change::Wrote { at, value });
         Ok(Written::Done)
     }
 

@@ -10,8 +10,12 @@
 //!     wrote cell 580              4, 580         nothing      moment 2: a crash leaves any of {}, {4}, {580}, {4, 580}
 //!     synced                      4, 580         4, 580       moment 3
 //!
+//! Somebody else writes by `foreign`: such a write is a change as any other, and besides it is counted, so that callers
+//! whose clauses begin "where nobody else wrote" can be tried on a device that tells its image while others write.
+//!
 //! The record's room is taken before, by `reserve`; a call that finds none for its change fails, and that is
-//! the only fault. Writes into a written cell, and syncs that make no further cell sure, are no change.
+//! the only fault. Writes into a written cell, and syncs that make no further cell sure, are no change. The record can
+//! also say what a crash took, cell by cell (`Lost`, `Crashed`): `a_crash_keeps` says what this row of changes leaves.
 //!
 //! Stands on `worm_device`. Begin with `memory_device.rt` and `device.rt`; `specs/Worlds.antt` says
 //! what a record stands for.
@@ -21,10 +25,11 @@
 mod callers;
 mod change;
 mod device;
-mod losses;
+mod laws;
 mod memory_device;
 #[cfg(test)]
 mod tests;
 
 pub use change::Change;
+pub use laws::a_crash_keeps;
 pub use memory_device::MemoryDevice;

@@ -2,7 +2,7 @@
 ghost use Rattle.std.specs.Prelude.{◌≤◌, vec_len};
 ghost use Rattle.cell_types.specs.declared.geometry.TheConstants.{MAX_CELLS};
 ghost use Rattle.std.proofs.Props.{props};
-ghost use Rattle.worm_memory.specs.Worlds.{blank, world, AreChanges, AreChanges-prop, EndsWithNoLoss, Holds};
+ghost use Rattle.worm_memory.specs.Worlds.{blank, world, AreChanges, AreChanges-prop, EndsWithNoLoss, Holds, IsPut};
 
 use crate::Change;
 use cell_types::{Cell, NoMemory};
@@ -26,11 +26,10 @@ pub struct MemoryDevice {
 }
 
 impl MemoryDevice {
-    ghost use Rattle.std.specs.Prelude.{◌≡◌, ◌≤◌, ◌<◌, ◌↔◌, ◌^◌, ◌-◌, min, [], ℕ, List, length, slice_get, None, Ok, IsTrue, IsOk, IsErr, IfOk, OnOk, OnErr};
-    ghost use Rattle.worm_memory.specs.Memory.{Memory, with_read, IsUnsure};
-    ghost use Rattle.worm_memory.specs.declared.change.Change.TheVariants.{Wrote, Synced};
-    ghost use Rattle.worm_memory.specs.Device.{memory_of, room_of, state_of, Records, CountsFault, RecordsForeign, ForeignWrites, Stays};
-    ghost use Rattle.worm_device.specs.declared.device.Written.TheVariants.{Done, Taken};
+    ghost use Rattle.std.specs.Prelude.{◌≡◌, ◌≤◌, ◌<◌, ◌↔◌, ◌^◌, ◌-◌, min, [], length, slice_get, None, IsTrue, IsOk, IfOk, OnOk, OnErr};
+    ghost use Rattle.worm_memory.specs.Memory.{Memory, with_foreign_write, with_read, IsUnsure};
+    ghost use Rattle.worm_memory.specs.declared.change.Change.TheVariants.{Synced};
+    ghost use Rattle.worm_memory.specs.Device.{memory_of, room_of, state_of, Records, CountsFault, ForeignEnds, ForeignWrites};
 
     /// A device of so many blank cells, 1 to 2,147,483,648. Its record has no room yet.
     pub fn new(alloc: Global, cells: u32) -> Result<MemoryDevice, NoMemory>
@@ -136,17 +135,27 @@ impl MemoryDevice {
         Failed
     }
 
-    /// Writes a blank cell, where the record has room.
-    pub(crate) fn record_write(&mut self, at: u32, value: Cell)
+    /// Puts a value into a blank cell, by this change of the record, which has room.
+    pub(crate) fn put(&mut self, at: u32, value: Cell, change: Change)
+        requires is { IsPut at value change }
         requires inside { at < (memory_of self.old).cells }
         requires free { (state_of self.old).image at ≡ None }
         requires room { 1 ≤ room_of self.old }
-        ensures { Records (Wrote at value) self.old self.new }
+        ensures { Records change self.old self.new }
     {
         // That the value is one of a written cell is known to those who ask for its bytes.
         let _bytes = value.bytes();
         self.cells[at as usize] = Some(value);
-        self.changes.push_reserved(Change::Wrote { at, value });
+        self.changes.push_reserved(change);
+    }
+
+    /// Counts a foreign write.
+    fn count_foreign_write(&mut self)
+        ensures counted { memory_of self.new ≡ with_foreign_write (memory_of self.old) }
+        ensures room { room_of self.new ≡ room_of self.old }
+        ensures fits { (memory_of self.old).foreign_writes < 2 ^ 64 }
+    {
+        self.foreign_writes = self.foreign_writes.saturating_add(1);
     }
 
     /// Makes sure all that stands, where the record has room.
@@ -157,14 +166,11 @@ impl MemoryDevice {
         self.changes.push_reserved(Change::Synced);
     }
 
-    /// Somebody else writes a cell. A written one stays as it is, and that counts for nothing.
+    /// Somebody else writes a cell. A written one stays as it is, and is not counted as a foreign write.
     pub fn foreign(&mut self, at: u32, value: Cell) -> Result<Written, Failed>
         requires { at < (memory_of self.old).cells }
         ensures writes { ForeignWrites (state_of self.old) (state_of self.new) }
-        ensures fails { IsErr result ↔ (((state_of self.old).image at ≡ None) × (room_of self.old ≡ 0)) }
-        ensures done { result ≡ Ok Done → RecordsForeign at value self.old self.new }
-        ensures taken { (found : List ℕ) → result ≡ Ok (Taken found) → Stays self.old self.new }
-        ensures failed { OnErr result (CountsFault self.old self.new) }
+        ensures ends { ForeignEnds at value self.old self.new result }
     {
         if let Some(found) = self.found(at) {
             return Ok(Written::Taken(found));
@@ -172,22 +178,8 @@ impl MemoryDevice {
         if self.room() == 0 {
             return Err(self.fail());
         }
-        self.record_foreign(at, value);
+        self.put(at, value, Change::Foreign { at, value });
+        self.count_foreign_write();
         Ok(Written::Done)
-    }
-
-    /// Somebody else writes a blank cell, where the record has room.
-    fn record_foreign(&mut self, at: u32, value: Cell)
-        requires inside { at < (memory_of self.old).cells }
-        requires free { (state_of self.old).image at ≡ None }
-        requires room { 1 ≤ room_of self.old }
-        ensures recorded { RecordsForeign at value self.old self.new }
-        ensures fits { (memory_of self.old).foreign_writes < 2 ^ 64 }
-    {
-        // That the value is one of a written cell is known to those who ask for its bytes.
-        let _bytes = value.bytes();
-        self.foreign_writes = self.foreign_writes.saturating_add(1);
-        self.cells[at as usize] = Some(value);
-        self.changes.push_reserved(Change::Foreign { at, value });
     }
 }

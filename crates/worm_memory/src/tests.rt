@@ -122,3 +122,27 @@ fn a_device_in_memory_is_a_device_and_a_view(rt: HostRuntime) -> Result<(), Fail
     assert_eq!(rt; device.changes(), changes.as_slice());
     Ok(())
 }
+
+#[test]
+fn somebody_else_writes_blank_cells_alone(rt: HostRuntime) -> Result<(), Fail> {
+    let (seven, nine) = (cell(7)?, cell(9)?);
+    let mut device = MemoryDevice::new(rt.alloc(), 8)?;
+    assert_eq!(rt; device.foreign(3, nine), Err(Failed), "there is no room");
+    device.reserve(3)?;
+    assert_eq!(rt; device.foreign(3, nine), Ok(Written::Done));
+    assert_eq!(rt; device.foreign(3, seven), Ok(Written::Taken(nine)));
+    assert_eq!(rt; device.write(3, seven), Ok(Written::Taken(nine)));
+    assert_eq!(rt; device.sync(), Ok(()), "a foreign cell is made sure too");
+    assert_eq!(rt; device.write(4, seven), Ok(Written::Done));
+    assert_eq!(rt; device.foreign(4, nine), Ok(Written::Taken(seven)));
+    let changes = [
+        Change::Foreign { at: 3, value: nine },
+        Change::Synced,
+        Change::Wrote {
+            at: 4,
+            value: seven,
+        },
+    ];
+    assert_eq!(rt; device.changes(), changes.as_slice());
+    Ok(())
+}

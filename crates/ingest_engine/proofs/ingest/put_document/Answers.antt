@@ -17,10 +17,10 @@ returns-in-Err g c =
     (λ e. c.in-Err.ensures.no_volume (ap Err e)) (λ e. c.in-Err.ensures.device_fault (ap Err e)))
 
 pub returns-in_default : goal.returns-in_default
-returns-in_default g c = put_refused c.args.id.now c.args.body.now _ _ _ c.read_volume.ensures.called c.read_volume.ensures.only c.read_volume.ensures.only
+returns-in_default g c = put_refused c.args.id.now c.args.body.now _ _ _ c.read_volume.ensures.called c.read_volume.ensures.only (record { quiet = c.read_volume.ensures.only; faults = c.in-Ok.ensures.faults })
 
 pub returns-in_default-content_cells : goal.returns-in_default-content_cells
-returns-in_default-content_cells g c = put_refused c.args.id.now c.args.body.now _ _ _ c.read_volume.ensures.called c.read_volume.ensures.only c.read_volume.ensures.only
+returns-in_default-content_cells g c = put_refused c.args.id.now c.args.body.now _ _ _ c.read_volume.ensures.called c.read_volume.ensures.only (record { quiet = c.read_volume.ensures.only; faults = c.in-Ok.ensures.faults })
 
 -- how many cells the document takes
 count_is : (stored spelled : List ℕ) (cells : List (List ℕ)) → spelled ≡ stored → AreCellsOf spelled cells → length cells ≡ cells_for (length stored)

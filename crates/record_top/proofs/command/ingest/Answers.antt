@@ -11,7 +11,7 @@ returns-in-Err g c = not_taken c.args.id.now (g.D.Device.state c.args.device.now
 
 pub returns-in_default : goal.returns-in_default
 returns-in_default g c = ended_early c.args.id.now c.in-Ok.body.items (g.D.Device.state c.args.device.now) (g.S.Source.state c.args.source.now) (g.S.Source.state c.take_body.new.source) (g.K.Sink.state c.args.sink.now) (g.K.Sink.state c.args.sink.now)
-    c.in-Ok.ensures.body.1 _ (omega (arith, c.in-Ok.ensures.body.0.most), λ still cell. refl, refl)
+    c.in-Ok.ensures.body.1 _ (omega (arith, c.in-Ok.ensures.body.0.most), record { quiet = λ still cell. refl; faults = refl }, refl)
 
 pub returns-in-Err-put_document : goal.returns-in-Err-put_document
 returns-in-Err-put_document g c =

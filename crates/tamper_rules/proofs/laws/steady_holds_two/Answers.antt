@@ -1,6 +1,6 @@
 -- The law, for all images.
-use Rattle.tamper_rules.proofs.SameDocuments.{holds_two}
+use Rattle.tamper_rules.proofs.Steady.{steady_two}
 use Rattle.tamper_rules.proofs.laws.steady_holds_two.Goals as goal
 
 pub returns : goal.returns
-returns c = λ g low high image v steady e f. holds_two v steady e f
+returns c = λ cells low high image steady e f. steady_two steady e f

@@ -4,14 +4,15 @@ use Rattle.std.proofs.lemmas.Bool.{false≢true}
 use Rattle.std.specs.List.{slice_get}
 use Rattle.worm_memory.specs.declared.change.Change.TheVariants.{Wrote, Foreign, Synced, Lost, Crashed}
 use Rattle.worm_memory.specs.Device.{memory_of}
-use Rattle.worm_memory.proofs.Cells.{unsure_after, unsure_after_foreign, sure_after_none, sure_after_synced, sure_after_crashed}
+use Rattle.worm_memory.specs.Worlds.{ours, theirs}
+use Rattle.worm_memory.proofs.Cells.{unsure_after, sure_after_none, sure_after_synced, sure_after_crashed}
 use Rattle.worm_memory.proofs.memory_device.MemoryDevice.is_unsure.Goals as goal
 
 pub returns-in-Some-Wrote : goal.returns-in-Some-Wrote
 returns-in-Some-Wrote c =
     let device = memory_of c.args.self.now in
     let last : slice_get device.changes (length device.changes - 1) ≡ Some (Wrote c.in-Some-Wrote.field-0-0 c.in-Some-Wrote.field-0-1) = cc in
-    (λ _. unsure_after device _ _ c.args.self.now.are_changes last, λ _. refl)
+    (λ _. unsure_after ours device c.args.self.now.are_changes last, λ _. refl)
 
 pub returns-in-Some-Synced : goal.returns-in-Some-Synced
 returns-in-Some-Synced c =
@@ -27,7 +28,7 @@ pub returns-in-Some-Foreign : goal.returns-in-Some-Foreign
 returns-in-Some-Foreign c =
     let device = memory_of c.args.self.now in
     let last : slice_get device.changes (length device.changes - 1) ≡ Some (Foreign c.in-Some-Foreign.field-0-0 c.in-Some-Foreign.field-0-1) = cc in
-    (λ _. unsure_after_foreign device _ _ c.args.self.now.are_changes last, λ _. refl)
+    (λ _. unsure_after theirs device c.args.self.now.are_changes last, λ _. refl)
 
 pub returns-in-Some-Crashed : goal.returns-in-Some-Crashed
 returns-in-Some-Crashed c =

@@ -1,0 +1,12 @@
+pub mod Changes
+pub mod Crashing
+pub mod Images
+pub mod PageBytes
+pub mod PageCells
+pub mod PageSets
+pub mod Reading
+pub mod Standing
+pub mod Stores
+pub mod Syncing
+pub mod Time
+pub mod Writing

@@ -1,0 +1,21 @@
+-- The cells of a device among the bytes of a file.
+use Rattle.std.specs.Prelude.{◌==◌, ◌&&◌, ◌*◌, if◌then◌else◌, nat_lt, ℕ, Bool, true, List, [], ◌∷◌, Option, Some, None}
+use Rattle.cell_types.specs.Image.{Image}
+use Rattle.host_files.specs.File.{part_at}
+
+-- all of them are zero
+abbrev pub are_zeros : List ℕ → Bool
+are_zeros [] = true
+are_zeros (byte ∷ bytes) = (byte == 0) && are_zeros bytes
+
+-- what sixteen bytes are as a cell: blank where all of them are zero
+abbrev pub cell_in : List ℕ → Option (List ℕ)
+cell_in bytes = if are_zeros bytes then None else Some bytes
+
+-- the bytes of a cell
+abbrev pub cell_bytes : List ℕ → ℕ → List ℕ
+cell_bytes bytes cell = part_at (16 * cell) bytes
+
+-- what stands in the first so many cells of a file of these bytes
+abbrev pub image_of : ℕ → List ℕ → Image
+image_of cells bytes cell = if nat_lt cell cells then cell_in (cell_bytes bytes cell) else None

@@ -1,0 +1,116 @@
+-- What a file of the host is for contracts, and what each of its calls does. Sixteen bytes that begin at a multiple
+-- of 16 are a place.
+use Rattle.std.specs.Prelude.{◌≡◌, ◌<◌, ◌≤◌, ◌+◌, ◌⊎◌, ◌++◌, ℕ, List, length, take, drop, Option, Some, None, IfSome, IsTrue, is_some, replicate, Result, OnOk, MatchResult, ⊤}
+use Rattle.cell_types.specs.Bytes.{AreBytes}
+use Rattle.worm_device.specs.Counts.{Rose}
+use Rattle.worm_device.specs.declared.device.Failed.{Failed}
+
+-- the bytes of a file, and those that the last sync made sure
+pub record Held : Type 0 where
+  pub bytes : List ℕ
+  pub sure : List ℕ
+
+-- What a file tells that tells its bytes. Nobody else writes it.
+pub record Told : Type 0 where
+  pub now : Held
+  -- the present moment: how many calls have changed the file
+  pub moment : ℕ
+  -- what it held at each moment before the present one
+  pub past : ℕ → Held
+
+-- The state of a file.
+pub record FileState : Type 0 where
+  -- how many bytes it has
+  pub size : ℕ
+  -- what it tells, if it tells its bytes
+  pub told : Option Told
+  -- how many of its calls have failed
+  pub faults : ℕ
+  -- how many failed writes have left neither what was there nor all that was to be written
+  pub parts : ℕ
+  -- where the last call found sixteen zeros, if it looked at sixteen bytes
+  pub blank_at : Option ℕ
+
+-- what holds of every file: it has its size, and bytes are bytes
+pub record IsFile (file : FileState) : Type 0 where
+  pub size : (t : Told) → file.told ≡ Some t → length t.now.bytes ≡ file.size
+  pub bytes : (t : Told) → file.told ≡ Some t → AreBytes t.now.bytes
+
+-- the sixteen bytes at this offset
+abbrev pub part_at : ℕ → List ℕ → List ℕ
+part_at from bytes = take 16 (drop from bytes)
+
+-- bytes after these sixteen were put at this offset
+abbrev pub patched : ℕ → List ℕ → List ℕ → List ℕ
+patched from piece bytes = take from bytes ++ (piece ++ drop 16 (drop from bytes))
+
+-- the file holds this now, and what it held is the last moment of its past
+pub record Becomes (old new : Told) (held : Held) : Type 0 where
+  pub now : new.now ≡ held
+  pub later : new.moment ≡ old.moment + 1
+  pub last : new.past old.moment ≡ old.now
+  pub past : (m : ℕ) → m < old.moment → new.past m ≡ old.past m
+
+-- These sixteen bytes stand at the offset, and all else as before. What is sure stays as it is.
+abbrev pub Puts : ℕ → List ℕ → Option Told → Option Told → Type 0
+Puts from piece None None = ⊤
+Puts from piece None (Some new) = ⊥
+Puts from piece (Some old) None = ⊥
+Puts from piece (Some old) (Some new) =
+    Becomes old new (record { bytes = patched from piece old.now.bytes; sure = old.now.sure })
+
+-- all that stands is sure
+abbrev pub MakesSure : Option Told → Option Told → Type 0
+MakesSure None None = ⊤
+MakesSure None (Some new) = ⊥
+MakesSure (Some old) None = ⊥
+MakesSure (Some old) (Some new) = Becomes old new (record { bytes = old.now.bytes; sure = old.now.bytes })
+
+-- a call fails only where that is counted, and counts nothing where it answers
+abbrev pub HasCause : {X : Type 0} → FileState → FileState → Result X Failed → Type 0
+HasCause old new result = MatchResult result (λ _. new.faults ≡ old.faults) (λ _. Rose old.faults new.faults)
+
+-- Who writes sixteen bytes has asked for them right before, and they were zeros.
+abbrev pub IsAsked : ℕ → FileState → Type 0
+IsAsked from file = IsTrue (is_some file.told) → file.blank_at ≡ Some from
+
+-- A read, whatever it read, changes nothing.
+pub record Asks {X : Type 0} (old new : FileState) (result : Result X Failed) : Type 0 where
+  pub size : new.size ≡ old.size
+  pub told : new.told ≡ old.told
+  pub parts : new.parts ≡ old.parts
+  pub later : old.faults ≤ new.faults
+  pub cause : HasCause old new result
+
+-- Where a read answers, the slice holds the bytes from the offset on.
+pub record ReadsAt (from : ℕ) (into : List ℕ) (old new : FileState) (result : Result Unit Failed) : Type 0 where
+  pub size : new.size ≡ old.size
+  pub told : new.told ≡ old.told
+  pub parts : new.parts ≡ old.parts
+  pub answer : OnOk result (IfSome old.told (λ t. into ≡ take (length into) (drop from t.now.bytes)))
+  pub blank : OnOk result (into ≡ replicate 16 0 → IsAsked from new)
+  pub later : old.faults ≤ new.faults
+  pub cause : HasCause old new result
+
+-- What a write that failed has left: what was there, or the piece, or any sixteen bytes, which counts as a part.
+abbrev pub Leaves : ℕ → List ℕ → FileState → FileState → Type 0
+Leaves from piece old new =
+    (new.told ≡ old.told)
+    ⊎ ((put : List ℕ) × (length put ≡ 16) × Puts from put old.told new.told × ((put ≡ piece) ⊎ Rose old.parts
+    new.parts))
+
+-- A write that answers has put the piece.
+pub record WritesAt (from : ℕ) (piece : List ℕ) (old new : FileState) (result : Result Unit Failed) : Type 0 where
+  pub size : new.size ≡ old.size
+  pub left : MatchResult result (λ _. Puts from piece old.told new.told) (λ _. Leaves from piece old new)
+  pub parts : MatchResult result (λ _. new.parts ≡ old.parts) (λ _. old.parts ≤ new.parts)
+  pub later : old.faults ≤ new.faults
+  pub cause : HasCause old new result
+
+-- A sync that answers has made all sure. One that failed has changed nothing that contracts rest on.
+pub record Flushes (old new : FileState) (result : Result Unit Failed) : Type 0 where
+  pub size : new.size ≡ old.size
+  pub parts : new.parts ≡ old.parts
+  pub told : MatchResult result (λ _. MakesSure old.told new.told) (λ _. new.told ≡ old.told)
+  pub later : old.faults ≤ new.faults
+  pub cause : HasCause old new result

@@ -1,0 +1,10 @@
+pub mod Cells
+pub mod Crashes
+pub mod Device
+pub mod File
+pub mod Memory
+pub mod MemoryFile
+pub mod Over
+pub mod OsFile
+pub mod Pages
+pub mod Proper

@@ -1,0 +1,25 @@
+-- What a file in memory tells, read off its fields.
+use Rattle.std.specs.Prelude.{◌-◌, ℕ, vec_len, vec_capacity}
+use Rattle.host_files.specs.File.{FileState}
+use Rattle.host_files.specs.Memory.{FileMemory, file_of}
+use Rattle.host_files.specs.declared.memory_file.MemoryFile.{MemoryFile}
+
+-- all that a file tells
+abbrev pub memory_of : MemoryFile → FileMemory
+memory_of file = record {
+  first = file.first.items;
+  changes = file.changes.items;
+  calls = file.calls;
+  fails = file.fails;
+  faults = file.faults;
+  parts = file.parts;
+  blank_at = file.blank_at;
+}
+
+-- how many further changes its record has room for
+abbrev pub room_of : MemoryFile → ℕ
+room_of file = vec_capacity file.changes - vec_len file.changes
+
+-- as a file
+abbrev pub state_of : MemoryFile → FileState
+state_of file = file_of (memory_of file)

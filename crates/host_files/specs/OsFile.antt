@@ -1,0 +1,8 @@
+-- What a file of the operating system is for contracts.
+use Rattle.host_files.specs.File.{FileState}
+use Rattle.host_files.specs.Proper.{untold}
+use Rattle.host_files.specs.declared.os_file.OsFile.{OsFile}
+
+-- it tells nothing but its size and its faults
+abbrev pub state_of : {F : Type 0} → OsFile F → FileState
+state_of file = untold file.size file.faults

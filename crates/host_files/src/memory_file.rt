@@ -1,0 +1,193 @@
+//! A file in memory. It tells its bytes by its record of changes, and fails at the call that it is told.
+ghost use Rattle.std.specs.Prelude.{◌≡◌, ◌≤◌, ◌+◌, vec_len, length};
+ghost use Rattle.std.proofs.Props.{props};
+ghost use Rattle.cell_types.specs.Bytes.{AreBytes};
+ghost use Rattle.host_files.specs.File.{patched};
+ghost use Rattle.host_files.specs.Memory.{after_changes, all_sure};
+
+use crate::{FileChange, Leaving};
+use cell_types::NoMemory;
+use worm_device::Failed;
+
+/// What is in a slice of bytes is bytes.
+fn are_bytes(bytes: &[u8])
+    ensures { AreBytes bytes.now }
+{
+    let _bytes = bytes;
+}
+
+/// Puts sixteen bytes over those at this offset.
+fn overwrite(bytes: &mut [u8], from: usize, piece: [u8; 16])
+    requires { from + 16 ≤ length bytes.old }
+    ensures put { bytes.new ≡ patched from piece bytes.old }
+    ensures fits { AreBytes bytes.new }
+{
+    bytes[from..from + 16].copy_from_slice(&piece);
+}
+
+/// A file in memory. Contracts see the words of `Memory`: `memory_of` for all that it tells, and `room_of` for how many
+/// further changes its record has room for.
+#[derive(Drop)]
+pub struct MemoryFile {
+    first: Vec<u8>,
+    bytes: Vec<u8>,
+    changes: Vec<FileChange>,
+    blank_at: Option<u64>,
+    calls: u64,
+    fails: Option<u32>,
+    leaving: Leaving,
+    faults: u64,
+    parts: u64,
+    ghost holds: { bytes.items ≡ (after_changes (all_sure first.items) changes.items).bytes } by { Prim.hlevel props },
+    ghost same_size: { length bytes.items ≡ length first.items },
+    ghost fits: { AreBytes bytes.items } by { Prim.hlevel props },
+}
+
+impl MemoryFile {
+    ghost use Rattle.std.specs.Prelude.{◌≤◌, ◌<◌, ◌+◌, ◌-◌, ◌^◌, ◌↔◌, ℕ, vec_capacity, [], None, Some, IfOk, IsTrue, OnOk, OnErr, IsOk, length, take, drop};
+    ghost use Rattle.worm_device.specs.Counts.{next_count};
+    ghost use Rattle.host_files.specs.Memory.{FileMemory, held_at, with_call, with_change, with_fault, with_part};
+    ghost use Rattle.host_files.specs.MemoryFile.{memory_of, room_of, state_of};
+    ghost use Rattle.host_files.specs.Device.{SureStands};
+    ghost use Rattle.host_files.specs.declared.change.FileChange.TheVariants.{Put, Synced};
+
+    /// A file of these bytes, all of them sure, whose record has room for so many changes. No call is to fail.
+    pub fn new(bytes: Vec<u8>, changes: u32) -> Result<MemoryFile, NoMemory>
+        ensures made { IfOk result (λ file. memory_of file ≡ record {
+          first = bytes.items;
+          changes = [];
+          calls = 0;
+          fails = None;
+          faults = 0;
+          parts = 0;
+          blank_at = None;
+        }) }
+        ensures room { IfOk result (λ file. changes ≤ room_of file) }
+        ensures stands { IfOk result (λ file. (cells : ℕ) → SureStands cells (state_of file).told) }
+    {
+        let Ok(first) = bytes.clone() else {
+            return Err(NoMemory);
+        };
+        let mut room = Vec::new(*bytes.allocator());
+        room.reserve(changes as usize).map_err(|_| NoMemory)?;
+        are_bytes(&bytes);
+        Ok(MemoryFile {
+            first,
+            bytes,
+            changes: room,
+            blank_at: None,
+            calls: 0,
+            fails: None,
+            leaving: Leaving::Nothing,
+            faults: 0,
+            parts: 0,
+        })
+    }
+
+    /// Lets the call of this number fail, from 1, and no other. Reads, writes and syncs count. A write leaves this
+    /// then.
+    pub fn fail_at(&mut self, call: u32, leaving: Leaving)
+        ensures planned { memory_of self.new ≡ record (memory_of self.old) { fails = Some call } }
+        ensures room { room_of self.new ≡ room_of self.old }
+    {
+        self.fails = Some(call);
+        self.leaving = leaving;
+    }
+
+    /// What it holds.
+    pub fn bytes(&self) -> &[u8]
+        ensures { result.now ≡ (held_at (memory_of self.now) (memory_of self.now).changes).bytes }
+    {
+        &self.bytes
+    }
+
+    /// How many bytes it has.
+    pub(crate) fn count(&self) -> u64
+        ensures { result ≡ length (memory_of self.now).first }
+    {
+        self.first.len() as u64
+    }
+
+    /// Counts a call, and answers whether it is to fail.
+    pub(crate) fn begin(&mut self) -> bool
+        ensures counted { memory_of self.new ≡ with_call (memory_of self.old) }
+        ensures fails { IsTrue result ↔ ((memory_of self.old).fails ≡ Some ((memory_of self.old).calls + 1)) }
+        ensures room { room_of self.new ≡ room_of self.old }
+    {
+        self.blank_at = None;
+        self.calls = self.calls.saturating_add(1);
+        match self.fails {
+            Some(call) => u64::from(call) == self.calls,
+            None => false,
+        }
+    }
+
+    /// What a write that fails leaves.
+    pub(crate) fn leaving(&self) -> Leaving {
+        self.leaving
+    }
+
+    /// Counts a fault.
+    pub(crate) fn fail(&mut self) -> Failed
+        ensures counted { memory_of self.new ≡ with_fault (memory_of self.old) }
+        ensures fits { (memory_of self.old).faults < 2 ^ 64 }
+    {
+        self.faults = self.faults.saturating_add(1);
+        Failed
+    }
+
+    /// How many further changes the record has room for.
+    pub(crate) fn room(&self) -> usize
+        ensures { result ≡ room_of self.now }
+    {
+        self.changes.capacity() - self.changes.len()
+    }
+
+    /// Gives bytes from this offset on.
+    pub(crate) fn give(&self, into: &mut [u8], from: usize)
+        requires { from + length into.old ≤ length (memory_of self.now).first }
+        ensures { into.new ≡ take (length into.new)
+            (drop from (held_at (memory_of self.now) (memory_of self.now).changes).bytes) }
+    {
+        into.copy_from_slice(&self.bytes[from..from + into.len()]);
+    }
+
+    /// Sixteen zeros were found at this offset.
+    pub(crate) fn found_blank(&mut self, from: u64)
+        ensures found { memory_of self.new ≡ record (memory_of self.old) { blank_at = Some from } }
+        ensures room { room_of self.new ≡ room_of self.old }
+    {
+        self.blank_at = Some(from);
+    }
+
+    /// Puts sixteen bytes, where the record has room.
+    pub(crate) fn put(&mut self, from: u64, piece: [u8; 16])
+        requires inside { from + 16 ≤ length (memory_of self.old).first }
+        requires room { 1 ≤ room_of self.old }
+        ensures put { memory_of self.new ≡ with_change (memory_of self.old) (Put from piece) }
+        ensures sixteen { length piece ≡ 16 }
+    {
+        overwrite(self.bytes.as_mut_slice(), from as usize, piece);
+        self.changes.push_reserved(FileChange::Put { from, piece });
+    }
+
+    /// Puts a part, where the record has room.
+    pub(crate) fn put_part(&mut self, from: u64, part: [u8; 16])
+        requires inside { from + 16 ≤ length (memory_of self.old).first }
+        requires room { 1 ≤ room_of self.old }
+        ensures put { memory_of self.new ≡ with_part (with_change (memory_of self.old) (Put from part)) }
+        ensures fits { (memory_of self.old).parts < 2 ^ 64 }
+        ensures sixteen { length part ≡ 16 }
+    {
+        self.put(from, part);
+        self.parts = self.parts.saturating_add(1);
+    }
+
+    /// Makes all bytes sure, where the record has room.
+    pub(crate) fn make_sure(&mut self)
+        requires { 1 ≤ room_of self.old }
+        ensures { memory_of self.new ≡ with_change (memory_of self.old) Synced }
+    {
+        self.changes.push_reserved(FileChange::Synced);
+    }
+}

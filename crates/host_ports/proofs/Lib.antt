@@ -1,2 +1,0 @@
-pub mod PageCells
-pub mod Untold

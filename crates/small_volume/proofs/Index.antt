@@ -1,0 +1,180 @@
+-- The rules that need digests, at the cells of the small volume.
+use Rattle.std.proofs.Common.{◌≡◌, ◌<◌, ◌+◌, ◌*◌, inl, inr, ℕ, suc, zero, List, [], ◌∷◌, Some, refl, sym, ◌∙◌, subst, ap, arith, codes, length}
+use Rattle.std.specs.Prelude.{slice_get}
+use Rattle.std.proofs.lemmas.Bool.{cases_lt}
+use Rattle.std.proofs.lemmas.Option.{none-some}
+use Rattle.cell_types.specs.Layout.{list_at}
+use Rattle.cell_types.specs.declared.record_cell.RecordCell.TheVariants.{Bucket}
+use Rattle.stored_documents.specs.Slots.{IsLive}
+use Rattle.stored_documents.specs.Volumes.{Holds, IsWritten}
+use Rattle.stored_documents.proofs.Holding.{some_is}
+use Rattle.index_paths.specs.Blocks.{PostingFields, posting_record, InFront, Trail, here, at_the_start, behind}
+use Rattle.index_paths.specs.HashPaths
+use Rattle.index_paths.specs.HashPaths.{fingerprint_of, nibble}
+use Rattle.index_paths.specs.Nodes.{root}
+use Rattle.index_paths.specs.Postings.{IsPostingOf}
+use Rattle.index_paths.proofs.Fronts.{one_posting}
+use Rattle.tamper_rules.specs.Rules.{PostingRule, IsTruePosting, BucketRule, IsTrueBucket, TrailRule, PathRule}
+use Rattle.small_volume.specs.SmallVolume.{small_image, small_layout, hello_tag, world_tag, a_fingerprint}
+use Rattle.small_volume.proofs.Digests.{sha256_of_a}
+use Rattle.small_volume.proofs.EachRule.{heads_alone, root_alone}
+use Rattle.small_volume.proofs.Found.{numbers}
+use Rattle.small_volume.proofs.Small.{slot_0, stands_0, hello_posting, hello_holds, world_posting, world_holds, bucket_holds}
+use Rattle.small_volume.proofs.Tags.{tags_of_0, only_tags, no_tags, postings}
+
+-- slot 0 is live
+live_0 : IsLive small_layout small_image 0
+live_0 = record {
+  slot = omega arith;
+  done = record { start = 580; length = 4; bytes = 13; journal = 3; done = slot_0 };
+  taken = λ m below. absurd (omega arith);
+}
+
+-- `hello` is the first posting of its document
+is_hello : IsPostingOf 2 (codes "hello world") 0 0 hello_posting
+is_hello = record {
+  tags = hello_tag ∷ world_tag ∷ [];
+  are = tags_of_0;
+  ordinal = 0;
+  here = refl;
+  key = refl;
+  last = refl;
+}
+
+-- `world` is the second
+is_world : IsPostingOf 2 (codes "hello world") 0 0 world_posting
+is_world = record {
+  tags = hello_tag ∷ world_tag ∷ [];
+  are = tags_of_0;
+  ordinal = 1;
+  here = refl;
+  key = refl;
+  last = refl;
+}
+
+-- so the posting in cell 36 is a true one
+true_hello : IsTruePosting small_layout small_image 0 hello_posting
+true_hello = record {
+  live = live_0;
+  id = codes "a";
+  body = codes "hello world";
+  stands = stands_0;
+  postings = postings;
+  is = is_hello;
+}
+
+-- and so is the posting in cell 37
+true_world : IsTruePosting small_layout small_image 0 world_posting
+true_world = record {
+  live = live_0;
+  id = codes "a";
+  body = codes "hello world";
+  stands = stands_0;
+  postings = postings;
+  is = is_world;
+}
+
+-- rule 9
+pub posting_rule : (cell : ℕ) → IsWritten small_image cell → PostingRule small_layout small_image cell
+posting_rule cell w = λ l block place p b below at h.
+    let number = numbers cell w in
+    let head : list_at small_layout l ≡ block = heads_alone b.leads in
+    let list : l ≡ 0 = omega (arith, number, head, b.list, at, below) in
+    subst (λ (k : ℕ). IsTruePosting small_layout small_image k p) (sym list) (elim (cases_lt cell 37) [
+      | inl low ↦
+          let is : cell ≡ 36 = omega (arith, number, head, at, below) in
+          let held = subst (λ (k : ℕ). Holds small_image k (posting_record p)) is h in
+          let same = one_posting small_image 36 p hello_posting held hello_holds in
+          subst (IsTruePosting small_layout small_image 0) (sym same) true_hello
+      | inr high ↦
+          let is : cell ≡ 37 = omega (arith, number, head, b.list, at, below) in
+          let held = subst (λ (k : ℕ). Holds small_image k (posting_record p)) is h in
+          let same = one_posting small_image 37 p world_posting held world_holds in
+          subst (IsTruePosting small_layout small_image 0) (sym same) true_world
+    ])
+
+-- rule 11
+true_bucket : IsTrueBucket small_layout small_image 548 12
+true_bucket = record {
+  slot = 0;
+  fingerprint = a_fingerprint;
+  bucket = bucket_holds;
+  live = live_0;
+  id = codes "a";
+  body = codes "hello world";
+  stands = stands_0;
+  same = sym (ap fingerprint_of sha256_of_a);
+  level = 0;
+  on_path = root 0 548 refl refl;
+  here = sym (ap (λ (d : List ℕ). nibble d 0) sha256_of_a);
+}
+
+-- rule 11: no other bucket is written
+pub bucket_rule : (cell : ℕ) → IsWritten small_image cell → BucketRule small_layout small_image cell
+bucket_rule cell w = λ v node x o less at.
+    let is = (root_alone o).1 in
+    let bucket : x ≡ 12 = omega (arith, numbers cell w, is, at, less) in
+    subst (λ (k : ℕ). IsTrueBucket small_layout small_image k x) (sym is)
+    (subst (λ (k : ℕ). IsTrueBucket small_layout small_image 548 k) (sym bucket) true_bucket)
+
+-- the posting of `hello` is in front of the first block
+hello_front : InFront small_image 36 0 hello_posting
+hello_front = at_the_start 0 hello_posting refl hello_holds
+
+-- the posting of `world` is in front behind it
+world_front : InFront small_image 36 1 world_posting
+world_front = behind 1 0 world_posting hello_posting refl hello_front (omega arith) world_holds
+
+-- so it has a trail
+hello_trail : Trail small_image 580 1000 36 hello_posting 36
+hello_trail = here 36 0 refl (omega arith) hello_front
+
+-- and so has the other
+world_trail : Trail small_image 580 1000 37 world_posting 36
+world_trail = here 36 1 refl (omega arith) world_front
+
+-- a posting by its fields
+abbrev fields : ℕ → ℕ → List ℕ → PostingFields
+fields key last tag = record { key = key; last = last; tag = tag }
+
+-- postings with the same fields are the same
+same_fields : (p : PostingFields) (key last : ℕ) (tag : List ℕ) → p.key ≡ key → p.last ≡ last → p.tag ≡ tag
+    → p ≡ fields key last tag
+same_fields p key last tag k l t =
+    ap (λ (n : ℕ). fields n p.last p.tag) k ∙ ap (λ (n : ℕ). fields key n p.tag) l ∙ ap (fields key last) t
+
+-- each posting of the document is one of these two, and has a trail
+trail_of : (l : ℕ) (p : PostingFields) → l < 2 → IsPostingOf 2 (codes "hello world") 0 l p
+    → (at : ℕ) × Trail small_image 580 1000 at p (list_at small_layout l)
+trail_of zero p below i =
+    let all = only_tags i.tags i.are in
+    by i.ordinal i.key (i.last ∙ ap length all) (ap (λ (ts : List (List ℕ)). slice_get ts i.ordinal) (sym all) ∙ i.here)
+  where
+    by : (ordinal : ℕ) → p.key ≡ 256 * 0 + ordinal → p.last + 1 ≡ 2
+        → slice_get (hello_tag ∷ world_tag ∷ []) ordinal ≡ Some p.tag → (at : ℕ) × Trail small_image 580 1000 at p 36
+    by zero key last found =
+        let tag : p.tag ≡ hello_tag = sym (some_is hello_tag p.tag found) in
+        let same = same_fields p 0 1 hello_tag (omega (arith, key)) (omega (arith, last)) tag in
+        (36, subst (λ (q : PostingFields). Trail small_image 580 1000 36 q 36) (sym same) hello_trail)
+    by (suc zero) key last found =
+        let tag : p.tag ≡ world_tag = sym (some_is world_tag p.tag found) in
+        let same = same_fields p 1 1 world_tag (omega (arith, key)) (omega (arith, last)) tag in
+        (37, subst (λ (q : PostingFields). Trail small_image 580 1000 37 q 36) (sym same) world_trail)
+    by (suc (suc ordinal)) key last found = absurd (none-some p.tag found)
+trail_of (suc zero) p below i =
+    let none = sym (no_tags i.tags i.are) in
+    absurd (none-some p.tag (ap (λ (ts : List (List ℕ)). slice_get ts i.ordinal) none ∙ i.here))
+trail_of (suc (suc l)) p below i = absurd (omega arith)
+
+-- rule 13
+pub trail_rule : TrailRule small_layout small_image 0 (codes "hello world")
+trail_rule = record { postings = postings; trails = trail_of }
+
+-- rule 14
+pub path_rule : PathRule small_layout small_image 0 (codes "a")
+path_rule = record {
+  path =
+      let HasBucket : List ℕ → Type 0 = λ d. Holds small_image (548 + nibble d 0) (Bucket 0 (fingerprint_of d)) in
+      HashPaths.HashTrail.here 548 0 (subst HasBucket (sym sha256_of_a) bucket_holds);
+  alone = λ m other less t. absurd (omega arith);
+}

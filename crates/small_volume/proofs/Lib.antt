@@ -1,0 +1,9 @@
+pub mod Broken
+pub mod Digests
+pub mod EachRule
+pub mod Found
+pub mod Index
+pub mod Settled
+pub mod Small
+pub mod Tags
+pub mod Values
