@@ -1,0 +1,5 @@
+pub mod Breaking
+pub mod CellsMake
+pub mod CellsSeen
+pub mod HorizonSoFar
+pub mod LooksAsOne

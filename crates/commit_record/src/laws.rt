@@ -1,0 +1,7 @@
+//! Laws: what the words of the contracts mean together, over all images.
+ghost use Rattle.commit_record.specs.Laws.{NoStateBreaksARule};
+
+/// Where a slot's cells are no state, the rule is broken at the cell that is named.
+pub fn no_state_breaks_a_rule()
+    ensures { NoStateBreaksARule }
+{}
