@@ -45,9 +45,9 @@ module _ (cells : ℕ) (g : Layout) (image : Image) (n cell : ℕ) (volume : IsV
       (λ met. no_written image (reserve_at n) blank (met n less c).reserve)
   breaks number (ends_wrongly start length r c reserves no_abandon no_commit) = broken number OutcomeCells r (n, less, c)
       (λ met. ⊎_elim
-          (λ abandon. no_abandon (record { reserves = reserves; outcome = abandon }))
-          (λ commit. no_commit commit.0 commit.1 (record { reserves = reserves; outcome = commit.2; fits = commit.3 start length reserves.reserve }))
-          (met n less c).outcome)
+      (λ abandon. no_abandon (record { reserves = reserves; outcome = abandon }))
+      (λ commit. no_commit commit.0 commit.1 (record { reserves = reserves; outcome = commit.2; fits = commit.3 start length reserves.reserve }))
+      (met n less c).outcome)
   breaks number (done_unreserved r c no_reserve no_outcome) = broken number DoneCells r (n, less, c)
       (λ met. no_holds image (outcome_at n) _ no_outcome (met n less c).commit)
   breaks number (done_unended start length r c reserves no_outcome) = broken number DoneCells r (n, less, c)

@@ -111,8 +111,8 @@ module _ (g : Layout) (n : ℕ) (less : n < g.slots) (reserve outcome done : Fou
           sym (record_one before after (outcome_at n) outcome found seen.1 held r is h) in (
             ap after e ∙ record_stands before after (outcome_at n) outcome found seen.1 held is,
             ends_wrongly start length refl e seen.0
-            (λ a. no_abandon (one records.Abandon a.outcome))
-            (λ bytes journal c. no_commit bytes journal (one (records.Commit bytes journal) c.outcome) c.fits),
+                (λ a. no_abandon (one records.Abandon a.outcome))
+                (λ bytes journal c. no_commit bytes journal (one (records.Commit bytes journal) c.outcome) c.fits),
           ),
     )
 
@@ -172,7 +172,7 @@ module _ (g : Layout) (n : ℕ) (less : n < g.slots) (reserve outcome done : Fou
         λ before after seen. (
           ap after e ∙ record_stands before after (done_at n) done found seen.1 held is,
           done_wrongly start length bytes journal refl e seen.0
-          (λ h. other (sym (record_one before after (done_at n) done found seen.1 held _ is h))),
+              (λ h. other (sym (record_one before after (done_at n) done found seen.1 held _ is h))),
         ),
       )
 

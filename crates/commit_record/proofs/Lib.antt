@@ -3,3 +3,4 @@ pub mod CellsMake
 pub mod CellsSeen
 pub mod HorizonSoFar
 pub mod LooksAsOne
+pub mod OneState

@@ -69,10 +69,10 @@ module _ (g : Layout) (n : ℕ) (v0 v1 v2 v3 : ViewState) (reserve outcome done 
         same_now v2 (outcome_at n) outcome (rest_3 (outcome_at n)) (o.2 (tells_1 tells)),
         d.2 (tells_2 tells),
       )
-      where
-        same_now : (v : ViewState) (at : ℕ) (found : Found) → v3.image at ≡ v.image at → IsSeen v.image v.image at found
-            → IsSeen v3.image v3.image at found
-        same_now v at found same = seen_same v.image v.image v3.image v3.image at found same same
+    where
+      same_now : (v : ViewState) (at : ℕ) (found : Found) → v3.image at ≡ v.image at → IsSeen v.image v.image at found
+          → IsSeen v3.image v3.image at found
+      same_now v at found same = seen_same v.image v.image v3.image v3.image at found same same
 
   pub state_seen : (state : SlotState) → CellsEnd (SeenCells n reserve outcome done) g n (Ok state) → StateEnds g n v0 v3 (Ok state)
   state_seen state ends = (ends.0, faults, λ tells. ends.1 v0.image v3.image (seen tells))

@@ -38,7 +38,7 @@ mod slot_parts;
 #[cfg(test)]
 mod tests;
 
-pub use laws::no_state_breaks_a_rule;
+pub use laws::{a_slot_has_one_state, no_state_breaks_a_rule};
 pub use log_end::horizon;
 pub use opening::{OpenRefusal, open};
 pub use partition::Parts;

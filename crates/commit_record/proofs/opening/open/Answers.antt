@@ -25,7 +25,7 @@ returns-then-cells-real-clause-ends g c = (
       let image = (g.V.View.seen c.look.new.view).image in
       let v = c.in-Volume in
       let held : Holds image 0 (Volume v.version v.slots v.lists v.cells) =
-          subst (Holds image 0) v.is (record_held image image 0 c.in-Ok.found c.in-Record.cell (c.in-Ok.ensures.ends.2 tells) c.in-Record.held c.in-Record.is) in (
+      subst (Holds image 0) v.is (record_held image image 0 c.in-Ok.found c.in-Record.cell (c.in-Ok.ensures.ends.2 tells) c.in-Record.held c.in-Record.is) in (
         record { slots = v.slots; lists = v.lists; cells = v.cells },
         subst (λ (version : ℕ). Holds image 0 (Volume version v.slots v.lists v.cells)) held.is.well_formed.0 held,
         refl,
