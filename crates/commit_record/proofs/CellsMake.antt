@@ -9,9 +9,8 @@ use Rattle.stored_documents.specs.Slots.{cells_for}
 use Rattle.stored_documents.specs.Volumes.{Holds}
 use Rattle.tamper_rules.specs.Rules.{IsPlaceOf, ReserveCells, OutcomeCells, DoneCells}
 use Rattle.tamper_rules.specs.declared.numbers.TheConstants.{RESERVE_CELL, OUTCOME_CELL, DONE_CELL}
-use Rattle.commit_record.specs.Looks.{IsSeen}
 use Rattle.commit_record.specs.SlotCells.{CellsEnd, SeenCells, SeenCommitted, SeenReserved, SeenUnreserved, cell_of}
-use Rattle.commit_record.specs.States.{IsNoState, reserves_none, ends_unreserved, ends_wrongly, done_unreserved, done_unended, done_abandoned, done_wrongly}
+use Rattle.commit_record.specs.States.{reserves_none, ends_unreserved, ends_wrongly, done_unreserved, done_unended, done_abandoned, done_wrongly}
 use Rattle.commit_record.specs.declared.looks.Found.{Found}
 use Rattle.commit_record.specs.declared.looks.Found.TheVariants.{Blank, Record, Stray}
 use Rattle.commit_record.specs.declared.slot.SlotState.{SlotState}

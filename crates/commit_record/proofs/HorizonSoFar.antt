@@ -2,8 +2,7 @@
 use Rattle.std.proofs.Common.{◌≡◌, ◌<◌, ◌≤◌, ◌+◌, ◌⊎◌, ℕ, List, Option, Some, None, sym, ◌∙◌, subst, ⊎_elim, arith}
 use Rattle.std.specs.Prelude.{IsTrue, Ok}
 use Rattle.cell_types.specs.Layout.{Layout, reserve_at}
-use Rattle.stored_documents.specs.Slots.{AreTaken, IsHorizon}
-use Rattle.stored_documents.specs.Volumes.{IsWritten}
+use Rattle.stored_documents.specs.Slots.{AreTaken}
 use Rattle.stored_documents.proofs.Extending.{taken_on, written_on, blank_before}
 use Rattle.worm_device.specs.Views.{ViewState, Viewed, ViewReads}
 use Rattle.worm_device.proofs.Resting.{viewed_then}

@@ -1,7 +1,7 @@
 -- Three looks, one after another, as one: what was seen between the first state of the view and the last.
-use Rattle.std.proofs.Common.{◌≡◌, ◌<◌, ◌≤◌, arith, ℕ, List, Some, None, Ok, Err, refl, sym, ◌∙◌, subst}
+use Rattle.std.proofs.Common.{◌≡◌, ◌<◌, ◌≤◌, arith, ℕ, None, Ok, Err, refl, sym, ◌∙◌, subst}
 use Rattle.std.specs.Prelude.{IsTrue}
-use Rattle.cell_types.specs.Image.{Image, Extends, IsUnchanged}
+use Rattle.cell_types.specs.Image.{Image}
 use Rattle.cell_types.specs.Layout.{Layout, reserve_at, outcome_at, done_at}
 use Rattle.cell_types.specs.declared.refusal.Evidence.{Evidence}
 use Rattle.cell_types.specs.declared.refusal.Fault.TheVariants.{Tampered}
@@ -13,7 +13,7 @@ use Rattle.worm_device.proofs.Resting.{rests_of, viewed_then}
 use Rattle.commit_record.specs.Looks.{IsSeen, LookEnds}
 use Rattle.commit_record.specs.Partition.{HasRoom}
 use Rattle.commit_record.specs.SlotCells.{CellsEnd, SeenCells}
-use Rattle.commit_record.specs.States.{AsksBelow, IsNoState, IsOutOfPlace, LiesInPool, Shows, StateEnds}
+use Rattle.commit_record.specs.States.{AsksBelow, LiesInPool, Shows, StateEnds}
 use Rattle.commit_record.specs.declared.looks.Found.{Found}
 use Rattle.commit_record.specs.declared.slot.SlotState.{SlotState}
 use Rattle.commit_record.specs.declared.slot.SlotState.TheVariants.{Unused, Reserved, Abandoned, Committed, Done}

@@ -1,5 +1,5 @@
 -- A slot is in one state at most, and in none where its cells are no state.
-use Rattle.std.proofs.Common.{◌≡◌, ◌≤◌, ◌+◌, ℕ, None, refl, subst, arith}
+use Rattle.std.proofs.Common.{◌≡◌, ℕ, refl, subst, arith}
 use Rattle.cell_types.specs.Image.{Image}
 use Rattle.cell_types.specs.Layout.{Layout, reserve_at, outcome_at, done_at}
 use Rattle.stored_documents.specs.Slots.{Commits, Reserves}

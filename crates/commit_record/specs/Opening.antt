@@ -1,5 +1,5 @@
 -- What it means that a volume is opened, or not.
-use Rattle.std.specs.Prelude.{◌≡◌, ◌≢◌, ◌<◌, ◌≤◌, ℕ, List, Some, None, Result, Ok, Err, IsTrue}
+use Rattle.std.specs.Prelude.{◌≡◌, ◌≢◌, ℕ, List, Some, None, Result, Ok, Err, IsTrue}
 use Rattle.cell_types.specs.Layout.{Layout, IsLayout}
 use Rattle.cell_types.specs.Records.{IsRecordCell}
 use Rattle.cell_types.specs.declared.geometry.Volume.{Volume}

@@ -1,5 +1,5 @@
 -- A cell that is no record is no volume cell; a volume cell of another size is one of this version all the same.
-use Rattle.std.proofs.Common.{◌≡◌, ℕ, subst, refl, ◌∙◌}
+use Rattle.std.proofs.Common.{ℕ, subst, refl}
 use Rattle.stored_documents.specs.Volumes.{Holds, volume_record}
 use Rattle.cell_types.specs.declared.record_cell.RecordCell.TheVariants.{Volume}
 use Rattle.commit_record.proofs.CellsSeen.{record_held}

@@ -1,6 +1,5 @@
 -- The done cell is not this slot's: a stray, another record, or the done cell of another slot.
 use Rattle.std.proofs.Common.{◌≡◌, ℕ, sym, ◌∙◌}
-use Rattle.cell_types.specs.declared.record_cell.RecordCell.{RecordCell}
 use Rattle.cell_types.specs.declared.record_cell.RecordCell.TheVariants.{Done}
 use Rattle.commit_record.proofs.CellsMake.{done_stray, done_wrong}
 use Rattle.commit_record.proofs.slot_cells.state_committed.Goals as goal

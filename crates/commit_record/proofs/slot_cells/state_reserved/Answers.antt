@@ -1,9 +1,7 @@
 -- The outcome cell is a stray, or another record, or states too much; or a done cell stands where none should.
-use Rattle.std.proofs.Common.{◌≡◌, ◌≤◌, ◌+◌, ℕ, Bool, true, false, refl, sym, ◌∙◌, arith}
+use Rattle.std.proofs.Common.{◌≡◌, ℕ, Bool, true, false, refl, sym, ◌∙◌, arith}
 use Rattle.std.specs.Prelude.{IsTrue}
-use Rattle.cell_types.specs.declared.record_cell.RecordCell.{RecordCell}
 use Rattle.cell_types.specs.declared.record_cell.RecordCell.TheVariants.{Abandon, Commit}
-use Rattle.stored_documents.specs.Slots.{cells_for}
 use Rattle.commit_record.proofs.CellsMake.{IsLateDone, outcome_stray, outcome_wrong, done_without_outcome, done_behind_abandon, committed}
 use Rattle.commit_record.proofs.CellsSeen.{handed}
 use Rattle.commit_record.proofs.slot_cells.state_reserved.Goals as goal
