@@ -20,7 +20,8 @@ pub no_holds : (image : Image) (at : ℕ) (r : RecordCell) → image at ≡ None
 no_holds image at r blank h = none-some h.cell (sym blank ∙ h.stands)
 
 -- one cell is not both an abandon and a commit cell
-pub no_both : (image : Image) (at bytes journal : ℕ) → Holds image at records.Abandon → Holds image at (records.Commit bytes journal) → ⊥
+pub no_both : (image : Image) (at bytes journal : ℕ) → Holds image at records.Abandon → Holds image at
+    (records.Commit bytes journal) → ⊥
 no_both image at bytes journal h k =
     let same : records.Abandon ≡ records.Commit bytes journal = one_record_holds image at _ _ h k in cc
 
@@ -43,18 +44,22 @@ module _ (cells : ℕ) (g : Layout) (image : Image) (n cell : ℕ) (volume : IsV
       (λ met. let kept = met n less c in none kept.start kept.length kept.reserves)
   breaks number (ends_unreserved r c blank) = broken number OutcomeCells r (n, less, c)
       (λ met. no_written image (reserve_at n) blank (met n less c).reserve)
-  breaks number (ends_wrongly start length r c reserves no_abandon no_commit) = broken number OutcomeCells r (n, less, c)
+  breaks number (ends_wrongly start length r c reserves no_abandon no_commit) = broken number OutcomeCells r
+      (n, less, c)
       (λ met. ⊎_elim
       (λ abandon. no_abandon (record { reserves = reserves; outcome = abandon }))
-      (λ commit. no_commit commit.0 commit.1 (record { reserves = reserves; outcome = commit.2; fits = commit.3 start length reserves.reserve }))
+      (λ commit. no_commit commit.0 commit.1
+      (record { reserves = reserves; outcome = commit.2; fits = commit.3 start length reserves.reserve }))
       (met n less c).outcome)
   breaks number (done_unreserved r c no_reserve no_outcome) = broken number DoneCells r (n, less, c)
       (λ met. no_holds image (outcome_at n) _ no_outcome (met n less c).commit)
   breaks number (done_unended start length r c reserves no_outcome) = broken number DoneCells r (n, less, c)
       (λ met. no_holds image (outcome_at n) _ no_outcome (met n less c).commit)
   breaks number (done_abandoned start length r c abandons) = broken number DoneCells r (n, less, c)
-      (λ met. let kept = met n less c in no_both image (outcome_at n) kept.bytes kept.journal abandons.outcome kept.commit)
-  breaks number (done_wrongly start length bytes journal r c commits not_done) = broken number DoneCells r (n, less, c)
+      (λ met. let kept = met n less c in no_both image (outcome_at n) kept.bytes kept.journal abandons.outcome
+      kept.commit)
+  breaks number (done_wrongly start length bytes journal r c commits not_done) = broken number DoneCells r
+      (n, less, c)
       (λ met. not_done (met n less c).done)
 
 pub no_state_breaks : NoStateBreaksARule

@@ -18,9 +18,18 @@ use Rattle.commit_record.proofs.CellsSeen.{stands, was_blank, record_stands, rec
 
 -- what cells make that were seen in one way, they make where they were seen in a way that says as much
 pub narrower : (Wide Narrow : Image → Image → Type 0) (g : Layout) (n : ℕ) (result : Result SlotState Evidence)
-    → ((before after : Image) → Narrow before after → Wide before after) → CellsEnd Wide g n result → CellsEnd Narrow g n result
-narrower Wide Narrow g n (Ok state) says ends = (ends.0, λ before after seen. ends.1 before after (says before after seen))
-narrower Wide Narrow g n (Err e) says ends = (ends.0, λ before after seen. ends.1 before after (says before after seen))
+    → ((before after : Image) → Narrow before after → Wide before after) → CellsEnd Wide g n result → CellsEnd Narrow
+    g n result
+narrower Wide Narrow g n (Ok state) says ends = (
+  ends.0,
+  λ before after seen. ends.1 before after
+      (says before after seen),
+)
+narrower Wide Narrow g n (Err e) says ends = (
+  ends.0,
+  λ before after seen. ends.1 before after
+      (says before after seen),
+)
 
 -- evidence of a rule at a cell
 abbrev pub evidence : ℕ → ℕ → List ℕ → Evidence
@@ -49,7 +58,8 @@ module _ (g : Layout) (n : ℕ) (less : n < g.slots) (reserve outcome done : Fou
     reserve_place at e,
     λ before after seen. (
       ap after e ∙ stray_stands before after (reserve_at n) reserve found seen.0 is,
-      reserves_none refl e (λ start length r. stray_none before after (reserve_at n) reserve found seen.0 is _ r.reserve),
+      reserves_none refl e (λ start length r. stray_none before after (reserve_at n) reserve found seen.0 is _
+          r.reserve),
     ),
   )
 
@@ -62,7 +72,8 @@ module _ (g : Layout) (n : ℕ) (less : n < g.slots) (reserve outcome done : Fou
     λ before after seen. (
       ap after e ∙ record_stands before after (reserve_at n) reserve found seen.0 held is,
       reserves_none refl e (λ start length r.
-          none start length (sym (record_one before after (reserve_at n) reserve found seen.0 held _ is r.reserve)) r.from r.to),
+          none start length (sym (record_one before after (reserve_at n) reserve found seen.0 held _ is r.reserve))
+          r.from r.to),
     ),
   )
 
@@ -71,7 +82,11 @@ module _ (g : Layout) (n : ℕ) (less : n < g.slots) (reserve outcome done : Fou
       → CellsEnd (SeenUnreserved n outcome done) g n (Err (evidence OUTCOME_CELL at found))
   outcome_unreserved at found e is = (
     outcome_place at e,
-    λ before after seen. (ap after e ∙ stands before after (outcome_at n) outcome found seen.1 is, ends_unreserved refl e seen.0),
+    λ before after seen. (
+      ap after e ∙ stands before after (outcome_at n) outcome found seen.1 is,
+      ends_unreserved
+          refl e seen.0,
+    ),
   )
 
   -- a done cell stands, and nothing is reserved
@@ -99,8 +114,8 @@ module _ (g : Layout) (n : ℕ) (less : n < g.slots) (reserve outcome done : Fou
     )
 
     -- or one that neither gives up nor states a document that fits
-    pub outcome_wrong : (at : ℕ) (found : List ℕ) (held : RecordCell) → at ≡ outcome_at n → outcome ≡ Record found held
-        → (held ≡ records.Abandon → ⊥)
+    pub outcome_wrong : (at : ℕ) (found : List ℕ) (held : RecordCell) → at ≡ outcome_at n
+        → outcome ≡ Record found held → (held ≡ records.Abandon → ⊥)
         → ((bytes journal : ℕ) → held ≡ records.Commit bytes journal → cells_for bytes + journal ≤ length → ⊥)
         → CellsEnd (SeenReserved g n start length outcome done) g n (Err (evidence OUTCOME_CELL at found))
     outcome_wrong at found held e is no_abandon no_commit = (
@@ -122,7 +137,8 @@ module _ (g : Layout) (n : ℕ) (less : n < g.slots) (reserve outcome done : Fou
       done_place e.rule e.cell late.rule late.cell,
       λ before after seen. (
         ap after late.cell ∙ stands before after (done_at n) done e.found seen.2 late.found,
-        done_unended start length late.rule late.cell seen.0 (was_blank before after (outcome_at n) outcome seen.1 (ap cell_of blank)),
+        done_unended start length late.rule late.cell seen.0 (was_blank before after (outcome_at n) outcome seen.1
+            (ap cell_of blank)),
       ),
     )
 
@@ -133,7 +149,8 @@ module _ (g : Layout) (n : ℕ) (less : n < g.slots) (reserve outcome done : Fou
     done_behind_abandon e found held is abandon late = (
       done_place e.rule e.cell late.rule late.cell,
       λ before after seen.
-          let given_up = subst (Holds after (outcome_at n)) abandon (record_held before after (outcome_at n) outcome found seen.1 held is) in (
+          let given_up = subst (Holds after (outcome_at n)) abandon (record_held before after (outcome_at n) outcome
+          found seen.1 held is) in (
             ap after late.cell ∙ stands before after (done_at n) done e.found seen.2 late.found,
             done_abandoned start length late.rule late.cell (record { reserves = seen.0; outcome = given_up }),
           ),
@@ -141,14 +158,17 @@ module _ (g : Layout) (n : ℕ) (less : n < g.slots) (reserve outcome done : Fou
 
     module _ (bytes journal : ℕ) where
       -- where the outcome cell states a document that fits, the slot commits it
-      pub committed : (result : Result SlotState Evidence) (found : List ℕ) (held : RecordCell) → outcome ≡ Record found held
+      pub committed : (result : Result SlotState Evidence) (found : List ℕ) (held : RecordCell) → outcome ≡ Record
+          found held
           → held ≡ records.Commit bytes journal → cells_for bytes + journal ≤ length
           → CellsEnd (SeenCommitted g n start length bytes journal done) g n result
           → CellsEnd (SeenReserved g n start length outcome done) g n result
       committed result found held is commit fits =
-          narrower (SeenCommitted g n start length bytes journal done) (SeenReserved g n start length outcome done) g n result
+          narrower (SeenCommitted g n start length bytes journal done) (SeenReserved g n start length outcome done) g
+          n result
           (λ before after seen.
-          let states = subst (Holds after (outcome_at n)) commit (record_held before after (outcome_at n) outcome found seen.1 held is) in
+          let states = subst (Holds after (outcome_at n)) commit (record_held before after (outcome_at n) outcome
+          found seen.1 held is) in
           (record { reserves = seen.0; outcome = states; fits = fits }, seen.2))
 
       -- the done cell holds no record
@@ -158,7 +178,8 @@ module _ (g : Layout) (n : ℕ) (less : n < g.slots) (reserve outcome done : Fou
         done_place DONE_CELL at refl e,
         λ before after seen. (
           ap after e ∙ stray_stands before after (done_at n) done found seen.1 is,
-          done_wrongly start length bytes journal refl e seen.0 (stray_none before after (done_at n) done found seen.1 is _),
+          done_wrongly start length bytes journal refl e seen.0 (stray_none before after (done_at n) done found
+              seen.1 is _),
         ),
       )
 
@@ -176,14 +197,16 @@ module _ (g : Layout) (n : ℕ) (less : n < g.slots) (reserve outcome done : Fou
       )
 
     -- where the reserve cell reserves these cells, the slot does
-    pub reserved : (result : Result SlotState Evidence) (found : List ℕ) (held : RecordCell) → reserve ≡ Record found held
+    pub reserved : (result : Result SlotState Evidence) (found : List ℕ) (held : RecordCell) → reserve ≡ Record found
+        held
         → held ≡ records.Reserve start length → pool_at g ≤ start → start + length ≤ g.cells
         → CellsEnd (SeenReserved g n start length outcome done) g n result
         → CellsEnd (SeenCells n reserve outcome done) g n result
     reserved result found held is reserves from to =
         narrower (SeenReserved g n start length outcome done) (SeenCells n reserve outcome done) g n result
         (λ before after seen.
-        let holds = subst (Holds after (reserve_at n)) reserves (record_held before after (reserve_at n) reserve found seen.0 held is) in
+        let holds = subst (Holds after (reserve_at n)) reserves (record_held before after (reserve_at n) reserve
+        found seen.0 held is) in
         (record { slot = less; reserve = holds; from = from; to = to }, seen.1, seen.2))
 
   -- where the reserve cell is blank, nothing is reserved
@@ -191,4 +214,8 @@ module _ (g : Layout) (n : ℕ) (less : n < g.slots) (reserve outcome done : Fou
       → CellsEnd (SeenUnreserved n outcome done) g n result → CellsEnd (SeenCells n reserve outcome done) g n result
   unreserved result blank =
       narrower (SeenUnreserved n outcome done) (SeenCells n reserve outcome done) g n result
-      (λ before after seen. (was_blank before after (reserve_at n) reserve seen.0 (ap cell_of blank), seen.1, seen.2))
+      (λ before after seen. (
+        was_blank before after (reserve_at n) reserve seen.0 (ap cell_of blank),
+        seen.1,
+        seen.2,
+      ))

@@ -20,7 +20,8 @@ handed r e h = let q = err_from_is_err_and r h in q.1 ∙ ap Err q.2
 
 module _ (before after : Image) (at : ℕ) where
   -- a written cell stands in the later image
-  pub stands : (found : Found) (cell : List ℕ) → IsSeen before after at found → cell_of found ≡ Some cell → after at ≡ Some cell
+  pub stands : (found : Found) (cell : List ℕ) → IsSeen before after at found → cell_of found ≡ Some cell
+      → after at ≡ Some cell
   stands Blank cell seen is = absurd (none-some cell is)
   stands (Record other held) cell seen is = seen.0 ∙ is
   stands (Stray other) cell seen is = seen.0 ∙ is
@@ -64,7 +65,8 @@ seen_further at (Record cell held) e f seen = (f.keeps at cell seen.0, seen.1)
 seen_further at (Stray cell) e f seen = (f.keeps at cell seen.0, seen.1)
 
 -- what was seen between two images is seen between any that have the same in this cell
-pub seen_same : (before after before' after' : Image) (at : ℕ) (found : Found) → before' at ≡ before at → after' at ≡ after at
+pub seen_same : (before after before' after' : Image) (at : ℕ) (found : Found) → before' at ≡ before at
+    → after' at ≡ after at
     → IsSeen before after at found → IsSeen before' after' at found
 seen_same before after before' after' at Blank same same' seen = same ∙ seen
 seen_same before after before' after' at (Record cell held) same same' seen = (same' ∙ seen.0, seen.1)

@@ -19,7 +19,8 @@ below_or_at : (k n : ℕ) → k < n + 1 → (k < n) ⊎ (k ≡ n)
 below_or_at k n h = grind arith
 
 -- one slot more is taken
-pub one_more : (n at : ℕ) (cell : List ℕ) (found : Option (List ℕ)) (old mid new : ViewState) → HorizonSoFar n old mid
+pub one_more : (n at : ℕ) (cell : List ℕ) (found : Option (List ℕ)) (old mid new : ViewState) → HorizonSoFar n old
+    mid
     → ViewReads at mid new (Ok found) → found ≡ Some cell → at ≡ reserve_at n → HorizonSoFar (n + 1) old new
 one_more n at cell found old mid new so_far read is e = record {
   viewed = viewed_then so_far.viewed read.viewed;

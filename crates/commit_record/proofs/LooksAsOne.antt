@@ -29,7 +29,8 @@ room g (Committed start length bytes journal) lies = (lies.1.2, lies.0.3)
 room g (Done start length bytes journal) lies = (lies.1.2, lies.0.3)
 
 -- a look at a cell, wherever its number comes from
-pub look_at : (at number : ℕ) (old new : ViewState) (found : Found) → number ≡ at → LookEnds number old new (Ok found)
+pub look_at : (at number : ℕ) (old new : ViewState) (found : Found) → number ≡ at → LookEnds number old new
+    (Ok found)
     → LookEnds at old new (Ok found)
 look_at at number old new found e ends = subst (λ (n : ℕ). LookEnds n old new (Ok found)) e ends
 
@@ -51,7 +52,8 @@ module _ (g : Layout) (n : ℕ) (v0 v1 v2 v3 : ViewState) (reserve outcome done 
   seen tells = (
     seen_further (reserve_at n) reserve one.image (extends_then two.image three.image) (r.2 tells),
     seen_further (outcome_at n) outcome (extends_then one.image two.image) three.image (o.2 (tells_1 tells)),
-    seen_further (done_at n) done (extends_then one.image (extends_then two.image three.image)) (extends_self v3.image) (d.2 (tells_2 tells)),
+    seen_further (done_at n) done (extends_then one.image (extends_then two.image three.image))
+        (extends_self v3.image) (d.2 (tells_2 tells)),
   )
 
   -- and in the last alone, where nobody else wrote
@@ -61,8 +63,10 @@ module _ (g : Layout) (n : ℕ) (v0 v1 v2 v3 : ViewState) (reserve outcome done 
       let first : v0.base.foreign_writes ≤ v1.base.foreign_writes = one.called.foreign_writes in
       let second : v1.base.foreign_writes ≤ v2.base.foreign_writes = two.called.foreign_writes in
       let third : v2.base.foreign_writes ≤ v3.base.foreign_writes = three.called.foreign_writes in
-      let still_2 : IsStill v1.base.foreign_writes v2.base.foreign_writes = still_second first second (still_first (omega (arith, first, second)) third still) in
-      let still_3 : IsStill v2.base.foreign_writes v3.base.foreign_writes = still_second (omega (arith, first, second)) third still in
+      let still_2 : IsStill v1.base.foreign_writes v2.base.foreign_writes = still_second first second
+      (still_first (omega (arith, first, second)) third still) in
+      let still_3 : IsStill v2.base.foreign_writes v3.base.foreign_writes = still_second
+      (omega (arith, first, second)) third still in
       let rest_2 = (rests_of two).shown still_2 in
       let rest_3 = (rests_of three).shown still_3 in (
         same_now v1 (reserve_at n) reserve (unchanged_then rest_2 rest_3 (reserve_at n)) (r.2 tells),
@@ -70,17 +74,20 @@ module _ (g : Layout) (n : ℕ) (v0 v1 v2 v3 : ViewState) (reserve outcome done 
         d.2 (tells_2 tells),
       )
     where
-      same_now : (v : ViewState) (at : ℕ) (found : Found) → v3.image at ≡ v.image at → IsSeen v.image v.image at found
-          → IsSeen v3.image v3.image at found
+      same_now : (v : ViewState) (at : ℕ) (found : Found) → v3.image at ≡ v.image at
+          → IsSeen v.image v.image at found → IsSeen v3.image v3.image at found
       same_now v at found same = seen_same v.image v.image v3.image v3.image at found same same
 
-  pub state_seen : (state : SlotState) → CellsEnd (SeenCells n reserve outcome done) g n (Ok state) → StateEnds g n v0 v3 (Ok state)
+  pub state_seen : (state : SlotState) → CellsEnd (SeenCells n reserve outcome done) g n (Ok state) → StateEnds g n
+      v0 v3 (Ok state)
   state_seen state ends = (ends.0, faults, λ tells. ends.1 v0.image v3.image (seen tells))
 
-  module _ (less : n < g.slots) (view : IsView v3) (e : Evidence) (ends : CellsEnd (SeenCells n reserve outcome done) g n (Err e)) where
+  module _ (less : n < g.slots) (view : IsView v3) (e : Evidence) (ends : CellsEnd (SeenCells n reserve outcome done)
+      g n (Err e)) where
     -- in an image that has in the slot's cells what the view shows there
     shows_in : (image : Image) → IsTrue v0.base.tells → image (reserve_at n) ≡ v3.image (reserve_at n)
-        → image (outcome_at n) ≡ v3.image (outcome_at n) → image (done_at n) ≡ v3.image (done_at n) → Shows g v0 v3 image e
+        → image (outcome_at n) ≡ v3.image (outcome_at n) → image (done_at n) ≡ v3.image (done_at n) → Shows g v0 v3
+        image e
     shows_in image tells same_r same_o same_d =
         let s = seen tells in
         let later : SeenCells n reserve outcome done v0.image image = (
@@ -98,7 +105,8 @@ module _ (g : Layout) (n : ℕ) (v0 v1 v2 v3 : ViewState) (reserve outcome done 
                 seen_same v3.image v3.image image image (outcome_at n) outcome same_o same_o q.1,
                 seen_same v3.image v3.image image image (done_at n) done same_d same_d q.2,
               ) in
-              breaks v3.cells g image n e.cell volume less (record { found = e.found; stands = stands }) e.rule (ends.1 image image there).1;
+              breaks v3.cells g image n e.cell volume less (record { found = e.found; stands = stands }) e.rule
+              (ends.1 image image there).1;
         }
 
     -- what stands below is what is shown, where it was asked for

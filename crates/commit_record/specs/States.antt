@@ -22,7 +22,8 @@ abbrev pub IsState : Layout → Image → Image → ℕ → SlotState → Type 0
 IsState g before after n Unused = IsUnused g before n
 IsState g before after n (Reserved start length) = IsReserved g before after n start length
 IsState g before after n (Abandoned start length) = IsAbandoned g before after n start length
-IsState g before after n (Committed start length bytes journal) = IsCommitted g before after n start length bytes journal
+IsState g before after n (Committed start length bytes journal) =
+    IsCommitted g before after n start length bytes journal
 IsState g before after n (Done start length bytes journal) = IsDone g after n start length bytes journal
 
 -- these are cells of the pool, at least one, and of a device

@@ -5,7 +5,7 @@
 //!
 //!     cell 0   volume, 1,000 cells     `open` answers 8 slots, 2 lists, version 1
 //!          4   reserve 580, 4      \
-//!          5   commit 13, 3         |  slot 0: `slot_state` answers Done { start: 580, length: 4, bytes: 13, journal: 3 }
+//!          5   commit 13, 3         |  slot 0: `slot_state` answers Done, 580, 4 cells, 13 bytes, journal 3
 //!          6   done 0              /           `parts`: no blocks; document at 580, 1 cell; journal at 581, 3 cells
 //!          8   blank               \
 //!          9   blank                |  slot 1: Unused, and `horizon` answers 1

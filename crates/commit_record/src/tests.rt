@@ -1,4 +1,5 @@
-//! The log of the small volume of 8 slots and 2 lists on 1,000 cells, cell by cell. What is expected was written by hand.
+//! The log of the small volume of 8 slots and 2 lists on 1,000 cells, cell by cell. What is expected was written by
+//! hand.
 ghost use Rattle.std.specs.Prelude.{◌≡◌, ◌<◌, ◌≤◌, ◌+◌, IsErrOf};
 ghost use Rattle.cell_types.specs.declared.geometry.TheConstants.{MAX_CELLS};
 ghost use Rattle.cell_types.specs.declared.refusal.Refusal.TheVariants as refusals;

@@ -12,7 +12,8 @@ returns-in-Stray-clause-ends g c = (
   c.in-Ok.ensures.ends.1,
   λ tells.
       let image = (g.V.View.seen c.look.new.view).image in
-      let seen : IsSeen image image 0 (Stray c.in-Stray.cell) = subst (IsSeen image image 0) c.in-Stray.is (c.in-Ok.ensures.ends.2 tells) in
+      let seen : IsSeen image image 0 (Stray c.in-Stray.cell) = subst (IsSeen image image 0) c.in-Stray.is
+      (c.in-Ok.ensures.ends.2 tells) in
       (seen.0, λ layout is. seen.1 (volume_record layout) is),
 )
 
@@ -25,7 +26,8 @@ returns-then-cells-real-clause-ends g c = (
       let image = (g.V.View.seen c.look.new.view).image in
       let v = c.in-Volume in
       let held : Holds image 0 (Volume v.version v.slots v.lists v.cells) =
-      subst (Holds image 0) v.is (record_held image image 0 c.in-Ok.found c.in-Record.cell (c.in-Ok.ensures.ends.2 tells) c.in-Record.held c.in-Record.is) in (
+      subst (Holds image 0) v.is (record_held image image 0 c.in-Ok.found c.in-Record.cell
+      (c.in-Ok.ensures.ends.2 tells) c.in-Record.held c.in-Record.is) in (
         record { slots = v.slots; lists = v.lists; cells = v.cells },
         subst (λ (version : ℕ). Holds image 0 (Volume version v.slots v.lists v.cells)) held.is.well_formed.0 held,
         refl,

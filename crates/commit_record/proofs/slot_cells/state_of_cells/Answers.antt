@@ -5,7 +5,8 @@ use Rattle.commit_record.proofs.slot_cells.state_of_cells.Goals as goal
 -- nothing is reserved
 pub returns-in-Blank : goal.returns-in-Blank
 returns-in-Blank c =
-    unreserved _ c.args.slot c.requires.slot c.args.reserve c.args.outcome c.args.done c.state_unreserved.result c.in-Blank.is
+    unreserved _ c.args.slot c.requires.slot c.args.reserve c.args.outcome c.args.done c.state_unreserved.result
+    c.in-Blank.is
     c.state_unreserved.ensures
 
 -- the reserve cell holds no record
@@ -18,7 +19,8 @@ returns-in-Stray c =
 pub returns-in_default : goal.returns-in_default
 returns-in_default c =
     reserve_wrong _ c.args.slot c.requires.slot c.args.reserve c.args.outcome c.args.done
-    c.reserve_at-in_default.result c.in-Record.found c.in-Record.held c.reserve_at-in_default.ensures.at c.in-Record.is
+    c.reserve_at-in_default.result c.in-Record.found c.in-Record.held c.reserve_at-in_default.ensures.at
+    c.in-Record.is
     c.in_default.ensures.none
 
 -- it reserves these cells
@@ -26,4 +28,5 @@ pub returns : goal.returns
 returns c =
     let some = c.in-Some.ensures.some in
     reserved _ c.args.slot c.requires.slot c.args.reserve c.args.outcome c.args.done c.in-Some.start c.in-Some.length
-    c.state_reserved.result c.in-Record.found c.in-Record.held c.in-Record.is some.0 some.1 some.2 c.state_reserved.ensures
+    c.state_reserved.result c.in-Record.found c.in-Record.held c.in-Record.is some.0 some.1 some.2
+    c.state_reserved.ensures

@@ -14,7 +14,8 @@ returns-in_err-no_done_cell-in-Blank c =
     let w = c.in_err-no_done_cell-in-Blank.ensures.written in
     let late : IsLateDone c.args.slot c.args.done e = record { rule = w.0; cell = w.1; found = w.2 } in
     rw (handed c.from_residual.result e c.from_residual.ensures.1)
-    (done_without_outcome _ c.args.slot c.requires.slot Blank c.args.outcome c.args.done c.args.start c.args.length e c.in-Blank.is late)
+    (done_without_outcome _ c.args.slot c.requires.slot Blank c.args.outcome c.args.done c.args.start c.args.length e
+    c.in-Blank.is late)
 
 pub returns-in-Stray : goal.returns-in-Stray
 returns-in-Stray c =
@@ -26,14 +27,17 @@ returns-in_err-no_done_cell-in-Abandon c =
     let e = c.in_err-no_done_cell-in-Abandon.field-0.0 in
     let w = c.in_err-no_done_cell-in-Abandon.ensures.written in
     let late : IsLateDone c.args.slot c.args.done e = record { rule = w.0; cell = w.1; found = w.2 } in
-    rw (handed c.from_residual-in_err-no_done_cell-in-Abandon.result e c.from_residual-in_err-no_done_cell-in-Abandon.ensures.1)
+    rw (handed c.from_residual-in_err-no_done_cell-in-Abandon.result e
+    c.from_residual-in_err-no_done_cell-in-Abandon.ensures.1)
     (done_behind_abandon _ c.args.slot c.requires.slot Blank c.args.outcome c.args.done c.args.start c.args.length e
     c.in-Record.found c.in-Record.held c.in-Record.is c.in-Abandon.is late)
 
 pub returns-in-Commit : goal.returns-in-Commit
 returns-in-Commit c =
-    committed _ c.args.slot c.requires.slot Blank c.args.outcome c.args.done c.args.start c.args.length c.in-Commit.bytes c.in-Commit.journal
-    c.state_committed.result c.in-Record.found c.in-Record.held c.in-Record.is c.in-Commit.is (c.if-fits_into.ensures.0 refl) c.state_committed.ensures
+    committed _ c.args.slot c.requires.slot Blank c.args.outcome c.args.done c.args.start c.args.length
+    c.in-Commit.bytes c.in-Commit.journal
+    c.state_committed.result c.in-Record.found c.in-Record.held c.in-Record.is c.in-Commit.is
+    (c.if-fits_into.ensures.0 refl) c.state_committed.ensures
 
 commits_are : (a b c d : ℕ) → Commit a b ≡ Commit c d → (a ≡ c) × (b ≡ d)
 commits_are a b c d e = (cc, cc)
@@ -47,7 +51,8 @@ unfit fits is_false is_true = let clash : false ≡ true = sym is_false ∙ is_t
 pub returns-in_default : goal.returns-in_default
 returns-in_default c =
     outcome_wrong _ c.args.slot c.requires.slot Blank c.args.outcome c.args.done c.args.start c.args.length
-    c.outcome_at-in_default.result c.in-Record.found c.in-Record.held c.outcome_at-in_default.ensures.at c.in-Record.is
+    c.outcome_at-in_default.result c.in-Record.found c.in-Record.held c.outcome_at-in_default.ensures.at
+    c.in-Record.is
     (elim c.in_default.branch [
       | in_default-via-in-Commit+else-fits_into w ↦ λ e. no_abandon _ _ (sym w.in-Commit.is ∙ e)
       | in_default-via-in_default w ↦ λ e. w.in_default.not-Abandon e

@@ -18,4 +18,5 @@ returns-in_err-no_done_cell c =
     let w = c.in_err-no_done_cell.ensures.written in
     let late : IsLateDone c.args.slot c.args.done e = record { rule = w.0; cell = w.1; found = w.2 } in
     rw (handed c.from_residual.result e c.from_residual.ensures.1)
-    (done_without_reserve _ c.args.slot c.requires Blank c.args.outcome c.args.done e (sym c.written_cell.ensures ∙ c.in_default.is) late)
+    (done_without_reserve _ c.args.slot c.requires Blank c.args.outcome c.args.done e (sym c.written_cell.ensures
+    ∙ c.in_default.is) late)
