@@ -1,0 +1,6 @@
+pub mod Breaking
+pub mod CellsMake
+pub mod CellsSeen
+pub mod HorizonSoFar
+pub mod LooksAsOne
+pub mod OneState

@@ -1,0 +1,104 @@
+-- In which state a slot is, and what says that it is in none.
+use Rattle.std.specs.Prelude.{◌≡◌, ◌<◌, ◌≤◌, ◌+◌, ℕ, Some, None, Result, Ok, Err, IsTrue, ⊤}
+use Rattle.cell_types.specs.Image.{Image}
+use Rattle.cell_types.specs.Layout.{Layout, reserve_at, outcome_at, done_at, pool_at}
+use Rattle.cell_types.specs.declared.geometry.TheConstants.{MAX_CELLS}
+use Rattle.cell_types.specs.declared.record_cell.TheConstants.{MIN_STORED_BYTES, MAX_STORED_BYTES}
+use Rattle.cell_types.specs.declared.record_cell.RecordCell.TheVariants as records
+use Rattle.cell_types.specs.declared.refusal.Evidence.{Evidence}
+use Rattle.cell_types.specs.declared.refusal.Fault.{Fault}
+use Rattle.cell_types.specs.declared.refusal.Fault.TheVariants.{Tampered, ReadFault}
+use Rattle.stored_documents.specs.Slots.{cells_for, Reserves, Abandons, Commits, IsUnused, IsReserved, IsAbandoned, IsCommitted, IsDone}
+use Rattle.stored_documents.specs.Volumes.{Holds, IsVolume}
+use Rattle.tamper_rules.specs.Rules.{IsPlaceOf, IsBroken}
+use Rattle.tamper_rules.specs.declared.numbers.TheConstants.{RESERVE_CELL, OUTCOME_CELL, DONE_CELL}
+use Rattle.worm_device.specs.Counts.{Rose, IsStill}
+use Rattle.worm_device.specs.Views.{ViewState}
+use Rattle.commit_record.specs.declared.slot.SlotState.{SlotState}
+use Rattle.commit_record.specs.declared.slot.SlotState.TheVariants.{Unused, Reserved, Abandoned, Committed, Done}
+
+-- slot n is in this state, as seen between two images
+abbrev pub IsState : Layout → Image → Image → ℕ → SlotState → Type 0
+IsState g before after n Unused = IsUnused g before n
+IsState g before after n (Reserved start length) = IsReserved g before after n start length
+IsState g before after n (Abandoned start length) = IsAbandoned g before after n start length
+IsState g before after n (Committed start length bytes journal) =
+    IsCommitted g before after n start length bytes journal
+IsState g before after n (Done start length bytes journal) = IsDone g after n start length bytes journal
+
+-- these are cells of the pool, at least one, and of a device
+abbrev pub AreOfPool : Layout → ℕ → ℕ → Type 0
+AreOfPool g start length =
+    (1 ≤ length) × (pool_at g ≤ start) × (start + length ≤ g.cells) × (start + length ≤ MAX_CELLS)
+
+-- so many stored bytes are those of a document, and it fits with its journal into so many cells
+abbrev pub FitsInto : ℕ → ℕ → ℕ → Type 0
+FitsInto length bytes journal =
+    (MIN_STORED_BYTES ≤ bytes) × (bytes ≤ MAX_STORED_BYTES) × (cells_for bytes + journal ≤ length)
+
+-- the cells that the state names lie in the pool, and its document and journal fit into them
+abbrev pub LiesInPool : Layout → SlotState → Type 0
+LiesInPool g Unused = ⊤
+LiesInPool g (Reserved start length) = AreOfPool g start length
+LiesInPool g (Abandoned start length) = AreOfPool g start length
+LiesInPool g (Committed start length bytes journal) = AreOfPool g start length × FitsInto length bytes journal
+LiesInPool g (Done start length bytes journal) = AreOfPool g start length × FitsInto length bytes journal
+
+-- The ways in which slot n's three cells, as seen between two images, are no state: by the number of the rule and the
+-- first cell that is out of place. The cells before that one fit together.
+pub data IsNoState (g : Layout) (before after : Image) (n rule cell : ℕ) : Type 0 where
+  -- the reserve cell reserves no cells of the pool
+  reserves_none : rule ≡ RESERVE_CELL → cell ≡ reserve_at n
+      → ((start length : ℕ) → Reserves g after n start length → ⊥) → IsNoState g before after n rule cell
+  -- an outcome cell stands, and nothing is reserved
+  ends_unreserved : rule ≡ OUTCOME_CELL → cell ≡ outcome_at n → before (reserve_at n) ≡ None
+      → IsNoState g before after n rule cell
+  -- the outcome cell neither gives up what is reserved nor states a document that fits into it
+  ends_wrongly : (start length : ℕ) → rule ≡ OUTCOME_CELL → cell ≡ outcome_at n → Reserves g after n start length
+      → (Abandons g after n start length → ⊥)
+      → ((bytes journal : ℕ) → Commits g after n start length bytes journal → ⊥) → IsNoState g before after n rule cell
+  -- a done cell stands, and nothing is reserved
+  done_unreserved : rule ≡ DONE_CELL → cell ≡ done_at n → before (reserve_at n) ≡ None → before (outcome_at n) ≡ None
+      → IsNoState g before after n rule cell
+  -- a done cell stands, and the slot has no outcome
+  done_unended : (start length : ℕ) → rule ≡ DONE_CELL → cell ≡ done_at n → Reserves g after n start length
+      → before (outcome_at n) ≡ None → IsNoState g before after n rule cell
+  -- a done cell stands, and the slot was given up
+  done_abandoned : (start length : ℕ) → rule ≡ DONE_CELL → cell ≡ done_at n → Abandons g after n start length
+      → IsNoState g before after n rule cell
+  -- the slot states its document, and the done cell is not this slot's
+  done_wrongly : (start length bytes journal : ℕ) → rule ≡ DONE_CELL → cell ≡ done_at n
+      → Commits g after n start length bytes journal → (Holds after (done_at n) (records.Done n) → ⊥)
+      → IsNoState g before after n rule cell
+
+-- What the view shows of slot n's three cells is what stands below it: none of them is planned, and each is asked for
+-- below. So it is with every view of a device and no planned cells.
+pub record AsksBelow (n : ℕ) (view : ViewState) : Type 0 where
+  pub reserve : view.planned (reserve_at n) ≡ None
+  pub outcome : view.planned (outcome_at n) ≡ None
+  pub done : view.planned (done_at n) ≡ None
+  pub fresh : done_at n < view.fresh
+
+-- The evidence stands in this image; and where nobody else wrote, and cell 0 states this layout, its rule is broken
+-- there. Without this layout another volume's cells would be spoken of.
+pub record Shows (g : Layout) (old new : ViewState) (image : Image) (e : Evidence) : Type 0 where
+  pub stands : image e.cell ≡ Some e.found
+  pub broken : IsStill old.base.foreign_writes new.base.foreign_writes → IsVolume new.cells image g
+      → IsBroken new.cells image e.rule e.cell
+
+-- What evidence says where the device tells its image: slot n's cells were seen to be no state, whoever wrote; and
+-- what the view shows has the evidence, and so has what stands below it, where the slot's cells were asked for there.
+pub record IsOutOfPlace (g : Layout) (n : ℕ) (old new : ViewState) (e : Evidence) : Type 0 where
+  pub seen : IsNoState g old.image new.image n e.rule e.cell
+  pub shown : Shows g old new new.image e
+  pub below : AsksBelow n old → Shows g old new new.lower e
+
+-- how a look at a slot may end, and why
+abbrev pub StateEnds : Layout → ℕ → ViewState → ViewState → Result SlotState Fault → Type 0
+StateEnds g n old new (Ok state) =
+    LiesInPool g state × (new.base.faults ≡ old.base.faults)
+    × (IsTrue old.base.tells → IsState g old.image new.image n state)
+StateEnds g n old new (Err ReadFault) = Rose old.base.faults new.base.faults
+StateEnds g n old new (Err (Tampered e)) =
+    IsPlaceOf g e.rule e.cell × (new.base.faults ≡ old.base.faults)
+    × (IsTrue old.base.tells → IsOutOfPlace g n old new e)

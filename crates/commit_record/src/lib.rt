@@ -1,0 +1,46 @@
+//! What is read of a volume's log: which volume cell 0 states, in which state a slot is, and where the log ends.
+//!
+//! The log is four cells a slot, and three of them say what has come of it. On a volume of 8 slots and 2 lists on 1,000
+//! cells, whose pool begins at cell 580, with one document stored in slot 0:
+//!
+//!     cell 0   volume, 1,000 cells     `open` answers 8 slots, 2 lists, version 1
+//!          4   reserve 580, 4      \
+//!          5   commit 13, 3         |  slot 0: `slot_state` answers Done, 580, 4 cells, 13 bytes, journal 3
+//!          6   done 0              /           `parts`: no blocks; document at 580, 1 cell; journal at 581, 3 cells
+//!          8   blank               \
+//!          9   blank                |  slot 1: Unused, and `horizon` answers 1
+//!         10   blank               /
+//!
+//!     unused --reserve--> reserved --commit--> committed --done--> done
+//!                             \----abandon---> abandoned
+//!
+//! No cell is trusted. Three cells that are no state are evidence of tampering: the first of them that is out of place,
+//! with rule 1 at the reserve cell, rule 2 at the outcome cell, rule 3 at the done cell. Where cell 9 of this volume is
+//! an abandon cell, slot 1 is given up and reserves nothing: rule 2 at cell 9.
+//!
+//! Cells are read one after another, and somebody else may write in between. So a state is said of two images: what it
+//! needs written stands at the call's exit, and what it needs blank was blank at its entry. What an answer says of its
+//! own numbers, as that a state's cells lie in the pool, holds over every view, also over one that does not tell.
+//!
+//! `open` makes one read, `slot_state` at most three, `horizon` at most one a slot, and `parts` none. Nothing takes
+//! memory. Stands on `stored_documents` and `tamper_rules` for the words, and on `worm_device` for views. Begin with
+//! `slot.rt`; `specs/States.antt` says what its answers mean.
+#![tactic(auto)]
+
+mod laws;
+mod log_end;
+mod looks;
+mod opening;
+mod partition;
+mod slot;
+mod slot_cells;
+mod slot_parts;
+#[cfg(test)]
+mod tests;
+
+pub use laws::{a_slot_has_one_state, no_state_breaks_a_rule};
+pub use log_end::horizon;
+pub use opening::{OpenRefusal, open};
+pub use partition::Parts;
+pub use slot::{SlotState, slot_state};
+pub use slot_parts::parts;

@@ -1,0 +1,70 @@
+//! The volume that cell 0 states.
+ghost use Rattle.std.specs.Prelude.{◌≡◌, ◌<◌, ◌≤◌, ◌+◌};
+ghost use Rattle.worm_device.specs.Views.{Viewed};
+ghost use Rattle.commit_record.specs.Opening.{OpenEnds, refusal_of};
+
+use crate::looks::{Found, look};
+use cell_types::{Cell, Geometry, RecordCell, Refusal, Volume};
+use worm_device::View;
+
+/// Why a volume is not opened.
+#[derive(Clone, Copy, Debug, PartialEq, Eq)]
+pub enum OpenRefusal {
+    /// Cell 0 is blank.
+    NotFormatted,
+    /// Cell 0 is written and no volume cell of a version that is supported.
+    NotAVolume(Cell),
+    /// The volume cell states so many cells, and the view has so many.
+    WrongSize { stated: u32, real: u32 },
+    /// The read failed.
+    ReadFault,
+}
+
+impl OpenRefusal {
+    /// As a command refuses.
+    pub fn refusal(self) -> Refusal
+        ensures { result ≡ refusal_of self }
+    {
+        match self {
+            OpenRefusal::NotFormatted => Refusal::NotFormatted,
+            OpenRefusal::NotAVolume(found) => Refusal::NotAVolume(found),
+            OpenRefusal::WrongSize { stated, real } => Refusal::WrongSize { stated, real },
+            OpenRefusal::ReadFault => Refusal::DeviceFault,
+        }
+    }
+}
+
+/// The volume that cell 0 states, where it states the view's number of cells. Makes one read.
+pub fn open<V: View>(view: &mut V) -> Result<Volume, OpenRefusal>
+    requires { 0 < (V.seen view.old).cells }
+    ensures viewed { Viewed (V.seen view.old) (V.seen view.new) }
+    ensures reads { (V.seen view.new).base.reads ≤ (V.seen view.old).base.reads + 1 }
+    ensures ends { OpenEnds (V.seen view.old) (V.seen view.new) result }
+{
+    let Ok(found) = look(view, 0) else {
+        return Err(OpenRefusal::ReadFault);
+    };
+    let (cell, held) = match found {
+        Found::Blank => return Err(OpenRefusal::NotFormatted),
+        Found::Stray(cell) => return Err(OpenRefusal::NotAVolume(cell)),
+        Found::Record(cell, held) => (cell, held),
+    };
+    let RecordCell::Volume {
+        version,
+        slots,
+        lists,
+        cells,
+    } = held
+    else {
+        return Err(OpenRefusal::NotAVolume(cell));
+    };
+    let real = view.cells();
+    if cells != real {
+        return Err(OpenRefusal::WrongSize {
+            stated: cells,
+            real,
+        });
+    }
+    let geometry = Geometry::new(slots, lists, cells).unwrap();
+    Ok(Volume { version, geometry })
+}
