@@ -1,16 +1,16 @@
 -- The tags of a list among the keys of a body's words are the body's tags in this list.
-use Rattle.std.proofs.Common.{◌≡◌, ◌≤◌, ◌<◌, ◌∙◌, ℕ, zero, suc, List, [], ◌∷◌, Some, map, length, drop, refl, sym, ap, subst, arith}
-use Rattle.std.specs.Prelude.{Contains, slice_get}
+use Rattle.std.proofs.Common.{◌≡◌, ◌≤◌, ◌<◌, ◌∙◌, ℕ, zero, suc, List, [], ◌∷◌, length, drop, refl, sym, ap, subst, arith}
+use Rattle.std.specs.Prelude.{Contains}
 use Rattle.std.proofs.lemmas.Nat.{mod_below}
 use Rattle.byteorder.specs.Endian.{big_number}
 use Rattle.sha2.specs.Sha256.{sha256}
-use Rattle.stored_documents.specs.Words.{AreWords, words_of}
+use Rattle.stored_documents.specs.Words.{AreWords}
 use Rattle.stored_documents.proofs.Words.{words_are_one}
-use Rattle.index_paths.specs.Postings.{tag_of, list_of, HasTag, AreTags}
+use Rattle.index_paths.specs.Postings.{HasTag, AreTags}
 use Rattle.term_tags.specs.Keys.{key_of, keys_of, list_in, tag_in, tags_at, AreInLists, AreKeys}
 use Rattle.term_tags.specs.Listing.{AllFit, AreCounts, GetsTooMany, IsFirstOver}
 use Rattle.term_tags.proofs.KeyLaws.{list_back, tag_back}
-use Rattle.term_tags.proofs.TagsAt.{KeyAt, at_place, key_at, member, tag_at, tags_rise}
+use Rattle.term_tags.proofs.TagsAt.{at_place, key_at, member, tag_at, tags_rise}
 
 -- the key of a term is among the keys
 keyed : (lists : ℕ) (terms : List (List ℕ)) (term : List ℕ) → Contains terms term → Contains (keys_of lists terms) (key_of lists term)

@@ -1,8 +1,9 @@
 -- Counting the keys of each list, one key after another.
-use Rattle.std.proofs.Common.{◌≡◌, ◌<◌, ◌+◌, ◌∙◌, ℕ, List, [], ◌∷◌, ◌++◌, length, replicate, set, slice_index, get_or, take, drop, Some, false, nat_eq, refl, sym, ap, subst, inl, inr, arith, length-append}
-use Rattle.std.specs.Prelude.{◌≤◌, slice_get}
+use Rattle.std.proofs.Common.{◌≡◌, ◌<◌, ◌+◌, ◌∙◌, ℕ, List, [], ◌∷◌, ◌++◌, length, replicate, set, slice_index, get_or, take, drop, false, nat_eq, refl, sym, ap, subst, inl, inr, arith, length-append}
+use Rattle.std.specs.Prelude.{◌≤◌}
 use Rattle.std.proofs.lemmas.List.{append-nil, drop_more, get_or_read, take_more, length-set, length-take-le, get_or-replicate, get_or-set_other, get_or-set_same, length-replicate}
 use Rattle.std.proofs.lemmas.List.Elements.{Contains-get_or}
+use Rattle.std.proofs.lemmas.Option.{slice_get-get_or}
 use Rattle.term_tags.specs.Keys.{list_in, tags_at, AreInLists}
 use Rattle.term_tags.specs.Listing.{AllFit, AreCounts, row_of, rows_behind}
 use Rattle.term_tags.specs.declared.rows.Posting.{Posting}
@@ -46,22 +47,7 @@ more_counted lists keys counts key count are below is = record {
           ∙ sym (passed l keys key n)
     ]
 
--- a count of fewer keys than there are
-pub fewer : (lists : ℕ) (keys counts : List ℕ) (i l : ℕ) → AreCounts lists (take i keys) counts → l < lists → i < length keys
-    → slice_index counts l < length keys
-fewer lists keys counts i l are less more =
-    omega (arith, more, are.each l less, at_most l (take i keys), length-take-le i keys (omega (arith, more)))
-
--- of a list that fits, what is given before a key is below its count, and this below 257
-pub room : (lists : ℕ) (keys counts given : List ℕ) (i key : ℕ) → AreCounts lists keys counts → AllFit counts lists
-    → AreCounts lists (take i keys) given → slice_get keys i ≡ Some key → list_in key < lists
-    → (slice_index given (list_in key) + 1 ≤ slice_index counts (list_in key)) × (slice_index counts (list_in key) ≤ 256)
-room lists keys counts given i key all fit are p below = (
-  omega (arith, all.each (list_in key) below, are.each (list_in key) below, one_of_all (list_in key) keys i key p refl),
-  fit.each (list_in key) below,
-)
-
-module _ (lists : ℕ) (keys counts : List ℕ) (i at value : ℕ) (are : AreCounts lists (take i keys) counts)
+module _ {lists : ℕ} {keys counts : List ℕ} {at value : ℕ} (i : ℕ) (are : AreCounts lists (take i keys) counts)
     (in_lists : AreInLists lists keys) (less : i < length keys) (is : at ≡ list_in (slice_index keys i))
     (read : value ≡ get_or counts at value) where
   -- the list of the key at a place
@@ -80,13 +66,40 @@ module _ (lists : ℕ) (keys counts : List ℕ) (i at value : ℕ) (are : AreCou
       (subst (λ (n : ℕ). AreCounts lists (take i keys ++ slice_index keys i ∷ []) (set counts n (value + 1))) (sym is)
       (more_counted lists (take i keys) counts (slice_index keys i) (value + 1) are below (ap (λ (n : ℕ). n + 1) value_is)))
 
+  -- it counts fewer keys than there are
+  pub fewer : value < length keys
+  fewer =
+      omega (
+        arith,
+        less,
+        value_is,
+        are.each (list_in (slice_index keys i)) below,
+        at_most (list_in (slice_index keys i)) (take i keys),
+        length-take-le i keys (omega (arith, less)),
+      )
+
+  -- and where the list's count of all keys fits, fewer than that
+  pub room : (all : List ℕ) → AreCounts lists keys all → AllFit all lists → (value + 1 ≤ slice_index all at) × (slice_index all at ≤ 256)
+  room all counted fit =
+      let same : slice_index all at ≡ slice_index all (list_in (slice_index keys i)) = ap (λ (n : ℕ). slice_index all n) is in (
+        omega (
+          arith,
+          same,
+          value_is,
+          counted.each (list_in (slice_index keys i)) below,
+          are.each (list_in (slice_index keys i)) below,
+          one_of_all (list_in (slice_index keys i)) keys i (slice_index keys i) (slice_get-get_or keys i 0 less) refl,
+        ),
+        omega (arith, same, fit.each (list_in (slice_index keys i)) below),
+      )
+
 -- the row of a key is next
 pub next_row : (keys : List ℕ) (i : ℕ) → i < length keys → rows_behind keys (take i keys) (drop i keys)
     ≡ row_of keys (take i keys) (slice_index keys i) ∷ rows_behind keys (take (i + 1) keys) (drop (i + 1) keys)
 next_row keys i less =
     ap (rows_behind keys (take i keys)) (drop_more keys i 0 less)
     ∙ ap (λ (ks : List ℕ). row_of keys (take i keys) (slice_index keys i) ∷ rows_behind keys ks (drop (i + 1) keys))
-        (sym (take_more keys i 0 less))
+    (sym (take_more keys i 0 less))
 
 -- a posting by its parts
 abbrev made : ℕ → ℕ → ℕ → List ℕ → Posting

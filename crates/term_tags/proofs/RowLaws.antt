@@ -1,18 +1,17 @@
 -- The rows of the keys of a body's words are the postings of its document.
-use Rattle.std.proofs.Common.{◌≡◌, ◌≤◌, ◌<◌, ◌+◌, ◌*◌, ◌/◌, ◌^◌, ◌-◌, ◌∙◌, ◌⊎◌, ℕ, zero, suc, List, [], ◌∷◌, ◌++◌, Some, length, map, take, refl, sym, ap, subst, inl, inr, arith}
+use Rattle.std.proofs.Common.{◌≡◌, ◌≤◌, ◌<◌, ◌+◌, ◌∙◌, ℕ, zero, suc, List, [], ◌∷◌, ◌++◌, Some, length, map, take, refl, sym, ap, subst, inl, inr, arith}
 use Rattle.std.specs.Prelude.{slice_get}
 use Rattle.std.proofs.lemmas.Bool.{cases_lt}
 use Rattle.std.proofs.lemmas.List.{append_assoc, append-nil}
 use Rattle.std.proofs.lemmas.Option.{none-some, same_Some}
 use Rattle.stored_documents.specs.Words.{AreWords}
-use Rattle.index_paths.specs.Postings.{AreTags, IsPostingOf, ListedPosting, ComesBefore, ArePostings}
+use Rattle.index_paths.specs.Postings.{IsPostingOf, ListedPosting, ComesBefore, ArePostings}
 use Rattle.index_paths.specs.Blocks.{PostingFields}
 use Rattle.index_paths.proofs.Tags.{tags_one}
 use Rattle.term_tags.specs.Keys.{list_in, tag_in, tags_at, AreInLists, AreKeys}
 use Rattle.term_tags.specs.Listing.{listed, row_of, rows_behind, rows_of}
-use Rattle.term_tags.specs.declared.rows.Posting.{Posting}
 use Rattle.term_tags.proofs.Bodies.{are_tags}
-use Rattle.term_tags.proofs.TagsAt.{KeyAt, key_at, keys_rise, member, one_more, one_of_all, tag_at}
+use Rattle.term_tags.proofs.TagsAt.{key_at, keys_rise, member, one_more, one_of_all, tag_at}
 
 -- the posting of a key at a place, as one of slot n
 abbrev entry : ℕ → List ℕ → List ℕ → ℕ → ListedPosting
@@ -92,13 +91,12 @@ module _ (lists : ℕ) (body : List ℕ) (terms : List (List ℕ)) (keys : List 
       let all : h.tags ≡ tags_at l keys = tags_one lists body l h.tags (tags_at l keys) h.are (are_tags lists body terms keys words are l) in
       let found = key_at l keys h.ordinal p.tag (subst (λ (ts : List (List ℕ)). slice_get ts h.ordinal ≡ Some p.tag) all h.here) in
       let ordinal : length (tags_at (list_in found.key) (take found.place keys)) ≡ h.ordinal =
-          ap (λ (m : ℕ). length (tags_at m (take found.place keys))) found.of_list ∙ found.count in
+      ap (λ (m : ℕ). length (tags_at m (take found.place keys))) found.of_list ∙ found.count in
       let count : length (tags_at (list_in found.key) keys) ≡ p.last + 1 =
-          ap (λ (m : ℕ). length (tags_at m keys)) found.of_list ∙ ap length (sym all) ∙ sym h.last in
-      (
+      ap (λ (m : ℕ). length (tags_at m keys)) found.of_list ∙ ap length (sym all) ∙ sym h.last in (
         found.place,
         to_row n keys [] keys found.place found.key found.stands
-        ∙ ap (λ (a : ListedPosting). Some a)
+            ∙ ap (λ (a : ListedPosting). Some a)
             (made_same (list_in found.key) l _ p.key _ p.last (tag_in found.key) p.tag found.of_list
             (omega (arith, ordinal, h.key)) (omega (arith, count)) found.tag_is),
       )

@@ -99,13 +99,13 @@ pub key_at : (l : ℕ) (keys : List ℕ) (o : ℕ) (tag : List ℕ) → slice_ge
 key_at l [] o tag p = absurd (none-some tag p)
 key_at l (x ∷ keys) zero tag p = elim (in_list l x) [
   | inl y ↦ record {
-      place = zero;
-      key = x;
-      stands = refl;
-      of_list = y;
-      tag_is = same_Some (tag_in x) tag (subst (λ (ts : List (List ℕ)). slice_get ts zero ≡ Some tag) (here l x keys y) p);
-      count = refl;
-    }
+    place = zero;
+    key = x;
+    stands = refl;
+    of_list = y;
+    tag_is = same_Some (tag_in x) tag (subst (λ (ts : List (List ℕ)). slice_get ts zero ≡ Some tag) (here l x keys y) p);
+    count = refl;
+  }
   | inr n ↦ more_there l x keys zero tag n (key_at l keys zero tag (subst (λ (ts : List (List ℕ)). slice_get ts zero ≡ Some tag) (there l x keys n) p))
 ]
 key_at l (x ∷ keys) (suc o) tag p = elim (in_list l x) [
@@ -166,11 +166,11 @@ earlier : (l : ℕ) (keys : List ℕ) (i j : ℕ) (a b : List ℕ) (p : KeyAt l 
 earlier l keys i j a b p q less = elim (cases_lt p.place q.place) [
   | inl h ↦ h
   | inr back ↦ elim (cases_lt q.place p.place) [
-      | inl h ↦ absurd (omega (arith, less, p.count, q.count, one_more l keys q.place q.key p.place q.stands q.of_list h))
-      | inr forth ↦
-          let same : p.place ≡ q.place = omega (arith, back, forth) in
-          absurd (omega (arith, less, sym p.count ∙ ap (λ (n : ℕ). length (tags_at l (take n keys))) same ∙ q.count))
-    ]
+    | inl h ↦ absurd (omega (arith, less, p.count, q.count, one_more l keys q.place q.key p.place q.stands q.of_list h))
+    | inr forth ↦
+        let same : p.place ≡ q.place = omega (arith, back, forth) in
+        absurd (omega (arith, less, sym p.count ∙ ap (λ (n : ℕ). length (tags_at l (take n keys))) same ∙ q.count))
+  ]
 ]
 
 -- of two keys of a list the smaller has the smaller tag
@@ -184,7 +184,7 @@ tags_rise l keys rise i j a b less p q =
     let first = key_at l keys i a p in
     let second = key_at l keys j b q in
     let keys_less = keys_rise keys rise first.place second.place first.key second.key
-        (earlier l keys i j a b first second less) first.stands second.stands in
+    (earlier l keys i j a b first second less) first.stands second.stands in
     omega (
       arith,
       tag_less l first.key second.key first.of_list second.of_list keys_less,

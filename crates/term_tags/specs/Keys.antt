@@ -2,7 +2,7 @@
 -- by tag.
 --
 --     hello, of 2 lists    tag 2cf24dba5fb0 in list 0: key 00002cf24dba5fb0
-use Rattle.std.specs.Prelude.{◌≡◌, ◌<◌, ◌+◌, ◌*◌, ◌/◌, ◌%◌, ◌^◌, nat_eq, if◌then◌else◌, ℕ, List, [], ◌∷◌, map, Contains}
+use Rattle.std.specs.Prelude.{◌<◌, ◌+◌, ◌*◌, ◌/◌, ◌%◌, ◌^◌, nat_eq, if◌then◌else◌, ℕ, List, [], ◌∷◌, map, Contains}
 use Rattle.std.specs.List.Sorted.{IsStrictlyIncreasing}
 use Rattle.byteorder.specs.Endian.{big_number, big_bytes}
 use Rattle.sha2.specs.Sha256.{sha256}

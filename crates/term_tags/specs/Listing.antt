@@ -1,5 +1,5 @@
 -- The postings that a document's words give, and how asking for them ends.
-use Rattle.std.specs.Prelude.{◌≡◌, ◌<◌, ◌≤◌, ◌+◌, ◌*◌, ◌-◌, ℕ, List, [], ◌∷◌, ◌++◌, length, map, slice_get, slice_index, ⊤}
+use Rattle.std.specs.Prelude.{◌≡◌, ◌<◌, ◌≤◌, ◌+◌, ◌*◌, ◌-◌, ℕ, List, [], ◌∷◌, ◌++◌, length, map, slice_index, ⊤}
 use Rattle.cell_types.specs.declared.refusal.Refusal.{Refusal}
 use Rattle.cell_types.specs.declared.refusal.Refusal.TheVariants.{TooManyTerms, NoMemory}
 use Rattle.stored_documents.specs.Words.{AreWords}

@@ -50,7 +50,11 @@ fn keys_of(alloc: Global, terms: &[Term], lists: u16) -> Result<Vec<u64>, AllocE
 }
 
 /// The distinct keys of the terms, in rising order.
-pub(crate) fn distinct_keys(alloc: Global, terms: &[Term], lists: u16) -> Result<Vec<u64>, AllocError>
+pub(crate) fn distinct_keys(
+    alloc: Global,
+    terms: &[Term],
+    lists: u16,
+) -> Result<Vec<u64>, AllocError>
     requires { 1 ≤ lists }
     ensures { IfOk result (λ keys. AreKeys lists terms.now keys.items) }
 {

@@ -24,6 +24,8 @@
 mod digests;
 mod keys;
 mod rows;
+#[cfg(test)]
+mod tests;
 
 pub use digests::{list_of, tag};
 pub use rows::{MAX_TAGS, Posting, postings};

@@ -1,5 +1,4 @@
 -- The lists before this turn's have not too many.
-use Rattle.std.proofs.Common.{◌≤◌}
 use Rattle.term_tags.specs.Listing.{AllFit}
 use Rattle.term_tags.proofs.rows.first_over.Given as goal
 

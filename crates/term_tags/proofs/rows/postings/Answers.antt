@@ -1,5 +1,5 @@
 -- The rows of the distinct keys are the postings, where each list's count fits.
-use Rattle.std.proofs.Common.{◌≡◌, ◌∙◌, ℕ, List, map, sym, ap, subst}
+use Rattle.std.proofs.Common.{◌∙◌, ℕ, List, map, sym, ap, subst}
 use Rattle.index_paths.specs.Postings.{ArePostings}
 use Rattle.term_tags.specs.Keys.{AreInLists}
 use Rattle.term_tags.specs.Listing.{AllFit, AreCounts, IsFirstOver, listed, rows_of}
