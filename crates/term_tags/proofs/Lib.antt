@@ -1,0 +1,5 @@
+pub mod Bodies
+pub mod Counting
+pub mod KeyLaws
+pub mod RowLaws
+pub mod TagsAt

@@ -1,0 +1,39 @@
+-- The rows of the distinct keys are the postings, where each list's count fits.
+use Rattle.std.proofs.Common.{◌∙◌, ℕ, List, map, sym, ap, subst}
+use Rattle.index_paths.specs.Postings.{ArePostings}
+use Rattle.term_tags.specs.Keys.{AreInLists}
+use Rattle.term_tags.specs.Listing.{AllFit, AreCounts, IsFirstOver, listed, rows_of}
+use Rattle.term_tags.specs.declared.rows.Posting.{Posting}
+use Rattle.term_tags.proofs.Bodies.{few_tags, in_lists, too_many}
+use Rattle.term_tags.proofs.RowLaws.{are_postings}
+use Rattle.term_tags.proofs.rows.postings.Goals as goal
+
+pub count_each-requires-clause-below : goal.count_each-requires-clause-below
+count_each-requires-clause-below c =
+    subst (AreInLists c.args.lists) (sym c.deref.ensures.value)
+    (in_lists c.args.lists c.args.terms.now c.in-Ok.keys.items c.requires c.in-Ok.ensures)
+
+pub rows-requires-clause-below : goal.rows-requires-clause-below
+rows-requires-clause-below c =
+    subst (AreInLists c.args.lists) (sym c.deref-3.ensures.value)
+    (in_lists c.args.lists c.args.terms.now c.in-Ok.keys.items c.requires c.in-Ok.ensures)
+
+pub returns-in-Some-clause-err : goal.returns-in-Some-clause-err
+returns-in-Some-clause-err c = λ body words.
+    let keys = c.in-Ok.keys.items in
+    let counts = c.in-Ok-count_each.counts.items in
+    let counted = subst (λ (ks : List ℕ). AreCounts c.args.lists ks counts) c.deref.ensures.value c.in-Ok-count_each.ensures in
+    let over = subst (λ (cs : List ℕ). IsFirstOver cs c.in-Some.list c.in-Some.count) c.deref-2.ensures.value c.in-Some.ensures.over in
+    too_many c.args.lists body c.args.terms.now keys words c.in-Ok.ensures counts c.in-Some.list c.in-Some.count counted over
+
+pub returns-in-Ok-rows-clause-ok : goal.returns-in-Ok-rows-clause-ok
+returns-in-Ok-rows-clause-ok c = λ body words n.
+    let lists = c.args.lists in
+    let keys = c.in-Ok.keys.items in
+    let counts = c.in-Ok-count_each.counts.items in
+    let counted = subst (λ (ks : List ℕ). AreCounts lists ks counts) c.deref.ensures.value c.in-Ok-count_each.ensures in
+    let fit = subst (λ (cs : List ℕ). AllFit cs lists) c.deref-2.ensures.value c.in_default-first_over.ensures.fit in
+    let is = c.in-Ok-rows.ensures ∙ ap rows_of c.deref-3.ensures.value in
+    subst (λ (rows : List Posting). ArePostings lists body n (map (listed n) rows)) (sym is)
+    (are_postings lists body c.args.terms.now keys words c.in-Ok.ensures
+    (in_lists lists c.args.terms.now keys c.requires c.in-Ok.ensures) (few_tags lists keys counts counted fit) n)

@@ -1,0 +1,31 @@
+//! The tags of a body's words, each in its list: what an index keeps of a document.
+//!
+//! A **tag** is the first six bytes of the SHA-256 of a term; the number in the next four, modulo the number of lists, is
+//! its list. A document's distinct tags of one list, in rising byte order, have the ordinals 0, 1 and so on, at most
+//! 256 of them. Of 2 lists:
+//!
+//!     term     SHA-256 begins            tag             list
+//!     hello    2cf24dba5fb0 a30e26e8     2cf24dba5fb0    0
+//!     world    486ea46224d1 bb4fb680     486ea46224d1    0
+//!     foo      2c26b46b68ff c68ff99b     2c26b46b68ff    1
+//!
+//!     `hello world foo hello`            list 0, ordinal 0 of 0 to 1, tag 2cf24dba5fb0
+//!                                        list 0, ordinal 1 of 0 to 1, tag 486ea46224d1
+//!                                        list 1, ordinal 0 of 0 to 0, tag 2c26b46b68ff
+//!
+//! A list and a tag together are eight bytes, and so one number, its **key**, which rises by list and then by tag:
+//! 00002cf24dba5fb0, 0000486ea46224d1, 00012c26b46b68ff. `postings` sorts the keys, drops those that stand twice, counts
+//! those of each list, and gives each its ordinal.
+//!
+//! Stands on `word_reader` for terms, on `index_paths`, whose `specs/Postings.antt` says which postings a document has,
+//! and on `sha2`. Begin with `digests.rt`, then `rows.rt`; `specs/Listing.antt` says what an answer means.
+#![tactic(auto)]
+
+mod digests;
+mod keys;
+mod rows;
+#[cfg(test)]
+mod tests;
+
+pub use digests::{list_of, tag};
+pub use rows::{MAX_TAGS, Posting, postings};

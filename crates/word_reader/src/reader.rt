@@ -1,0 +1,78 @@
+//! The words of bytes.
+ghost use Rattle.std.specs.Prelude.{◌≡◌, IfOk};
+ghost use Rattle.stored_documents.specs.Words.{is_word_byte, lowered, AreWords, words_of};
+ghost use Rattle.word_reader.specs.Single.{SingleEnds};
+
+use crate::Term;
+use cell_types::NoMemory;
+use std::alloc::{AllocError, Global};
+
+/// The words of these bytes, in order and with repeats.
+pub fn words(alloc: Global, bytes: &[u8]) -> Result<Vec<Term>, NoMemory>
+    ensures { IfOk result (λ terms. AreWords bytes.now terms.items) }
+{
+    match read_words(alloc, bytes) {
+        Ok(terms) => Ok(terms),
+        Err(_) => Err(NoMemory),
+    }
+}
+
+/// Why there is no one term of a word.
+#[derive(Clone, Copy, Debug, PartialEq, Eq)]
+pub enum WordFault {
+    /// It does not hold exactly one term.
+    BadWord,
+    /// No memory was to be had.
+    NoMemory,
+}
+
+/// The one term that a word of a query holds.
+pub fn single_term(alloc: Global, word: &[u8]) -> Result<Term, WordFault>
+    ensures { SingleEnds word.now result }
+{
+    let Ok(mut terms) = read_words(alloc, word) else {
+        return Err(WordFault::NoMemory);
+    };
+    if terms.len() != 1 {
+        return Err(WordFault::BadWord);
+    }
+    Ok(terms.remove(0))
+}
+
+/// The words, read from the first byte on.
+#[tactic(auto, unfolding(stored_documents::specs::Words::words_of))]
+fn read_words(alloc: Global, bytes: &[u8]) -> Result<Vec<Term>, AllocError>
+    ensures { IfOk result (λ terms. terms.items ≡ words_of bytes.now) }
+{
+    let mut terms = Vec::new(alloc);
+    let mut run = Vec::new(alloc);
+    for byte in bytes {
+        if is_of_word(*byte) {
+            run.push(lower(*byte))?;
+        } else if !run.is_empty() {
+            terms.push(Term::new(run))?;
+            run = Vec::new(alloc);
+        }
+    }
+    if !run.is_empty() {
+        terms.push(Term::new(run))?;
+    }
+    Ok(terms)
+}
+
+/// The first byte past ASCII.
+const PAST_ASCII: u8 = 0x80;
+
+/// Whether the byte is one of a word.
+pub(crate) fn is_of_word(byte: u8) -> bool
+    ensures { result ≡ is_word_byte byte }
+{
+    byte.is_ascii_alphanumeric() || byte >= PAST_ASCII
+}
+
+/// A to Z as a to z, and each other byte as it is.
+pub(crate) fn lower(byte: u8) -> u8
+    ensures { result ≡ lowered byte }
+{
+    byte.to_ascii_lowercase()
+}
