@@ -157,8 +157,8 @@ module _ (term : List ℕ) (found on : Bool) (at : ℕ) (bytes : List ℕ) (s : 
     left_it = λ f rest e.
         let run = run_after [] bytes in
         let behind : run ++ (lowered b ∷ rest) ≡ term =
-            sym (append_assoc run (lowered b ∷ []) rest)
-            ∙ ap (λ (l : List ℕ). l ++ rest) (sym (run_last b is_term bytes [])) ∙ e in
+        sym (append_assoc run (lowered b ∷ []) rest)
+        ∙ ap (λ (l : List ℕ). l ++ rest) (sym (run_last b is_term bytes [])) ∙ e in
         elim (bool_cases on) [
           | inl g ↦
               let count : length run ≡ at = ap length (s.front_is g) ∙ length-take-le at term s.most in
@@ -182,9 +182,9 @@ seeks_more t b x bytes same s =
     let gap : Sought = record { bytes = x.bytes; found = is_found x; agrees = true; front = 0 } in
     let After = λ (y : Sought). Seeks t y.found y.agrees y.front (bytes ++ b ∷ []) in
     let ours : Seeks term x.found x.agrees x.front bytes =
-        subst (λ (l : List ℕ). Seeks l x.found x.agrees x.front bytes) (sym same) s in
+    subst (λ (l : List ℕ). Seeks l x.found x.agrees x.front bytes) (sym same) s in
     let back : (y : Sought) → Seeks term y.found y.agrees y.front (bytes ++ b ∷ []) → After y =
-        λ y h. subst (λ (l : List ℕ). Seeks l y.found y.agrees y.front (bytes ++ b ∷ [])) same h in
+    λ y h. subst (λ (l : List ℕ). Seeks l y.found y.agrees y.front (bytes ++ b ∷ [])) same h in
     elim (bool_cases (is_word_byte b)) [
       | inr off ↦
           subst After (sym (passed (is_word_byte b) (if goes_on b x then front else left) gap off))
@@ -200,8 +200,8 @@ seeks_more t b x bytes same s =
             | inr stops ↦
                 subst After (sym (passed (goes_on b x) front left stops))
                 (back left (seeks_off term x.found x.agrees x.front bytes ours b is_term (λ on less is.
-                    true_false (sym (and_of x.agrees _ on
-                    (and_of (nat_lt x.front (length term)) _ (is_nat_lt _ _ less) (is_nat_eq _ _ is))) ∙ stops))))
+                true_false (sym (and_of x.agrees _ on
+                (and_of (nat_lt x.front (length term)) _ (is_nat_lt _ _ less) (is_nat_eq _ _ is))) ∙ stops))))
           ])
     ]
 
@@ -210,11 +210,11 @@ bytes_stay : (b : ℕ) (s y : Sought) → y ≡ pushed b s → y.bytes.items ≡
 bytes_stay b s y e = elim (bool_cases (is_word_byte b)) [
   | inr off ↦ ap (λ (z : Sought). z.bytes.items) (e ∙ passed (is_word_byte b) _ _ off)
   | inl on ↦ elim (bool_cases (goes_on b s)) [
-      | inl goes ↦
-          ap (λ (z : Sought). z.bytes.items) (e ∙ chosen (is_word_byte b) _ _ on ∙ chosen (goes_on b s) _ _ goes)
-      | inr stops ↦
-          ap (λ (z : Sought). z.bytes.items) (e ∙ chosen (is_word_byte b) _ _ on ∙ passed (goes_on b s) _ _ stops)
-    ]
+    | inl goes ↦
+        ap (λ (z : Sought). z.bytes.items) (e ∙ chosen (is_word_byte b) _ _ on ∙ chosen (goes_on b s) _ _ goes)
+    | inr stops ↦
+        ap (λ (z : Sought). z.bytes.items) (e ∙ chosen (is_word_byte b) _ _ on ∙ passed (goes_on b s) _ _ stops)
+  ]
 ]
 
 -- each of the terms, after one more byte
@@ -242,7 +242,7 @@ all_found bytes [] (t ∷ ts) all = absurd all
 all_found bytes (s ∷ ss) [] all = absurd all
 all_found bytes (s ∷ ss) (t ∷ ts) all =
     let same : (is_found s ≡ true) ↔ Contains (words_of bytes) t =
-    subst (λ (l : List ℕ). ((s.found || (s.agrees && (nat_lt 0 s.front && nat_eq s.front (length l)))) ≡ true) ↔ Contains (words_of bytes) t)
+    subst (λ (l : List ℕ). ((s.found || is_all l s.agrees s.front) ≡ true) ↔ Contains (words_of bytes) t)
     (sym all.0) (found_now t s.found s.agrees s.front bytes all.1) in
     let rest = all_found bytes ss ts all.2 in (
       λ e.
