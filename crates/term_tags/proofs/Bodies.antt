@@ -13,7 +13,8 @@ use Rattle.term_tags.proofs.KeyLaws.{list_back, tag_back}
 use Rattle.term_tags.proofs.TagsAt.{at_place, key_at, member, tag_at, tags_rise}
 
 -- the key of a term is among the keys
-keyed : (lists : ℕ) (terms : List (List ℕ)) (term : List ℕ) → Contains terms term → Contains (keys_of lists terms) (key_of lists term)
+keyed : (lists : ℕ) (terms : List (List ℕ)) (term : List ℕ) → Contains terms term
+    → Contains (keys_of lists terms) (key_of lists term)
 keyed lists [] term (k, low, is) = absurd (omega (arith, low))
 keyed lists (t ∷ terms) term (zero, low, is) = (zero, omega arith, ap (key_of lists) is)
 keyed lists (t ∷ terms) term (suc k, low, is) =
@@ -29,7 +30,8 @@ term_of lists (t ∷ terms) key (suc k, low, is) =
     let rest = term_of lists terms key (k, omega (arith, low), is) in
     (rest.0, (suc rest.1.0, omega (arith, rest.1.1), rest.1.2), rest.2)
 
-module _ (lists : ℕ) (body : List ℕ) (terms : List (List ℕ)) (keys : List ℕ) (words : AreWords body terms) (are : AreKeys lists terms keys) where
+module _ (lists : ℕ) (body : List ℕ) (terms : List (List ℕ)) (keys : List ℕ) (words : AreWords body terms)
+    (are : AreKeys lists terms keys) where
   -- a tag among the keys is one of the body
   from_key : (l : ℕ) (tag : List ℕ) → Contains (tags_at l keys) tag → HasTag lists body l tag
   from_key l tag has =
@@ -46,7 +48,8 @@ module _ (lists : ℕ) (body : List ℕ) (terms : List (List ℕ)) (keys : List 
   -- and each tag of the body is among the keys
   to_key : (l : ℕ) (tag : List ℕ) → HasTag lists body l tag → Contains (tags_at l keys) tag
   to_key l tag h =
-      let all : h.among.words ≡ terms = words_are_one.one body h.among.words h.among.are ∙ sym (words_are_one.one body terms words) in
+      let all : h.among.words ≡ terms =
+          words_are_one.one body h.among.words h.among.are ∙ sym (words_are_one.one body terms words) in
       let in_terms : Contains terms h.word = subst (λ (ws : List (List ℕ)). Contains ws h.word) all h.among.among in
       let place = at_place keys (key_of lists h.word) (are.all (key_of lists h.word) (keyed lists terms h.word in_terms)) in
       subst (Contains (tags_at l keys)) (tag_back lists h.word ∙ h.same)
@@ -62,7 +65,8 @@ module _ (lists : ℕ) (body : List ℕ) (terms : List (List ℕ)) (keys : List 
   }
 
   -- a list with too many of the keys gets too many tags
-  pub too_many : (counts : List ℕ) (l count : ℕ) → AreCounts lists keys counts → IsFirstOver counts l count → GetsTooMany lists body l count
+  pub too_many : (counts : List ℕ) (l count : ℕ) → AreCounts lists keys counts → IsFirstOver counts l count
+      → GetsTooMany lists body l count
   too_many counts l count counted over =
       let below : l < lists = omega (arith, over.below, counted.long) in
       record {
@@ -71,11 +75,13 @@ module _ (lists : ℕ) (body : List ℕ) (terms : List (List ℕ)) (keys : List 
         are = are_tags l;
         number = sym (counted.each l below) ∙ over.number;
         many = over.many;
-        lowest = λ m less. (tags_at m keys, are_tags m, omega (arith, over.lowest m less, counted.each m (omega (arith, less, below))));
+        lowest = λ m less.
+            (tags_at m keys, are_tags m, omega (arith, over.lowest m less, counted.each m (omega (arith, less, below))));
       }
 
 -- each key's list is one of so many
-pub in_lists : (lists : ℕ) (terms : List (List ℕ)) (keys : List ℕ) → 1 ≤ lists → AreKeys lists terms keys → AreInLists lists keys
+pub in_lists : (lists : ℕ) (terms : List (List ℕ)) (keys : List ℕ) → 1 ≤ lists → AreKeys lists terms keys
+    → AreInLists lists keys
 in_lists lists terms keys some are = record {
   each = λ key has.
       let from = term_of lists terms key (are.each key has) in

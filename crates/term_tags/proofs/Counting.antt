@@ -17,15 +17,18 @@ none_counted lists = record {
 }
 
 -- one key more of a list
-counted : (l : ℕ) (keys : List ℕ) (key : ℕ) → list_in key ≡ l → length (tags_at l (keys ++ key ∷ [])) ≡ length (tags_at l keys) + 1
+counted : (l : ℕ) (keys : List ℕ) (key : ℕ) → list_in key ≡ l
+    → length (tags_at l (keys ++ key ∷ [])) ≡ length (tags_at l keys) + 1
 counted l keys key e =
     ap length (both l keys (key ∷ [])) ∙ length-append (tags_at l keys) (tags_at l (key ∷ []))
     ∙ ap (λ (ts : List (List ℕ)). length (tags_at l keys) + length ts) (here l key [] e)
 
 -- and of another
-passed : (l : ℕ) (keys : List ℕ) (key : ℕ) → nat_eq (list_in key) l ≡ false → length (tags_at l (keys ++ key ∷ [])) ≡ length (tags_at l keys)
+passed : (l : ℕ) (keys : List ℕ) (key : ℕ) → nat_eq (list_in key) l ≡ false
+    → length (tags_at l (keys ++ key ∷ [])) ≡ length (tags_at l keys)
 passed l keys key e =
-    ap length (both l keys (key ∷ []) ∙ ap (λ (ts : List (List ℕ)). tags_at l keys ++ ts) (there l key [] e) ∙ append-nil (tags_at l keys))
+    ap length (both l keys (key ∷ []) ∙ ap (λ (ts : List (List ℕ)). tags_at l keys ++ ts) (there l key [] e)
+    ∙ append-nil (tags_at l keys))
 
 -- the counts with one key more
 pub more_counted : (lists : ℕ) (keys counts : List ℕ) (key count : ℕ) → AreCounts lists keys counts → list_in key < lists
@@ -79,7 +82,8 @@ module _ {lists : ℕ} {keys counts : List ℕ} {at value : ℕ} (i : ℕ) (are 
       )
 
   -- and where the list's count of all keys fits, fewer than that
-  pub room : (all : List ℕ) → AreCounts lists keys all → AllFit all lists → (value + 1 ≤ slice_index all at) × (slice_index all at ≤ 256)
+  pub room : (all : List ℕ) → AreCounts lists keys all → AllFit all lists
+      → (value + 1 ≤ slice_index all at) × (slice_index all at ≤ 256)
   room all counted fit =
       let same : slice_index all at ≡ slice_index all (list_in (slice_index keys i)) = ap (λ (n : ℕ). slice_index all n) is in (
         omega (

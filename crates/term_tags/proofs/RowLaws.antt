@@ -29,7 +29,8 @@ to_row n all before (x ∷ keys) (suc i) key p =
     ∙ ap (λ (ks : List ℕ). Some (entry n all ks key)) (append_assoc before (x ∷ []) (take i keys))
 
 -- and each row is a key's
-from_row : (n : ℕ) (all before keys : List ℕ) (i : ℕ) (a : ListedPosting) → slice_get (map (listed n) (rows_behind all before keys)) i ≡ Some a
+from_row : (n : ℕ) (all before keys : List ℕ) (i : ℕ) (a : ListedPosting)
+    → slice_get (map (listed n) (rows_behind all before keys)) i ≡ Some a
     → (key : ℕ) × (slice_get keys i ≡ Some key)
 from_row n all before [] i a p = absurd (none-some a p)
 from_row n all before (x ∷ keys) zero a p = (x, refl)
@@ -41,7 +42,8 @@ record RowAt (n : ℕ) (keys : List ℕ) (i : ℕ) (a : ListedPosting) : Type 0 
   stands : slice_get keys i ≡ Some key
   is : entry n keys (take i keys) key ≡ a
 
-row_at : (n : ℕ) (keys : List ℕ) (i : ℕ) (a : ListedPosting) → slice_get (map (listed n) (rows_of keys)) i ≡ Some a → RowAt n keys i a
+row_at : (n : ℕ) (keys : List ℕ) (i : ℕ) (a : ListedPosting) → slice_get (map (listed n) (rows_of keys)) i ≡ Some a
+    → RowAt n keys i a
 row_at n keys i a p =
     let k = from_row n keys [] keys i a p in
     record {
@@ -71,10 +73,12 @@ comes n keys i j a b less rise p q = elim (cases_lt (list_in a) (list_in b)) [
       inr (same, omega (arith, more, counts))
 ]
 
-module _ (lists : ℕ) (body : List ℕ) (terms : List (List ℕ)) (keys : List ℕ) (words : AreWords body terms) (are : AreKeys lists terms keys)
+module _ (lists : ℕ) (body : List ℕ) (terms : List (List ℕ)) (keys : List ℕ) (words : AreWords body terms)
+    (are : AreKeys lists terms keys)
     (below : AreInLists lists keys) (fit : (l : ℕ) → l < lists → length (tags_at l keys) ≤ 256) (n : ℕ) where
   -- the row of a key is a posting of the document
-  is_posting : (i key : ℕ) → slice_get keys i ≡ Some key → IsPostingOf lists body n (list_in key) (entry n keys (take i keys) key).posting
+  is_posting : (i key : ℕ) → slice_get keys i ≡ Some key
+      → IsPostingOf lists body n (list_in key) (entry n keys (take i keys) key).posting
   is_posting i key p = record {
     tags = tags_at (list_in key) keys;
     are = are_tags lists body terms keys words are (list_in key);
@@ -88,8 +92,10 @@ module _ (lists : ℕ) (body : List ℕ) (terms : List (List ℕ)) (keys : List 
   has_row : (l : ℕ) (p : PostingFields) → l < lists → IsPostingOf lists body n l p
       → (i : ℕ) × (slice_get (map (listed n) (rows_of keys)) i ≡ Some (record { list = l; posting = p }))
   has_row l p less h =
-      let all : h.tags ≡ tags_at l keys = tags_one lists body l h.tags (tags_at l keys) h.are (are_tags lists body terms keys words are l) in
-      let found = key_at l keys h.ordinal p.tag (subst (λ (ts : List (List ℕ)). slice_get ts h.ordinal ≡ Some p.tag) all h.here) in
+      let all : h.tags ≡ tags_at l keys =
+          tags_one lists body l h.tags (tags_at l keys) h.are (are_tags lists body terms keys words are l) in
+      let found = key_at l keys h.ordinal p.tag
+          (subst (λ (ts : List (List ℕ)). slice_get ts h.ordinal ≡ Some p.tag) all h.here) in
       let ordinal : length (tags_at (list_in found.key) (take found.place keys)) ≡ h.ordinal =
       ap (λ (m : ℕ). length (tags_at m (take found.place keys))) found.of_list ∙ found.count in
       let count : length (tags_at (list_in found.key) keys) ≡ p.last + 1 =

@@ -73,7 +73,8 @@ pub record KeyAt (l : ℕ) (keys : List ℕ) (before : ℕ) (tag : List ℕ) : T
   pub count : length (tags_at l (take place keys)) ≡ before
 
 -- one key more in front, of the list
-more_here : (l x : ℕ) (keys : List ℕ) (o : ℕ) (tag : List ℕ) → list_in x ≡ l → KeyAt l keys o tag → KeyAt l (x ∷ keys) (suc o) tag
+more_here : (l x : ℕ) (keys : List ℕ) (o : ℕ) (tag : List ℕ) → list_in x ≡ l → KeyAt l keys o tag
+    → KeyAt l (x ∷ keys) (suc o) tag
 more_here l x keys o tag y r = record {
   place = suc r.place;
   key = r.key;
@@ -84,7 +85,8 @@ more_here l x keys o tag y r = record {
 }
 
 -- and one that is not of it
-more_there : (l x : ℕ) (keys : List ℕ) (o : ℕ) (tag : List ℕ) → nat_eq (list_in x) l ≡ false → KeyAt l keys o tag → KeyAt l (x ∷ keys) o tag
+more_there : (l x : ℕ) (keys : List ℕ) (o : ℕ) (tag : List ℕ) → nat_eq (list_in x) l ≡ false → KeyAt l keys o tag
+    → KeyAt l (x ∷ keys) o tag
 more_there l x keys o tag n r = record {
   place = suc r.place;
   key = r.key;
@@ -95,7 +97,8 @@ more_there l x keys o tag n r = record {
 }
 
 -- each tag of the list is that of a key
-pub key_at : (l : ℕ) (keys : List ℕ) (o : ℕ) (tag : List ℕ) → slice_get (tags_at l keys) o ≡ Some tag → KeyAt l keys o tag
+pub key_at : (l : ℕ) (keys : List ℕ) (o : ℕ) (tag : List ℕ) → slice_get (tags_at l keys) o ≡ Some tag
+    → KeyAt l keys o tag
 key_at l [] o tag p = absurd (none-some tag p)
 key_at l (x ∷ keys) zero tag p = elim (in_list l x) [
   | inl y ↦ record {
@@ -106,11 +109,14 @@ key_at l (x ∷ keys) zero tag p = elim (in_list l x) [
     tag_is = same_Some (tag_in x) tag (subst (λ (ts : List (List ℕ)). slice_get ts zero ≡ Some tag) (here l x keys y) p);
     count = refl;
   }
-  | inr n ↦ more_there l x keys zero tag n (key_at l keys zero tag (subst (λ (ts : List (List ℕ)). slice_get ts zero ≡ Some tag) (there l x keys n) p))
+  | inr n ↦ more_there l x keys zero tag n
+      (key_at l keys zero tag (subst (λ (ts : List (List ℕ)). slice_get ts zero ≡ Some tag) (there l x keys n) p))
 ]
 key_at l (x ∷ keys) (suc o) tag p = elim (in_list l x) [
-  | inl y ↦ more_here l x keys o tag y (key_at l keys o tag (subst (λ (ts : List (List ℕ)). slice_get ts (suc o) ≡ Some tag) (here l x keys y) p))
-  | inr n ↦ more_there l x keys (suc o) tag n (key_at l keys (suc o) tag (subst (λ (ts : List (List ℕ)). slice_get ts (suc o) ≡ Some tag) (there l x keys n) p))
+  | inl y ↦ more_here l x keys o tag y
+      (key_at l keys o tag (subst (λ (ts : List (List ℕ)). slice_get ts (suc o) ≡ Some tag) (here l x keys y) p))
+  | inr n ↦ more_there l x keys (suc o) tag n
+      (key_at l keys (suc o) tag (subst (λ (ts : List (List ℕ)). slice_get ts (suc o) ≡ Some tag) (there l x keys n) p))
 ]
 
 -- a key's tag stands behind those of its list before it
@@ -162,7 +168,8 @@ keys_rise keys rise i j a b less p q =
     omega (arith, far, get_or_from_slice_get keys i a a p, get_or_from_slice_get keys j b a q)
 
 -- where the tag stands earlier, its key does
-earlier : (l : ℕ) (keys : List ℕ) (i j : ℕ) (a b : List ℕ) (p : KeyAt l keys i a) (q : KeyAt l keys j b) → i < j → p.place < q.place
+earlier : (l : ℕ) (keys : List ℕ) (i j : ℕ) (a b : List ℕ) (p : KeyAt l keys i a) (q : KeyAt l keys j b) → i < j
+    → p.place < q.place
 earlier l keys i j a b p q less = elim (cases_lt p.place q.place) [
   | inl h ↦ h
   | inr back ↦ elim (cases_lt q.place p.place) [

@@ -41,15 +41,18 @@ module _ (b : ℕ) (e : is_word_byte b ≡ true) where
   pub run_last : (bytes run : List ℕ) → run_after run (bytes ++ b ∷ []) ≡ run_after run bytes ++ lowered b ∷ []
   run_last [] run = run_on run [] b e
   run_last (a ∷ bytes) run = elim (bool_cases (is_word_byte a)) [
-    | inl on ↦ run_on run (bytes ++ b ∷ []) a on ∙ run_last bytes (run ++ lowered a ∷ []) ∙ ap (λ (l : List ℕ). l ++ lowered b ∷ []) (sym (run_on run bytes a on))
-    | inr off ↦ run_end run (bytes ++ b ∷ []) a off ∙ run_last bytes [] ∙ ap (λ (l : List ℕ). l ++ lowered b ∷ []) (sym (run_end run bytes a off))
+    | inl on ↦ run_on run (bytes ++ b ∷ []) a on ∙ run_last bytes (run ++ lowered a ∷ [])
+        ∙ ap (λ (l : List ℕ). l ++ lowered b ∷ []) (sym (run_on run bytes a on))
+    | inr off ↦ run_end run (bytes ++ b ∷ []) a off ∙ run_last bytes []
+        ∙ ap (λ (l : List ℕ). l ++ lowered b ∷ []) (sym (run_end run bytes a off))
   ]
 
   pub ended_last : (bytes run : List ℕ) → ended_after run (bytes ++ b ∷ []) ≡ ended_after run bytes
   ended_last [] run = ended_on run [] b e
   ended_last (a ∷ bytes) run = elim (bool_cases (is_word_byte a)) [
     | inl on ↦ ended_on run (bytes ++ b ∷ []) a on ∙ ended_last bytes (run ++ lowered a ∷ []) ∙ sym (ended_on run bytes a on)
-    | inr off ↦ ended_end run (bytes ++ b ∷ []) a off ∙ ap (λ (l : List (List ℕ)). ended run ++ l) (ended_last bytes []) ∙ sym (ended_end run bytes a off)
+    | inr off ↦ ended_end run (bytes ++ b ∷ []) a off
+        ∙ ap (λ (l : List (List ℕ)). ended run ++ l) (ended_last bytes []) ∙ sym (ended_end run bytes a off)
   ]
 
 -- one byte more that is none

@@ -13,25 +13,31 @@ use Rattle.word_reader.specs.Matching.{run_after, ended_after, Seeks, SeekAll, i
 use Rattle.word_reader.specs.declared.matcher.Sought.{Sought}
 use Rattle.word_reader.proofs.Reading.{bool_cases, chosen, passed, run_last, ended_last, run_gone, ended_more, split, has_word}
 
+-- a test answers one thing
 true_false : true ≡ false → ⊥
 true_false e = cc
 
+-- what passes one test or the other
 or_parts : (a b : Bool) → (a || b) ≡ true → (a ≡ true) ⊎ (b ≡ true)
 or_parts true b e = inl refl
 or_parts false b e = inr e
 
+-- the first test suffices
 or_left : (a b : Bool) → a ≡ true → (a || b) ≡ true
 or_left true b e = refl
 or_left false b e = absurd (true_false (sym e))
 
+-- and so does the second
 or_right : (a b : Bool) → b ≡ true → (a || b) ≡ true
 or_right true b e = refl
 or_right false b e = e
 
+-- what passes both tests
 and_of : (a b : Bool) → a ≡ true → b ≡ true → (a && b) ≡ true
 and_of true b e f = f
 and_of false b e f = absurd (true_false (sym e))
 
+-- the tests of numbers mean what they say
 nat_lt_is : (m n : ℕ) → nat_lt m n ≡ true → m < n
 nat_lt_is m n e = grind (arith, nat_tests)
 
@@ -44,24 +50,37 @@ nat_eq_is m n e = grind (arith, nat_tests)
 is_nat_eq : (m n : ℕ) → m ≡ n → nat_eq m n ≡ true
 is_nat_eq m n e = grind (arith, nat_tests)
 
+-- a front with one byte more
 take_more_of : (xs : List ℕ) (i : ℕ) → i < length xs → take (i + 1) xs ≡ take i xs ++ slice_index xs i ∷ []
 take_more_of xs i less = take_more xs i 0 less
 
--- Contains in a list of one
+-- a list of one has one member
 only_one : (x t : List ℕ) → Contains (x ∷ []) t → x ≡ t
-only_one x t (k, below, is) = let first : k ≡ 0 = omega (arith, below) in subst (λ (i : ℕ). ◌≡◌ {A = List ℕ} (get_or (x ∷ []) i t) t) first is
+only_one x t (zero, below, is) = is
+only_one x t (suc k, below, is) = absurd (omega (arith, below))
 
+-- a run that ends is the term only where it has a byte
 ended_has : (run t : List ℕ) → Contains (ended run) t → (run ≡ t) × (1 ≤ length run)
 ended_has [] t (k, below, is) = absurd (omega (arith, below))
 ended_has (r ∷ run) t has = (only_one (r ∷ run) t has, omega arith)
 
+-- and there it is
 has_ended : (run t : List ℕ) → run ≡ t → 1 ≤ length run → Contains (ended run) t
 has_ended [] t is some = absurd (omega (arith, some))
 has_ended (r ∷ run) t is some = (0, omega arith, is)
 
--- the run is the term where the front is the whole of it
+-- the front is the whole term
+abbrev is_all : List ℕ → Bool → ℕ → Bool
+is_all term on at = on && (nat_lt 0 at && nat_eq at (length term))
+
+-- a member of a list is one of an equal list
+carried : {xs ys : List (List ℕ)} → (t : List ℕ) → xs ≡ ys → Contains xs t → Contains ys t
+carried t e has = subst (λ (l : List (List ℕ)). Contains l t) e has
+
+-- What one term is known of, after these bytes.
 module _ (term : List ℕ) (found on : Bool) (at : ℕ) (bytes : List ℕ) (s : Seeks term found on at bytes) where
-  whole : (on && (nat_lt 0 at && nat_eq at (length term))) ≡ true → Contains (ended (run_after [] bytes)) term
+  -- where the front is the whole term, the run is the term
+  whole : is_all term on at ≡ true → Contains (ended (run_after [] bytes)) term
   whole e =
       let a = and_parts on (nat_lt 0 at && nat_eq at (length term)) e in
       let b = and_parts (nat_lt 0 at) (nat_eq at (length term)) a.1 in
@@ -70,113 +89,145 @@ module _ (term : List ℕ) (found on : Bool) (at : ℕ) (bytes : List ℕ) (s : 
       let is : run_after [] bytes ≡ term = s.front_is a.0 ∙ take_all at term (omega (arith, all)) in
       has_ended (run_after [] bytes) term is (omega (arith, ap length is, some, all))
 
-  whole_back : Contains (ended (run_after [] bytes)) term → (on && (nat_lt 0 at && nat_eq at (length term))) ≡ true
+  -- and only there
+  whole_back : Contains (ended (run_after [] bytes)) term → is_all term on at ≡ true
   whole_back has =
       let is = ended_has (run_after [] bytes) term has in
       elim (bool_cases on) [
         | inl e ↦
             let count : at ≡ length term = omega (arith, ap length (s.front_is e), ap length is.0, length-take-le at term s.most) in
-            and_of on (nat_lt 0 at && nat_eq at (length term)) e (and_of (nat_lt 0 at) (nat_eq at (length term)) (is_nat_lt 0 at (omega (arith, is.1, ap length is.0, count))) (is_nat_eq at (length term) count))
+            let some : 0 < at = omega (arith, is.1, ap length is.0, count) in
+            and_of on (nat_lt 0 at && nat_eq at (length term)) e
+            (and_of (nat_lt 0 at) (nat_eq at (length term)) (is_nat_lt 0 at some) (is_nat_eq at (length term) count))
         | inr e ↦ absurd (s.left_it e [] (append-nil (run_after [] bytes) ∙ is.0))
       ]
 
   -- it is among the words
-  pub found_now : ((found || (on && (nat_lt 0 at && nat_eq at (length term)))) ≡ true) ↔ Contains (words_of bytes) term
+  pub found_now : ((found || is_all term on at) ≡ true) ↔ Contains (words_of bytes) term
   found_now = (
-    λ e. subst (λ (l : List (List ℕ)). Contains l term) (sym (split bytes)) (⊎_elim
+    λ e. carried term (sym (split bytes)) (⊎_elim
         (λ (f : found ≡ true). Contains-append_left (ended_after [] bytes) (ended (run_after [] bytes)) term (s.found_is.0 f))
         (λ w. Contains-append_right (ended_after [] bytes) (ended (run_after [] bytes)) term (whole w))
         (or_parts found _ e)),
     λ has. ⊎_elim
         (λ (c : Contains (ended_after [] bytes) term). or_left found _ (s.found_is.1 c))
         (λ (c : Contains (ended (run_after [] bytes)) term). or_right found _ (whole_back c))
-        (Contains-append_cases (ended_after [] bytes) (ended (run_after [] bytes)) term (subst (λ (l : List (List ℕ)). Contains l term) (split bytes) has)),
+        (Contains-append_cases (ended_after [] bytes) (ended (run_after [] bytes)) term
+        (carried term (split bytes) has)),
   )
 
   -- a byte between words
-  pub seeks_gap : (b : ℕ) → is_word_byte b ≡ false → Seeks term (found || (on && (nat_lt 0 at && nat_eq at (length term)))) true 0 (bytes ++ b ∷ [])
+  pub seeks_gap : (b : ℕ) → is_word_byte b ≡ false → Seeks term (found || is_all term on at) true 0 (bytes ++ b ∷ [])
   seeks_gap b off = record {
     most = omega arith;
     found_is = (
-      λ e. subst (λ (l : List (List ℕ)). Contains l term) (split bytes ∙ sym (ended_more b off bytes [])) (found_now.0 e),
-      λ has. found_now.1 (subst (λ (l : List (List ℕ)). Contains l term) (ended_more b off bytes [] ∙ sym (split bytes)) has),
+      λ e. carried term (split bytes ∙ sym (ended_more b off bytes [])) (found_now.0 e),
+      λ has. found_now.1 (carried term (ended_more b off bytes [] ∙ sym (split bytes)) has),
     );
     front_is = λ e. run_gone b off bytes [];
     left_it = λ e. absurd (true_false e);
   }
 
   -- the next byte of the term
-  pub seeks_on : (b : ℕ) → is_word_byte b ≡ true → on ≡ true → at < length term → slice_index term at ≡ lowered b → Seeks term found on (at + 1) (bytes ++ b ∷ [])
+  pub seeks_on : (b : ℕ) → is_word_byte b ≡ true → on ≡ true → at < length term → slice_index term at ≡ lowered b
+      → Seeks term found on (at + 1) (bytes ++ b ∷ [])
   seeks_on b is_term e less same = record {
     most = omega (arith, less);
     found_is = (
-      λ f. subst (λ (l : List (List ℕ)). Contains l term) (sym (ended_last b is_term bytes [])) (s.found_is.0 f),
-      λ has. s.found_is.1 (subst (λ (l : List (List ℕ)). Contains l term) (ended_last b is_term bytes []) has),
+      λ f. carried term (sym (ended_last b is_term bytes [])) (s.found_is.0 f),
+      λ has. s.found_is.1 (carried term (ended_last b is_term bytes []) has),
     );
-    front_is = λ f. run_last b is_term bytes [] ∙ ap (λ (l : List ℕ). l ++ lowered b ∷ []) (s.front_is e) ∙ ap (λ (x : ℕ). take at term ++ x ∷ []) (sym same) ∙ sym (take_more_of term at less);
+    front_is = λ f.
+        run_last b is_term bytes [] ∙ ap (λ (l : List ℕ). l ++ lowered b ∷ []) (s.front_is e)
+        ∙ ap (λ (x : ℕ). take at term ++ x ∷ []) (sym same) ∙ sym (take_more_of term at less);
     left_it = λ f. absurd (true_false (sym e ∙ f));
   }
 
   -- another byte
-  pub seeks_off : (b : ℕ) → is_word_byte b ≡ true → (on ≡ true → at < length term → slice_index term at ≡ lowered b → ⊥) → Seeks term found false at (bytes ++ b ∷ [])
+  pub seeks_off : (b : ℕ) → is_word_byte b ≡ true
+      → (on ≡ true → at < length term → slice_index term at ≡ lowered b → ⊥)
+      → Seeks term found false at (bytes ++ b ∷ [])
   seeks_off b is_term differs = record {
     most = s.most;
     found_is = (
-      λ f. subst (λ (l : List (List ℕ)). Contains l term) (sym (ended_last b is_term bytes [])) (s.found_is.0 f),
-      λ has. s.found_is.1 (subst (λ (l : List (List ℕ)). Contains l term) (ended_last b is_term bytes []) has),
+      λ f. carried term (sym (ended_last b is_term bytes [])) (s.found_is.0 f),
+      λ has. s.found_is.1 (carried term (ended_last b is_term bytes []) has),
     );
     front_is = λ f. absurd (true_false (sym f));
     left_it = λ f rest e.
         let run = run_after [] bytes in
-        let behind : run ++ (lowered b ∷ rest) ≡ term = sym (append_assoc run (lowered b ∷ []) rest) ∙ ap (λ (l : List ℕ). l ++ rest) (sym (run_last b is_term bytes [])) ∙ e in
+        let behind : run ++ (lowered b ∷ rest) ≡ term =
+        sym (append_assoc run (lowered b ∷ []) rest)
+        ∙ ap (λ (l : List ℕ). l ++ rest) (sym (run_last b is_term bytes [])) ∙ e in
         elim (bool_cases on) [
           | inl g ↦
               let count : length run ≡ at = ap length (s.front_is g) ∙ length-take-le at term s.most in
               differs g
               (omega (arith, count, ap length behind, length-append run (lowered b ∷ rest)))
-              (ap (λ (l : List ℕ). slice_index l at) (sym behind) ∙ ap (λ (n : ℕ). get_or (run ++ (lowered b ∷ rest)) n 0) (sym count) ∙ get_or-append_seam run (lowered b) rest 0)
+              (ap (λ (l : List ℕ). slice_index l at) (sym behind)
+              ∙ ap (λ (n : ℕ). get_or (run ++ (lowered b ∷ rest)) n 0) (sym count)
+              ∙ get_or-append_seam run (lowered b) rest 0)
           | inr g ↦ s.left_it g (lowered b ∷ rest) behind
         ];
   }
 
--- each of the terms, after one more byte
-seeks_more : (t : List ℕ) (b : ℕ) (x : Sought) (bytes : List ℕ) → x.bytes.items ≡ t → Seeks t x.found x.agrees x.front bytes → Seeks t (pushed b x).found (pushed b x).agrees (pushed b x).front (bytes ++ b ∷ [])
+-- one of the terms, after one more byte
+seeks_more : (t : List ℕ) (b : ℕ) (x : Sought) (bytes : List ℕ) → x.bytes.items ≡ t
+    → Seeks t x.found x.agrees x.front bytes
+    → Seeks t (pushed b x).found (pushed b x).agrees (pushed b x).front (bytes ++ b ∷ [])
 seeks_more t b x bytes same s =
-    let ours : Seeks x.bytes.items x.found x.agrees x.front bytes = subst (λ (l : List ℕ). Seeks l x.found x.agrees x.front bytes) (sym same) s in
-    let After = λ (y : Sought). Seeks t y.found y.agrees y.front (bytes ++ b ∷ []) in
-    let back : (found on : Bool) (at : ℕ) → Seeks x.bytes.items found on at (bytes ++ b ∷ []) → Seeks t found on at (bytes ++ b ∷ []) = λ found on at h. subst (λ (l : List ℕ). Seeks l found on at (bytes ++ b ∷ [])) same h in
+    let term = x.bytes.items in
     let front : Sought = record { bytes = x.bytes; found = x.found; agrees = x.agrees; front = x.front + 1 } in
-    let other : Sought = record { bytes = x.bytes; found = x.found; agrees = false; front = x.front } in
+    let left : Sought = record { bytes = x.bytes; found = x.found; agrees = false; front = x.front } in
     let gap : Sought = record { bytes = x.bytes; found = is_found x; agrees = true; front = 0 } in
+    let After = λ (y : Sought). Seeks t y.found y.agrees y.front (bytes ++ b ∷ []) in
+    let ours : Seeks term x.found x.agrees x.front bytes =
+    subst (λ (l : List ℕ). Seeks l x.found x.agrees x.front bytes) (sym same) s in
+    let back : (y : Sought) → Seeks term y.found y.agrees y.front (bytes ++ b ∷ []) → After y =
+    λ y h. subst (λ (l : List ℕ). Seeks l y.found y.agrees y.front (bytes ++ b ∷ [])) same h in
     elim (bool_cases (is_word_byte b)) [
-      | inr off ↦ subst After (sym (passed (is_word_byte b) (if goes_on b x then front else other) gap off)) (back (is_found x) true 0 (seeks_gap x.bytes.items x.found x.agrees x.front bytes ours b off))
-      | inl is_term ↦ subst After (sym (chosen (is_word_byte b) (if goes_on b x then front else other) gap is_term)) (elim (bool_cases (goes_on b x)) [
-        | inl goes ↦
-            let p = and_parts x.agrees (nat_lt x.front (length x.bytes.items) && nat_eq (slice_index x.bytes.items x.front) (lowered b)) goes in
-            let q = and_parts (nat_lt x.front (length x.bytes.items)) (nat_eq (slice_index x.bytes.items x.front) (lowered b)) p.1 in
-            subst After (sym (chosen (goes_on b x) front other goes)) (back x.found x.agrees (x.front + 1) (seeks_on x.bytes.items x.found x.agrees x.front bytes ours b is_term p.0 (nat_lt_is _ _ q.0) (nat_eq_is _ _ q.1)))
-        | inr stops ↦
-            subst After (sym (passed (goes_on b x) front other stops)) (back x.found false x.front (seeks_off x.bytes.items x.found x.agrees x.front bytes ours b is_term (λ on less is.
-            true_false (sym (and_of x.agrees _ on (and_of (nat_lt x.front (length x.bytes.items)) _ (is_nat_lt _ _ less) (is_nat_eq _ _ is))) ∙ stops))))
-      ])
+      | inr off ↦
+          subst After (sym (passed (is_word_byte b) (if goes_on b x then front else left) gap off))
+          (back gap (seeks_gap term x.found x.agrees x.front bytes ours b off))
+      | inl is_term ↦
+          subst After (sym (chosen (is_word_byte b) (if goes_on b x then front else left) gap is_term))
+          (elim (bool_cases (goes_on b x)) [
+            | inl goes ↦
+                let p = and_parts x.agrees (nat_lt x.front (length term) && nat_eq (slice_index term x.front) (lowered b)) goes in
+                let q = and_parts (nat_lt x.front (length term)) (nat_eq (slice_index term x.front) (lowered b)) p.1 in
+                subst After (sym (chosen (goes_on b x) front left goes))
+                (back front (seeks_on term x.found x.agrees x.front bytes ours b is_term p.0 (nat_lt_is _ _ q.0) (nat_eq_is _ _ q.1)))
+            | inr stops ↦
+                subst After (sym (passed (goes_on b x) front left stops))
+                (back left (seeks_off term x.found x.agrees x.front bytes ours b is_term (λ on less is.
+                true_false (sym (and_of x.agrees _ on
+                (and_of (nat_lt x.front (length term)) _ (is_nat_lt _ _ less) (is_nat_eq _ _ is))) ∙ stops))))
+          ])
     ]
 
-pub all_more : (b : ℕ) (bytes : List ℕ) (ss : List Sought) (ts : List (List ℕ)) → SeekAll ss ts bytes → SeekAll (map (pushed b) ss) ts (bytes ++ b ∷ [])
+-- a byte leaves the term that is sought
+bytes_stay : (b : ℕ) (s y : Sought) → y ≡ pushed b s → y.bytes.items ≡ s.bytes.items
+bytes_stay b s y e = elim (bool_cases (is_word_byte b)) [
+  | inr off ↦ ap (λ (z : Sought). z.bytes.items) (e ∙ passed (is_word_byte b) _ _ off)
+  | inl on ↦ elim (bool_cases (goes_on b s)) [
+    | inl goes ↦
+        ap (λ (z : Sought). z.bytes.items) (e ∙ chosen (is_word_byte b) _ _ on ∙ chosen (goes_on b s) _ _ goes)
+    | inr stops ↦
+        ap (λ (z : Sought). z.bytes.items) (e ∙ chosen (is_word_byte b) _ _ on ∙ passed (goes_on b s) _ _ stops)
+  ]
+]
+
+-- each of the terms, after one more byte
+pub all_more : (b : ℕ) (bytes : List ℕ) (ss : List Sought) (ts : List (List ℕ)) → SeekAll ss ts bytes
+    → SeekAll (map (pushed b) ss) ts (bytes ++ b ∷ [])
 all_more b bytes [] [] all = tt
 all_more b bytes [] (t ∷ ts) all = all
 all_more b bytes (s ∷ ss) [] all = all
-all_more b bytes (s ∷ ss) (t ∷ ts) all = (same_bytes, seeks_more t b s bytes all.0 all.1, all_more b bytes ss ts all.2) where
-  bytes_stay : (y : Sought) → y ≡ pushed b s → y.bytes.items ≡ s.bytes.items
-  bytes_stay y e = elim (bool_cases (is_word_byte b)) [
-    | inr off ↦ ap (λ (z : Sought). z.bytes.items) (e ∙ passed (is_word_byte b) _ _ off)
-    | inl on ↦ elim (bool_cases (goes_on b s)) [
-      | inl goes ↦ ap (λ (z : Sought). z.bytes.items) (e ∙ chosen (is_word_byte b) _ _ on ∙ chosen (goes_on b s) _ _ goes)
-      | inr stops ↦ ap (λ (z : Sought). z.bytes.items) (e ∙ chosen (is_word_byte b) _ _ on ∙ passed (goes_on b s) _ _ stops)
-    ]
-  ]
-
-  same_bytes : (pushed b s).bytes.items ≡ t
-  same_bytes = bytes_stay (pushed b s) refl ∙ all.0
+all_more b bytes (s ∷ ss) (t ∷ ts) all = (
+  bytes_stay b s (pushed b s) refl ∙ all.0,
+  seeks_more t b s bytes all.0 all.1,
+  all_more b bytes ss ts all.2,
+)
 
 -- the body matches one term more where it has that one too
 matches_more : (bytes t : List ℕ) (ts : List (List ℕ)) → HasWord bytes t → Matches bytes ts → Matches bytes (t ∷ ts)
@@ -191,7 +242,7 @@ all_found bytes [] (t ∷ ts) all = absurd all
 all_found bytes (s ∷ ss) [] all = absurd all
 all_found bytes (s ∷ ss) (t ∷ ts) all =
     let same : (is_found s ≡ true) ↔ Contains (words_of bytes) t =
-    subst (λ (l : List ℕ). ((s.found || (s.agrees && (nat_lt 0 s.front && nat_eq s.front (length l)))) ≡ true) ↔ Contains (words_of bytes) t)
+    subst (λ (l : List ℕ). ((s.found || is_all l s.agrees s.front) ≡ true) ↔ Contains (words_of bytes) t)
     (sym all.0) (found_now t s.found s.agrees s.front bytes all.1) in
     let rest = all_found bytes ss ts all.2 in (
       λ e.
@@ -211,14 +262,17 @@ seeks_none t = record {
   left_it = λ e. absurd (true_false e);
 }
 
-pub all_last : (ss : List Sought) (ts : List (List ℕ)) (s : Sought) (t : List ℕ) → SeekAll ss ts [] → s.bytes.items ≡ t → Seeks t s.found s.agrees s.front [] → SeekAll (ss ++ s ∷ []) (ts ++ t ∷ []) []
+-- one term more
+pub all_last : (ss : List Sought) (ts : List (List ℕ)) (s : Sought) (t : List ℕ) → SeekAll ss ts [] → s.bytes.items ≡ t
+    → Seeks t s.found s.agrees s.front [] → SeekAll (ss ++ s ∷ []) (ts ++ t ∷ []) []
 all_last [] [] s t all same seeks = (same, seeks, tt)
 all_last [] (u ∷ ts) s t all same seeks = absurd all
 all_last (r ∷ ss) [] s t all same seeks = absurd all
 all_last (r ∷ ss) (u ∷ ts) s t all same seeks = (all.0, all.1, all_last ss ts s t all.2 same seeks)
 
 -- a matcher that forgets its bytes seeks the same terms
-pub all_cleared : (bytes : List ℕ) (ss : List Sought) (ts : List (List ℕ)) → SeekAll ss ts bytes → SeekAll (map cleared ss) ts []
+pub all_cleared : (bytes : List ℕ) (ss : List Sought) (ts : List (List ℕ)) → SeekAll ss ts bytes
+    → SeekAll (map cleared ss) ts []
 all_cleared bytes [] [] all = tt
 all_cleared bytes [] (t ∷ ts) all = all
 all_cleared bytes (s ∷ ss) [] all = all

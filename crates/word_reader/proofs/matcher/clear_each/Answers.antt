@@ -8,4 +8,5 @@ use Rattle.word_reader.proofs.matcher.clear_each.Goals as goal
 pub loop-one-preserved : goal.loop-one-preserved
 loop-one-preserved c =
     ap (set c.loop-one.sought c.loop-one.one-index) (c.clear.ensures ∙ sym (ap cleared c.one-item.is))
-    ∙ map_over_more cleared c.args.sought.now c.loop-one.sought c.loop-one.one-index c.one-item.result c.loop-one-test.true c.loop-one.invariant c.one-item.is
+    ∙ map_over_more cleared c.args.sought.now c.loop-one.sought c.loop-one.one-index c.one-item.result
+    c.loop-one-test.true c.loop-one.invariant c.one-item.is

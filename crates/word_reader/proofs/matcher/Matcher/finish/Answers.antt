@@ -7,5 +7,6 @@ use Rattle.word_reader.proofs.matcher.Matcher.finish.Goals as goal
 
 pub returns-clause-matches : goal.returns-clause-matches
 returns-clause-matches c = λ terms bytes h.
-    let all = all_found bytes c.deref.result.now terms (subst (λ (ss : List Sought). SeekAll ss terms bytes) (sym c.deref.ensures.value) h) in
+    let all = all_found bytes c.deref.result.now terms
+    (subst (λ (ss : List Sought). SeekAll ss terms bytes) (sym c.deref.ensures.value) h) in
     (λ e. all.0 (sym c.are_found.ensures ∙ e), λ m. c.are_found.ensures ∙ all.1 m)

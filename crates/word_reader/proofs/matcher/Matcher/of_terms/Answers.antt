@@ -14,6 +14,7 @@ loop-term-preserved c =
     let same : one.bytes.items ≡ c.term-item.result = search rules in
     let more = all_last done front one c.term-item.result c.loop-term.invariant same (seeks_none c.term-item.result) in
     let taken : take (c.loop-term.term-index + 1) c.args.terms.now ≡ front ++ c.term-item.result ∷ [] =
-    take_more c.args.terms.now c.loop-term.term-index c.term-item.result c.loop-term-test.true ∙ ap (λ (x : List ℕ). front ++ x ∷ []) (sym c.term-item.is) in
+    take_more c.args.terms.now c.loop-term.term-index c.term-item.result c.loop-term-test.true
+    ∙ ap (λ (x : List ℕ). front ++ x ∷ []) (sym c.term-item.is) in
     subst (λ (ss : List Sought). SeekAll ss (take (c.loop-term.term-index + 1) c.args.terms.now) []) (sym c.in_ok-push.ensures.items)
     (subst (λ (ts : List (List ℕ)). SeekAll (done ++ one ∷ []) ts []) (sym taken) more)
