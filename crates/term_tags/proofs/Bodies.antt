@@ -49,7 +49,7 @@ module _ (lists : ℕ) (body : List ℕ) (terms : List (List ℕ)) (keys : List 
   to_key : (l : ℕ) (tag : List ℕ) → HasTag lists body l tag → Contains (tags_at l keys) tag
   to_key l tag h =
       let all : h.among.words ≡ terms =
-          words_are_one.one body h.among.words h.among.are ∙ sym (words_are_one.one body terms words) in
+      words_are_one.one body h.among.words h.among.are ∙ sym (words_are_one.one body terms words) in
       let in_terms : Contains terms h.word = subst (λ (ws : List (List ℕ)). Contains ws h.word) all h.among.among in
       let place = at_place keys (key_of lists h.word) (are.all (key_of lists h.word) (keyed lists terms h.word in_terms)) in
       subst (Contains (tags_at l keys)) (tag_back lists h.word ∙ h.same)

@@ -93,9 +93,9 @@ module _ (lists : ℕ) (body : List ℕ) (terms : List (List ℕ)) (keys : List 
       → (i : ℕ) × (slice_get (map (listed n) (rows_of keys)) i ≡ Some (record { list = l; posting = p }))
   has_row l p less h =
       let all : h.tags ≡ tags_at l keys =
-          tags_one lists body l h.tags (tags_at l keys) h.are (are_tags lists body terms keys words are l) in
+      tags_one lists body l h.tags (tags_at l keys) h.are (are_tags lists body terms keys words are l) in
       let found = key_at l keys h.ordinal p.tag
-          (subst (λ (ts : List (List ℕ)). slice_get ts h.ordinal ≡ Some p.tag) all h.here) in
+      (subst (λ (ts : List (List ℕ)). slice_get ts h.ordinal ≡ Some p.tag) all h.here) in
       let ordinal : length (tags_at (list_in found.key) (take found.place keys)) ≡ h.ordinal =
       ap (λ (m : ℕ). length (tags_at m (take found.place keys))) found.of_list ∙ found.count in
       let count : length (tags_at (list_in found.key) keys) ≡ p.last + 1 =
