@@ -1,5 +1,7 @@
--- The status that a program ends with after each refusal.
+-- The status that a program ends with after each refusal, and a fault of a search as a refusal.
 use Rattle.std.specs.Prelude.{ℕ}
+use Rattle.cell_types.specs.declared.refusal.Fault.{Fault}
+use Rattle.cell_types.specs.declared.refusal.Fault.TheVariants as faults
 use Rattle.cell_types.specs.declared.refusal.Refusal.{Refusal}
 use Rattle.cell_types.specs.declared.refusal.Refusal.TheVariants.{Usage, Duplicate, BadIdentifier, TooLong, TooManyTerms, BadWord, BadScript, Full, SlotsFull, PathFull, Tampered, DeviceFault, SourceFault, SinkFault, NoMemory, NotFormatted, NotAVolume, WrongSize, NotBlank, TooSmall, NotYet, Absent}
 
@@ -28,3 +30,8 @@ status_of (NotBlank cell) = 9
 status_of TooSmall = 9
 status_of (NotYet cell) = 9
 status_of Absent = 10
+
+-- as a command refuses
+abbrev pub refusal_of_fault : Fault → Refusal
+refusal_of_fault (faults.Tampered evidence) = Tampered evidence
+refusal_of_fault faults.ReadFault = DeviceFault

@@ -1,8 +1,10 @@
 //! Why a call gives no answer.
-ghost use Rattle.std.specs.Prelude.{◌≡◌};
-ghost use Rattle.cell_types.specs.Refusals.{status_of};
+ghost use Rattle.std.specs.Prelude.{◌≡◌, ⊤};
+ghost use Rattle.cell_types.specs.Refusals.{refusal_of_fault, status_of};
+ghost use Rattle.cell_types.specs.declared.refusal.Refusal.TheVariants as refusals;
 
 use crate::Cell;
+use std::alloc::AllocError;
 use thiserror::Error;
 
 /// A written cell that breaks a rule: the rule's number, the cell's, and what stands there.
@@ -25,6 +27,14 @@ pub enum Fault {
 /// No memory was to be had.
 #[derive(Clone, Copy, Debug, PartialEq, Eq)]
 pub struct NoMemory;
+
+impl From<AllocError> for NoMemory {
+    ghost from_gives = { λ _ _. ⊤ };
+
+    fn from(_: AllocError) -> NoMemory {
+        NoMemory
+    }
+}
 
 /// Why a command gives no answer. Prints as the line that a program shows for it.
 #[derive(Clone, Copy, Debug, PartialEq, Eq, Error)]
@@ -95,6 +105,33 @@ pub enum Refusal {
     /// No document has the identifier.
     #[error("absent")]
     Absent,
+}
+
+impl From<AllocError> for Refusal {
+    ghost from_gives = { λ _ refusal. refusal ≡ refusals.NoMemory };
+
+    fn from(_: AllocError) -> Refusal {
+        Refusal::NoMemory
+    }
+}
+
+impl From<NoMemory> for Refusal {
+    ghost from_gives = { λ _ refusal. refusal ≡ refusals.NoMemory };
+
+    fn from(_: NoMemory) -> Refusal {
+        Refusal::NoMemory
+    }
+}
+
+impl From<Fault> for Refusal {
+    ghost from_gives = { λ fault refusal. refusal ≡ refusal_of_fault fault };
+
+    fn from(fault: Fault) -> Refusal {
+        match fault {
+            Fault::Tampered(evidence) => Refusal::Tampered(evidence),
+            Fault::ReadFault => Refusal::DeviceFault,
+        }
+    }
 }
 
 impl Refusal {
