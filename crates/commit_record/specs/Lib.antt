@@ -1,7 +1,9 @@
 pub mod Laws
+pub mod Licences
 pub mod LogEnds
 pub mod Looks
 pub mod Opening
 pub mod Partition
+pub mod Reservations
 pub mod States
 pub mod SlotCells

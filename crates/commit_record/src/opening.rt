@@ -20,12 +20,11 @@ pub enum OpenRefusal {
     ReadFault,
 }
 
-impl OpenRefusal {
-    /// As a command refuses.
-    pub fn refusal(self) -> Refusal
-        ensures { result ≡ refusal_of self }
-    {
-        match self {
+impl From<OpenRefusal> for Refusal {
+    ghost from_gives = { λ why refusal. refusal ≡ refusal_of why };
+
+    fn from(why: OpenRefusal) -> Refusal {
+        match why {
             OpenRefusal::NotFormatted => Refusal::NotFormatted,
             OpenRefusal::NotAVolume(found) => Refusal::NotAVolume(found),
             OpenRefusal::WrongSize { stated, real } => Refusal::WrongSize { stated, real },

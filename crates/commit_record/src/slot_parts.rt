@@ -43,7 +43,7 @@ pub fn parts(state: &SlotState) -> Option<Parts>
 }
 
 /// How many content cells so many stored bytes take.
-pub(crate) fn document_cells(bytes: u32) -> u32
+pub fn document_cells(bytes: u32) -> u32
     ensures { result ≡ cells_for bytes }
 {
     bytes.div_ceil(CONTENT_BYTES)

@@ -68,7 +68,7 @@ fn read_slot<V: View>(view: &mut V, slot: u32) -> Result<(SlotState, Option<Part
 {
     let volume = match open(view) {
         Ok(volume) => volume,
-        Err(refusal) => return Err(refusal.refusal()),
+        Err(refusal) => return Err(Refusal::from(refusal)),
     };
     if slot >= volume.geometry.slots() {
         return Err(Refusal::SlotsFull);

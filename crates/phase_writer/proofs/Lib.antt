@@ -1,0 +1,3 @@
+pub mod Compared
+pub mod Phasing
+pub mod Rows

@@ -1,0 +1,7 @@
+pub mod Entries
+pub mod InOrder
+pub mod LastCells
+pub mod Licensed
+pub mod Looked
+pub mod Settled
+pub mod States

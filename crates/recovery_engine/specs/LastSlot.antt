@@ -1,0 +1,50 @@
+-- What it means that the last slot of the log follows those below it.
+use Rattle.std.specs.Prelude.{◌≡◌, ◌+◌, ℕ, Some, Result, Ok, Err, IsTrue}
+use Rattle.cell_types.specs.Image.{Image}
+use Rattle.cell_types.specs.Layout.{Layout, reserve_at}
+use Rattle.cell_types.specs.Records.{record_bytes}
+use Rattle.cell_types.specs.declared.record_cell.RecordCell.TheVariants.{Reserve}
+use Rattle.cell_types.specs.declared.refusal.Evidence.{Evidence}
+use Rattle.cell_types.specs.declared.refusal.Fault.{Fault}
+use Rattle.cell_types.specs.declared.refusal.Fault.TheVariants.{Tampered, ReadFault}
+use Rattle.stored_documents.specs.Slots.{EndsBelow, HasEnded}
+use Rattle.stored_documents.specs.Volumes.{IsVolume}
+use Rattle.tamper_rules.specs.Rules.{IsBroken, IsPlaceOf}
+use Rattle.tamper_rules.specs.declared.numbers.TheConstants.{RESERVE_CELL}
+use Rattle.worm_device.specs.Counts.{Rose, IsStill}
+use Rattle.worm_device.specs.Views.{ViewState}
+use Rattle.commit_record.specs.Reservations.{reservation_of}
+use Rattle.commit_record.specs.States.{IsState, LiesInPool}
+use Rattle.commit_record.specs.declared.reservation.Reservation.{Reservation}
+use Rattle.commit_record.specs.declared.slot.SlotState.{SlotState}
+
+-- slot n's cells, from start on, begin where those of the slots below end, and the slot before is abandoned or done
+pub record Follows (g : Layout) (before after : Image) (n start : ℕ) : Type 0 where
+  pub begins : EndsBelow g after n start
+  pub ended : (m : ℕ) → n ≡ m + 1 → HasEnded g before after m
+
+-- slot n is in this state, and where it reserves cells it follows those below it
+pub record IsLast (g : Layout) (before after : Image) (n : ℕ) (state : SlotState) : Type 0 where
+  pub is : IsState g before after n state
+  pub follows : (cells : Reservation) → reservation_of state ≡ Some cells → Follows g before after n cells.start
+
+-- evidence that names slot n's reserve cell of these cells
+pub record IsReserveCell (n : ℕ) (cells : Reservation) (e : Evidence) : Type 0 where
+  pub rule : e.rule ≡ RESERVE_CELL
+  pub at : e.cell ≡ reserve_at n
+  pub found : e.found ≡ record_bytes (Reserve cells.start cells.length) (reserve_at n)
+
+-- The evidence stands, in the place of its rule. Where nobody else wrote, as these values of the count of foreign writes
+-- say, and cell 0 states this layout, its rule is broken there.
+pub record IsNamed (g : Layout) (cells from to : ℕ) (image : Image) (e : Evidence) : Type 0 where
+  pub stands : image e.cell ≡ Some e.found
+  pub place : IsPlaceOf g e.rule e.cell
+  pub broken : IsStill from to → IsVolume cells image g → IsBroken cells image e.rule e.cell
+
+-- how a look at the last slot may end, and why
+abbrev pub LastEnds : Layout → ℕ → ViewState → ViewState → Result SlotState Fault → Type 0
+LastEnds g n old new (Ok state) = LiesInPool g state × (IsTrue old.base.tells → IsLast g old.image new.image n state)
+LastEnds g n old new (Err ReadFault) = Rose old.base.faults new.base.faults
+LastEnds g n old new (Err (Tampered e)) =
+    IsTrue old.base.tells
+    → IsNamed g new.cells old.base.foreign_writes new.base.foreign_writes new.image e

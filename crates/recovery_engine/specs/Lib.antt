@@ -1,0 +1,5 @@
+pub mod Ending
+pub mod Entries
+pub mod Journal
+pub mod LastSlot
+pub mod Settling

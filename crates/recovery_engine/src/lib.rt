@@ -1,0 +1,28 @@
+//! Settling: what a crash left half done is put right before anything else is done.
+//!
+//! A crash leaves at most one slot half done, the last one of the log. `settle` looks at it, and at the slot before:
+//!
+//!     the last slot is    settling puts                                        and answers
+//!     abandoned or done   nothing                                              Nothing
+//!     reserved            its abandon cell; sync                               Abandoned
+//!     committed           each journal cell at its target; sync; done; sync    Completed
+//!
+//! Before it trusts any of this it makes sure what stands, by a first sync, and checks that the slot follows those below
+//! it and that its journal asks for nothing but index cells. A cell that is out of place is named, with the rule that it
+//! breaks. No memory is taken, and it may be cut short anywhere and begun again.
+//!
+//! `apply_journal` and `finish` are the last two phases, which an ingest shares.
+//!
+//! Stands on `commit_record`, which reads the log, and on `phase_writer`, which puts cells in phases. Begin with
+//! `settling.rt`; specs/Settling.antt says how settling may end, and what a crash leaves of it.
+#![tactic(auto)]
+
+mod ending;
+mod journal;
+mod looks;
+mod ordered;
+mod settling;
+
+pub use ending::{finish, journal_of};
+pub use journal::{Journal, apply_journal};
+pub use settling::{Ready, Step, settle};

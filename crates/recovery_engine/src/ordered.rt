@@ -1,0 +1,61 @@
+//! The last slot of the log: its state, and that it follows the one before.
+ghost use Rattle.std.specs.Prelude.{◌≡◌, ◌<◌, ◌≤◌, ◌+◌};
+ghost use Rattle.worm_device.specs.Views.{Viewed};
+ghost use Rattle.recovery_engine.specs.LastSlot.{IsReserveCell, LastEnds};
+
+use cell_types::{Evidence, Fault, Geometry, RecordCell, Volume, encode};
+use commit_record::{Reservation, SlotState, slot_state};
+use tamper_rules::RESERVE_CELL;
+use worm_device::View;
+
+/// The state of a slot that follows those below it: its cells begin where theirs end, and the slot before is abandoned
+/// or done. Else what is out of place. Makes at most six reads.
+pub fn last_slot<V: View>(view: &mut V, volume: &Volume, last: u32) -> Result<SlotState, Fault>
+    requires slot { last < volume.now.geometry.slots }
+    requires size { volume.now.geometry.cells ≤ (V.seen view.old).cells }
+    ensures viewed { Viewed (V.seen view.old) (V.seen view.new) }
+    ensures reads { (V.seen view.new).base.reads ≤ (V.seen view.old).base.reads + 6 }
+    ensures ends { LastEnds volume.now.geometry last (V.seen view.old) (V.seen view.new) result }
+{
+    let geometry = volume.geometry;
+    let state = slot_state(view, volume, last)?;
+    let Some(cells) = state.reservation() else {
+        return Ok(state);
+    };
+    if last == 0 {
+        if cells.start != geometry.pool_at() {
+            return Err(Fault::Tampered(out_of_order(&geometry, last, cells)));
+        }
+        return Ok(state);
+    }
+    let before = slot_state(view, volume, last - 1)?;
+    let follows = before.has_ended()
+        && before
+            .reservation()
+            .is_some_and(|lower| lower.end() == cells.start);
+    if !follows {
+        return Err(Fault::Tampered(out_of_order(&geometry, last, cells)));
+    }
+    Ok(state)
+}
+
+/// Evidence that a slot's cells do not follow those before.
+fn out_of_order(geometry: &Geometry, slot: u32, cells: Reservation) -> Evidence
+    requires slot { slot < geometry.now.slots }
+    requires length { 1 ≤ cells.length }
+    ensures { IsReserveCell slot cells result }
+{
+    let cell = geometry.reserve_at(slot);
+    let found = encode(
+        RecordCell::Reserve {
+            start: cells.start,
+            length: cells.length,
+        },
+        cell,
+    );
+    Evidence {
+        rule: RESERVE_CELL,
+        cell,
+        found,
+    }
+}
