@@ -1,0 +1,4 @@
+pub mod Blank
+pub mod CrashLaws
+pub mod Planned
+pub mod PuttingPlans

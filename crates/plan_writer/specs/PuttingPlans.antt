@@ -1,0 +1,54 @@
+-- What it means that a plan is put onto a volume that was settled, or that this was ended.
+use Rattle.std.specs.Prelude.{◌≡◌, ℕ, List, slice_get, Some, None, Result, Ok, Err, IsTrue}
+use Rattle.cell_types.specs.Image.{Image, Extends}
+use Rattle.cell_types.specs.Layout.{Layout}
+use Rattle.cell_types.specs.declared.refusal.Evidence.{Evidence}
+use Rattle.cell_types.specs.declared.refusal.Fault.{Fault}
+use Rattle.cell_types.specs.declared.refusal.Fault.TheVariants.{Tampered, ReadFault}
+use Rattle.stored_documents.specs.Documents.{IsDocument}
+use Rattle.stored_documents.specs.Slots.{IsUnused}
+use Rattle.tamper_rules.specs.Rules.{IsBroken}
+use Rattle.worm_device.specs.Calls.{Called}
+use Rattle.worm_device.specs.Counts.{Rose, IsStill}
+use Rattle.worm_device.specs.State.{DeviceState}
+use Rattle.phase_writer.specs.Putting.{ChangesBy, CrashesLeavePhases, IsInFirst}
+use Rattle.commit_record.specs.Licences.{IsLicensed}
+use Rattle.recovery_engine.specs.Entries.{target_of}
+use Rattle.plan_writer.specs.Planned.{INGEST_PHASES, PlansDocument, ingest_phases}
+use Rattle.plan_writer.specs.declared.plan.Plan.{Plan}
+
+-- What putting a plan into slot n does, whatever it answers: where nobody else writes it puts no other cells, and a
+-- crash leaves phases of it.
+pub record PutsPlan (n : ℕ) (p : Plan) (old new : DeviceState) : Type 0 where
+  pub called : Called old new
+  pub only : IsTrue old.tells → IsStill old.foreign_writes new.foreign_writes
+      → ChangesBy (IsInFirst (ingest_phases n p) INGEST_PHASES) old.image new.image
+  pub crashes : CrashesLeavePhases (ingest_phases n p) INGEST_PHASES old new
+
+-- A plan is carried out: its document is one of the volume's, in slot n, which was unused; each cell of its journal
+-- stands at its target; and all that stood goes on standing.
+pub record IsCarriedOut (g : Layout) (p : Plan) (n cells : ℕ) (old sure : Image) : Type 0 where
+  pub unused : IsUnused g old n
+  pub document : (id body : List ℕ) → PlansDocument p id body → IsDocument cells sure n id body
+  pub journal : (k : ℕ) (value : List ℕ) → slice_get p.journal.now k ≡ Some value
+      → sure (target_of value) ≡ Some value
+  pub synced : Extends old sure
+
+-- the cells that the plan's journal asks for are blank
+abbrev pub AsksForBlank : Plan → Image → Type 0
+AsksForBlank p image =
+    (k : ℕ) (value : List ℕ) → slice_get p.journal.now k ≡ Some value → image (target_of value) ≡ None
+
+-- Evidence that was found while a plan was put: it may be named; and where nobody else wrote, and the journal asked for
+-- blank cells, its rule was broken there before.
+pub record IsFoundByPlan (p : Plan) (old new : DeviceState) (e : Evidence) : Type 0 where
+  pub licensed : IsLicensed old new e
+  pub before : IsStill old.foreign_writes new.foreign_writes → AsksForBlank p old.image
+      → IsBroken old.cells old.image e.rule e.cell
+
+-- how putting a plan may end, and why, from before the volume was settled
+abbrev pub PlanEnds : Layout → Plan → ℕ → DeviceState → DeviceState → Result ℕ Fault → Type 0
+PlanEnds g p n old new (Ok slot) =
+    (slot ≡ n) × (IsTrue old.tells → IsCarriedOut g p n new.cells old.image new.sure)
+PlanEnds g p n old new (Err ReadFault) = Rose old.faults new.faults
+PlanEnds g p n old new (Err (Tampered e)) = IsTrue old.tells → IsFoundByPlan p old new e
