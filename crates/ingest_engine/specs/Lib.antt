@@ -1,3 +1,3 @@
 pub mod Formats
-pub mod Ingest
-pub mod Puts
+pub mod Ingesting
+pub mod StoredCells

@@ -1,37 +1,56 @@
-//! A document as its cells.
-ghost use Rattle.std.specs.Prelude.{◌≡◌, ◌<◌, ◌^◌, length, IfOk};
-ghost use Rattle.stored_documents.specs.Documents.{IsIdentifier, stored_bytes};
-ghost use Rattle.ingest_engine.specs.Ingest.{AreCellsOf};
+//! A document as the cells that it is stored in.
+ghost use Rattle.std.specs.Prelude.{◌≡◌, ◌<◌, ◌^◌, length, IfOk, OnOk};
+ghost use Rattle.stored_documents.specs.Documents.{IsBody, IsIdentifier};
+ghost use Rattle.ingest_engine.specs.StoredCells.{AddsCellsOf, IsStoredAs};
 
-use cell_types::{Cell, content};
+use cell_types::{Cell, NoMemory, content};
 use std::alloc::{AllocError, Global};
 
 /// How many bytes a content cell holds.
 const CONTENT_BYTES: usize = 15;
 
-/// The stored bytes of a document: the identifier's length, the identifier, the body.
-pub fn stored_document(alloc: Global, id: &[u8], body: &[u8]) -> Result<Vec<u8>, AllocError>
-    requires { IsIdentifier id.now }
-    ensures { IfOk result (λ stored. stored.items ≡ stored_bytes id.now body.now) }
-{
-    let mut stored = Vec::with_capacity(alloc, 1 + id.len() + body.len())?;
-    stored.push(id.len() as u8)?;
-    stored.extend_from_slice(id)?;
-    stored.extend_from_slice(body)?;
-    Ok(stored)
+/// A document as it is stored: the identifier's length, the identifier and the body, as content cells.
+#[derive(Debug, Drop)]
+pub struct StoredDocument {
+    /// How many stored bytes it has.
+    pub bytes: u32,
+    pub cells: Vec<Cell>,
 }
 
-/// The content cells of stored bytes: 15 of them in each but the last.
-pub fn content_cells(alloc: Global, stored: &[u8]) -> Result<Vec<Cell>, AllocError>
-    requires { length stored.now < 2 ^ 32 }
-    ensures { IfOk result (λ cells. AreCellsOf stored.now cells.items) }
+impl StoredDocument {
+    /// The document of this identifier and this body, whose bytes are read in place.
+    pub fn new(alloc: Global, id: &[u8], body: &[u8]) -> Result<StoredDocument, NoMemory>
+        requires identifier { IsIdentifier id.now }
+        requires body { IsBody body.now }
+        ensures { IfOk result (IsStoredAs id.now body.now) }
+    {
+        let bytes = 1 + id.len() + body.len();
+        // The head ends where a cell does, so the rest of the body begins a cell of its own.
+        let head_length = (1 + id.len()).next_multiple_of(CONTENT_BYTES).min(bytes);
+        let (front, rest) = body.split_at(head_length - 1 - id.len());
+        let mut head = Vec::with_capacity(alloc, head_length)?;
+        head.push(id.len() as u8)?;
+        head.extend_from_slice(id)?;
+        head.extend_from_slice(front)?;
+        let mut cells = Vec::with_capacity(alloc, bytes.div_ceil(CONTENT_BYTES))?;
+        push_content(&mut cells, &head)?;
+        push_content(&mut cells, rest)?;
+        Ok(StoredDocument {
+            bytes: bytes as u32,
+            cells,
+        })
+    }
+}
+
+/// Adds the content cells of these bytes: 15 of them in each but the last.
+fn push_content(cells: &mut Vec<Cell>, bytes: &[u8]) -> Result<(), AllocError>
+    ensures { OnOk result (AddsCellsOf bytes.now cells.old.items cells.new.items) }
 {
-    let mut cells = Vec::with_capacity(alloc, stored.len().div_ceil(CONTENT_BYTES))?;
-    let mut rest = stored;
+    let mut rest = bytes;
     while !rest.is_empty() {
         let (front, behind) = rest.split_at(CONTENT_BYTES.min(rest.len()));
         cells.push(content(front))?;
         rest = behind;
     }
-    Ok(cells)
+    Ok(())
 }

@@ -15,9 +15,7 @@ pub fn format_volume<D: Device>(device: &mut D, slots: u32, lists: u16) -> Resul
     if Geometry::new(slots, lists, cells).is_none() {
         return Err(Refusal::TooSmall);
     }
-    if let Err(refusal) = look_for_written_cells(device) {
-        return Err(refusal);
-    }
+    look_for_written_cells(device)?;
     let volume = RecordCell::Volume {
         version: FORMAT_VERSION,
         slots,

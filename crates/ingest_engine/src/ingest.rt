@@ -1,38 +1,50 @@
-//! A document, put onto a device.
-ghost use Rattle.std.specs.Prelude.{◌≡◌};
-ghost use Rattle.stored_documents.specs.Documents.{IsIdentifier, IsBody};
-ghost use Rattle.ingest_engine.specs.Puts.{PutsDocument};
+//! A document, stored in the first free slot.
+ghost use Rattle.stored_documents.specs.Documents.{IsBody, IsIdentifier};
+ghost use Rattle.ingest_engine.specs.Ingesting.{Ingests};
 
-use crate::document::{content_cells, stored_document};
-use crate::phases::store;
-use crate::volume::read_volume;
+use crate::document::StoredDocument;
 use cell_types::Refusal;
+use plan_writer::{Plan, put_planned};
+use recovery_engine::settle;
 use std::alloc::Global;
 use worm_device::Device;
 
-/// Puts the document into slot 0. All memory is taken before the first cell is written.
-pub fn put_document<D: Device>(
+/// Settles the volume, and stores the document in its first free slot. Answers the slot, in which it is sure then. All
+/// memory is taken before the first cell is written.
+///
+/// # Errors
+///
+/// `NoMemory`; `NotFormatted`, `NotAVolume` and `WrongSize` by cell 0; `SlotsFull` where each slot is taken; `Full` where
+/// the document needs more cells than are free; `Tampered` where a cell breaks a rule of the log, or one that is to be
+/// written is taken; `DeviceFault`.
+pub fn ingest<D: Device>(
     alloc: Global,
+    device: &mut D,
     id: &[u8],
     body: &[u8],
-    device: &mut D,
-) -> Result<(), Refusal>
+) -> Result<u32, Refusal>
     requires identifier { IsIdentifier id.now }
     requires body { IsBody body.now }
-    ensures { PutsDocument id.now body.now (D.state device.old) (D.state device.new) result }
+    ensures { Ingests id.now body.now (D.state device.old) (D.state device.new) result }
 {
-    let geometry = match read_volume(device) {
-        Ok(geometry) => geometry,
-        Err(refusal) => return Err(refusal),
-    };
-    let Ok(stored) = stored_document(alloc, id, body) else {
-        return Err(Refusal::NoMemory);
-    };
-    let Ok(document) = content_cells(alloc, &stored) else {
-        return Err(Refusal::NoMemory);
-    };
-    if document.len() > (geometry.cells() - geometry.pool_at()) as usize {
-        return Err(Refusal::NotYet(geometry.cells()));
+    let document = StoredDocument::new(alloc, id, body)?;
+    let ready = settle(device)?;
+    let geometry = ready.volume.geometry;
+    if ready.horizon == geometry.slots() {
+        return Err(Refusal::SlotsFull);
     }
-    store(device, &geometry, &stored, &document)
+    let need = document.cells.len() as u32;
+    let free = geometry.cells() - ready.edge;
+    if need > free {
+        return Err(Refusal::Full { need, free });
+    }
+    let plan = Plan {
+        start: ready.edge,
+        block_length: 0,
+        document: &document.cells,
+        journal: &[],
+        bytes: document.bytes,
+    };
+    let slot = put_planned(device, &ready, &plan)?;
+    Ok(slot)
 }

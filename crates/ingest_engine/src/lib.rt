@@ -1,25 +1,26 @@
-//! The engine that writes: it puts a document onto a device.
+//! The engine that writes: it makes a volume of a blank device, and stores documents in it.
 //!
-//! On the volume of 8 slots and 2 lists on 1,000 cells, putting the document `a` with the body `hello world` makes
-//! eight steps:
+//! On the volume of 8 slots and 2 lists on 1,000 cells, ingesting the document `a` with the body `hello world` makes
+//! ten steps:
 //!
+//!     settle     sync                        what stood is sure, and nothing is half done
 //!     reserve    write cell 4, sync          slot 0 has cell 580
 //!     store      write cell 580, sync        the document is on the device
 //!     commit     write cell 5, sync          the document counts as stored
+//!     apply      sync                        there is no index yet, so the journal has no cells
 //!     finish     write cell 6, sync          slot 0 is done: the document stands, and no crash takes it
 //!
-//! Each phase is sure before the next begins, so that no crash leaves an outcome whose document is not whole. All
-//! memory is taken before the first of them.
+//! All memory is taken before the first of them. Where a crash cuts an ingest short, the next command settles the volume:
+//! the slot is given up, or its document is done.
 //!
-//! Stands on `tamper_rules` for what a document is, and on `worm_device`. Begin with `phases.rt`;
-//! `specs/Puts.antt` says how putting a document may end, and why.
+//! Stands on `recovery_engine`, which settles, and on `plan_writer`, which puts the cells. Begin with `ingest.rt`;
+//! specs/Ingesting.antt says how an ingest may end, why, and what a crash leaves of it.
 #![tactic(auto)]
 
 mod document;
 mod format;
 mod ingest;
-mod phases;
-mod volume;
 
+pub use document::StoredDocument;
 pub use format::format_volume;
-pub use ingest::put_document;
+pub use ingest::ingest;
