@@ -1,5 +1,5 @@
 -- The content cells of stored bytes, made one after another.
-use Rattle.std.proofs.Common.{◌≡◌, ◌≤◌, ◌<◌, ◌+◌, ◌-◌, ◌*◌, ◌/◌, ◌⊎◌, min, ℕ, List, [], ◌∷◌, ◌++◌, length, take, drop, Some, sym, ap, ◌∙◌, ⊎_elim, arith, length-append, length-drop}
+use Rattle.std.proofs.Common.{refl, append-nil, append_assoc, ◌≡◌, ◌≤◌, ◌<◌, ◌+◌, ◌-◌, ◌*◌, ◌/◌, ◌⊎◌, min, ℕ, List, [], ◌∷◌, ◌++◌, length, take, drop, Some, sym, ap, ◌∙◌, ⊎_elim, arith, length-append, length-drop}
 use Rattle.std.specs.Prelude.{slice_get}
 use Rattle.std.proofs.lemmas.Grind.{common_steps}
 use Rattle.std.proofs.lemmas.Option.{gets}
@@ -7,7 +7,7 @@ use Rattle.std.proofs.lemmas.List.{drop-drop}
 use Rattle.cell_types.specs.Contents.{content_bytes}
 use Rattle.stored_documents.specs.Documents.{content_at}
 use Rattle.stored_documents.specs.Slots.{cells_for}
-use Rattle.ingest_engine.specs.Ingest.{AreCellsOf}
+use Rattle.ingest_engine.specs.StoredCells.{AddsCellsOf, AreCellsOf}
 
 -- the cells are the first ones of these stored bytes, and rest is what they leave
 pub record CellsSoFar (stored : List ℕ) (cells : List (List ℕ)) (rest : List ℕ) : Type 0 where
@@ -64,3 +64,27 @@ cells_all stored rest cells so_far none =
     let enough : length stored ≤ 15 * length cells = omega (arith, none, ap length so_far.left, length-drop (15 * length cells) stored) in
     let count : length cells ≡ cells_for (length stored) = count_all (length stored) (length cells) enough so_far.within in
     record { count = count; each = λ k below. so_far.each k (omega (arith, below, count)) }
+
+-- none yet
+pub cells_none : (bytes : List ℕ) → CellsSoFar bytes [] bytes
+cells_none bytes = record { left = refl; each = λ k below. absurd (omega (arith, below)); within = λ k below. absurd (omega (arith, below)) }
+
+-- so many were added to those that there were
+pub record AddedSoFar (bytes : List ℕ) (old new : List (List ℕ)) (rest : List ℕ) : Type 0 where
+  pub added : List (List ℕ)
+  pub so_far : CellsSoFar bytes added rest
+  pub whole : new ≡ old ++ added
+
+pub added_none : (bytes : List ℕ) (old : List (List ℕ)) → AddedSoFar bytes old old bytes
+added_none bytes old = record { added = []; so_far = cells_none bytes; whole = sym (append-nil old) }
+
+pub added_more : (bytes rest : List ℕ) (old new : List (List ℕ)) (cell : List ℕ) → AddedSoFar bytes old new rest → 0 < length rest
+    → cell ≡ content_bytes (take 15 rest) → AddedSoFar bytes old (new ++ cell ∷ []) (drop 15 rest)
+added_more bytes rest old new cell a some is = record {
+  added = a.added ++ cell ∷ [];
+  so_far = cells_more bytes rest a.added cell a.so_far some is;
+  whole = ap (λ (l : List (List ℕ)). l ++ cell ∷ []) a.whole ∙ append_assoc old a.added (cell ∷ []);
+}
+
+pub added_all : (bytes rest : List ℕ) (old new : List (List ℕ)) → AddedSoFar bytes old new rest → length rest ≡ 0 → AddsCellsOf bytes old new
+added_all bytes rest old new a none = record { added = a.added; cells = cells_all bytes rest a.added a.so_far none; whole = a.whole }

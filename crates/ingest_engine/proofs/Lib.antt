@@ -1,2 +1,7 @@
 pub mod CellsSoFar
+pub mod CrashedIngests
+pub mod Endings
+pub mod JoinedCells
+pub mod PlainPlans
 pub mod SeenBlank
+pub mod UnusedSlots

@@ -1,5 +1,5 @@
 -- What it means that a document is ingested, or that this was ended.
-use Rattle.std.specs.Prelude.{◌≡◌, ◌<◌, ◌-◌, ◌⊎◌, ℕ, List, length, Result, Ok, Err, IsTrue}
+use Rattle.std.specs.Prelude.{◌≡◌, ◌≢◌, ◌<◌, ◌≤◌, ◌-◌, ◌⊎◌, ℕ, List, length, Result, Ok, Err, IsTrue}
 use Rattle.cell_types.specs.Image.{Image, Extends}
 use Rattle.cell_types.specs.Layout.{Layout}
 use Rattle.cell_types.specs.declared.refusal.Refusal.{Refusal}
@@ -38,20 +38,20 @@ pub record IsIngested (id body : List ℕ) (n : ℕ) (old new : DeviceState) : T
   pub document : IsDocument new.cells new.sure n id body
   pub synced : Extends old.image new.sure
 
--- each slot is taken
-pub record HasNoSlot (old new : DeviceState) : Type 0 where
-  pub ready : Ready
-  pub settled : HasSettled old new ready
-  pub full : ready.horizon ≡ ready.volume.geometry.slots
+-- Whether a settled volume has room for so many cells: each slot may be taken, or more cells be needed than the pool has
+-- behind the edge.
+abbrev pub RoomEnds : Ready → ℕ → Result Unit Refusal → Type 0
+RoomEnds r need (Ok u) = (r.horizon ≢ r.volume.geometry.slots) × (need ≤ r.volume.geometry.cells - r.edge)
+RoomEnds r need (Err SlotsFull) = r.horizon ≡ r.volume.geometry.slots
+RoomEnds r need (Err (Full needed free)) =
+    (r.horizon ≢ r.volume.geometry.slots) × (needed ≡ need) × (free ≡ r.volume.geometry.cells - r.edge) × (free < need)
+RoomEnds r need (Err refusal) = ⊥
 
--- A slot is free, and so many cells are needed, which are more than the pool has behind the edge.
-pub record HasNoRoom (id body : List ℕ) (need free : ℕ) (old new : DeviceState) : Type 0 where
+-- the volume was settled, and then had no room for the document: this is the refusal
+pub record HasNoRoom (id body : List ℕ) (old new : DeviceState) (refusal : Refusal) : Type 0 where
   pub ready : Ready
   pub settled : HasSettled old new ready
-  pub slot : ready.horizon < ready.volume.geometry.slots
-  pub needs : need ≡ cells_for (length (stored_bytes id body))
-  pub frees : free ≡ ready.volume.geometry.cells - ready.edge
-  pub more : free < need
+  pub room : RoomEnds ready (cells_for (length (stored_bytes id body))) (Err refusal)
 
 -- no cell of the document was put
 abbrev pub IsUnput : DeviceState → DeviceState → Type 0
@@ -62,8 +62,8 @@ abbrev pub IngestEnds : List ℕ → List ℕ → DeviceState → DeviceState �
 IngestEnds id body old new (Ok n) = IsTrue old.tells → IsIngested id body n old new
 IngestEnds id body old new (Err DeviceFault) = Rose old.faults new.faults
 IngestEnds id body old new (Err (Tampered e)) = IsTrue old.tells → IsFound old new e
-IngestEnds id body old new (Err SlotsFull) = HasNoSlot old new
-IngestEnds id body old new (Err (Full need free)) = HasNoRoom id body need free old new
+IngestEnds id body old new (Err SlotsFull) = HasNoRoom id body old new SlotsFull
+IngestEnds id body old new (Err (Full need free)) = HasNoRoom id body old new (Full need free)
 IngestEnds id body old new (Err NoMemory) = IsUnput old new
 IngestEnds id body old new (Err NotFormatted) = SettleEnds old new (Err NotFormatted)
 IngestEnds id body old new (Err (NotAVolume found)) = SettleEnds old new (Err (NotAVolume found))

@@ -3,7 +3,7 @@ ghost use Rattle.std.specs.Prelude.{◌≡◌, ◌<◌, ◌^◌, length, IfOk, O
 ghost use Rattle.stored_documents.specs.Documents.{IsBody, IsIdentifier};
 ghost use Rattle.ingest_engine.specs.StoredCells.{AddsCellsOf, IsStoredAs};
 
-use cell_types::{Cell, NoMemory, content};
+use cell_types::{Cell, content};
 use std::alloc::{AllocError, Global};
 
 /// How many bytes a content cell holds.
@@ -19,7 +19,7 @@ pub struct StoredDocument {
 
 impl StoredDocument {
     /// The document of this identifier and this body, whose bytes are read in place.
-    pub fn new(alloc: Global, id: &[u8], body: &[u8]) -> Result<StoredDocument, NoMemory>
+    pub fn new(alloc: Global, id: &[u8], body: &[u8]) -> Result<StoredDocument, AllocError>
         requires identifier { IsIdentifier id.now }
         requires body { IsBody body.now }
         ensures { IfOk result (IsStoredAs id.now body.now) }

@@ -13,14 +13,14 @@
 //! All memory is taken before the first of them. Where a crash cuts an ingest short, the next command settles the volume:
 //! the slot is given up, or its document is done.
 //!
-//! Stands on `recovery_engine`, which settles, and on `plan_writer`, which puts the cells. Begin with `ingest.rt`;
+//! Stands on `recovery_engine`, which settles, and on `plan_writer`, which puts the cells. Begin with `ingesting.rt`;
 //! specs/Ingesting.antt says how an ingest may end, why, and what a crash leaves of it.
 #![tactic(auto)]
 
 mod document;
 mod format;
-mod ingest;
+mod ingesting;
 
 pub use document::StoredDocument;
 pub use format::format_volume;
-pub use ingest::ingest;
+pub use ingesting::ingest;

@@ -1,10 +1,10 @@
 -- The cells so far are those of the front that has gone.
 use Rattle.std.proofs.Common.{length}
-use Rattle.ingest_engine.proofs.CellsSoFar.{CellsSoFar}
-use Rattle.ingest_engine.proofs.document.content_cells.Given as goal
+use Rattle.ingest_engine.proofs.CellsSoFar.{AddedSoFar}
+use Rattle.ingest_engine.proofs.document.push_content.Given as goal
 
 abbrev pub invariant-loop-rest : goal.invariant-loop-rest
-invariant-loop-rest l = CellsSoFar l.stored l.cells.items l.rest
+invariant-loop-rest l = AddedSoFar l.bytes l.fn.cells.items l.cells.items l.rest
 
 abbrev pub decreases-loop-rest : goal.decreases-loop-rest
 decreases-loop-rest l = length l.rest

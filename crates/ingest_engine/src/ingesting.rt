@@ -1,11 +1,12 @@
 //! A document, stored in the first free slot.
+ghost use Rattle.std.specs.Prelude.{◌≤◌};
 ghost use Rattle.stored_documents.specs.Documents.{IsBody, IsIdentifier};
-ghost use Rattle.ingest_engine.specs.Ingesting.{Ingests};
+ghost use Rattle.ingest_engine.specs.Ingesting.{Ingests, RoomEnds};
 
 use crate::document::StoredDocument;
 use cell_types::Refusal;
-use plan_writer::{Plan, put_planned};
-use recovery_engine::settle;
+use plan_writer::{Plan, crashes_leave_whole_slots, put_planned};
+use recovery_engine::{Ready, settle};
 use std::alloc::Global;
 use worm_device::Device;
 
@@ -27,17 +28,10 @@ pub fn ingest<D: Device>(
     requires body { IsBody body.now }
     ensures { Ingests id.now body.now (D.state device.old) (D.state device.new) result }
 {
+    crashes_leave_whole_slots();
     let document = StoredDocument::new(alloc, id, body)?;
     let ready = settle(device)?;
-    let geometry = ready.volume.geometry;
-    if ready.horizon == geometry.slots() {
-        return Err(Refusal::SlotsFull);
-    }
-    let need = document.cells.len() as u32;
-    let free = geometry.cells() - ready.edge;
-    if need > free {
-        return Err(Refusal::Full { need, free });
-    }
+    check_room(&ready, document.cells.len() as u32)?;
     let plan = Plan {
         start: ready.edge,
         block_length: 0,
@@ -47,4 +41,20 @@ pub fn ingest<D: Device>(
     };
     let slot = put_planned(device, &ready, &plan)?;
     Ok(slot)
+}
+
+/// That a slot is free, and that the pool has so many cells behind the edge.
+fn check_room(ready: &Ready, need: u32) -> Result<(), Refusal>
+    requires { ready.now.edge ≤ ready.now.volume.geometry.cells }
+    ensures { RoomEnds ready.now need result }
+{
+    let geometry = &ready.volume.geometry;
+    if ready.horizon == geometry.slots() {
+        return Err(Refusal::SlotsFull);
+    }
+    let free = geometry.cells() - ready.edge;
+    if need > free {
+        return Err(Refusal::Full { need, free });
+    }
+    Ok(())
 }

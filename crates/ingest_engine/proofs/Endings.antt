@@ -1,0 +1,109 @@
+-- How an ingest ends, by how far it has come.
+use Rattle.std.proofs.Common.{◌≡◌, ◌<◌, ℕ, List, [], length, Option, Some, None, Ok, Err, Result, refl, sym, ap, subst, ◌∙◌, inl, inr, arith}
+use Rattle.std.specs.Prelude.{IsTrue, slice_get}
+use Rattle.std.proofs.lemmas.Option.{none-some}
+use Rattle.cell_types.specs.Image.{Image}
+use Rattle.cell_types.specs.Layout.{Layout}
+use Rattle.cell_types.specs.Refusals.{refusal_of_fault}
+use Rattle.cell_types.specs.declared.refusal.Fault.{Fault}
+use Rattle.cell_types.specs.declared.refusal.Fault.TheVariants as faults
+use Rattle.cell_types.specs.declared.refusal.Refusal.{Refusal}
+use Rattle.cell_types.specs.declared.refusal.Refusal.TheVariants.{DeviceFault, Full, NotAVolume, NotFormatted, SlotsFull, Tampered, WrongSize}
+use Rattle.stored_documents.specs.Documents.{IsDocument, stored_bytes}
+use Rattle.stored_documents.specs.Slots.{IsUnused, cells_for}
+use Rattle.stored_documents.specs.Volumes.{IsVolume}
+use Rattle.stored_documents.proofs.Extending.{volume_on}
+use Rattle.worm_device.specs.Calls.{Called}
+use Rattle.worm_device.specs.State.{DeviceState}
+use Rattle.worm_device.proofs.Elapsing.{called_self, called_then}
+use Rattle.recovery_engine.specs.Entries.{target_of}
+use Rattle.recovery_engine.specs.Settling.{HasSettled, SettleEnds, Settles}
+use Rattle.recovery_engine.specs.declared.settling.Ready.{Ready}
+use Rattle.plan_writer.specs.CrashLaws.{CrashesLeaveWholeSlots}
+use Rattle.plan_writer.specs.Planned.{PlansDocument, Suits}
+use Rattle.plan_writer.specs.PuttingPlans.{PlanEnds, PutsPlan}
+use Rattle.plan_writer.specs.declared.plan.Plan.{Plan}
+use Rattle.ingest_engine.specs.Ingesting.{ComesTo, HasNoRoom, IngestEnds, Ingests, RoomEnds}
+use Rattle.ingest_engine.proofs.CrashedIngests.{crashed}
+
+-- settling has just been done
+pub just_settled : {old new : DeviceState} {r : Ready} → Settles old new (Ok r) → HasSettled old new r
+just_settled {old} {new} s = record { settled = new; settles = s; looked = called_self new; quiet = λ still cell. refl }
+
+module _ (id body : List ℕ) (old new : DeviceState) where
+  refused : (refusal : Refusal) → SettleEnds old new (Err refusal) → IngestEnds id body old new (Err refusal)
+  refused DeviceFault ends = ends
+  refused (Tampered e) ends = ends
+  refused NotFormatted ends = ends
+  refused (NotAVolume found) ends = ends
+  refused (WrongSize stated real) ends = ends
+  refused refusal ends = absurd ends
+
+  no_room : (r : Ready) (refusal : Refusal) → HasSettled old new r
+      → RoomEnds r (cells_for (length (stored_bytes id body))) (Err refusal) → IngestEnds id body old new (Err refusal)
+  no_room r SlotsFull h ends = record { ready = r; settled = h; room = ends }
+  no_room r (Full need free) h ends = record { ready = r; settled = h; room = ends }
+  no_room r refusal h ends = absurd ends
+
+  module _ (law : CrashesLeaveWholeSlots) where
+    -- an ingest that has come so far, and ends in this way
+    far : (result : Result ℕ Refusal) → Called old new → ComesTo id body old new → IngestEnds id body old new result
+        → Ingests id body old new result
+    far result called comes ends = record {
+      called = called;
+      comes = comes;
+      crashes = crashed id body old new law called comes;
+      ends = ends;
+    }
+
+    -- settling was ended
+    pub unsettled : (refusal : Refusal) → Settles old new (Err refusal) → Ingests id body old new (Err refusal)
+    unsettled refusal s = far (Err refusal) s.called (ComesTo.settling refusal s) (refused refusal s.ends)
+
+    -- there was no room
+    pub unroomed : (r : Ready) (need : ℕ) (refusal : Refusal) → need ≡ cells_for (length (stored_bytes id body))
+        → Settles old new (Ok r) → RoomEnds r need (Err refusal) → Ingests id body old new (Err refusal)
+    unroomed r need refusal same s ends = far (Err refusal) s.called (ComesTo.settled r (just_settled s))
+        (no_room r refusal (just_settled s) (subst (λ (n : ℕ). RoomEnds r n (Err refusal)) same ends))
+
+  -- a journal of no cells asks for none
+  asks_none : (cells : List (List ℕ)) (image : Image) (target : List ℕ → ℕ) → cells ≡ [] → (k : ℕ) (value : List ℕ)
+      → slice_get cells k ≡ Some value → image (target value) ≡ None
+  asks_none cells image target none k value is =
+      absurd (none-some value (sym (ap (λ (l : List (List ℕ)). slice_get l k) none) ∙ is))
+
+  -- Putting a plan of no journal was ended.
+  put_refused : (g : Layout) (p : Plan) (n : ℕ) (fault : Fault) → p.journal.now ≡ [] → PlanEnds g p n old new (Err fault)
+      → IngestEnds id body old new (Err (refusal_of_fault fault))
+  put_refused g p n faults.ReadFault none ends = ends
+  put_refused g p n (faults.Tampered e) none ends = λ tells.
+      let found = ends tells in
+      record {
+        licensed = found.licensed;
+        before = λ still. found.before still (asks_none p.journal.now old.image target_of none);
+      }
+
+  module _ (law : CrashesLeaveWholeSlots) (looked : DeviceState) (r : Ready) (p : Plan) (s : Settles old looked (Ok r))
+      (starts : p.start ≡ r.edge) (suits : Suits r.volume.geometry p) (plans : PlansDocument p id body)
+      (puts : PutsPlan r.horizon p looked new) where
+    comes_to_put : ComesTo id body old new
+    comes_to_put = ComesTo.put looked r p (just_settled s) starts suits plans puts
+
+    -- and then the plan was not put
+    pub unput : (fault : Fault) → p.journal.now ≡ [] → PlanEnds r.volume.geometry p r.horizon old new (Err fault)
+        → Ingests id body old new (Err (refusal_of_fault fault))
+    unput fault none ends = far law (Err (refusal_of_fault fault)) (called_then s.called puts.called) comes_to_put
+        (put_refused r.volume.geometry p r.horizon fault none ends)
+
+    -- or it was
+    pub put : (slot : ℕ) → PlanEnds r.volume.geometry p r.horizon old new (Ok slot) → Ingests id body old new (Ok slot)
+    put slot ends = far law (Ok slot) (called_then s.called puts.called) comes_to_put (λ tells.
+        let carried = ends.1 tells in
+        let volume : IsVolume looked.cells looked.image r.volume.geometry = (s.ends.1 tells).volume in
+        record {
+          layout = r.volume.geometry;
+          volume = subst (λ (cells : ℕ). IsVolume cells new.image r.volume.geometry) (sym puts.called.cells) (volume_on puts.called.image volume);
+          unused = subst (IsUnused r.volume.geometry old.image) (sym ends.0) carried.unused;
+          document = subst (λ (n : ℕ). IsDocument new.cells new.sure n id body) (sym ends.0) (carried.document id body plans);
+          synced = carried.synced;
+        })
