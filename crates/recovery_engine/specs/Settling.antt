@@ -76,8 +76,7 @@ pub record LiesInBounds (new : DeviceState) (r : Ready) : Type 0 where
 
 -- How settling may end, and why. Memory is not taken, so it never lacks.
 abbrev pub SettleEnds : DeviceState → DeviceState → Result Ready Refusal → Type 0
-SettleEnds old new (Ok r) =
-    LiesInBounds new r × (new.faults ≡ old.faults) × (IsTrue old.tells → IsReady old new r)
+SettleEnds old new (Ok r) = LiesInBounds new r × (IsTrue old.tells → IsReady old new r)
 SettleEnds old new (Err DeviceFault) = Rose old.faults new.faults
 SettleEnds old new (Err NotFormatted) = IsTrue old.tells → old.image 0 ≡ None
 SettleEnds old new (Err (NotAVolume found)) =
@@ -121,3 +120,10 @@ pub record Settles (old new : DeviceState) (result : Result Ready Refusal) : Typ
   pub called : Called old new
   pub writes : IsTrue old.tells → EndsByPhases old new result
   pub ends : SettleEnds old new result
+
+-- The volume was settled, and has only been looked at since.
+pub record HasSettled (old new : DeviceState) (r : Ready) : Type 0 where
+  pub settled : DeviceState
+  pub settles : Settles old settled (Ok r)
+  pub looked : Called settled new
+  pub quiet : IsStill settled.foreign_writes new.foreign_writes → IsUnchanged settled.image new.image
