@@ -1,25 +1,25 @@
 -- The last slot and the one before it, seen one after the other.
-use Rattle.std.proofs.Common.{◌≡◌, ◌≢◌, ◌<◌, ◌≤◌, ◌+◌, ◌⊎◌, ℕ, List, Some, None, Ok, Err, refl, sym, ap, ◌∙◌, inl, inr, ⊎_elim, subst, arith}
-use Rattle.std.specs.Prelude.{IsTrue, Result}
+use Rattle.std.proofs.Common.{◌≡◌, ◌≢◌, ◌<◌, ◌+◌, ℕ, Some, None, Ok, Err, sym, ap, ◌∙◌, inl, ⊎_elim, subst, arith}
+use Rattle.std.specs.Prelude.{IsTrue}
 use Rattle.cell_types.specs.Image.{Image, Extends, IsUnchanged}
-use Rattle.cell_types.specs.Layout.{Layout, reserve_at, pool_at}
+use Rattle.cell_types.specs.Layout.{Layout, pool_at}
 use Rattle.cell_types.specs.declared.refusal.Evidence.{Evidence}
 use Rattle.cell_types.specs.declared.refusal.Fault.{Fault}
 use Rattle.cell_types.specs.declared.refusal.Fault.TheVariants.{Tampered, ReadFault}
 use Rattle.commit_record.specs.Reservations.{reservation_of}
-use Rattle.commit_record.specs.States.{IsState, LiesInPool, StateEnds}
+use Rattle.commit_record.specs.States.{IsState, StateEnds}
 use Rattle.commit_record.specs.declared.reservation.Reservation.{Reservation}
 use Rattle.commit_record.specs.declared.slot.SlotState.{SlotState}
 use Rattle.commit_record.specs.declared.slot.SlotState.TheVariants.{Unused, Reserved, Abandoned, Committed, Done}
 use Rattle.tamper_rules.specs.Rules.{ReserveRule, ReserveCells}
 use Rattle.stored_documents.specs.Slots.{Reserves, HasEnded, EndsBelow}
-use Rattle.stored_documents.proofs.Extending.{unused_further, reserved_further, abandoned_further, committed_further, done_on, reserves_on, ended_further, ends_on}
-use Rattle.worm_device.specs.Counts.{IsStill, Rose}
+use Rattle.stored_documents.proofs.Extending.{unused_further, reserved_further, abandoned_further, committed_further, done_on, reserves_on, ended_further}
+use Rattle.worm_device.specs.Counts.{IsStill}
 use Rattle.worm_device.specs.Views.{ViewState, Viewed}
 use Rattle.worm_device.proofs.Counting.{still_second}
 use Rattle.worm_device.proofs.Images.{extends_self}
 use Rattle.worm_device.proofs.Resting.{rests_of}
-use Rattle.recovery_engine.specs.LastSlot.{Follows, IsLast, IsFollowed, IsReserveCell, IsNamed, LastEnds}
+use Rattle.recovery_engine.specs.LastSlot.{IsFollowed, IsReserveCell, IsNamed, LastEnds}
 use Rattle.recovery_engine.proofs.States.{reserved_by, reserves_one, followed, not_followed}
 
 -- a state seen between two images was seen between any that lie further apart
@@ -45,7 +45,7 @@ out_of_order : (g : Layout) (n total from to : ℕ) (image : Image) (cells : Res
     → (IsStill from to → ReserveRule g image n → ⊥) → IsNamed g total from to image e
 out_of_order g n total from to image cells e less is r why =
     let stands : image e.cell ≡ Some e.found =
-        ap image is.at ∙ r.reserve.stands ∙ ap Some (r.reserve.is.same ∙ sym is.found) in
+    ap image is.at ∙ r.reserve.stands ∙ ap Some (r.reserve.is.same ∙ sym is.found) in
     record {
       stands = stands;
       place = (ReserveCells, is.rule, (n, less, is.at));

@@ -1,5 +1,5 @@
 -- Evidence that settling names in a journal, and in the cells that end a slot.
-use Rattle.std.proofs.Common.{◌≡◌, ◌≢◌, ◌≤◌, ◌<◌, ◌+◌, ◌-◌, ◌^◌, ◌⊎◌, ℕ, zero, suc, List, Option, Some, None, Ok, Err, refl, sym, ap, ◌∙◌, inl, inr, ⊎_elim, subst, arith}
+use Rattle.std.proofs.Common.{◌≡◌, ◌≢◌, ◌≤◌, ◌<◌, ◌+◌, ◌^◌, ◌⊎◌, ℕ, zero, suc, List, Some, None, Ok, Err, refl, sym, ap, ◌∙◌, inl, inr, ⊎_elim, subst, arith}
 use Rattle.std.specs.Prelude.{IsTrue, Result}
 use Rattle.cell_types.specs.Image.{Image, Extends, IsUnchanged}
 use Rattle.cell_types.specs.Layout.{Layout, reserve_at, outcome_at, done_at, list_at}
@@ -13,7 +13,6 @@ use Rattle.cell_types.specs.declared.refusal.Fault.{Fault}
 use Rattle.cell_types.specs.declared.refusal.Fault.TheVariants as faults
 use Rattle.cell_types.proofs.OneRecord.{address_in}
 use Rattle.commit_record.specs.Licences.{IsLicensed}
-use Rattle.commit_record.specs.declared.reservation.Reservation.{Reservation}
 use Rattle.commit_record.specs.declared.slot.SlotState.{SlotState}
 use Rattle.commit_record.specs.declared.slot.SlotState.TheVariants.{Unused, Reserved, Abandoned, Committed, Done}
 use Rattle.phase_writer.specs.declared.put.Blame.{Blame}
@@ -31,15 +30,15 @@ use Rattle.stored_documents.specs.Slots.{Commits, Stores}
 use Rattle.stored_documents.specs.Volumes.{IsVolume, Holds}
 use Rattle.stored_documents.proofs.Extending.{commits_on, ended_further, ends_on, volume_on}
 use Rattle.worm_device.specs.Calls.{Called}
-use Rattle.worm_device.specs.Counts.{IsStill, Rose}
+use Rattle.worm_device.specs.Counts.{IsStill}
 use Rattle.worm_device.specs.State.{DeviceState}
 use Rattle.worm_device.proofs.Counting.{still_first, still_second}
 use Rattle.worm_device.proofs.Elapsing.{called_then}
 use Rattle.worm_device.proofs.Images.{extends_self}
-use Rattle.recovery_engine.specs.Ending.{HasJournal, HasFlaw, SlotCheckEnds, abandon_put, done_put, end_plan, end_phases, journal_of}
-use Rattle.recovery_engine.specs.Journal.{IsEntryOf, IsEntryPut, IsUnfitAt, IsFlawed, JournalEnds}
+use Rattle.recovery_engine.specs.Ending.{HasJournal, SlotCheckEnds, abandon_put, done_put, end_plan, end_phases, journal_of}
+use Rattle.recovery_engine.specs.Journal.{IsEntryPut, IsUnfitAt, IsFlawed, JournalEnds}
 use Rattle.recovery_engine.specs.declared.journal.Journal.{Journal}
-use Rattle.recovery_engine.specs.LastSlot.{Follows, IsLast}
+use Rattle.recovery_engine.specs.LastSlot.{IsLast}
 use Rattle.recovery_engine.specs.Settling.{IsFound, SettleEnds}
 use Rattle.recovery_engine.proofs.InOrder.{state_further}
 
@@ -436,8 +435,10 @@ module _ (g : Layout) (n : ℕ) (s0 s3 s4 s5 : DeviceState) (c03 : Called s0 s3)
               place = (
                 Targets,
                 refl,
-                (omega (arith, is.1, commits.reserves.from, commits.fits),
-                omega (arith, is.1, commits.reserves.to, commits.fits)),
+                (
+                  omega (arith, is.1, commits.reserves.from, commits.fits),
+                  omega (arith, is.1, commits.reserves.to, commits.fits),
+                ),
               );
               broken = λ still. target_broken g n s l b j s5.cells s5.image k put.value taken.found volume_5
                   (stores_5 still) is.1 stands copy small other taken.differs;

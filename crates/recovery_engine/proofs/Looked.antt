@@ -1,5 +1,5 @@
 -- What settling knows when all that stood is sure, and it has only looked since.
-use Rattle.std.proofs.Common.{true, false, ◌≡◌, ◌≤◌, ◌<◌, ◌+◌, ◌-◌, ◌⊎◌, ℕ, List, Some, None, Ok, Err, refl, sym, ap, ◌∙◌, inl, inr, ⊎_elim, subst, arith}
+use Rattle.std.proofs.Common.{true, false, ◌≡◌, ◌≤◌, ◌<◌, ◌+◌, ◌-◌, ◌⊎◌, ℕ, Ok, Err, refl, sym, ◌∙◌, inl, inr, ⊎_elim, subst, arith}
 use Rattle.std.specs.Prelude.{IsTrue, IsOk, Result}
 use Rattle.cell_types.specs.Image.{Image, Extends, Between, IsUnchanged}
 use Rattle.cell_types.specs.declared.refusal.Fault.{Fault}
@@ -8,10 +8,10 @@ use Rattle.cell_types.specs.declared.refusal.Refusal.TheVariants.{DeviceFault}
 use Rattle.commit_record.specs.declared.slot.SlotState.{SlotState}
 use Rattle.commit_record.specs.declared.slot.SlotState.TheVariants.{Unused, Reserved, Abandoned, Committed, Done}
 use Rattle.phase_writer.specs.declared.put.Put.{Put}
-use Rattle.phase_writer.specs.Putting.{ChangesBy, IsInFirst, LeavesPhases, CrashesLeavePhases, PutsPhases}
+use Rattle.phase_writer.specs.Putting.{IsInFirst, LeavesPhases, CrashesLeavePhases, PutsPhases}
 use Rattle.phase_writer.proofs.Phasing.{changes_same, changes_wider, phases_append, phases_append_ended}
 use Rattle.worm_device.specs.Calls.{Called, Syncs}
-use Rattle.worm_device.specs.Counts.{IsStill, Rose}
+use Rattle.worm_device.specs.Counts.{IsStill}
 use Rattle.worm_device.specs.State.{DeviceState, LeftSince}
 use Rattle.worm_device.specs.declared.device.Failed.{Failed}
 use Rattle.worm_device.proofs.Counting.{still_first, still_second}
@@ -21,7 +21,6 @@ use Rattle.recovery_engine.specs.Ending.{HasJournal, IsFirstEnd, IsLastEnd, end_
 use Rattle.recovery_engine.specs.Settling.{Settles, SettleEnds, EndsByPhases, IsEnding, settle_plan}
 use Rattle.recovery_engine.specs.LastSlot.{IsLast}
 use Rattle.cell_types.specs.Layout.{Layout}
-use Rattle.commit_record.specs.States.{IsState}
 use Rattle.stored_documents.specs.Slots.{IsHorizon}
 use Rattle.stored_documents.specs.Volumes.{IsVolume}
 use Rattle.stored_documents.proofs.Extending.{horizon_further}

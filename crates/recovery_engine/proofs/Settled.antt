@@ -1,37 +1,36 @@
 -- A volume that is settled: from the looks over the slot's last cell to the end.
-use Rattle.std.proofs.Common.{◌≡◌, ◌≢◌, ◌≤◌, ◌<◌, ◌+◌, ◌^◌, ◌⊎◌, ℕ, List, Option, Some, None, Ok, Err, refl, sym, ap, ◌∙◌, inl, inr, ⊎_elim, subst, arith}
-use Rattle.std.specs.Prelude.{IsTrue, Result}
-use Rattle.cell_types.specs.Image.{Image, Extends, IsUnchanged}
-use Rattle.cell_types.specs.Layout.{Layout, reserve_at, outcome_at, done_at}
+use Rattle.std.proofs.Common.{◌≡◌, ◌≤◌, ◌<◌, ◌+◌, ℕ, List, Some, None, Ok, Err, refl, sym, ◌∙◌, inl, inr, subst, arith}
+use Rattle.std.specs.Prelude.{IsTrue}
+use Rattle.cell_types.specs.Image.{Extends, IsUnchanged}
+use Rattle.cell_types.specs.Layout.{Layout, IsLayout, reserve_at, outcome_at, done_at}
 use Rattle.cell_types.specs.Records.{record_bytes}
 use Rattle.cell_types.specs.declared.geometry.TheConstants.{MAX_SLOTS}
 use Rattle.cell_types.specs.declared.record_cell.RecordCell.TheVariants as records
 use Rattle.cell_types.specs.declared.refusal.Evidence.{Evidence}
-use Rattle.cell_types.specs.declared.refusal.Refusal.{Refusal}
-use Rattle.cell_types.specs.declared.refusal.Refusal.TheVariants.{Tampered, DeviceFault}
 use Rattle.commit_record.specs.Reservations.{reservation_of}
 use Rattle.commit_record.specs.Licences.{IsLicensed}
 use Rattle.commit_record.specs.declared.reservation.Reservation.{Reservation}
 use Rattle.commit_record.specs.declared.slot.SlotState.{SlotState}
 use Rattle.commit_record.specs.declared.slot.SlotState.TheVariants.{Unused, Reserved, Abandoned, Committed, Done}
-use Rattle.stored_documents.specs.Slots.{Reserves, HasEnded, EndsBelow, IsHorizon, AreTaken}
+use Rattle.stored_documents.specs.Slots.{Reserves, HasEnded, IsHorizon, AreTaken}
 use Rattle.stored_documents.specs.Volumes.{IsVolume}
-use Rattle.stored_documents.proofs.Extending.{blank_before, reserves_on, commits_on, reserved_further, abandoned_further, committed_further, done_on, horizon_further, taken_on, volume_on}
+use Rattle.stored_documents.proofs.Extending.{blank_before, reserves_on, commits_on, reserved_further, abandoned_further, committed_further, done_on, horizon_further, taken_on}
 use Rattle.cell_types.specs.declared.refusal.Fault.{Fault}
 use Rattle.cell_types.specs.declared.refusal.Fault.TheVariants as faults
 use Rattle.commit_record.specs.Opening.{OpenEnds, refusal_of}
 use Rattle.commit_record.specs.declared.opening.OpenRefusal.{OpenRefusal}
 use Rattle.commit_record.specs.declared.opening.OpenRefusal.TheVariants.{NotFormatted, NotAVolume, WrongSize, ReadFault}
-use Rattle.worm_device.specs.declared.device.Failed.{Failed}
 use Rattle.worm_device.specs.Views.{seen_directly}
-use Rattle.worm_device.specs.Calls.{Called, Syncs}
-use Rattle.worm_device.specs.Counts.{IsStill, Rose}
+use Rattle.worm_device.specs.Calls.{Called}
+use Rattle.worm_device.specs.Counts.{IsStill}
 use Rattle.worm_device.specs.State.{DeviceState}
 use Rattle.worm_device.proofs.Counting.{still_first, still_second}
 use Rattle.worm_device.proofs.Elapsing.{called_then}
 use Rattle.worm_device.proofs.Images.{extends_self, extends_then}
 use Rattle.recovery_engine.specs.LastSlot.{IsLast, IsNamed, LastEnds}
-use Rattle.recovery_engine.specs.Settling.{StepMakes, IsReady, SettleEnds}
+use Rattle.recovery_engine.specs.Settling.{StepMakes, IsReady, LiesInBounds, SettleEnds, unused}
+use Rattle.cell_types.specs.declared.geometry.Volume.{Volume}
+use Rattle.cell_types.specs.declared.record_cell.TheConstants.{FORMAT_VERSION}
 use Rattle.cell_types.specs.Refusals.{refusal_of_fault}
 use Rattle.recovery_engine.specs.Ending.{HasJournal, abandon_put, done_put, end_plan, end_phases, step_of}
 use Rattle.phase_writer.specs.Putting.{PutsPhases}
@@ -39,8 +38,6 @@ use Rattle.phase_writer.specs.declared.put.Blame.TheVariants.{Journal}
 use Rattle.recovery_engine.specs.Entries.{target_of}
 use Rattle.tamper_rules.specs.Journals.{journal_at}
 use Rattle.recovery_engine.specs.declared.settling.Ready.{Ready}
-use Rattle.recovery_engine.specs.declared.settling.Step.{Step}
-use Rattle.recovery_engine.specs.declared.settling.Step.TheVariants as steps
 use Rattle.recovery_engine.proofs.Licensed.{stays_free, found_looked}
 use Rattle.recovery_engine.proofs.Looked.{Looked}
 use Rattle.recovery_engine.proofs.States.{reserved_by}
@@ -131,12 +128,45 @@ module _ (g : Layout) (n u : ℕ) (cells : Reservation) (next : u ≡ n + 1) (le
         let e25 = still_second c02.foreign_writes (omega (arith, more, c45.foreign_writes)) still in
         stays_free g n r.horizon state s4 s5 u0 (subst (λ (h : Layout). r.horizon < h.slots) e_g under) entries phases tells (still_second more c45.foreign_writes e25)
         (quiet (still_first more c45.foreign_writes e25) (reserve_at r.horizon) ∙ horizon.free under);
-    edge = inr (n, cells.start, cells.length, e_u ∙ next,
-        subst (λ (h : Layout). Reserves h s5.image n cells.start cells.length) (sym e_g)
-        (reserves_on c45.image (reserved_by g s3.image s4.image n state cells last.is reserved)), e_edge);
+    edge = inr (
+      n,
+      cells.start,
+      cells.length,
+      e_u ∙ next,
+      subst (λ (h : Layout). Reserves h s5.image n cells.start cells.length) (sym e_g)
+          (reserves_on c45.image (reserved_by g s3.image s4.image n state cells last.is reserved)),
+      e_edge,
+    );
     step = subst (λ (h : Layout). StepMakes h s0 s5 r.horizon r.step) (sym e_g) (subst (λ (k : ℕ). StepMakes g s0 s5 k r.step) (sym e_u) (subst (StepMakes g s0 s5 u) (sym e_step) (step_makes state u0 last entries reserved phases)));
     synced = synced;
   }
+
+-- a volume of which no slot is used
+pub unused_bounds : (new : DeviceState) (volume : Volume) → volume.version ≡ FORMAT_VERSION
+    → IsLayout volume.geometry → volume.geometry.cells ≡ new.cells → LiesInBounds new (unused volume)
+unused_bounds new volume version layout size = record {
+  version = version;
+  layout = layout;
+  size = size;
+  horizon = omega arith;
+  from = omega arith;
+  to = layout.pool;
+}
+
+pub unused_ready : (s0 s2 s3 : DeviceState) (volume : Volume) → Called s0 s2 → Called s2 s3
+    → (IsStill s2.foreign_writes s3.foreign_writes → IsUnchanged s2.image s3.image)
+    → IsVolume s3.cells s3.image volume.geometry → IsHorizon volume.geometry s2.image s3.image 0
+    → Extends s0.image s3.sure → IsReady s0 s3 (unused volume)
+unused_ready s0 s2 s3 volume c02 c23 quiet is horizon synced = record {
+  volume = is;
+  horizon = horizon_further c02.image (extends_self s3.image) horizon;
+  taken = λ m below. absurd (omega (arith, below));
+  free = λ still under.
+      quiet (still_second c02.foreign_writes c23.foreign_writes still) (reserve_at 0) ∙ horizon.free under;
+  edge = inl (refl, refl);
+  step = λ m is. absurd (omega (arith, is));
+  synced = synced;
+}
 
 -- the volume was not opened
 pub open_refused : (s0 s1 s2 : DeviceState) (fault : OpenRefusal) → Looked s0 s1 → Looked s0 s2 → Called s1 s2

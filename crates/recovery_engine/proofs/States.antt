@@ -1,5 +1,5 @@
 -- What the states of slots say of reservations and of their order.
-use Rattle.std.proofs.Common.{◌≡◌, ◌<◌, ◌≤◌, ◌+◌, ◌^◌, ◌⊎◌, ℕ, List, Option, Some, None, refl, sym, ap, ◌∙◌, inl, inr, ⊎_elim, subst, arith}
+use Rattle.std.proofs.Common.{◌≡◌, ◌<◌, ◌+◌, ◌^◌, ℕ, Some, None, refl, sym, ◌∙◌, inl, inr, ⊎_elim, subst, arith}
 use Rattle.std.specs.Prelude.{IfSome}
 use Rattle.cell_types.specs.Image.{Image}
 use Rattle.cell_types.specs.Layout.{Layout, reserve_at, outcome_at, done_at, pool_at}

@@ -1,5 +1,5 @@
 -- One phase, or two.
-use Rattle.std.proofs.Common.{sym, subst, Ok, Err}
+use Rattle.std.proofs.Common.{subst, Ok, Err}
 use Rattle.cell_types.specs.declared.record_cell.RecordCell.TheVariants.{Abandon}
 use Rattle.phase_writer.specs.Putting.{PutsPhase}
 use Rattle.phase_writer.proofs.Passed.{handed}

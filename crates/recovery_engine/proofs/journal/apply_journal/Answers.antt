@@ -1,5 +1,5 @@
 -- One journal cell after another.
-use Rattle.std.proofs.Common.{◌≡◌, ◌<◌, ◌≤◌, ◌+◌, ℕ, subst, arith, Ok, Err}
+use Rattle.std.proofs.Common.{◌≡◌, ℕ, subst, arith, Ok}
 use Rattle.phase_writer.specs.Putting.{Puts}
 use Rattle.phase_writer.proofs.Passed.{handed}
 use Rattle.phase_writer.proofs.Phasing.{phase_synced}
