@@ -17,11 +17,18 @@ use Rattle.commit_record.specs.Reservations.{reservation_of}
 use Rattle.commit_record.specs.States.{IsState, LiesInPool}
 use Rattle.commit_record.specs.declared.reservation.Reservation.{Reservation}
 use Rattle.commit_record.specs.declared.slot.SlotState.{SlotState}
+use Rattle.commit_record.specs.declared.slot.SlotState.TheVariants.{Abandoned, Done}
 
 -- slot n's cells, from start on, begin where those of the slots below end, and the slot before is abandoned or done
 pub record Follows (g : Layout) (before after : Image) (n start : ℕ) : Type 0 where
   pub begins : EndsBelow g after n start
   pub ended : (m : ℕ) → n ≡ m + 1 → HasEnded g before after m
+
+-- cells from this one on follow those of a slot in this state: it is abandoned or done, and its own end there
+abbrev pub IsFollowed : SlotState → ℕ → Type 0
+IsFollowed (Abandoned start length) next = start + length ≡ next
+IsFollowed (Done start length bytes journal) next = start + length ≡ next
+IsFollowed state next = ⊥
 
 -- slot n is in this state, and where it reserves cells it follows those below it
 pub record IsLast (g : Layout) (before after : Image) (n : ℕ) (state : SlotState) : Type 0 where
@@ -34,8 +41,8 @@ pub record IsReserveCell (n : ℕ) (cells : Reservation) (e : Evidence) : Type 0
   pub at : e.cell ≡ reserve_at n
   pub found : e.found ≡ record_bytes (Reserve cells.start cells.length) (reserve_at n)
 
--- The evidence stands, in the place of its rule. Where nobody else wrote, as these values of the count of foreign writes
--- say, and cell 0 states this layout, its rule is broken there.
+-- The evidence stands, in the place of its rule. Where nobody else wrote, as these values of the count of foreign
+-- writes say, and cell 0 states this layout, its rule is broken there.
 pub record IsNamed (g : Layout) (cells from to : ℕ) (image : Image) (e : Evidence) : Type 0 where
   pub stands : image e.cell ≡ Some e.found
   pub place : IsPlaceOf g e.rule e.cell
