@@ -4,7 +4,7 @@ use Rattle.std.specs.Prelude.{codes}
 use Rattle.std.specs.String.{string_bytes}
 use Rattle.ingest_engine.proofs.Compared.{alike}
 use Rattle.record_top.proofs.Listed.{two}
-use Rattle.record_top.proofs.words.identifier_to_ingest.Goals as goal
+use Rattle.record_top.proofs.words.ingest_of.Goals as goal
 
 pub returns-clause-some : goal.returns-clause-some
 returns-clause-some c =

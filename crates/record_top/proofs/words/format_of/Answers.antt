@@ -6,7 +6,7 @@ use Rattle.cell_types.specs.declared.geometry.TheConstants.{MAX_LISTS, MAX_SLOTS
 use Rattle.ingest_engine.proofs.Compared.{alike}
 use Rattle.record_top.specs.Words.{IsNumberUpTo}
 use Rattle.record_top.proofs.Listed.{three}
-use Rattle.record_top.proofs.words.layout_to_format.Goals as goal
+use Rattle.record_top.proofs.words.format_of.Goals as goal
 
 pub returns-clause-some : goal.returns-clause-some
 returns-clause-some c =
@@ -16,7 +16,7 @@ returns-clause-some c =
       first = string_bytes c.slots-item.result;
       second = string_bytes c.lists-item.result;
       asked = ap (map string_bytes) words ∙ ap (λ (w : List ℕ). w ∷ string_bytes c.slots-item.result ∷ string_bytes c.lists-item.result ∷ []) command;
-      slots_word = subst (λ (w : List ℕ). IsNumberUpTo MAX_SLOTS w c.in-Some.slots) c.as_bytes.ensures.value c.in-Some.ensures.some;
-      lists_word = subst (λ (w : List ℕ). IsNumberUpTo MAX_LISTS w c.in-Some-number_up_to.lists) c.as_bytes-2.ensures.value
-          (subst (λ (most : ℕ). IsNumberUpTo most c.as_bytes-2.result.now c.in-Some-number_up_to.lists) c.from.ensures c.in-Some-number_up_to.ensures.some);
+      slots_word = subst (λ (w : List ℕ). IsNumberUpTo MAX_SLOTS w c.in_ok-slots.slots) c.as_bytes.ensures.value c.in_ok-slots.ensures.some;
+      lists_word = subst (λ (w : List ℕ). IsNumberUpTo MAX_LISTS w c.in_ok-lists.lists) c.as_bytes-2.ensures.value
+          (subst (λ (most : ℕ). IsNumberUpTo most c.as_bytes-2.result.now c.in_ok-lists.lists) c.from.ensures c.in_ok-lists.ensures.some);
     }
