@@ -41,7 +41,8 @@ asks_once words first second a b = some_is first second (sym (asks_reads words f
 
 module _ (old new : Ports) where
   -- whatever is done keeps what every call of the device keeps
-  pub called_of : (request : Request) (result : Result Unit Refusal) → Does request old new result → Called old.device new.device
+  pub called_of : (request : Request) (result : Result Unit Refusal) → Does request old new result
+      → Called old.device new.device
   called_of (ToFormat slots lists) result does = does.called
   called_of (ToIngest id) result does = does.called
 
@@ -51,6 +52,7 @@ module _ (old new : Ports) where
   is_used (ToIngest id) does = does.ends
 
   -- where nothing keeps it from being done, it is
-  pub completes : (request : Request) (result : Result Unit Refusal) → Does request old new result → IsUnhindered request old new → IsOkOrNoMemory result
+  pub completes : (request : Request) (result : Result Unit Refusal) → Does request old new result
+      → IsUnhindered request old new → IsOkOrNoMemory result
   completes (ToFormat slots lists) result does free = format_completes _ old new free result does
   completes (ToIngest id) result does free = ingest_completes id free.0 free.1 old new free.2 result does

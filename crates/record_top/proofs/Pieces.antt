@@ -41,12 +41,13 @@ pub one_piece_more : (text front rest : List ℕ) (n : ℕ) → text ≡ front +
 one_piece_more text front rest n e h = grind (arith, common_steps)
 
 -- what has gone after a part of the next piece is a front of the whole
-pub front_of : (text front rest : List ℕ) (n : ℕ) → text ≡ front ++ rest → take (length front + n) text ≡ front ++ take n rest
+pub front_of : (text front rest : List ℕ) (n : ℕ) → text ≡ front ++ rest
+    → take (length front + n) text ≡ front ++ take n rest
 front_of text front rest n e = ap (take (length front + n)) e ∙ take-append-add front rest n
 
 -- a sink that has got a front of the text and fails at the rest has got some first bytes of the text
-pub part_more : (first old new : SinkState) (text front rest : List ℕ) → text ≡ front ++ rest → Gets first.held old.held front
-    → old.faults ≡ first.faults → PutsPart rest old new → PutsPart text first new
+pub part_more : (first old new : SinkState) (text front rest : List ℕ) → text ≡ front ++ rest
+    → Gets first.held old.held front → old.faults ≡ first.faults → PutsPart rest old new → PutsPart text first new
 part_more first old new text front rest e so_far same part =
     let n = part.gets.0 in
     record {
@@ -54,7 +55,7 @@ part_more first old new text front rest e so_far same part =
         length front + n,
         omega (arith, ap length e, length-append front rest, part.gets.1),
         subst (λ (t : List ℕ). Gets first.held new.held t) (sym (front_of text front rest n e))
-        (gets_then first.held old.held new.held front (take n rest) so_far part.gets.2),
+            (gets_then first.held old.held new.held front (take n rest) so_far part.gets.2),
       );
       faults = subst (λ (faults : ℕ). Rose faults new.faults) same part.faults;
     }

@@ -33,6 +33,6 @@ module _ (body body' : List ℕ) (first old new : SourceState) (so_far : Gives f
   piece_too_long n takes past = (
     body',
     subst (λ (l : List ℕ). Gives first.left new.left l) (sym takes.whole)
-    (gives_then first.left old.left new.left body takes.piece so_far takes.gives),
+        (gives_then first.left old.left new.left body takes.piece so_far takes.gives),
     omega (arith, ap length takes.whole, length-append body takes.piece, takes.count, takes.most, within, past),
   )

@@ -82,7 +82,8 @@ fn take_piece<S: Source>(
     piece: &mut [u8],
     body: &mut Vec<u8>,
 ) -> Result<usize, BodyFault>
-    ensures { PieceEnds (length piece.old) body.old.items body.new.items (S.state source.old) (S.state source.new) result }
+    ensures { PieceEnds (length piece.old) body.old.items body.new.items
+        (S.state source.old) (S.state source.new) result }
 {
     let taken = source.take(piece)?;
     body.extend_from_slice(&piece[..taken])?;

@@ -10,12 +10,22 @@ returns-clause-called g c = called_of _ _ (request_of c.in-Some.command) c.carry
 
 pub returns-clause-does : goal.returns-clause-does
 returns-clause-does g c = λ request asks.
-    let old = ports_of (g.D.Device.state c.args.device.now) (g.S.Source.state c.args.source.now) (g.K.Sink.state c.args.sink.now) in
-    let new = ports_of (g.D.Device.state c.carry_out.new.device) (g.S.Source.state c.carry_out.new.source) (g.K.Sink.state c.carry_out.new.sink) in
-    subst (λ (r : Request). Does r old new c.carry_out.result) (asks_once _ _ request c.in-Some.ensures.some asks) c.carry_out.ensures
+    let device = g.D.Device.state in
+    let source = g.S.Source.state in
+    let sink = g.K.Sink.state in
+    let old = ports_of (device c.args.device.now) (source c.args.source.now) (sink c.args.sink.now) in
+    let ran = c.carry_out in
+    let new = ports_of (device ran.new.device) (source ran.new.source) (sink ran.new.sink) in
+    let one = asks_once _ _ request c.in-Some.ensures.some asks in
+    subst (λ (r : Request). Does r old new ran.result) one ran.ensures
 
 pub returns-clause-complete : goal.returns-clause-complete
 returns-clause-complete g c = λ request asks free.
-    let old = ports_of (g.D.Device.state c.args.device.now) (g.S.Source.state c.args.source.now) (g.K.Sink.state c.args.sink.now) in
-    let new = ports_of (g.D.Device.state c.carry_out.new.device) (g.S.Source.state c.carry_out.new.source) (g.K.Sink.state c.carry_out.new.sink) in
-    completes old new request c.carry_out.result (subst (λ (r : Request). Does r old new c.carry_out.result) (asks_once _ _ request c.in-Some.ensures.some asks) c.carry_out.ensures) free
+    let device = g.D.Device.state in
+    let source = g.S.Source.state in
+    let sink = g.K.Sink.state in
+    let old = ports_of (device c.args.device.now) (source c.args.source.now) (sink c.args.sink.now) in
+    let ran = c.carry_out in
+    let new = ports_of (device ran.new.device) (source ran.new.source) (sink ran.new.sink) in
+    let one = asks_once _ _ request c.in-Some.ensures.some asks in
+    completes old new request ran.result (subst (λ (r : Request). Does r old new ran.result) one ran.ensures) free
