@@ -41,7 +41,8 @@ returns-in_err-put_document g c =
     let passed = c.from_residual-in_err-put_document in
     rw (handed passed.result refusal passed.ensures.1)
     (not_put c.args.id.now c.in_ok-body.body.items old source body.1 body.0 body.2 later refusal
-    (subst (λ (b : List ℕ). PutsDocument c.args.id.now b device later (Err refusal)) c.deref.ensures.value ends.ensures))
+    (subst (λ (b : List ℕ). PutsDocument c.args.id.now b device later (Err refusal)) c.deref.ensures.value
+    ends.ensures))
 
 pub returns-in_err-put_text : goal.returns-in_err-put_text
 returns-in_err-put_text g c =
@@ -55,7 +56,8 @@ returns-in_err-put_text g c =
     let failed = c.from_residual-in_err-put_text in
     rw (handed failed.result SinkFault failed.ensures.1)
     (not_acknowledged c.args.id.now c.in_ok-body.body.items old source body.1 body.0 body.2 later sink puts.field-0
-    (subst (λ (b : List ℕ). PutsDocument c.args.id.now b device later (Ok puts.field-0)) c.deref.ensures.value puts.ensures)
+    (subst (λ (b : List ℕ). PutsDocument c.args.id.now b device later (Ok puts.field-0)) c.deref.ensures.value
+    puts.ensures)
     c.as_bytes.result.now (◌∙◌ {c = acknowledgement 0} c.as_bytes.ensures.value c.in_ok-text.ensures.ok)
     c.in_err-put_text.ensures.part)
 
@@ -69,6 +71,7 @@ returns g c =
     let body = c.in_ok-body.ensures.body in
     let puts = c.in_ok-put_document in
     acknowledged c.args.id.now c.in_ok-body.body.items old source body.1 body.0 body.2 later sink puts.field-0
-    (subst (λ (b : List ℕ). PutsDocument c.args.id.now b device later (Ok puts.field-0)) c.deref.ensures.value puts.ensures)
+    (subst (λ (b : List ℕ). PutsDocument c.args.id.now b device later (Ok puts.field-0)) c.deref.ensures.value
+    puts.ensures)
     c.as_bytes.result.now (◌∙◌ {c = acknowledgement 0} c.as_bytes.ensures.value c.in_ok-text.ensures.ok)
     c.in_ok-put_text.ensures.whole

@@ -23,7 +23,9 @@ returns-clause-some c =
       second = string_bytes second;
       asked = ap (map string_bytes) words
           ∙ ap (λ (w : List ℕ). w ∷ string_bytes first ∷ string_bytes second ∷ []) command;
-      slots_word = subst (λ (w : List ℕ). IsNumberUpTo MAX_SLOTS w slots.slots) c.as_bytes.ensures.value slots.ensures.some;
+      slots_word = subst (λ (w : List ℕ). IsNumberUpTo MAX_SLOTS w slots.slots) c.as_bytes.ensures.value
+          slots.ensures.some;
       lists_word = subst (λ (w : List ℕ). IsNumberUpTo MAX_LISTS w lists.lists) c.as_bytes-2.ensures.value
-          (subst (λ (most : ℕ). IsNumberUpTo most c.as_bytes-2.result.now lists.lists) c.from.ensures lists.ensures.some);
+          (subst (λ (most : ℕ). IsNumberUpTo most c.as_bytes-2.result.now lists.lists) c.from.ensures
+          lists.ensures.some);
     }
