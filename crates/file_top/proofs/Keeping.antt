@@ -9,7 +9,8 @@ use Rattle.host_files.specs.Device.{device_at, device_over, now_in}
 use Rattle.host_files.specs.File.{FileState, Told}
 use Rattle.host_ports.specs.Sinks.{SinkState}
 use Rattle.host_ports.specs.Sources.{SourceState}
-use Rattle.record_top.specs.Run.{Ports, Ingests, IngestEnds}
+use Rattle.record_top.specs.Ingesting.{DoesIngest, IngestCommandEnds}
+use Rattle.record_top.specs.Ports.{Ports, ports_of}
 use Rattle.cell_types.specs.declared.refusal.Refusal.TheVariants.{SinkFault}
 use Rattle.worm_device.specs.Calls.{Called}
 use Rattle.stored_documents.specs.Documents.{Stands}
@@ -38,8 +39,8 @@ kept_told cells reads faults parts id body (Some t) seen stands = record {
 -- so it is where the command has stored it
 kept : (cells reads : ℕ) (file : FileState) (id given : List ℕ) (old : Ports) (source : SourceState) (sink : SinkState)
     (result : Result Unit Refusal)
-    → let new : Ports = record { device = device_over cells reads file; source = source; sink = sink } in
-    Called old.device new.device → IngestEnds id given old new result
+    → let new = ports_of (device_over cells reads file) source sink in
+    Called old.device new.device → IngestCommandEnds id given old new result
     → CrashesAreSeen (device_over cells reads file) file.told → HasStored result
     → IfSome file.told (IsKeptIn cells id given)
 kept cells reads file id given old source sink (Ok done) called ends seen stored =
@@ -52,7 +53,7 @@ kept cells reads file id given old source sink (Err refusal) called ends seen st
 
 pub keeps : (cells reads : ℕ) (file : FileState) (id : List ℕ) (old : Ports) (source : SourceState) (sink : SinkState)
     (result : Result Unit Refusal)
-    → Ingests id old (record { device = device_over cells reads file; source = source; sink = sink }) result
+    → DoesIngest id old (ports_of (device_over cells reads file) source sink) result
     → CrashesAreSeen (device_over cells reads file) file.told
     → KeepsIn cells id old.source source file.told result
 keeps cells reads file id old source sink result run seen = record {

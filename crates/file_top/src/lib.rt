@@ -16,7 +16,7 @@ ghost use Rattle.std.specs.String.{string_bytes};
 ghost use Rattle.file_top.specs.Files.{KeepsIn};
 ghost use Rattle.host_files.specs.Crashes.{CrashesAreSeen};
 ghost use Rattle.host_files.specs.Over.{file_below, state_over};
-ghost use Rattle.record_top.specs.Words.{AsksToIngest};
+ghost use Rattle.record_top.specs.Ingesting.{AsksToIngest};
 
 #[cfg(test)]
 mod tests;

@@ -1,5 +1,7 @@
+pub mod Asking
 pub mod Completing
 pub mod Ingesting
 pub mod Listed
+pub mod Passed
 pub mod Pieces
 pub mod Taken

@@ -9,7 +9,8 @@ two (a ∷ []) x y n p q = absurd (omega arith)
 two (a ∷ b ∷ d ∷ xs) x y n p q = absurd (omega arith)
 
 -- and a list of three is the three
-pub three : {A : Type 0} (xs : List A) (x y z : A) → length xs ≡ 3 → x ≡ get_or xs 0 x → y ≡ get_or xs 1 y → z ≡ get_or xs 2 z → xs ≡ x ∷ y ∷ z ∷ []
+pub three : {A : Type 0} (xs : List A) (x y z : A) → length xs ≡ 3 → x ≡ get_or xs 0 x → y ≡ get_or xs 1 y
+    → z ≡ get_or xs 2 z → xs ≡ x ∷ y ∷ z ∷ []
 three (a ∷ b ∷ d ∷ []) x y z n p q r = let e : a ≡ x = sym p in let f : b ≡ y = sym q in let h : d ≡ z = sym r in cc
 three [] x y z n p q r = absurd (omega arith)
 three (a ∷ []) x y z n p q r = absurd (omega arith)

@@ -1,26 +1,38 @@
--- What a source has given when a body was too long, or no memory was to be had for it.
-use Rattle.std.proofs.Common.{◌≡◌, ◌≤◌, ◌+◌, ◌++◌, ℕ, List, length, Err, sym, ap, subst, arith, length-append}
-use Rattle.cell_types.specs.declared.refusal.Refusal.{Refusal}
-use Rattle.cell_types.specs.declared.refusal.Refusal.TheVariants.{NoMemory}
+-- What a source has given when a body was not taken.
+use Rattle.std.proofs.Common.{◌≡◌, ◌≤◌, ◌+◌, ◌++◌, ℕ, List, length, Option, Err, sym, ap, subst, arith, length-append}
 use Rattle.host_ports.specs.Sources.{SourceState, Gives}
-use Rattle.record_top.specs.Taking.{PieceEnds, TakesPiece, LosesPiece}
+use Rattle.stored_documents.specs.Documents.{IsBody}
+use Rattle.stored_documents.specs.declared.limits.TheConstants.{MAX_BODY_BYTES}
+use Rattle.worm_device.specs.Counts.{Rose}
+use Rattle.record_top.specs.declared.body.BodyFault.{BodyFault}
+use Rattle.record_top.specs.declared.body.BodyFault.TheVariants.{TooLong, SourceFailed, NoMemory}
+use Rattle.record_top.specs.Taking.{BodyFails, PieceEnds, TakesPiece}
 use Rattle.record_top.proofs.Pieces.{gives_then}
 
-module _ (most : ℕ) (body body' : List ℕ) (first old new : SourceState) (so_far : Gives first.left old.left body) where
-  lost : (room : ℕ) → LosesPiece room old new → length body + room ≤ most → (given : List ℕ) × (length given ≤ most) × Gives first.left new.left given
-  lost room l within =
-      (body ++ l.piece, omega (arith, length-append body l.piece, l.most, within), gives_then first.left old.left new.left body l.piece so_far l.gives)
-
-  -- no memory was to be had for the last piece
-  pub given_lost : (room : ℕ) (refusal : Refusal) → PieceEnds room body body' old new (Err refusal) → refusal ≡ NoMemory → length body + room ≤ most
-      → (given : List ℕ) × (length given ≤ most) × Gives first.left new.left given
-  given_lost room refusal ends is within = lost room (subst (λ (r : Refusal). PieceEnds room body body' old new (Err r)) is ends) within
+module _ (body body' : List ℕ) (first old new : SourceState) (so_far : Gives first.left old.left body) (room : ℕ)
+    (within : length body + room ≤ MAX_BODY_BYTES + 1) where
+  -- the last piece could not be taken
+  pub piece_failed : (fault : BodyFault) → PieceEnds room body body' old new (Err fault) → IsBody body
+      → old.faults ≡ first.faults
+      → (given : List ℕ) × Gives first.left new.left given × BodyFails given first new fault
+  piece_failed TooLong ends is same = absurd ends
+  piece_failed SourceFailed ends is same = (
+    body,
+    subst (λ (l : Option (List ℕ)). Gives first.left l body) (sym ends.0) so_far,
+    (is, subst (λ (n : ℕ). Rose n new.faults) same ends.1),
+  )
+  piece_failed NoMemory ends is same = (
+    body ++ ends.piece,
+    gives_then first.left old.left new.left body ends.piece so_far ends.gives,
+    omega (arith, length-append body ends.piece, ends.most, within),
+  )
 
   -- the last piece was one byte too long
-  pub given_past : (room n : ℕ) → TakesPiece room body body' old new n → length body + room ≤ most → most ≤ length body'
-      → (given : List ℕ) × (length given ≡ most) × Gives first.left new.left given
-  given_past room n takes within past = (
+  pub piece_too_long : (n : ℕ) → TakesPiece room body body' old new n → MAX_BODY_BYTES + 1 ≤ length body'
+      → (given : List ℕ) × Gives first.left new.left given × BodyFails given first new TooLong
+  piece_too_long n takes past = (
     body',
+    subst (λ (l : List ℕ). Gives first.left new.left l) (sym takes.whole)
+        (gives_then first.left old.left new.left body takes.piece so_far takes.gives),
     omega (arith, ap length takes.whole, length-append body takes.piece, takes.count, takes.most, within, past),
-    subst (λ (l : List ℕ). Gives first.left new.left l) (sym takes.whole) (gives_then first.left old.left new.left body takes.piece so_far takes.gives),
   )

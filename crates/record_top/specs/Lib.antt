@@ -1,3 +1,6 @@
-pub mod Run
+pub mod Commands
+pub mod Formatting
+pub mod Ingesting
+pub mod Ports
 pub mod Taking
 pub mod Words

@@ -1,10 +1,20 @@
--- What taking a body from a source does, a piece at a time.
-use Rattle.std.specs.Prelude.{◌≡◌, ◌<◌, ◌≤◌, ◌++◌, ℕ, List, length, Result, Ok, Err}
+-- What taking a body from a source does: a piece at a time, and as a whole.
+use Rattle.std.specs.Prelude.{◌≡◌, ◌<◌, ◌≤◌, ◌+◌, ◌++◌, ℕ, List, length, Result, Ok, Err}
 use Rattle.cell_types.specs.Bytes.{AreBytes}
 use Rattle.cell_types.specs.declared.refusal.Refusal.{Refusal}
-use Rattle.cell_types.specs.declared.refusal.Refusal.TheVariants.{SourceFault, NoMemory}
+use Rattle.cell_types.specs.declared.refusal.Refusal.TheVariants as refusals
 use Rattle.host_ports.specs.Sources.{SourceState, Gives, IsAtEnd}
+use Rattle.stored_documents.specs.Documents.{IsBody}
+use Rattle.stored_documents.specs.declared.limits.TheConstants.{MAX_BODY_BYTES}
 use Rattle.worm_device.specs.Counts.{Rose}
+use Rattle.record_top.specs.declared.body.BodyFault.{BodyFault}
+use Rattle.record_top.specs.declared.body.BodyFault.TheVariants.{TooLong, SourceFailed, NoMemory}
+
+-- the refusal that says what kept a body from being taken
+abbrev pub refusal_of_body_fault : BodyFault → Refusal
+refusal_of_body_fault TooLong = refusals.TooLong
+refusal_of_body_fault SourceFailed = refusals.SourceFault
+refusal_of_body_fault NoMemory = refusals.NoMemory
 
 -- The next n bytes were taken and stand behind the body so far. None, where there was room, is the end.
 pub record TakesPiece (room : ℕ) (body body' : List ℕ) (old new : SourceState) (n : ℕ) : Type 0 where
@@ -24,8 +34,14 @@ pub record LosesPiece (room : ℕ) (old new : SourceState) : Type 0 where
   pub gives : Gives old.left new.left piece
 
 -- how taking a piece may end
-abbrev pub PieceEnds : ℕ → List ℕ → List ℕ → SourceState → SourceState → Result ℕ Refusal → Type 0
+abbrev pub PieceEnds : ℕ → List ℕ → List ℕ → SourceState → SourceState → Result ℕ BodyFault → Type 0
 PieceEnds room body body' old new (Ok n) = TakesPiece room body body' old new n
-PieceEnds room body body' old new (Err SourceFault) = (new.left ≡ old.left) × Rose old.faults new.faults
+PieceEnds room body body' old new (Err SourceFailed) = (new.left ≡ old.left) × Rose old.faults new.faults
 PieceEnds room body body' old new (Err NoMemory) = LosesPiece room old new
-PieceEnds room body body' old new (Err refusal) = ⊥
+PieceEnds room body body' old new (Err TooLong) = ⊥
+
+-- What the source has given where a body was not taken, and why: at most one byte more than a body may have.
+abbrev pub BodyFails : List ℕ → SourceState → SourceState → BodyFault → Type 0
+BodyFails given old new TooLong = length given ≡ MAX_BODY_BYTES + 1
+BodyFails given old new SourceFailed = IsBody given × Rose old.faults new.faults
+BodyFails given old new NoMemory = length given ≤ MAX_BODY_BYTES + 1

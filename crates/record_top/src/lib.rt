@@ -3,17 +3,19 @@
 //! `ingest a` takes the body to the source's end, has it put onto the device, and then puts out
 //! `acknowledged 0`. Whatever keeps it from this is a refusal that names its cause.
 //!
-//! Stands on `ingest_engine`, which writes, and on `host_ports`. Begin with `command.rt`; `specs/Run.antt` says
-//! how a command may end, and why.
+//! Stands on `ingest_engine`, which writes, and on `host_ports`. Begin with `command.rt`;
+//! `specs/Commands.antt` says which commands there are, and leads to what each does.
 #![tactic(auto)]
 
-mod acknowledge;
 mod body;
 mod command;
+mod format;
+mod ingest;
 #[cfg(test)]
 mod plain;
 #[cfg(test)]
 mod tests;
+mod text;
 mod words;
 
 pub use command::{Outcome, run};

@@ -2,7 +2,10 @@
 ghost use Rattle.std.specs.Prelude.{◌≡◌, ◌≢◌, ◌<◌, ◌≤◌, ◌↔◌, ℕ, List, map, length, slice_index, IsTrue, IfSome, IfNone};
 ghost use Rattle.std.specs.String.{string_bytes};
 ghost use Rattle.stored_documents.specs.Documents.{IsIdentifier};
-ghost use Rattle.record_top.specs.Words.{AsksToFormat, AsksToIngest, IsNumberUpTo};
+ghost use Rattle.record_top.specs.Commands.{Asks, AsksNothing, request_of};
+ghost use Rattle.record_top.specs.Formatting.{AsksToFormat};
+ghost use Rattle.record_top.specs.Ingesting.{AsksToIngest};
+ghost use Rattle.record_top.specs.Words.{IsNumberUpTo};
 
 use cell_types::{MAX_LISTS, MAX_SLOTS};
 use stored_documents::MAX_IDENTIFIER_BYTES;
@@ -10,18 +13,51 @@ use stored_documents::MAX_IDENTIFIER_BYTES;
 /// The greatest number of digits of a number.
 const MAX_DIGITS: usize = 10;
 
-/// Whether the bytes are an identifier: 1 to 200 of them, each a printing ASCII character and no space.
-pub fn is_identifier(bytes: &[u8]) -> bool
-    ensures { IsTrue result ↔ IsIdentifier bytes.now }
-{
-    !bytes.is_empty()
-        && bytes.len() <= MAX_IDENTIFIER_BYTES
-        && bytes.iter().all(|byte| byte.is_ascii_graphic())
+/// A command, with what it was given.
+#[derive(Clone, Copy, Debug, PartialEq, Eq)]
+pub enum Command<'a> {
+    /// Make the device a volume of so many slots and lists, each in its range.
+    Format { slots: u32, lists: u16 },
+    /// Store a document with this identifier.
+    Ingest { id: &'a [u8] },
 }
 
-/// The identifier, where the words are `ingest` and one identifier that begins with no hyphen.
-pub fn identifier_to_ingest(words: &[String]) -> Option<&[u8]>
-    ensures some { IfSome result (λ id. AsksToIngest (map string_bytes words.now) id.now) }
+/// The command that the words ask for.
+pub fn command_of(words: &[String]) -> Option<Command<'_>>
+    ensures some { IfSome result (λ command. Asks (map string_bytes words.now) (request_of command)) }
+    ensures none { IfNone result (AsksNothing (map string_bytes words.now)) }
+{
+    if let Some(command) = format_of(words) {
+        return Some(command);
+    }
+    if let Some(command) = ingest_of(words) {
+        return Some(command);
+    }
+    None
+}
+
+/// The command `format`, where the words are this and two numbers in range.
+fn format_of(words: &[String]) -> Option<Command<'_>>
+    ensures some { IfSome result (λ command. Asks (map string_bytes words.now) (request_of command)) }
+    ensures none { IfNone result ((slots lists : ℕ) → AsksToFormat (map string_bytes words.now) slots lists → ⊥) }
+{
+    let [command, slots, lists] = words else {
+        return None;
+    };
+    if command.as_str() != "format" {
+        return None;
+    }
+    let slots = number_up_to(MAX_SLOTS, slots.as_bytes())?;
+    let lists = number_up_to(u32::from(MAX_LISTS), lists.as_bytes())?;
+    Some(Command::Format {
+        slots,
+        lists: lists as u16,
+    })
+}
+
+/// The command `ingest`, where the words are this and one identifier that begins with no hyphen.
+fn ingest_of(words: &[String]) -> Option<Command<'_>>
+    ensures some { IfSome result (λ command. Asks (map string_bytes words.now) (request_of command)) }
     ensures none { IfNone result ((id : List ℕ) → AsksToIngest (map string_bytes words.now) id → ⊥) }
 {
     let [command, id] = words else {
@@ -31,27 +67,16 @@ pub fn identifier_to_ingest(words: &[String]) -> Option<&[u8]>
     if command.as_str() != "ingest" || !is_identifier(id) || id[0] == b'-' {
         return None;
     }
-    Some(id)
+    Some(Command::Ingest { id })
 }
 
-/// The numbers of slots and lists, where the words are `format` and two numbers in range.
-pub fn layout_to_format(words: &[String]) -> Option<(u32, u16)>
-    ensures some { IfSome result (λ n. AsksToFormat (map string_bytes words.now) n.0 n.1) }
-    ensures none { IfNone result ((slots lists : ℕ) → AsksToFormat (map string_bytes words.now) slots lists → ⊥) }
+/// Whether the bytes are an identifier: 1 to 200 of them, each a printing ASCII character and no space.
+fn is_identifier(bytes: &[u8]) -> bool
+    ensures { IsTrue result ↔ IsIdentifier bytes.now }
 {
-    let [command, slots, lists] = words else {
-        return None;
-    };
-    if command.as_str() != "format" {
-        return None;
-    }
-    let Some(slots) = number_up_to(MAX_SLOTS, slots.as_bytes()) else {
-        return None;
-    };
-    let Some(lists) = number_up_to(u32::from(MAX_LISTS), lists.as_bytes()) else {
-        return None;
-    };
-    Some((slots, lists as u16))
+    !bytes.is_empty()
+        && bytes.len() <= MAX_IDENTIFIER_BYTES
+        && bytes.iter().all(|byte| byte.is_ascii_graphic())
 }
 
 /// The number that the word stands for, where it is 1 to 10 digits and the number from 1 to the most.

@@ -1,16 +1,29 @@
 -- What the source has given is the body before this turn and the piece of this turn.
-use Rattle.std.proofs.Common.{◌≡◌, arith, length-take}
-use Rattle.cell_types.specs.declared.refusal.Refusal.TheVariants.{NoMemory}
-use Rattle.record_top.proofs.Taken.{given_lost, given_past}
+use Rattle.std.proofs.Common.{arith, length-take}
+use Rattle.record_top.proofs.Passed.{handed}
+use Rattle.record_top.proofs.Taken.{piece_failed, piece_too_long}
 use Rattle.record_top.proofs.body.take_body.Goals as goal
 
-pub returns-in-Err-clause-no_memory : goal.returns-in-Err-clause-no_memory
-returns-in-Err-clause-no_memory g c = λ e.
-    let is : c.in-Err.refusal ≡ NoMemory = cc in
-    given_lost 1048577 c.loop-taken.body.items c.take_piece.new.body.items (g.S.Source.state c.args.source.now) (g.S.Source.state c.loop-taken.source) (g.S.Source.state c.take_piece.new.source) c.loop-taken.invariant.1 _ c.in-Err.refusal c.in-Err.ensures is
-    (omega (arith, length-take c.min-room.result c.loop-taken.piece, c.min-room.ensures, c.len.ensures, c.loop-taken.invariant.0.most))
+pub returns-in_err-taken-clause-fails : goal.returns-in_err-taken-clause-fails
+returns-in_err-taken-clause-fails g c =
+    let state = g.S.Source.state in
+    let invariant = c.loop-body.invariant in
+    let fault = c.in_err-taken.field-0.0 in
+    let piece = length-take c.min-room.result c.loop-body.piece in
+    rw (handed c.from_residual.result fault c.from_residual.ensures.1)
+    (piece_failed c.loop-body.body.items c.take_piece.new.body.items (state c.args.source.now)
+    (state c.loop-body.source)
+    (state c.take_piece.new.source) invariant.1 _
+    (omega (arith, piece, c.min-room.ensures, c.len.ensures, invariant.0.most))
+    fault c.in_err-taken.ensures invariant.0 invariant.2)
 
-pub returns-then-len-gt-MAX_BODY_BYTES-clause-too_long : goal.returns-then-len-gt-MAX_BODY_BYTES-clause-too_long
-returns-then-len-gt-MAX_BODY_BYTES-clause-too_long g c = λ e.
-    given_past 1048577 c.loop-taken.body.items c.take_piece.new.body.items (g.S.Source.state c.args.source.now) (g.S.Source.state c.loop-taken.source) (g.S.Source.state c.take_piece.new.source) c.loop-taken.invariant.1 _ _ c.in-Ok.ensures
-    (omega (arith, length-take c.min-room.result c.loop-taken.piece, c.min-room.ensures, c.len.ensures, c.loop-taken.invariant.0.most)) (omega arith)
+pub returns-then-len-gt-MAX_BODY_BYTES-clause-fails : goal.returns-then-len-gt-MAX_BODY_BYTES-clause-fails
+returns-then-len-gt-MAX_BODY_BYTES-clause-fails g c =
+    let state = g.S.Source.state in
+    let invariant = c.loop-body.invariant in
+    let piece = length-take c.min-room.result c.loop-body.piece in
+    piece_too_long c.loop-body.body.items c.take_piece.new.body.items (state c.args.source.now)
+    (state c.loop-body.source)
+    (state c.take_piece.new.source) invariant.1 _
+    (omega (arith, piece, c.min-room.ensures, c.len.ensures, invariant.0.most))
+    _ c.in_ok-taken.ensures (omega arith)

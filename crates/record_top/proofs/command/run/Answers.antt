@@ -1,19 +1,31 @@
--- Where all is as it is to be, each refusal but want of memory would contradict its own cause.
-use Rattle.std.proofs.Common.{◌≡◌, List, ℕ, subst}
-use Rattle.record_top.specs.Run.{Ports, Ingests}
-use Rattle.record_top.proofs.Completing.{complete, same_word}
+-- The request that was read is the one that the words ask for.
+use Rattle.std.proofs.Common.{subst}
+use Rattle.record_top.specs.Commands.{Does, Request, request_of}
+use Rattle.record_top.specs.Ports.{ports_of}
+use Rattle.record_top.proofs.Asking.{asks_once, called_of, completes}
 use Rattle.record_top.proofs.command.run.Goals as goal
 
+pub returns-clause-called : goal.returns-clause-called
+returns-clause-called g c = called_of _ _ (request_of c.in-Some.command) c.carry_out.result c.carry_out.ensures
+
+pub returns-clause-does : goal.returns-clause-does
+returns-clause-does g c = λ request asks.
+    let device = g.D.Device.state in
+    let source = g.S.Source.state in
+    let sink = g.K.Sink.state in
+    let old = ports_of (device c.args.device.now) (source c.args.source.now) (sink c.args.sink.now) in
+    let ran = c.carry_out in
+    let new = ports_of (device ran.new.device) (source ran.new.source) (sink ran.new.sink) in
+    let one = asks_once _ _ request c.in-Some.ensures.some asks in
+    subst (λ (r : Request). Does r old new ran.result) one ran.ensures
+
 pub returns-clause-complete : goal.returns-clause-complete
-returns-clause-complete g c = λ id body layout asks ready.
-    let old : Ports = record { device = g.D.Device.state c.args.device.now; source = g.S.Source.state c.args.source.now; sink = g.K.Sink.state c.args.sink.now } in
-    let new : Ports = record { device = g.D.Device.state c.ingest.new.device; source = g.S.Source.state c.ingest.new.source; sink = g.K.Sink.state c.ingest.new.sink } in
-    let same : c.in-Some-identifier_to_ingest.id.now ≡ id = same_word _ c.in-Some-identifier_to_ingest.id.now id c.in-Some-identifier_to_ingest.ensures.some asks in
-    complete id body layout old new ready c.ingest.result (subst (λ (i : List ℕ). Ingests i old new c.ingest.result) same c.ingest.ensures)
-
--- The words are no command.
-pub returns-in_default-identifier_to_ingest-clause-formats : goal.returns-in_default-identifier_to_ingest-clause-formats
-returns-in_default-identifier_to_ingest-clause-formats g c = λ slots lists asks. absurd (c.in_default.ensures.none slots lists asks)
-
-pub returns-in_default-identifier_to_ingest-clause-complete_format : goal.returns-in_default-identifier_to_ingest-clause-complete_format
-returns-in_default-identifier_to_ingest-clause-complete_format g c = λ slots lists asks ready. absurd (c.in_default.ensures.none slots lists asks)
+returns-clause-complete g c = λ request asks free.
+    let device = g.D.Device.state in
+    let source = g.S.Source.state in
+    let sink = g.K.Sink.state in
+    let old = ports_of (device c.args.device.now) (source c.args.source.now) (sink c.args.sink.now) in
+    let ran = c.carry_out in
+    let new = ports_of (device ran.new.device) (source ran.new.source) (sink ran.new.sink) in
+    let one = asks_once _ _ request c.in-Some.ensures.some asks in
+    completes old new request ran.result (subst (λ (r : Request). Does r old new ran.result) one ran.ensures) free

@@ -1,7 +1,7 @@
 -- What has been put so far and what is left are the text, and the sink holds what has been put.
 use Rattle.std.proofs.Common.{◌≡◌, List, ℕ, ◌++◌, length}
 use Rattle.host_ports.specs.Sinks.{Gets}
-use Rattle.record_top.proofs.acknowledge.put_text.Given as goal
+use Rattle.record_top.proofs.text.put_text.Given as goal
 
 abbrev pub invariant-loop-rest : goal.invariant-loop-rest
 invariant-loop-rest g l =

@@ -1,0 +1,58 @@
+-- Words ask for one thing at most, and what holds of all that may be asked for.
+use Rattle.std.proofs.Common.{◌≡◌, ℕ, List, [], ◌∷◌, Option, Some, None, Result, Err, cond, sym, ap, ◌∙◌}
+use Rattle.std.specs.Prelude.{codes}
+use Rattle.std.specs.Str.{bytes_eq}
+use Rattle.cell_types.specs.declared.refusal.Refusal.{Refusal}
+use Rattle.cell_types.specs.declared.refusal.Refusal.TheVariants.{Usage}
+use Rattle.worm_device.specs.Calls.{Called}
+use Rattle.record_top.specs.Commands.{Asks, Does, IsUnhindered, Request, ToFormat, ToIngest}
+use Rattle.record_top.specs.Ports.{Ports, IsOkOrNoMemory}
+use Rattle.record_top.specs.Words.{digits_value}
+use Rattle.record_top.proofs.Completing.{format_completes, ingest_completes}
+
+to_format : List (List ℕ) → Option Request
+to_format (slots ∷ lists ∷ []) = Some (ToFormat (digits_value slots) (digits_value lists))
+to_format _ = None
+
+to_ingest : List (List ℕ) → Option Request
+to_ingest (id ∷ []) = Some (ToIngest id)
+to_ingest _ = None
+
+-- what the words could ask for, by the first of them
+read : List (List ℕ) → Option Request
+read [] = None
+read (command ∷ words) =
+    cond (bytes_eq command (codes "format")) (to_format words)
+    (cond (bytes_eq command (codes "ingest")) (to_ingest words) None)
+
+asks_reads : (words : List (List ℕ)) (request : Request) → Asks words request → read words ≡ Some request
+unfolding read to_format to_ingest
+asks_reads words (ToFormat slots lists) asks =
+    ap read asks.asked ∙ ap (λ (n : ℕ). Some (ToFormat n (digits_value asks.second))) (sym asks.slots_word.number.value)
+    ∙ ap (λ (n : ℕ). Some (ToFormat slots n)) (sym asks.lists_word.number.value)
+asks_reads words (ToIngest id) asks = ap read asks.asked
+
+some_is : (a b : Request) → Some a ≡ Some b → a ≡ b
+some_is a b e = cc
+
+-- words ask for one thing at most
+pub asks_once : (words : List (List ℕ)) (first second : Request) → Asks words first → Asks words second → first ≡ second
+asks_once words first second a b = some_is first second (sym (asks_reads words first a) ∙ asks_reads words second b)
+
+module _ (old new : Ports) where
+  -- whatever is done keeps what every call of the device keeps
+  pub called_of : (request : Request) (result : Result Unit Refusal) → Does request old new result
+      → Called old.device new.device
+  called_of (ToFormat slots lists) result does = does.called
+  called_of (ToIngest id) result does = does.called
+
+  -- what is done never ends with `Usage`
+  pub is_used : (request : Request) → Does request old new (Err Usage) → ⊥
+  is_used (ToFormat slots lists) does = does.ends.0
+  is_used (ToIngest id) does = does.ends
+
+  -- where nothing keeps it from being done, it is
+  pub completes : (request : Request) (result : Result Unit Refusal) → Does request old new result
+      → IsUnhindered request old new → IsOkOrNoMemory result
+  completes (ToFormat slots lists) result does free = format_completes _ old new free result does
+  completes (ToIngest id) result does free = ingest_completes id free.0 free.1 old new free.2 result does

@@ -1,0 +1,47 @@
+-- Which commands there are: which words ask for each, what each does, and when nothing hinders it. A further command
+-- is one more case in each of these.
+use Rattle.std.specs.Prelude.{ℕ, List, Result}
+use Rattle.cell_types.specs.Layout.{Layout}
+use Rattle.cell_types.specs.declared.refusal.Refusal.{Refusal}
+use Rattle.record_top.specs.Formatting.{AsksToFormat, DoesFormat, IsReadyToFormat}
+use Rattle.record_top.specs.Ingesting.{AsksToIngest, DoesIngest, IsReadyToIngest}
+use Rattle.record_top.specs.Ports.{Ports}
+use Rattle.record_top.specs.declared.words.Command.{Command}
+use Rattle.record_top.specs.declared.words.Command.TheVariants.{Format, Ingest}
+
+-- what may be asked for, with what is given
+pub data Request : Type 0 where
+  ToFormat : (slots lists : ℕ) → Request
+  ToIngest : (id : List ℕ) → Request
+
+-- the request that a command stands for
+abbrev pub request_of : Command → Request
+request_of (Format slots lists) = ToFormat slots lists
+request_of (Ingest id) = ToIngest id.now
+
+-- the words ask for this
+abbrev pub Asks : List (List ℕ) → Request → Type 0
+Asks words (ToFormat slots lists) = AsksToFormat words slots lists
+Asks words (ToIngest id) = AsksToIngest words id
+
+-- the words ask for nothing
+abbrev pub AsksNothing : List (List ℕ) → Type 0
+AsksNothing words = (request : Request) → Asks words request → ⊥
+
+-- some words ask for this
+abbrev pub IsAskedFor : Request → Type 0
+IsAskedFor request = (words : List (List ℕ)) × Asks words request
+
+-- the layout of so many slots and lists on the whole device
+abbrev pub layout_on : Ports → ℕ → ℕ → Layout
+layout_on ports slots lists = record { slots = slots; lists = lists; cells = ports.device.cells }
+
+-- this is done, and ends for a cause that is named
+abbrev pub Does : Request → Ports → Ports → Result Unit Refusal → Type 0
+Does (ToFormat slots lists) old new result = DoesFormat (layout_on old slots lists) old new result
+Does (ToIngest id) old new result = DoesIngest id old new result
+
+-- nothing hinders this
+abbrev pub IsUnhindered : Request → Ports → Ports → Type 0
+IsUnhindered (ToFormat slots lists) old new = IsReadyToFormat (layout_on old slots lists) old new
+IsUnhindered (ToIngest id) old new = (body : List ℕ) × (g : Layout) × IsReadyToIngest id body g old new

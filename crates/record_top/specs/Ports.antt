@@ -1,0 +1,35 @@
+-- What a command is given besides its words, and what it puts out.
+use Rattle.std.specs.Prelude.{◌≡◌, ℕ, List, Result, Ok, Err, ⊤}
+use Rattle.cell_types.specs.declared.refusal.Refusal.{Refusal}
+use Rattle.cell_types.specs.declared.refusal.Refusal.TheVariants.{NoMemory}
+use Rattle.host_ports.specs.Sinks.{SinkState, Gets, PutsPart}
+use Rattle.host_ports.specs.Sources.{SourceState}
+use Rattle.worm_device.specs.State.{DeviceState}
+
+-- the device, the source and the sink that a command is given, as they are at one moment
+pub record Ports : Type 0 where
+  pub device : DeviceState
+  pub source : SourceState
+  pub sink : SinkState
+
+-- these three
+abbrev pub ports_of : DeviceState → SourceState → SinkState → Ports
+ports_of device source sink = record { device = device; source = source; sink = sink }
+
+-- the sink holds what it held
+abbrev pub KeepsSink : Ports → Ports → Type 0
+KeepsSink old new = new.sink.held ≡ old.sink.held
+
+-- the text was put out whole
+abbrev pub PutsOut : List ℕ → Ports → Ports → Type 0
+PutsOut text old new = Gets old.sink.held new.sink.held text
+
+-- the sink failed, and may have got some first bytes of the text
+abbrev pub PutsOutPart : List ℕ → Ports → Ports → Type 0
+PutsOutPart text old new = PutsPart text old.sink new.sink
+
+-- the answer is Ok, or want of memory
+abbrev pub IsOkOrNoMemory : Result Unit Refusal → Type 0
+IsOkOrNoMemory (Ok _) = ⊤
+IsOkOrNoMemory (Err NoMemory) = ⊤
+IsOkOrNoMemory (Err refusal) = ⊥

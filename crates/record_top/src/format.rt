@@ -1,0 +1,26 @@
+//! The command `format`.
+ghost use Rattle.record_top.specs.Formatting.{DoesFormat};
+ghost use Rattle.record_top.specs.Ports.{ports_of};
+
+use crate::command::Outcome;
+use crate::text::put_text;
+use host_ports::{Sink, Source};
+use ingest_engine::format_volume;
+use worm_device::Device;
+
+/// Makes the device a volume of so many slots and lists, and says so.
+pub fn format_device<D: Device, S: Source, K: Sink>(
+    slots: u32,
+    lists: u16,
+    device: &mut D,
+    source: &mut S,
+    sink: &mut K,
+) -> Outcome
+    ensures { DoesFormat (record { slots = slots; lists = lists; cells = (D.state device.old).cells })
+        (ports_of (D.state device.old) (S.state source.old) (K.state sink.old))
+        (ports_of (D.state device.new) (S.state source.new) (K.state sink.new)) result }
+{
+    format_volume(device, slots, lists)?;
+    put_text(sink, b"formatted\n")?;
+    Ok(())
+}
