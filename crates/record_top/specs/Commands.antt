@@ -6,23 +6,27 @@ use Rattle.cell_types.specs.declared.refusal.Refusal.{Refusal}
 use Rattle.record_top.specs.Formatting.{AsksToFormat, DoesFormat, IsReadyToFormat}
 use Rattle.record_top.specs.Ingesting.{AsksToIngest, DoesIngest, IsReadyToIngest}
 use Rattle.record_top.specs.Ports.{Ports}
+use Rattle.record_top.specs.Recovering.{AsksToRecover, DoesRecover, IsReadyToRecover}
 use Rattle.record_top.specs.declared.words.Command.{Command}
-use Rattle.record_top.specs.declared.words.Command.TheVariants.{Format, Ingest}
+use Rattle.record_top.specs.declared.words.Command.TheVariants.{Format, Ingest, Recover}
 
 -- what may be asked for, with what is given
 pub data Request : Type 0 where
   ToFormat : (slots lists : ℕ) → Request
   ToIngest : (id : List ℕ) → Request
+  ToRecover : Request
 
 -- the request that a command stands for
 abbrev pub request_of : Command → Request
 request_of (Format slots lists) = ToFormat slots lists
 request_of (Ingest id) = ToIngest id.now
+request_of Recover = ToRecover
 
 -- the words ask for this
 abbrev pub Asks : List (List ℕ) → Request → Type 0
 Asks words (ToFormat slots lists) = AsksToFormat words slots lists
 Asks words (ToIngest id) = AsksToIngest words id
+Asks words ToRecover = AsksToRecover words
 
 -- the words ask for nothing
 abbrev pub AsksNothing : List (List ℕ) → Type 0
@@ -40,8 +44,11 @@ layout_on ports slots lists = record { slots = slots; lists = lists; cells = por
 abbrev pub Does : Request → Ports → Ports → Result Unit Refusal → Type 0
 Does (ToFormat slots lists) old new result = DoesFormat (layout_on old slots lists) old new result
 Does (ToIngest id) old new result = DoesIngest id old new result
+Does ToRecover old new result = DoesRecover old new result
 
 -- nothing hinders this
 abbrev pub IsUnhindered : Request → Ports → Ports → Type 0
 IsUnhindered (ToFormat slots lists) old new = IsReadyToFormat (layout_on old slots lists) old new
-IsUnhindered (ToIngest id) old new = (body : List ℕ) × (g : Layout) × IsReadyToIngest id body g old new
+IsUnhindered (ToIngest id) old new =
+    (body : List ℕ) × (g : Layout) × (slot : ℕ) × IsReadyToIngest id body g slot old new
+IsUnhindered ToRecover old new = (g : Layout) × IsReadyToRecover g old new

@@ -1,7 +1,7 @@
 -- What a command is given besides its words, and what it puts out.
 use Rattle.std.specs.Prelude.{◌≡◌, ℕ, List, Result, Ok, Err, ⊤}
 use Rattle.cell_types.specs.declared.refusal.Refusal.{Refusal}
-use Rattle.cell_types.specs.declared.refusal.Refusal.TheVariants.{NoMemory}
+use Rattle.cell_types.specs.declared.refusal.Refusal.TheVariants.{NoMemory, SinkFault}
 use Rattle.host_ports.specs.Sinks.{SinkState, Gets, PutsPart}
 use Rattle.host_ports.specs.Sources.{SourceState}
 use Rattle.worm_device.specs.State.{DeviceState}
@@ -27,6 +27,15 @@ PutsOut text old new = Gets old.sink.held new.sink.held text
 -- the sink failed, and may have got some first bytes of the text
 abbrev pub PutsOutPart : List ℕ → Ports → Ports → Type 0
 PutsOutPart text old new = PutsPart text old.sink new.sink
+
+-- How a command ends, by what its engine answered: what it tells was put out, or the sink failed then; and a refusal of
+-- the engine is the command's, of which nothing is put out.
+abbrev pub Tells : {A : Type 0} → (A → List ℕ) → Result A Refusal → Ports → Ports → Result Unit Refusal → Type 0
+Tells text (Ok a) old new (Ok u) = PutsOut (text a) old new
+Tells text (Ok a) old new (Err SinkFault) = PutsOutPart (text a) old new
+Tells text (Ok a) old new (Err refusal) = ⊥
+Tells text (Err refused) old new (Ok u) = ⊥
+Tells text (Err refused) old new (Err refusal) = (refusal ≡ refused) × KeepsSink old new
 
 -- the answer is Ok, or want of memory
 abbrev pub IsOkOrNoMemory : Result Unit Refusal → Type 0

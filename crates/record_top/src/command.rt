@@ -7,6 +7,7 @@ ghost use Rattle.record_top.specs.Ports.{IsOkOrNoMemory, ports_of};
 
 use crate::format::format_device;
 use crate::ingest::ingest_body;
+use crate::recover::recover_device;
 use crate::words::{Command, command_of};
 use cell_types::Refusal;
 use host_ports::{Sink, Source};
@@ -63,5 +64,6 @@ fn carry_out<D: Device, S: Source, K: Sink>(
     match command {
         Command::Format { slots, lists } => format_device(slots, lists, device, source, sink),
         Command::Ingest { id } => ingest_body(alloc, id, device, source, sink),
+        Command::Recover => recover_device(device, source, sink),
     }
 }

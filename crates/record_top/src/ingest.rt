@@ -1,17 +1,19 @@
 //! The command `ingest`.
+ghost use Rattle.std.specs.Prelude.{◌↔◌, IsTrue};
 ghost use Rattle.record_top.specs.Ingesting.{DoesIngest};
 ghost use Rattle.record_top.specs.Ports.{ports_of};
 ghost use Rattle.stored_documents.specs.Documents.{IsIdentifier};
 
 use crate::body::take_body;
 use crate::command::Outcome;
-use crate::text::put_text;
+use crate::text::put_slot_line;
+use cell_types::Refusal;
 use host_ports::{Sink, Source};
-use ingest_engine::put_document;
 use std::alloc::Global;
+use stored_documents::MAX_IDENTIFIER_BYTES;
 use worm_device::Device;
 
-/// Stores the body that the source gives, in slot 0, and acknowledges it.
+/// Stores the body that the source gives, in the first free slot, and acknowledges it.
 pub fn ingest_body<D: Device, S: Source, K: Sink>(
     alloc: Global,
     id: &[u8],
@@ -19,15 +21,24 @@ pub fn ingest_body<D: Device, S: Source, K: Sink>(
     source: &mut S,
     sink: &mut K,
 ) -> Outcome
-    requires { IsIdentifier id.now }
     ensures { DoesIngest id.now (ports_of (D.state device.old) (S.state source.old) (K.state sink.old))
         (ports_of (D.state device.new) (S.state source.new) (K.state sink.new)) result }
 {
+    if !is_identifier(id) {
+        return Err(Refusal::BadIdentifier);
+    }
     let body = take_body(alloc, source)?;
-    // The text is made before the first cell is written: from then on no memory is taken.
-    let slot: u32 = 0;
-    let text = format!(in alloc; "acknowledged {slot}\n")?;
-    put_document(alloc, id, &body, device)?;
-    put_text(sink, text.as_bytes())?;
+    let slot = ingest_engine::ingest(alloc, device, id, &body)?;
+    // No memory is taken any more: the document is sure.
+    put_slot_line(sink, "acknowledged ", slot, "\n")?;
     Ok(())
+}
+
+/// Whether the bytes are an identifier: 1 to 200 of them, each a printing ASCII character and no space.
+fn is_identifier(bytes: &[u8]) -> bool
+    ensures { IsTrue result ↔ IsIdentifier bytes.now }
+{
+    !bytes.is_empty()
+        && bytes.len() <= MAX_IDENTIFIER_BYTES
+        && bytes.iter().all(|byte| byte.is_ascii_graphic())
 }

@@ -13,6 +13,7 @@ mod format;
 mod ingest;
 #[cfg(test)]
 mod plain;
+mod recover;
 #[cfg(test)]
 mod tests;
 mod text;

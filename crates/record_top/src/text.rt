@@ -1,10 +1,15 @@
 //! A text, put into a sink whole.
-ghost use Rattle.std.specs.Prelude.{◌≡◌, ⊤, OnOk, OnErr};
+ghost use Rattle.std.specs.Prelude.{◌≡◌, ◌≤◌, ⊤, length, OnOk, OnErr};
 ghost use Rattle.cell_types.specs.declared.refusal.Refusal.TheVariants.{SinkFault};
 ghost use Rattle.host_ports.specs.Sinks.{Gets, PutsPart};
+ghost use Rattle.record_top.specs.Recovering.{slot_line};
 
+use arrayvec::ArrayString;
 use cell_types::Refusal;
 use host_ports::{Failed, Sink};
+
+/// How many bytes a line may have that tells of a slot.
+const LINE_BYTES: usize = 64;
 
 /// A call of the sink failed.
 #[derive(Clone, Copy, Debug, PartialEq, Eq)]
@@ -37,4 +42,26 @@ pub fn put_text<K: Sink>(sink: &mut K, text: &[u8]) -> Result<(), SinkFailed>
         rest = &rest[put..];
     }
     Ok(())
+}
+
+/// Puts out a line that tells of a slot: its number, with these words before and behind it. It is made in place, without
+/// memory.
+pub fn put_slot_line<K: Sink>(
+    sink: &mut K,
+    before: &str,
+    slot: u32,
+    after: &str,
+) -> Result<(), SinkFailed>
+    requires before { length before.now ≤ 13 }
+    requires after { length after.now ≤ 11 }
+    ensures whole { OnOk result (Gets (K.state sink.old).held (K.state sink.new).held
+        (slot_line before.now slot after.now)) }
+    ensures part { OnErr result (PutsPart (slot_line before.now slot after.now) (K.state sink.old) (K.state sink.new)) }
+{
+    let mut digits = itoa::Buffer::new();
+    let mut line = ArrayString::<LINE_BYTES>::new();
+    line.push_str(before);
+    line.push_str(digits.format(slot));
+    line.push_str(after);
+    put_text(sink, line.as_bytes())
 }

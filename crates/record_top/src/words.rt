@@ -1,14 +1,13 @@
 //! The words of a command, read in place.
 ghost use Rattle.std.specs.Prelude.{◌≡◌, ◌≢◌, ◌<◌, ◌≤◌, ◌↔◌, ℕ, List, map, length, slice_index, IsTrue, IfSome, IfNone};
 ghost use Rattle.std.specs.String.{string_bytes};
-ghost use Rattle.stored_documents.specs.Documents.{IsIdentifier};
 ghost use Rattle.record_top.specs.Commands.{Asks, AsksNothing, request_of};
 ghost use Rattle.record_top.specs.Formatting.{AsksToFormat};
 ghost use Rattle.record_top.specs.Ingesting.{AsksToIngest};
+ghost use Rattle.record_top.specs.Recovering.{AsksToRecover};
 ghost use Rattle.record_top.specs.Words.{IsNumberUpTo};
 
 use cell_types::{MAX_LISTS, MAX_SLOTS};
-use stored_documents::MAX_IDENTIFIER_BYTES;
 
 /// The greatest number of digits of a number.
 const MAX_DIGITS: usize = 10;
@@ -18,8 +17,10 @@ const MAX_DIGITS: usize = 10;
 pub enum Command<'a> {
     /// Make the device a volume of so many slots and lists, each in its range.
     Format { slots: u32, lists: u16 },
-    /// Store a document with this identifier.
+    /// Store a document by this name, which may be an identifier or not.
     Ingest { id: &'a [u8] },
+    /// Settle the volume.
+    Recover,
 }
 
 /// The command that the words ask for.
@@ -33,7 +34,7 @@ pub fn command_of(words: &[String]) -> Option<Command<'_>>
     if let Some(command) = ingest_of(words) {
         return Some(command);
     }
-    None
+    recover_of(words)
 }
 
 /// The command `format`, where the words are this and two numbers in range.
@@ -55,7 +56,7 @@ fn format_of(words: &[String]) -> Option<Command<'_>>
     })
 }
 
-/// The command `ingest`, where the words are this and one identifier that begins with no hyphen.
+/// The command `ingest`, where the words are this and one that is not empty and begins with no hyphen.
 fn ingest_of(words: &[String]) -> Option<Command<'_>>
     ensures some { IfSome result (λ command. Asks (map string_bytes words.now) (request_of command)) }
     ensures none { IfNone result ((id : List ℕ) → AsksToIngest (map string_bytes words.now) id → ⊥) }
@@ -64,19 +65,24 @@ fn ingest_of(words: &[String]) -> Option<Command<'_>>
         return None;
     };
     let id = id.as_bytes();
-    if command.as_str() != "ingest" || !is_identifier(id) || id[0] == b'-' {
+    if command.as_str() != "ingest" || id.is_empty() || id[0] == b'-' {
         return None;
     }
     Some(Command::Ingest { id })
 }
 
-/// Whether the bytes are an identifier: 1 to 200 of them, each a printing ASCII character and no space.
-fn is_identifier(bytes: &[u8]) -> bool
-    ensures { IsTrue result ↔ IsIdentifier bytes.now }
+/// The command `recover`, where the words are this alone.
+fn recover_of(words: &[String]) -> Option<Command<'_>>
+    ensures some { IfSome result (λ command. Asks (map string_bytes words.now) (request_of command)) }
+    ensures none { IfNone result (AsksToRecover (map string_bytes words.now) → ⊥) }
 {
-    !bytes.is_empty()
-        && bytes.len() <= MAX_IDENTIFIER_BYTES
-        && bytes.iter().all(|byte| byte.is_ascii_graphic())
+    let [command] = words else {
+        return None;
+    };
+    if command.as_str() != "recover" {
+        return None;
+    }
+    Some(Command::Recover)
 }
 
 /// The number that the word stands for, where it is 1 to 10 digits and the number from 1 to the most.

@@ -1,0 +1,43 @@
+-- The command `recover`: it settles the volume, and says what it did.
+use Rattle.std.specs.Prelude.{◌≡◌, ℕ, List, [], ◌∷◌, ◌++◌, codes, Result, IsTrue}
+use Rattle.std.specs.Fmt.{decimal}
+use Rattle.cell_types.specs.Layout.{Layout}
+use Rattle.cell_types.specs.declared.refusal.Refusal.{Refusal}
+use Rattle.worm_device.specs.Counts.{IsStill}
+use Rattle.recovery_engine.specs.Settling.{IsSettlingRule, Settles}
+use Rattle.recovery_engine.specs.declared.settling.Ready.{Ready}
+use Rattle.recovery_engine.specs.declared.settling.Step.{Step}
+use Rattle.recovery_engine.specs.declared.settling.Step.TheVariants.{Nothing, Abandoned, Completed}
+use Rattle.record_top.specs.Ports.{Ports, Tells}
+use Rattle.record_top.specs.WholeLogs.{HasWholeLog}
+
+-- the word is `recover`
+abbrev pub AsksToRecover : List (List ℕ) → Type 0
+AsksToRecover words = words ≡ codes "recover" ∷ []
+
+-- the line that tells of a slot
+abbrev pub slot_line : List ℕ → ℕ → List ℕ → List ℕ
+slot_line before slot after = before ++ (decimal slot ++ after)
+
+-- the text that tells of a step
+abbrev pub step_text : Step → List ℕ
+step_text Nothing = codes "nothing to settle\n"
+step_text (Abandoned n) = slot_line (codes "slot ") n (codes " abandoned\n")
+step_text (Completed n) = slot_line (codes "slot ") n (codes " completed\n")
+
+-- the text that tells of a settled volume
+abbrev pub recovered : Ready → List ℕ
+recovered ready = step_text ready.step
+
+-- What the command does: the volume is settled, or that is ended, as the engine says, and its answer is told. It takes no
+-- memory.
+pub record DoesRecover (old new : Ports) (result : Result Unit Refusal) : Type 0 where
+  pub answer : Result Ready Refusal
+  pub settles : Settles old.device new.device answer
+  pub source : new.source ≡ old.source
+  pub tells : Tells recovered answer old new result
+
+-- all is as the command wants it
+pub record IsReadyToRecover (g : Layout) (old new : Ports) : Type 0 where
+  pub log : HasWholeLog IsSettlingRule g old.device new.device
+  pub no_sink_fault : IsStill old.sink.faults new.sink.faults
