@@ -1,5 +1,5 @@
 -- The last slot and the one before it, seen one after the other.
-use Rattle.std.proofs.Common.{◌≡◌, ◌≢◌, ◌<◌, ◌+◌, ℕ, Some, None, Ok, Err, sym, ap, ◌∙◌, inl, ⊎_elim, subst, arith}
+use Rattle.std.proofs.Common.{inr, ◌≡◌, ◌≢◌, ◌<◌, ◌+◌, ℕ, Some, None, Ok, Err, sym, ap, ◌∙◌, inl, ⊎_elim, subst, arith}
 use Rattle.std.specs.Prelude.{IsTrue}
 use Rattle.cell_types.specs.Image.{Image, Extends, IsUnchanged}
 use Rattle.cell_types.specs.Layout.{Layout, pool_at}
@@ -7,7 +7,7 @@ use Rattle.cell_types.specs.declared.refusal.Evidence.{Evidence}
 use Rattle.cell_types.specs.declared.refusal.Fault.{Fault}
 use Rattle.cell_types.specs.declared.refusal.Fault.TheVariants.{Tampered, ReadFault}
 use Rattle.commit_record.specs.Reservations.{reservation_of}
-use Rattle.commit_record.specs.States.{IsState, StateEnds}
+use Rattle.commit_record.specs.States.{IsNoState, IsState, StateEnds}
 use Rattle.commit_record.specs.declared.reservation.Reservation.{Reservation}
 use Rattle.commit_record.specs.declared.slot.SlotState.{SlotState}
 use Rattle.commit_record.specs.declared.slot.SlotState.TheVariants.{Unused, Reserved, Abandoned, Committed, Done}
@@ -19,7 +19,7 @@ use Rattle.worm_device.specs.Views.{ViewState, Viewed}
 use Rattle.worm_device.proofs.Counting.{still_second}
 use Rattle.worm_device.proofs.Images.{extends_self}
 use Rattle.worm_device.proofs.Resting.{rests_of}
-use Rattle.recovery_engine.specs.LastSlot.{IsFollowed, IsReserveCell, IsNamed, LastEnds}
+use Rattle.recovery_engine.specs.LastSlot.{IsFollowed, IsReserveCell, IsNamed, IsSlotRule, LastEnds}
 use Rattle.recovery_engine.proofs.States.{reserved_by, reserves_one, followed, not_followed}
 
 -- a state seen between two images was seen between any that lie further apart
@@ -47,6 +47,7 @@ out_of_order g n total from to image cells e less is r why =
     let stands : image e.cell ≡ Some e.found =
     ap image is.at ∙ r.reserve.stands ∙ ap Some (r.reserve.is.same ∙ sym is.found) in
     record {
+      rule = inl is.rule;
       stands = stands;
       place = (ReserveCells, is.rule, (n, less, is.at));
       broken = λ still volume. record {
@@ -67,13 +68,29 @@ begins_there g n image cells r kept =
     subst (λ (k : ℕ). EndsBelow g image n k)
     (reserves_one g image n kept.start kept.length cells.start cells.length kept.reserves r).0 kept.begins
 
+-- cells that are no state break one of the rules of such cells
+no_state_rule : {g : Layout} {before after : Image} {n rule cell : ℕ} → IsNoState g before after n rule cell
+    → IsSlotRule rule
+no_state_rule (IsNoState.reserves_none r c none) = inl r
+no_state_rule (IsNoState.ends_unreserved r c none) = inr (inl r)
+no_state_rule (IsNoState.ends_wrongly start length r c reserves no_abandon no_commit) = inr (inl r)
+no_state_rule (IsNoState.done_unreserved r c none blank) = inr (inr r)
+no_state_rule (IsNoState.done_unended start length r c reserves none) = inr (inr r)
+no_state_rule (IsNoState.done_abandoned start length r c abandons) = inr (inr r)
+no_state_rule (IsNoState.done_wrongly start length bytes journal r c commits no_done) = inr (inr r)
+
 -- the slot is no state, or a read failed
 pub fault_here : (g : Layout) (n : ℕ) (v0 v1 : ViewState) (fault : Fault) → StateEnds g n v0 v1 (Err fault)
     → LastEnds g n v0 v1 (Err fault)
 fault_here g n v0 v1 ReadFault ends = ends
 fault_here g n v0 v1 (Tampered e) ends = λ tells.
     let out = ends.2 tells in
-    record { stands = out.shown.stands; place = ends.0; broken = out.shown.broken }
+    record {
+      rule = no_state_rule out.seen;
+      stands = out.shown.stands;
+      place = ends.0;
+      broken = out.shown.broken;
+    }
 
 module _ (g : Layout) (n m : ℕ) (next : n ≡ m + 1) (less : n < g.slots) (v0 v1 v2 : ViewState) (one : Viewed v0 v1)
     (two : Viewed v1 v2) where
@@ -83,6 +100,7 @@ module _ (g : Layout) (n m : ℕ) (next : n ≡ m + 1) (less : n < g.slots) (v0 
   fault_before (Tampered e) ends = λ tells.
       let out = ends.2 (subst IsTrue (sym one.called.tells) tells) in
       record {
+        rule = no_state_rule out.seen;
         stands = out.shown.stands;
         place = ends.0;
         broken = λ still volume.

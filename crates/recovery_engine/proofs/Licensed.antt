@@ -23,7 +23,7 @@ use Rattle.stored_documents.specs.Documents.{document_at}
 use Rattle.recovery_engine.specs.Entries.{target_of, IsCopy, IsUnfit, IsFloor, AreEntries}
 use Rattle.tamper_rules.specs.Journals.{journal_at, Copies, IsInOrder}
 use Rattle.tamper_rules.specs.Rules.{IsBroken, IsPlaceOf, IsOfPool, OutcomeCells, DoneCells, Journals, Targets}
-use Rattle.tamper_rules.specs.declared.numbers.TheConstants.{OUTCOME_CELL, DONE_CELL, OTHER_TARGET}
+use Rattle.tamper_rules.specs.declared.numbers.TheConstants.{BROKEN_JOURNAL, OUTCOME_CELL, DONE_CELL, OTHER_TARGET}
 use Rattle.tamper_rules.proofs.Images.{same_image, look}
 use Rattle.tamper_rules.proofs.SettlingGoesOn.{behind_log}
 use Rattle.stored_documents.specs.Slots.{Commits, Stores}
@@ -39,7 +39,7 @@ use Rattle.recovery_engine.specs.Ending.{HasJournal, SlotCheckEnds, abandon_put,
 use Rattle.recovery_engine.specs.Journal.{IsEntryPut, IsUnfitAt, IsFlawed, JournalEnds}
 use Rattle.recovery_engine.specs.declared.journal.Journal.{Journal}
 use Rattle.recovery_engine.specs.LastSlot.{IsLast}
-use Rattle.recovery_engine.specs.Settling.{IsFound, SettleEnds}
+use Rattle.recovery_engine.specs.Settling.{IsFound, IsSettlingRule, SettleEnds}
 use Rattle.recovery_engine.proofs.InOrder.{state_further}
 
 none_some : (a : List ℕ) → Some a ≡ None → ⊥
@@ -81,10 +81,11 @@ broken_before old now rule cell called same broken =
     (subst (λ (i : Image). IsBroken now.cells i rule cell) (same_image same) broken)
 
 -- what looks find, they have not written
-pub found_looked : (old now : DeviceState) (e : Evidence) → Called old now
+pub found_looked : (old now : DeviceState) (e : Evidence) → IsSettlingRule e.rule → Called old now
     → (IsStill old.foreign_writes now.foreign_writes → IsUnchanged old.image now.image) → IsLicensed old now e
-    → IsFound old now e
-found_looked old now e called quiet licensed = record {
+    → IsFound IsSettlingRule old now e
+found_looked old now e rule called quiet licensed = record {
+  rule = rule;
   licensed = licensed;
   before = λ still. broken_before old now e.rule e.cell called (quiet still) (licensed.broken still);
 }
@@ -240,6 +241,15 @@ module _ (g : Layout) (n s l b j : ℕ) where
       })
       flaw.flaw
 
+  -- what is wrong with a journal breaks the journal's rule
+  flaw_rule : (s0 s5 : DeviceState) {e : Evidence} → IsFlawed (journal_of g n s l b j) s5.image e
+      → e.rule ≡ BROKEN_JOURNAL
+  flaw_rule s0 s5 {e} flaw = ⊎_elim
+      (λ (blank : (e ≡ (journal_of g n s l b j).commit) × (s5.image (journal_at s l j + flaw.k) ≡ None)).
+      ap (λ (f : Evidence). f.rule) blank.0)
+      (λ (unfit : IsUnfitAt (journal_at s l j + flaw.k) flaw.floor (document_at s l b j) s5.image e). unfit.rule)
+      flaw.flaw
+
   -- a target of the journal holds another value than its journal cell
   target_broken : (cells : ℕ) (image : Image) (k : ℕ) (value found : List ℕ) → IsVolume cells image g
       → Stores g image n s l b j → k < j → image (journal_at s l j + k) ≡ Some value → IsCopy value
@@ -321,7 +331,7 @@ module _ (g : Layout) (n : ℕ) (s0 s3 s4 s5 : DeviceState) (c03 : Called s0 s3)
   check_refused (Committed s l b j) (faults.Tampered e) quiet_45 volume last ends = λ tells.
       let is = (last (tells_4 tells)).is in
       let more = c04.foreign_writes in
-      found_looked s0 s5 e (called_then c04 c45)
+      found_looked s0 s5 e (inr (inl (flaw_rule g n s l b j s0 s5 (ends (tells_4 tells))))) (called_then c04 c45)
       (λ still cell. quiet_45 (still_second more c45.foreign_writes still) cell
       ∙ quiet_04 (still_first more c45.foreign_writes still) cell)
       (flaw_licensed g n s l b j s0 s5 e (volume_later s4 s5 g c45 (volume tells)) (commits_on c45.image is.commits)
@@ -340,8 +350,10 @@ module _ (g : Layout) (n : ℕ) (s0 s3 s4 s5 : DeviceState) (c03 : Called s0 s3)
     -- a cell of the log that was blank and is put once is taken only where somebody else wrote
     own_held : (P : Put → Type 0) (rule a : ℕ) (v : List ℕ) (taken : IsTaken P s4 s5 e)
         → (let own : Put = record { at = a; value = v; blame = Rule rule } in taken.put ≡ own) → IsPlaceOf g rule a
-        → s3.image a ≡ None → ((other : Put) → P other → other.at ≡ a → other.value ≡ v) → IsFound s0 s5 e
-    own_held P rule a v taken is place none once =
+        → IsSettlingRule rule
+        → s3.image a ≡ None → ((other : Put) → P other → other.at ≡ a → other.value ≡ v)
+        → IsFound IsSettlingRule s0 s5 e
+    own_held P rule a v taken is place named none once =
         let here : taken.put.at ≡ a = ap (λ (p : Put). p.at) is in
         let value : taken.put.value ≡ v = ap (λ (p : Put). p.value) is in
         let never : IsStill s0.foreign_writes s5.foreign_writes → ⊥ = λ still. ⊎_elim
@@ -350,7 +362,8 @@ module _ (g : Layout) (n : ℕ) (s0 s3 s4 s5 : DeviceState) (c03 : Called s0 s3)
         (λ (twice : IsPutTwice P taken.put taken.found).
         taken.differs (sym twice.is ∙ once twice.other twice.planned (twice.here ∙ here) ∙ sym value))
         (taken.stood (still_45 still)) in
-        subst (IsFound s0 s5) (sym (taken.is ∙ ap (λ (p : Put). evidence_of p taken.found) is)) (record {
+        subst (IsFound IsSettlingRule s0 s5) (sym (taken.is ∙ ap (λ (p : Put). evidence_of p taken.found) is)) (record {
+          rule = named;
           licensed = record {
             stands = ap s5.image (sym here) ∙ taken.stands;
             layout = g;
@@ -407,7 +420,7 @@ module _ (g : Layout) (n : ℕ) (s0 s3 s4 s5 : DeviceState) (c03 : Called s0 s3)
 
       -- the target of this journal cell holds another value
       target_held : (taken : IsTaken (IsInFirst (end_plan s4.image n (Committed s l b j)) 2) s4 s5 e)
-          → IsEntryPut s4.image (journal_at s l j) j taken.put → IsFound s0 s5 e
+          → IsEntryPut s4.image (journal_at s l j) j taken.put → IsFound IsSettlingRule s0 s5 e
       target_held taken is =
           let k = is.0 in
           let put = taken.put in
@@ -433,8 +446,10 @@ module _ (g : Layout) (n : ℕ) (s0 s3 s4 s5 : DeviceState) (c03 : Called s0 s3)
           no_target put is (sym twice.here ∙ ap (λ (p : Put). p.at) final.1))
           twice.planned.2))
           (taken.stood (still_45 still)) in
-          subst (IsFound s0 s5) (sym (taken.is ∙ ap (λ (w : Blame). blamed w put.at put.value taken.found) is.2.blame))
+          subst (IsFound IsSettlingRule s0 s5)
+          (sym (taken.is ∙ ap (λ (w : Blame). blamed w put.at put.value taken.found) is.2.blame))
           (record {
+            rule = inr (inr refl);
             licensed = record {
               stands = stands;
               layout = g;
@@ -459,7 +474,8 @@ module _ (g : Layout) (n : ℕ) (s0 s3 s4 s5 : DeviceState) (c03 : Called s0 s3)
 
     -- the slot was not ended
     taken_found : (state : SlotState) → IsLast g s3.image s4.image n state → HasJournal g state s4.image
-        → PutsPhases (end_plan s4.image n state) (end_phases state) s4 s5 (Err (faults.Tampered e)) → IsFound s0 s5 e
+        → PutsPhases (end_plan s4.image n state) (end_phases state) s4 s5 (Err (faults.Tampered e))
+        → IsFound IsSettlingRule s0 s5 e
     taken_found Unused last entries phases = absurd (let t = phases.puts.ends tells in omega (arith, t.planned.1))
     taken_found (Abandoned s l) last entries phases =
         absurd (let t = phases.puts.ends tells in omega (arith, t.planned.1))
@@ -468,7 +484,7 @@ module _ (g : Layout) (n : ℕ) (s0 s3 s4 s5 : DeviceState) (c03 : Called s0 s3)
     taken_found (Reserved s l) last entries phases =
         let t = phases.puts.ends tells in
         own_held (IsInFirst (end_plan s4.image n (Reserved s l)) 1) OUTCOME_CELL (outcome_at n) _ t
-        (abandon t.put t.planned) (OutcomeCells, refl, (n, last.is.reserves.slot, refl)) last.is.outcome
+        (abandon t.put t.planned) (OutcomeCells, refl, (n, last.is.reserves.slot, refl)) (inl (inr (inl refl))) last.is.outcome
         (λ other h here. ap (λ (x : Put). x.value) (abandon other h))
       where
         abandon : (put : Put) → IsInFirst (end_plan s4.image n (Reserved s l)) 1 put → put ≡ abandon_put n
@@ -483,7 +499,7 @@ module _ (g : Layout) (n : ℕ) (s0 s3 s4 s5 : DeviceState) (c03 : Called s0 s3)
         target_held s l b j last.is.commits last.is.done entries phases t first.1)
         (λ (final : (t.planned.0 ≡ 1) × (t.put ≡ done_put n)).
         own_held (IsInFirst (end_plan s4.image n (Committed s l b j)) 2) DONE_CELL (done_at n) _ t final.1
-        (DoneCells, refl, (n, last.is.commits.reserves.slot, refl)) last.is.done
+        (DoneCells, refl, (n, last.is.commits.reserves.slot, refl)) (inl (inr (inr refl))) last.is.done
         (once s l b j last.is.commits last.is.done entries phases))
         t.planned.2
 

@@ -209,8 +209,9 @@ pub last_refused : (g : Layout) (n : ℕ) (s0 s3 s4 : DeviceState) (fault : Faul
     → SettleEnds s0 s4 (Err (refusal_of_fault fault))
 last_refused g n s0 s3 s4 faults.ReadFault c03 c34 quiet volume ends = omega (arith, ends, c03.faults)
 last_refused g n s0 s3 s4 (faults.Tampered e) c03 c34 quiet volume ends = λ tells.
-    found_looked s0 s4 e (called_then c03 c34) quiet
-    (named_licensed g s0 s3 s4 e c03 c34 (volume tells) (ends (subst IsTrue (sym c03.tells) tells)))
+    let named = ends (subst IsTrue (sym c03.tells) tells) in
+    found_looked s0 s4 e (inl named.rule) (called_then c03 c34) quiet
+    (named_licensed g s0 s3 s4 e c03 c34 (volume tells) named)
 
 some_cells : (a : Reservation) → Some a ≡ None → ⊥
 some_cells a e = cc

@@ -1,5 +1,5 @@
 -- What it means that the last slot of the log follows those below it.
-use Rattle.std.specs.Prelude.{◌≡◌, ◌+◌, ℕ, Some, Result, Ok, Err, IsTrue}
+use Rattle.std.specs.Prelude.{◌≡◌, ◌⊎◌, ◌+◌, ℕ, Some, Result, Ok, Err, IsTrue}
 use Rattle.cell_types.specs.Image.{Image}
 use Rattle.cell_types.specs.Layout.{Layout, reserve_at}
 use Rattle.cell_types.specs.Records.{record_bytes}
@@ -10,7 +10,7 @@ use Rattle.cell_types.specs.declared.refusal.Fault.TheVariants.{Tampered, ReadFa
 use Rattle.stored_documents.specs.Slots.{EndsBelow, HasEnded}
 use Rattle.stored_documents.specs.Volumes.{IsVolume}
 use Rattle.tamper_rules.specs.Rules.{IsBroken, IsPlaceOf}
-use Rattle.tamper_rules.specs.declared.numbers.TheConstants.{RESERVE_CELL}
+use Rattle.tamper_rules.specs.declared.numbers.TheConstants.{DONE_CELL, OUTCOME_CELL, RESERVE_CELL}
 use Rattle.worm_device.specs.Counts.{Rose, IsStill}
 use Rattle.worm_device.specs.Views.{ViewState}
 use Rattle.commit_record.specs.Reservations.{reservation_of}
@@ -41,9 +41,14 @@ pub record IsReserveCell (n : ℕ) (cells : Reservation) (e : Evidence) : Type 0
   pub at : e.cell ≡ reserve_at n
   pub found : e.found ≡ record_bytes (Reserve cells.start cells.length) (reserve_at n)
 
--- The evidence stands, in the place of its rule. Where nobody else wrote, as these values of the count of foreign
+-- the rules of the cells that tell a slot's state
+abbrev pub IsSlotRule : ℕ → Type 0
+IsSlotRule number = (number ≡ RESERVE_CELL) ⊎ (number ≡ OUTCOME_CELL) ⊎ (number ≡ DONE_CELL)
+
+-- The evidence stands, in the place of its rule, which is one of these. Where nobody else wrote, as these values of the count of foreign
 -- writes say, and cell 0 states this layout, its rule is broken there.
 pub record IsNamed (g : Layout) (cells from to : ℕ) (image : Image) (e : Evidence) : Type 0 where
+  pub rule : IsSlotRule e.rule
   pub stands : image e.cell ≡ Some e.found
   pub place : IsPlaceOf g e.rule e.cell
   pub broken : IsStill from to → IsVolume cells image g → IsBroken cells image e.rule e.cell

@@ -10,6 +10,7 @@ use Rattle.stored_documents.specs.Slots.{IsReserved, IsCommitted, IsAbandoned, I
 use Rattle.stored_documents.specs.Volumes.{Holds, IsVolume, volume_record}
 use Rattle.tamper_rules.specs.Journals.{journal_at}
 use Rattle.tamper_rules.specs.Rules.{IsBroken}
+use Rattle.tamper_rules.specs.declared.numbers.TheConstants.{BROKEN_JOURNAL, OTHER_TARGET}
 use Rattle.worm_device.specs.Calls.{Called}
 use Rattle.worm_device.specs.Counts.{Rose, IsStill}
 use Rattle.worm_device.specs.State.{DeviceState}
@@ -21,14 +22,20 @@ use Rattle.commit_record.specs.States.{IsState}
 use Rattle.commit_record.specs.declared.slot.SlotState.{SlotState}
 use Rattle.recovery_engine.specs.Ending.{HasJournal, IsFirstEnd, IsLastEnd, end_phases}
 use Rattle.recovery_engine.specs.Entries.{target_of}
+use Rattle.recovery_engine.specs.LastSlot.{IsSlotRule}
 use Rattle.cell_types.specs.declared.geometry.Volume.{Volume}
 use Rattle.recovery_engine.specs.declared.settling.Ready.{Ready}
 use Rattle.recovery_engine.specs.declared.settling.Step.{Step}
 use Rattle.recovery_engine.specs.declared.settling.Step.TheVariants.{Nothing, Abandoned, Completed}
 
--- The evidence may be named; and where nobody else wrote in the call, its rule was broken there before the call, too:
--- so it is nothing that the call itself has written.
-pub record IsFound (old new : DeviceState) (e : Evidence) : Type 0 where
+-- the rules that settling looks at
+abbrev pub IsSettlingRule : ℕ → Type 0
+IsSettlingRule number = IsSlotRule number ⊎ (number ≡ BROKEN_JOURNAL) ⊎ (number ≡ OTHER_TARGET)
+
+-- The evidence names one of these rules, and may be named; and where nobody else wrote in the call, its rule was
+-- broken there before the call, too: so it is nothing that the call itself has written.
+pub record IsFound (IsLookedAt : ℕ → Type 0) (old new : DeviceState) (e : Evidence) : Type 0 where
+  pub rule : IsLookedAt e.rule
   pub licensed : IsLicensed old new e
   pub before : IsStill old.foreign_writes new.foreign_writes → IsBroken old.cells old.image e.rule e.cell
 
@@ -84,7 +91,7 @@ SettleEnds old new (Err (NotAVolume found)) =
 SettleEnds old new (Err (WrongSize stated real)) =
     (real ≡ new.cells) × (stated ≢ real)
     × (IsTrue old.tells → (g : Layout) × Holds new.image 0 (volume_record g) × (g.cells ≡ stated))
-SettleEnds old new (Err (Tampered e)) = IsTrue old.tells → IsFound old new e
+SettleEnds old new (Err (Tampered e)) = IsTrue old.tells → IsFound IsSettlingRule old new e
 SettleEnds old new (Err refusal) = ⊥
 
 -- Which cells settling puts, in the phases behind its first sync: those that end a slot in this state. Phase 0 is the
