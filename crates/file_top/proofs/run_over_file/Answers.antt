@@ -10,7 +10,7 @@ returns-clause-keeps g c id asks =
     let before = c.args.device.now in
     let device = c.run-outcome.new.device in
     let old = ports_of (device_over before.cells before.reads (g.F.HostFile.state before.file))
-        (g.S.Source.state c.args.source.now) (g.K.Sink.state c.args.sink.now) in
+    (g.S.Source.state c.args.source.now) (g.K.Sink.state c.args.sink.now) in
     keeps device.cells device.reads (g.F.HostFile.state device.file) id old (g.S.Source.state c.run-outcome.new.source)
     (g.K.Sink.state c.run-outcome.new.sink) c.run-outcome.result (c.run-outcome.ensures.does (ToIngest id) asks)
     c.crashes_are_seen.ensures
