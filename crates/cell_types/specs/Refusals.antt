@@ -3,7 +3,7 @@ use Rattle.std.specs.Prelude.{ℕ}
 use Rattle.cell_types.specs.declared.refusal.Fault.{Fault}
 use Rattle.cell_types.specs.declared.refusal.Fault.TheVariants as faults
 use Rattle.cell_types.specs.declared.refusal.Refusal.{Refusal}
-use Rattle.cell_types.specs.declared.refusal.Refusal.TheVariants.{Usage, Duplicate, BadIdentifier, TooLong, TooManyTerms, BadWord, BadScript, Full, SlotsFull, PathFull, Tampered, DeviceFault, SourceFault, SinkFault, NoMemory, NotFormatted, NotAVolume, WrongSize, NotBlank, TooSmall, NotYet, Absent}
+use Rattle.cell_types.specs.declared.refusal.Refusal.TheVariants.{Usage, Duplicate, BadIdentifier, TooLong, TooManyTerms, BadWord, BadScript, Full, SlotsFull, PathFull, Tampered, DeviceFault, SourceFault, SinkFault, NoMemory, NotFormatted, NotAVolume, WrongSize, NotBlank, TooSmall, Absent}
 
 -- 1: the words; 2: the input; 3: no room; 4: tampering; 5, 6, 7: a fault of device, source or sink;
 -- 8: memory; 9: the volume; 10: nothing found
@@ -28,7 +28,6 @@ status_of (NotAVolume found) = 9
 status_of (WrongSize stated real) = 9
 status_of (NotBlank cell) = 9
 status_of TooSmall = 9
-status_of (NotYet cell) = 9
 status_of Absent = 10
 
 -- as a command refuses

@@ -99,9 +99,6 @@ pub enum Refusal {
     /// The device has no room for so many slots and lists.
     #[error("device is too small")]
     TooSmall,
-    /// What this stage of the program cannot do yet, at this cell.
-    #[error("not yet possible at cell {0}")]
-    NotYet(u32),
     /// No document has the identifier.
     #[error("absent")]
     Absent,
@@ -157,8 +154,7 @@ impl Refusal {
             | Refusal::NotAVolume(_)
             | Refusal::WrongSize { .. }
             | Refusal::NotBlank(_)
-            | Refusal::TooSmall
-            | Refusal::NotYet(_) => 9,
+            | Refusal::TooSmall => 9,
             Refusal::Absent => 10,
         }
     }

@@ -264,7 +264,6 @@ fn each_refusal_has_its_line_and_status(rt: HostRuntime) -> Result<(), Fail> {
         ),
         (Refusal::NotBlank(999), 9, "cell 999 is written"),
         (Refusal::TooSmall, 9, "device is too small"),
-        (Refusal::NotYet(36), 9, "not yet possible at cell 36"),
         (Refusal::Absent, 10, "absent"),
     ] {
         assert_eq!(rt; refusal.status(), status, "{refusal}");

@@ -1,4 +1,3 @@
 pub mod Compared
-pub mod Passed
 pub mod Phasing
 pub mod Rows

@@ -2,6 +2,5 @@ pub mod Asking
 pub mod Completing
 pub mod Ingesting
 pub mod Listed
-pub mod Passed
 pub mod Pieces
 pub mod Taken

@@ -3,7 +3,7 @@ use Rattle.std.proofs.Common.{◌≡◌, length, slice_get, Some, refl, arith}
 use Rattle.std.proofs.lemmas.Option.{slice_get_read}
 use Rattle.phase_writer.specs.declared.put.Put.{Put}
 use Rattle.phase_writer.specs.declared.put.Blame.TheVariants.{Rule}
-use Rattle.phase_writer.proofs.Passed.{handed}
+use Rattle.cell_types.proofs.Passed.{handed}
 use Rattle.phase_writer.proofs.Phasing.{puts_more, puts_ended, puts_same}
 use Rattle.phase_writer.proofs.Rows.{row_left, row_next, row_right, row_covers, row_first, row_all}
 use Rattle.phase_writer.proofs.row.put_row.Goals as goal

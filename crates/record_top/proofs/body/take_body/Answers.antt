@@ -1,6 +1,6 @@
 -- What the source has given is the body before this turn and the piece of this turn.
 use Rattle.std.proofs.Common.{arith, length-take}
-use Rattle.record_top.proofs.Passed.{handed}
+use Rattle.cell_types.proofs.Passed.{handed}
 use Rattle.record_top.proofs.Taken.{piece_failed, piece_too_long}
 use Rattle.record_top.proofs.body.take_body.Goals as goal
 

@@ -6,7 +6,7 @@ use Rattle.record_top.specs.Ingesting.{acknowledgement}
 use Rattle.record_top.specs.Ports.{ports_of}
 use Rattle.record_top.specs.Taking.{refusal_of_body_fault}
 use Rattle.record_top.proofs.Ingesting.{not_taken, ended_early, not_put, acknowledged, not_acknowledged}
-use Rattle.record_top.proofs.Passed.{handed}
+use Rattle.cell_types.proofs.Passed.{handed}
 use Rattle.record_top.proofs.ingest.ingest_body.Goals as goal
 
 pub returns-in_err-body : goal.returns-in_err-body

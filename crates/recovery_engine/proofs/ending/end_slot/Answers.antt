@@ -2,7 +2,7 @@
 use Rattle.std.proofs.Common.{subst, Ok, Err}
 use Rattle.cell_types.specs.declared.record_cell.RecordCell.TheVariants.{Abandon}
 use Rattle.phase_writer.specs.Putting.{PutsPhase}
-use Rattle.phase_writer.proofs.Passed.{handed}
+use Rattle.cell_types.proofs.Passed.{handed}
 use Rattle.recovery_engine.specs.Journal.{IsEntryPut}
 use Rattle.recovery_engine.specs.declared.journal.Journal.{Journal}
 use Rattle.recovery_engine.proofs.LastCells.{record_put, this_phase, end_reserved_slot, end_unapplied, end_committed_slot}

@@ -6,7 +6,7 @@ use Rattle.stored_documents.specs.Slots.{IsHorizon}
 use Rattle.recovery_engine.specs.Settling.{Settles}
 use Rattle.recovery_engine.specs.declared.settling.Ready.{Ready}
 use Rattle.recovery_engine.proofs.States.{of_pool}
-use Rattle.phase_writer.proofs.Passed.{handed}
+use Rattle.cell_types.proofs.Passed.{handed}
 use Rattle.cell_types.specs.Refusals.{refusal_of_fault}
 use Rattle.commit_record.specs.Opening.{refusal_of}
 use Rattle.cell_types.specs.declared.geometry.TheConstants.{MAX_SLOTS}
