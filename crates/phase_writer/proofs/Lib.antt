@@ -1,3 +1,4 @@
 pub mod Compared
+pub mod Passed
 pub mod Phasing
 pub mod Rows

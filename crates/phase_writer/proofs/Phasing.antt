@@ -1,21 +1,20 @@
 -- Cells that are put one after another, and phases that follow one another.
-use Rattle.std.proofs.Common.{◌≡◌, ◌≢◌, ◌≤◌, ◌<◌, ◌+◌, ◌-◌, ◌⊎◌, ℕ, List, Option, Some, None, Result, Ok, Err, refl, sym, ap, ◌∙◌, inl, inr, ⊎_elim, subst, arith}
+use Rattle.std.proofs.Common.{◌≡◌, ◌≤◌, ◌<◌, ◌+◌, ◌-◌, ◌⊎◌, ℕ, List, Option, Some, None, Result, Ok, Err, refl, sym, ◌∙◌, inl, inr, ⊎_elim, subst, arith}
 use Rattle.std.specs.Prelude.{IsTrue}
 use Rattle.cell_types.specs.Image.{Image, Extends, Between, IsUnchanged, ChangesOnly}
 use Rattle.cell_types.specs.declared.refusal.Evidence.{Evidence}
 use Rattle.cell_types.specs.declared.refusal.Fault.{Fault}
 use Rattle.cell_types.specs.declared.refusal.Fault.TheVariants.{Tampered, ReadFault}
-use Rattle.worm_device.specs.Calls.{Called, Syncs, Writes, WriteAnswers}
+use Rattle.worm_device.specs.Calls.{Called, Syncs, Writes}
 use Rattle.worm_device.specs.Counts.{Rose, IsStill}
 use Rattle.worm_device.specs.State.{DeviceState, LeftSince}
 use Rattle.worm_device.specs.declared.device.Failed.{Failed}
 use Rattle.worm_device.specs.declared.device.Written.{Written}
-use Rattle.worm_device.specs.declared.device.Written.TheVariants.{Done, Taken}
 use Rattle.worm_device.proofs.Counting.{still_first, still_second}
 use Rattle.worm_device.proofs.Elapsing.{called_self, called_then, elapses_of}
-use Rattle.worm_device.proofs.Images.{extends_self, extends_then}
+use Rattle.worm_device.proofs.Images.{extends_then}
 use Rattle.phase_writer.specs.declared.put.Put.{Put}
-use Rattle.phase_writer.specs.Putting.{AreStanding, IsPut, ChangesBy, IsPutTwice, IsTaken, PutsEnd, Puts, AreSure, PhaseEnds, PutsPhase, IsInFirst, IsTakenIn, LeavesPhases, CrashesLeavePhases, PhasesEnd, PutsPhases, IsThis, evidence_of}
+use Rattle.phase_writer.specs.Putting.{IsPut, ChangesBy, IsPutTwice, IsTaken, PutsEnd, Puts, PhaseEnds, PutsPhase, IsInFirst, LeavesPhases, CrashesLeavePhases, PhasesEnd, PutsPhases, IsThis}
 
 none_some : (a : List ℕ) → Some a ≡ None → ⊥
 none_some a e = cc

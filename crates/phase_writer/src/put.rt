@@ -51,8 +51,10 @@ pub fn put_cell<D: Device>(device: &mut D, put: &Put) -> Result<(), Fault>
     let Ok(written) = device.write(put.at, put.value) else {
         return Err(Fault::ReadFault);
     };
-    match written {
-        Written::Taken(found) if found != put.value => Err(Fault::Tampered(put.evidence(found))),
-        _ => Ok(()),
+    if let Written::Taken(found) = written {
+        if found != put.value {
+            return Err(Fault::Tampered(put.evidence(found)));
+        }
     }
+    Ok(())
 }
