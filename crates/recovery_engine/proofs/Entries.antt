@@ -1,8 +1,8 @@
 -- Journal cells, looked at one after another.
 use Rattle.std.proofs.Common.{◌≡◌, ◌<◌, ◌≤◌, ◌+◌, ◌⊎◌, ℕ, List, Some, None, refl, sym, ap, ◌∙◌, inl, inr, ⊎_elim, subst, arith}
-use Rattle.std.specs.Prelude.{IsTrue, Result, Ok, Err}
+use Rattle.std.specs.Prelude.{IsTrue, Ok, Err}
 use Rattle.cell_types.specs.Image.{Image, Extends, IsUnchanged}
-use Rattle.recovery_engine.specs.Entries.{target_of, IsCopy, IsFit, IsUnfit, IsFloor, IsEntry, AreEntries}
+use Rattle.recovery_engine.specs.Entries.{target_of, IsCopy, IsFit, IsUnfit, IsFloor, AreEntries}
 use Rattle.cell_types.specs.declared.refusal.Evidence.{Evidence}
 use Rattle.cell_types.specs.declared.refusal.Fault.{Fault}
 use Rattle.cell_types.specs.declared.refusal.Fault.TheVariants.{Tampered, ReadFault}

@@ -1,20 +1,19 @@
 -- The cells that end a slot.
-use Rattle.std.proofs.Common.{◌≡◌, ◌≤◌, ◌<◌, ◌+◌, ◌-◌, ◌⊎◌, ℕ, List, Some, None, Ok, Err, refl, sym, ap, ◌∙◌, inl, inr, ⊎_elim, subst, arith}
-use Rattle.std.specs.Prelude.{IsTrue, Result}
+use Rattle.std.proofs.Common.{◌≡◌, ℕ, List, Ok, Err, refl, sym, ap, ◌∙◌, inl, inr, ⊎_elim, subst, arith}
+use Rattle.std.specs.Prelude.{Result}
 use Rattle.cell_types.specs.Image.{Image}
-use Rattle.cell_types.specs.Layout.{outcome_at, done_at}
 use Rattle.cell_types.specs.Records.{record_bytes}
 use Rattle.cell_types.specs.declared.record_cell.RecordCell.{RecordCell}
 use Rattle.cell_types.specs.declared.refusal.Fault.{Fault}
 use Rattle.commit_record.specs.declared.slot.SlotState.{SlotState}
-use Rattle.commit_record.specs.declared.slot.SlotState.TheVariants.{Unused, Reserved, Abandoned, Committed, Done}
+use Rattle.commit_record.specs.declared.slot.SlotState.TheVariants.{Reserved, Committed}
 use Rattle.phase_writer.specs.declared.put.Put.{Put}
 use Rattle.phase_writer.specs.declared.put.Blame.TheVariants.{Rule}
 use Rattle.phase_writer.specs.Putting.{IsThis, PutsPhase, PutsPhases}
 use Rattle.phase_writer.proofs.Phasing.{phases_none, phases_more, phases_ended, phases_wider, phase_same}
-use Rattle.recovery_engine.specs.Entries.{journal_at}
+use Rattle.tamper_rules.specs.Journals.{journal_at}
 use Rattle.worm_device.specs.State.{DeviceState}
-use Rattle.recovery_engine.specs.Ending.{abandon_put, done_put, IsFirstEnd, IsLastEnd, end_plan, end_phases}
+use Rattle.recovery_engine.specs.Ending.{abandon_put, done_put, end_plan, end_phases}
 use Rattle.recovery_engine.specs.Journal.{IsEntryPut}
 
 -- a record that is put, by its place

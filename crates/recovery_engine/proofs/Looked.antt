@@ -1,6 +1,6 @@
 -- What settling knows when all that stood is sure, and it has only looked since.
-use Rattle.std.proofs.Common.{◌≡◌, ◌≤◌, ◌<◌, ◌+◌, ◌-◌, ◌⊎◌, ℕ, List, Some, None, Ok, Err, refl, sym, ap, ◌∙◌, inl, inr, ⊎_elim, subst, arith}
-use Rattle.std.specs.Prelude.{IsTrue, Result}
+use Rattle.std.proofs.Common.{true, false, ◌≡◌, ◌≤◌, ◌<◌, ◌+◌, ◌-◌, ◌⊎◌, ℕ, Ok, Err, refl, sym, ◌∙◌, inl, inr, ⊎_elim, subst, arith}
+use Rattle.std.specs.Prelude.{IsTrue, IsOk, Result}
 use Rattle.cell_types.specs.Image.{Image, Extends, Between, IsUnchanged}
 use Rattle.cell_types.specs.declared.refusal.Fault.{Fault}
 use Rattle.cell_types.specs.declared.refusal.Refusal.{Refusal}
@@ -8,24 +8,27 @@ use Rattle.cell_types.specs.declared.refusal.Refusal.TheVariants.{DeviceFault}
 use Rattle.commit_record.specs.declared.slot.SlotState.{SlotState}
 use Rattle.commit_record.specs.declared.slot.SlotState.TheVariants.{Unused, Reserved, Abandoned, Committed, Done}
 use Rattle.phase_writer.specs.declared.put.Put.{Put}
-use Rattle.phase_writer.specs.Putting.{ChangesBy, IsInFirst, LeavesPhases, CrashesLeavePhases, PutsPhases}
+use Rattle.phase_writer.specs.Putting.{IsInFirst, LeavesPhases, CrashesLeavePhases, PutsPhases}
 use Rattle.phase_writer.proofs.Phasing.{changes_same, changes_wider, phases_append, phases_append_ended}
 use Rattle.worm_device.specs.Calls.{Called, Syncs}
-use Rattle.worm_device.specs.Counts.{IsStill, Rose}
+use Rattle.worm_device.specs.Counts.{IsStill}
 use Rattle.worm_device.specs.State.{DeviceState, LeftSince}
 use Rattle.worm_device.specs.declared.device.Failed.{Failed}
 use Rattle.worm_device.proofs.Counting.{still_first, still_second}
 use Rattle.worm_device.proofs.Elapsing.{called_then, elapses_of}
 use Rattle.worm_device.proofs.Images.{extends_self, extends_then, unchanged_then}
-use Rattle.recovery_engine.specs.Ending.{IsFirstEnd, IsLastEnd, end_plan, end_phases}
-use Rattle.recovery_engine.specs.Settling.{Settles, SettleEnds, EndsByPhases, IsEnding, IsOkay, settle_plan}
+use Rattle.recovery_engine.specs.Ending.{HasJournal, IsFirstEnd, IsLastEnd, end_plan, end_phases}
+use Rattle.recovery_engine.specs.Settling.{Settles, SettleEnds, EndsByPhases, IsEnding, settle_plan}
 use Rattle.recovery_engine.specs.LastSlot.{IsLast}
 use Rattle.cell_types.specs.Layout.{Layout}
-use Rattle.commit_record.specs.States.{IsState}
 use Rattle.stored_documents.specs.Slots.{IsHorizon}
 use Rattle.stored_documents.specs.Volumes.{IsVolume}
-use Rattle.stored_documents.proofs.Extending.{unused_further, reserved_further, abandoned_further, committed_further, horizon_further}
+use Rattle.stored_documents.proofs.Extending.{horizon_further}
+use Rattle.recovery_engine.proofs.InOrder.{state_further}
 use Rattle.recovery_engine.specs.declared.settling.Ready.{Ready}
+
+pub false_true : false ≡ true → ⊥
+false_true e = cc
 
 -- a crash keeps what was sure at old, and leaves nothing that does not stand
 pub record IsSpared (old now : DeviceState) (image : Image) : Type 0 where
@@ -98,7 +101,7 @@ none_settles image j put h = ⊎_elim
     h
 
 -- settling ends after looks alone
-settled_spared : (old now : DeviceState) (result : Result Ready Refusal) → Called old now → (IsStill old.foreign_writes now.foreign_writes → IsUnchanged old.image now.image) → CrashesSpare old now → (IsOkay result → IsTrue old.tells → Extends old.image now.sure) → SettleEnds old now result → Settles old now result
+settled_spared : (old now : DeviceState) (result : Result Ready Refusal) → Called old now → (IsStill old.foreign_writes now.foreign_writes → IsUnchanged old.image now.image) → CrashesSpare old now → (IsOk result → IsTrue old.tells → Extends old.image now.sure) → SettleEnds old now result → Settles old now result
 settled_spared old now result called quiet crashes synced ends = record {
   called = called;
   writes = λ tells. record {
@@ -121,7 +124,7 @@ settled_looked old now result looked ends = settled_spared old now result looked
 
 -- the sync failed
 pub sync_failed : (s0 s1 : DeviceState) (f : Failed) → Syncs s0 s1 (Err f) → Settles s0 s1 (Err DeviceFault)
-sync_failed s0 s1 f sync = settled_spared s0 s1 (Err DeviceFault) sync.called sync.only (spared_call sync.called) (λ no tells. absurd no) sync.cause
+sync_failed s0 s1 f sync = settled_spared s0 s1 (Err DeviceFault) sync.called sync.only (spared_call sync.called) (λ okay tells. absurd (false_true okay)) sync.cause
 
 two_phases : (state : SlotState) → end_phases state ≤ 2
 two_phases Unused = omega arith
@@ -156,27 +159,23 @@ in_phases image n (Abandoned s l) j put h = absurd (⊎_elim (λ (a : (j ≡ 1) 
 in_phases image n (Committed s l b k) j put h = ⊎_elim (λ (a : (j ≡ 1) × IsFirstEnd image n (Committed s l b k) put). omega (arith, a.0)) (λ (c : (j ≡ 2) × IsLastEnd n (Committed s l b k) put). omega (arith, c.0)) h
 in_phases image n (Done s l b k) j put h = absurd (⊎_elim (λ (a : (j ≡ 1) × ⊥). a.1) (λ (c : (j ≡ 2) × ⊥). c.1) h)
 
-state_further : (g : Layout) (before before' after : Image) (n : ℕ) (state : SlotState) → Extends before' before → IsState g before after n state → IsState g before' after n state
-state_further g before before' after n Unused e is = unused_further e (extends_self after) is
-state_further g before before' after n (Reserved s l) e is = reserved_further e (extends_self after) is
-state_further g before before' after n (Abandoned s l) e is = abandoned_further e (extends_self after) is
-state_further g before before' after n (Committed s l b j) e is = committed_further e (extends_self after) is
-state_further g before before' after n (Done s l b j) e is = is
-
 -- the slot that settling is to end
 pub ending_of : (g : Layout) (n u : ℕ) (s0 s2 s3 s5 : DeviceState) (state : SlotState) → u ≡ n + 1 → Looked s0 s2 → Called s2 s3 → Looked s0 s5 → Called s3 s5
-    → IsVolume s5.cells s5.image g → IsHorizon g s2.image s3.image u → IsLast g s3.image s5.image n state → IsEnding s0.cells s0.image s5.image n state
-ending_of g n u s0 s2 s3 s5 state next l2 c23 l5 c35 volume horizon last = record {
+    → IsVolume s5.cells s5.image g → IsHorizon g s2.image s3.image u → IsLast g s3.image s5.image n state
+    → HasJournal g state s5.image → IsEnding s0.cells s0.image s5.image n state
+ending_of g n u s0 s2 s3 s5 state next l2 c23 l5 c35 volume horizon last journal = record {
   layout = g;
   volume = subst (λ (k : ℕ). IsVolume k s5.image g) l5.called.cells volume;
   horizon = subst (λ (k : ℕ). IsHorizon g s0.image s5.image k) next (horizon_further l2.called.image c35.image horizon);
-  is = state_further g s3.image s0.image s5.image n state (extends_then l2.called.image c23.image) last.is;
+  is = state_further g s3.image s0.image s5.image s5.image n state (extends_then l2.called.image c23.image)
+      (extends_self s5.image) last.is;
+  journal = journal;
 }
 
 -- settling ends after the slot was ended, or not
 pub settled_ended : (n : ℕ) (s0 s4 s5 : DeviceState) (state : SlotState) (ended : Result (Unit {0}) Fault) (result : Result Ready Refusal) → Looked s0 s4
     → PutsPhases (end_plan s4.image n state) (end_phases state) s4 s5 ended → (IsTrue s0.tells → IsEnding s0.cells s0.image s4.image n state)
-    → (IsOkay result → PutsPhases (end_plan s4.image n state) (end_phases state) s4 s5 (Ok tt)) → SettleEnds s0 s5 result → Settles s0 s5 result
+    → (IsOk result → PutsPhases (end_plan s4.image n state) (end_phases state) s4 s5 (Ok tt)) → SettleEnds s0 s5 result → Settles s0 s5 result
 settled_ended n s0 s4 s5 state ended result looked phases ending okay ends = record {
   called = called_then looked.called phases.puts.called;
   writes = λ tells. writes ended phases tells;

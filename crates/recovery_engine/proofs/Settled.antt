@@ -1,66 +1,65 @@
 -- A volume that is settled: from the looks over the slot's last cell to the end.
-use Rattle.std.proofs.Common.{◌≡◌, ◌≢◌, ◌≤◌, ◌<◌, ◌+◌, ◌^◌, ◌⊎◌, ℕ, List, Option, Some, None, Ok, Err, refl, sym, ap, ◌∙◌, inl, inr, ⊎_elim, subst, arith}
-use Rattle.std.specs.Prelude.{IsTrue, Result}
-use Rattle.cell_types.specs.Image.{Image, Extends, IsUnchanged}
-use Rattle.cell_types.specs.Layout.{Layout, reserve_at, outcome_at, done_at}
+use Rattle.std.proofs.Common.{◌≡◌, ◌≤◌, ◌<◌, ◌+◌, ℕ, List, Some, None, Ok, Err, refl, sym, ◌∙◌, inl, inr, subst, arith}
+use Rattle.std.specs.Prelude.{IsTrue}
+use Rattle.cell_types.specs.Image.{Extends, IsUnchanged}
+use Rattle.cell_types.specs.Layout.{Layout, IsLayout, reserve_at, outcome_at, done_at}
 use Rattle.cell_types.specs.Records.{record_bytes}
 use Rattle.cell_types.specs.declared.geometry.TheConstants.{MAX_SLOTS}
 use Rattle.cell_types.specs.declared.record_cell.RecordCell.TheVariants as records
 use Rattle.cell_types.specs.declared.refusal.Evidence.{Evidence}
-use Rattle.cell_types.specs.declared.refusal.Refusal.{Refusal}
-use Rattle.cell_types.specs.declared.refusal.Refusal.TheVariants.{Tampered, DeviceFault}
-use Rattle.commit_record.specs.States.{reservation_of}
+use Rattle.commit_record.specs.Reservations.{reservation_of}
+use Rattle.commit_record.specs.Licences.{IsLicensed}
+use Rattle.commit_record.specs.declared.reservation.Reservation.{Reservation}
 use Rattle.commit_record.specs.declared.slot.SlotState.{SlotState}
 use Rattle.commit_record.specs.declared.slot.SlotState.TheVariants.{Unused, Reserved, Abandoned, Committed, Done}
-use Rattle.stored_documents.specs.Slots.{Reserves, HasEnded, EndsBelow, IsHorizon, AreTaken}
+use Rattle.stored_documents.specs.Slots.{Reserves, HasEnded, IsHorizon, AreTaken}
 use Rattle.stored_documents.specs.Volumes.{IsVolume}
-use Rattle.stored_documents.proofs.Extending.{blank_before, reserves_on, commits_on, reserved_further, abandoned_further, committed_further, done_on, horizon_further, taken_on, volume_on}
+use Rattle.stored_documents.proofs.Extending.{blank_before, reserves_on, commits_on, reserved_further, abandoned_further, committed_further, done_on, horizon_further, taken_on}
 use Rattle.cell_types.specs.declared.refusal.Fault.{Fault}
 use Rattle.cell_types.specs.declared.refusal.Fault.TheVariants as faults
 use Rattle.commit_record.specs.Opening.{OpenEnds, refusal_of}
 use Rattle.commit_record.specs.declared.opening.OpenRefusal.{OpenRefusal}
 use Rattle.commit_record.specs.declared.opening.OpenRefusal.TheVariants.{NotFormatted, NotAVolume, WrongSize, ReadFault}
-use Rattle.tamper_rules.specs.Breaking.{IsPlace}
-use Rattle.worm_device.specs.declared.device.Failed.{Failed}
 use Rattle.worm_device.specs.Views.{seen_directly}
-use Rattle.worm_device.specs.Calls.{Called, Syncs}
-use Rattle.worm_device.specs.Counts.{IsStill, Rose}
+use Rattle.worm_device.specs.Calls.{Called}
+use Rattle.worm_device.specs.Counts.{IsStill}
 use Rattle.worm_device.specs.State.{DeviceState}
 use Rattle.worm_device.proofs.Counting.{still_first, still_second}
 use Rattle.worm_device.proofs.Elapsing.{called_then}
 use Rattle.worm_device.proofs.Images.{extends_self, extends_then}
 use Rattle.recovery_engine.specs.LastSlot.{IsLast, IsNamed, LastEnds}
-use Rattle.recovery_engine.specs.Settling.{IsLicensed, StepMakes, IsReady, SettleEnds, fault_refusal}
+use Rattle.recovery_engine.specs.Settling.{StepMakes, IsReady, LiesInBounds, SettleEnds, unused}
+use Rattle.cell_types.specs.declared.geometry.Volume.{Volume}
+use Rattle.cell_types.specs.declared.record_cell.TheConstants.{FORMAT_VERSION}
+use Rattle.cell_types.specs.Refusals.{refusal_of_fault}
 use Rattle.recovery_engine.specs.Ending.{HasJournal, abandon_put, done_put, end_plan, end_phases, step_of}
 use Rattle.phase_writer.specs.Putting.{PutsPhases}
 use Rattle.phase_writer.specs.declared.put.Blame.TheVariants.{Journal}
-use Rattle.recovery_engine.specs.Entries.{target_of, journal_at}
+use Rattle.recovery_engine.specs.Entries.{target_of}
+use Rattle.tamper_rules.specs.Journals.{journal_at}
 use Rattle.recovery_engine.specs.declared.settling.Ready.{Ready}
-use Rattle.recovery_engine.specs.declared.settling.Step.{Step}
-use Rattle.recovery_engine.specs.declared.settling.Step.TheVariants as steps
-use Rattle.recovery_engine.proofs.Licensed.{stays_free}
+use Rattle.recovery_engine.proofs.Licensed.{stays_free, found_looked}
 use Rattle.recovery_engine.proofs.Looked.{Looked}
-use Rattle.recovery_engine.proofs.States.{pair_is, reserved_by}
+use Rattle.recovery_engine.proofs.States.{reserved_by}
 
 none_some : (a : List ℕ) → Some a ≡ None → ⊥
 none_some a e = cc
 
--- a volume stays one on the device, over calls
-pub volume_later : (old new : DeviceState) (g : Layout) → Called old new → IsVolume old.cells old.image g → IsVolume new.cells new.image g
-volume_later old new g called volume = subst (λ (n : ℕ). IsVolume n new.image g) (sym called.cells) (volume_on called.image volume)
+none_cells : (a : Reservation) → None ≡ Some a → ⊥
+none_cells a e = cc
 
 -- evidence of the last look, from the first state on
-pub named_licensed : (g : Layout) (s0 s3 s4 : DeviceState) (e : Evidence) → Called s0 s3 → Called s3 s4 → IsVolume s4.cells s4.image g
-    → IsNamed g s3.foreign_writes s4.foreign_writes s4.image e → IsLicensed s0 s4 e
+named_licensed : (g : Layout) (s0 s3 s4 : DeviceState) (e : Evidence) → Called s0 s3 → Called s3 s4 → IsVolume s4.cells s4.image g
+    → IsNamed g s4.cells s3.foreign_writes s4.foreign_writes s4.image e → IsLicensed s0 s4 e
 named_licensed g s0 s3 s4 e c03 c34 volume named = record {
   stands = named.stands;
   layout = g;
   volume = volume;
   place = named.place;
-  breaks = λ still. named.breaks (still_second c03.foreign_writes c34.foreign_writes still);
+  broken = λ still. named.broken (still_second c03.foreign_writes c34.foreign_writes still) volume;
 }
 
-module _ (g : Layout) (n u start length : ℕ) (next : u ≡ n + 1) (less : n < MAX_SLOTS) (s0 s2 s3 s4 s5 : DeviceState)
+module _ (g : Layout) (n u : ℕ) (cells : Reservation) (next : u ≡ n + 1) (less : n < MAX_SLOTS) (s0 s2 s3 s4 s5 : DeviceState)
     (c02 : Called s0 s2) (c23 : Called s2 s3) (c34 : Called s3 s4) (c45 : Called s4 s5) (tells : IsTrue s4.tells) where
   e03 : Extends s0.image s3.image
   e03 = extends_then c02.image c23.image
@@ -69,9 +68,9 @@ module _ (g : Layout) (n u start length : ℕ) (next : u ≡ n + 1) (less : n < 
   same_slot m is = omega (arith, next, is)
 
   -- what the step has made of the slot
-  pub step_makes : (state : SlotState) (u0 : Unit {0}) → IsLast g s3.image s4.image n state → HasJournal g state s4.image → (let p : ℕ × ℕ = (start, length) in reservation_of state ≡ Some p)
+  pub step_makes : (state : SlotState) (u0 : Unit {0}) → IsLast g s3.image s4.image n state → HasJournal g state s4.image → reservation_of state ≡ Some cells
       → PutsPhases (end_plan s4.image n state) (end_phases state) s4 s5 (Ok u0) → StepMakes g s0 s5 u (step_of n state)
-  step_makes Unused u0 last entries reserved p = absurd (let p : ℕ × ℕ = (start, length) in let clash : None ≡ Some p = reserved in cc)
+  step_makes Unused u0 last entries reserved p = absurd (none_cells cells reserved)
   step_makes (Abandoned s l) u0 last entries reserved p =
       λ m is. subst (HasEnded g s0.image s5.image) (same_slot m is) (inl (record { start = s; length = l; abandoned = abandoned_further e03 c45.image last.is }))
   step_makes (Done s l b j) u0 last entries reserved p =
@@ -115,9 +114,9 @@ module _ (g : Layout) (n u start length : ℕ) (next : u ≡ n + 1) (less : n < 
       )
 
   -- the volume is ready
-  pub ready : (r : Ready) (state : SlotState) (u0 : Unit {0}) → r.volume.geometry ≡ g → r.horizon ≡ u → r.edge ≡ start + length → IsVolume s5.cells s5.image r.volume.geometry
+  pub ready : (r : Ready) (state : SlotState) (u0 : Unit {0}) → r.volume.geometry ≡ g → r.horizon ≡ u → r.edge ≡ cells.start + cells.length → IsVolume s5.cells s5.image r.volume.geometry
       → IsHorizon r.volume.geometry s2.image s3.image r.horizon → AreTaken s3.image r.horizon
-      → IsLast g s3.image s4.image n state → (let p : ℕ × ℕ = (start, length) in reservation_of state ≡ Some p)
+      → IsLast g s3.image s4.image n state → reservation_of state ≡ Some cells
       → HasJournal g state s4.image → PutsPhases (end_plan s4.image n state) (end_phases state) s4 s5 (Ok u0) → r.step ≡ step_of n state → Extends s0.image s5.sure
       → (IsStill s2.foreign_writes s4.foreign_writes → IsUnchanged s2.image s4.image) → IsReady s0 s5 r
   ready r state u0 e_g e_u e_edge volume horizon taken last reserved entries phases e_step synced quiet = record {
@@ -129,31 +128,80 @@ module _ (g : Layout) (n u start length : ℕ) (next : u ≡ n + 1) (less : n < 
         let e25 = still_second c02.foreign_writes (omega (arith, more, c45.foreign_writes)) still in
         stays_free g n r.horizon state s4 s5 u0 (subst (λ (h : Layout). r.horizon < h.slots) e_g under) entries phases tells (still_second more c45.foreign_writes e25)
         (quiet (still_first more c45.foreign_writes e25) (reserve_at r.horizon) ∙ horizon.free under);
-    edge = inr (n, start, length, e_u ∙ next, subst (λ (h : Layout). Reserves h s5.image n start length) (sym e_g)
-        (reserves_on c45.image (reserved_by g s3.image s4.image n state start length last.is reserved)), e_edge);
+    edge = inr (
+      n,
+      cells.start,
+      cells.length,
+      e_u ∙ next,
+      subst (λ (h : Layout). Reserves h s5.image n cells.start cells.length) (sym e_g)
+          (reserves_on c45.image (reserved_by g s3.image s4.image n state cells last.is reserved)),
+      e_edge,
+    );
     step = subst (λ (h : Layout). StepMakes h s0 s5 r.horizon r.step) (sym e_g) (subst (λ (k : ℕ). StepMakes g s0 s5 k r.step) (sym e_u) (subst (StepMakes g s0 s5 u) (sym e_step) (step_makes state u0 last entries reserved phases)));
     synced = synced;
   }
 
+-- a volume of which no slot is used
+pub unused_bounds : (new : DeviceState) (volume : Volume) → volume.version ≡ FORMAT_VERSION
+    → IsLayout volume.geometry → volume.geometry.cells ≡ new.cells → LiesInBounds new (unused volume)
+unused_bounds new volume version layout size = record {
+  version = version;
+  layout = layout;
+  size = size;
+  horizon = omega arith;
+  from = omega arith;
+  to = layout.pool;
+}
+
+pub unused_ready : (s0 s2 s3 : DeviceState) (volume : Volume) → Called s0 s2 → Called s2 s3
+    → (IsStill s2.foreign_writes s3.foreign_writes → IsUnchanged s2.image s3.image)
+    → IsVolume s3.cells s3.image volume.geometry → IsHorizon volume.geometry s2.image s3.image 0
+    → Extends s0.image s3.sure → IsReady s0 s3 (unused volume)
+unused_ready s0 s2 s3 volume c02 c23 quiet is horizon synced = record {
+  volume = is;
+  horizon = horizon_further c02.image (extends_self s3.image) horizon;
+  taken = λ m below. absurd (omega (arith, below));
+  free = λ still under.
+      quiet (still_second c02.foreign_writes c23.foreign_writes still) (reserve_at 0) ∙ horizon.free under;
+  edge = inl (refl, refl);
+  step = λ m is. absurd (omega (arith, is));
+  synced = synced;
+}
+
 -- the volume was not opened
 pub open_refused : (s0 s1 s2 : DeviceState) (fault : OpenRefusal) → Looked s0 s1 → Looked s0 s2 → Called s1 s2
     → OpenEnds (seen_directly s1 0) (seen_directly s2 0) (Err fault) → SettleEnds s0 s2 (Err (refusal_of fault))
-open_refused s0 s1 s2 NotFormatted l1 l2 c12 ends = λ tells. blank_before l1.called.image (ends (subst IsTrue (sym l1.called.tells) tells))
-open_refused s0 s1 s2 (NotAVolume found) l1 l2 c12 ends = λ tells. ends (subst IsTrue (sym l1.called.tells) tells)
-open_refused s0 s1 s2 (WrongSize stated real) l1 l2 c12 ends = (ends.0, ends.1, λ tells. ends.2 (subst IsTrue (sym l1.called.tells) tells))
+open_refused s0 s1 s2 NotFormatted l1 l2 c12 ends = λ tells.
+    blank_before l2.called.image (ends.1 (subst IsTrue (sym l1.called.tells) tells))
+open_refused s0 s1 s2 (NotAVolume found) l1 l2 c12 ends = λ tells. ends.1 (subst IsTrue (sym l1.called.tells) tells)
+open_refused s0 s1 s2 (WrongSize stated real) l1 l2 c12 ends =
+    (ends.1, ends.2, λ tells. ends.3 (subst IsTrue (sym l1.called.tells) tells))
 open_refused s0 s1 s2 ReadFault l1 l2 c12 ends = omega (arith, ends, l1.called.faults)
 
 -- the last slot is out of place, or a read failed
-pub last_refused : (g : Layout) (n : ℕ) (s0 s3 s4 : DeviceState) (fault : Fault) → Called s0 s3 → Called s3 s4 → (IsTrue s0.tells → IsVolume s4.cells s4.image g)
-    → LastEnds g n (seen_directly s3 0) (seen_directly s4 0) (Err fault) → SettleEnds s0 s4 (Err (fault_refusal fault))
-last_refused g n s0 s3 s4 faults.ReadFault c03 c34 volume ends = omega (arith, ends, c03.faults)
-last_refused g n s0 s3 s4 (faults.Tampered e) c03 c34 volume ends = λ tells.
-    named_licensed g s0 s3 s4 e c03 c34 (volume tells) (ends (subst IsTrue (sym c03.tells) tells))
+pub last_refused : (g : Layout) (n : ℕ) (s0 s3 s4 : DeviceState) (fault : Fault) → Called s0 s3 → Called s3 s4
+    → (IsStill s0.foreign_writes s4.foreign_writes → IsUnchanged s0.image s4.image)
+    → (IsTrue s0.tells → IsVolume s4.cells s4.image g)
+    → LastEnds g n (seen_directly s3 0) (seen_directly s4 0) (Err fault)
+    → SettleEnds s0 s4 (Err (refusal_of_fault fault))
+last_refused g n s0 s3 s4 faults.ReadFault c03 c34 quiet volume ends = omega (arith, ends, c03.faults)
+last_refused g n s0 s3 s4 (faults.Tampered e) c03 c34 quiet volume ends = λ tells.
+    found_looked s0 s4 e (called_then c03 c34) quiet
+    (named_licensed g s0 s3 s4 e c03 c34 (volume tells) (ends (subst IsTrue (sym c03.tells) tells)))
+
+some_cells : (a : Reservation) → Some a ≡ None → ⊥
+some_cells a e = cc
 
 -- a slot below the horizon has a reserve cell
-pub never_unused : (g : Layout) (n u : ℕ) (s3 s4 : DeviceState) (state : SlotState) → n < u → AreTaken s3.image u → IsLast g s3.image s4.image n state → reservation_of state ≡ None → ⊥
-never_unused g n u s3 s4 Unused less taken last none = let w = taken n less in none_some w.found (sym w.stands ∙ last.is.reserve)
-never_unused g n u s3 s4 (Reserved s l) less taken last none = let p : ℕ × ℕ = (s, l) in let clash : Some p ≡ None = none in cc
-never_unused g n u s3 s4 (Abandoned s l) less taken last none = let p : ℕ × ℕ = (s, l) in let clash : Some p ≡ None = none in cc
-never_unused g n u s3 s4 (Committed s l b j) less taken last none = let p : ℕ × ℕ = (s, l) in let clash : Some p ≡ None = none in cc
-never_unused g n u s3 s4 (Done s l b j) less taken last none = let p : ℕ × ℕ = (s, l) in let clash : Some p ≡ None = none in cc
+pub never_unused : (g : Layout) (n u : ℕ) (s3 s4 : DeviceState) (state : SlotState) → n < u → AreTaken s3.image u
+    → IsLast g s3.image s4.image n state → reservation_of state ≡ None → ⊥
+never_unused g n u s3 s4 Unused less taken last none =
+    let w = taken n less in none_some w.found (sym w.stands ∙ last.is.reserve)
+never_unused g n u s3 s4 (Reserved s l) less taken last none =
+    some_cells (record { start = s; length = l }) none
+never_unused g n u s3 s4 (Abandoned s l) less taken last none =
+    some_cells (record { start = s; length = l }) none
+never_unused g n u s3 s4 (Committed s l b j) less taken last none =
+    some_cells (record { start = s; length = l }) none
+never_unused g n u s3 s4 (Done s l b j) less taken last none =
+    some_cells (record { start = s; length = l }) none

@@ -17,11 +17,18 @@ use Rattle.commit_record.specs.Reservations.{reservation_of}
 use Rattle.commit_record.specs.States.{IsState, LiesInPool}
 use Rattle.commit_record.specs.declared.reservation.Reservation.{Reservation}
 use Rattle.commit_record.specs.declared.slot.SlotState.{SlotState}
+use Rattle.commit_record.specs.declared.slot.SlotState.TheVariants.{Abandoned, Done}
 
 -- slot n's cells, from start on, begin where those of the slots below end, and the slot before is abandoned or done
 pub record Follows (g : Layout) (before after : Image) (n start : ℕ) : Type 0 where
   pub begins : EndsBelow g after n start
   pub ended : (m : ℕ) → n ≡ m + 1 → HasEnded g before after m
+
+-- cells from this one on follow those of a slot in this state: it is abandoned or done, and its own end there
+abbrev pub IsFollowed : SlotState → ℕ → Type 0
+IsFollowed (Abandoned start length) next = start + length ≡ next
+IsFollowed (Done start length bytes journal) next = start + length ≡ next
+IsFollowed state next = ⊥
 
 -- slot n is in this state, and where it reserves cells it follows those below it
 pub record IsLast (g : Layout) (before after : Image) (n : ℕ) (state : SlotState) : Type 0 where

@@ -19,7 +19,7 @@ use Rattle.commit_record.specs.Licences.{IsLicensed}
 use Rattle.commit_record.specs.Opening.{IsNoVolumeCell}
 use Rattle.commit_record.specs.States.{IsState}
 use Rattle.commit_record.specs.declared.slot.SlotState.{SlotState}
-use Rattle.recovery_engine.specs.Ending.{IsFirstEnd, IsLastEnd, end_phases}
+use Rattle.recovery_engine.specs.Ending.{HasJournal, IsFirstEnd, IsLastEnd, end_phases}
 use Rattle.recovery_engine.specs.Entries.{target_of}
 use Rattle.cell_types.specs.declared.geometry.Volume.{Volume}
 use Rattle.recovery_engine.specs.declared.settling.Ready.{Ready}
@@ -92,12 +92,14 @@ SettleEnds old new (Err refusal) = ⊥
 abbrev pub settle_plan : Image → ℕ → SlotState → ℕ → Put → Type 0
 settle_plan image n state j put = ((j ≡ 1) × IsFirstEnd image n state put) ⊎ ((j ≡ 2) × IsLastEnd n state put)
 
--- Slot n, the one below a horizon of a volume, is in this state, as seen between two images.
+-- Slot n, the one below a horizon of a volume, is in this state, as seen between two images; and where it is committed,
+-- each cell of its journal asks for what it may ask for.
 pub record IsEnding (cells : ℕ) (old between : Image) (n : ℕ) (state : SlotState) : Type 0 where
   pub layout : Layout
   pub volume : IsVolume cells between layout
   pub horizon : IsHorizon layout old between (n + 1)
   pub is : IsState layout old between n state
+  pub journal : HasJournal layout state between
 
 -- Settling ends one slot at most, by its state, in phases. The slot's journal stands in an image that lies between the
 -- one at entry and the one at exit, and is the one at entry where nobody else wrote.

@@ -28,6 +28,8 @@ pub fn journal_of(
     requires within { LiesInPool geometry.now (Committed cells.start cells.length bytes journal) }
     ensures { result ≡ journal_of geometry.now slot cells.start cells.length bytes journal }
 {
+    // A layout has a list, as each of its calls says.
+    let _cells = geometry.cells();
     let outcome = geometry.outcome_at(slot);
     let place = cells.end() - journal;
     Journal {
@@ -118,6 +120,8 @@ pub fn finish<D: Device>(device: &mut D, geometry: &Geometry, slot: u32) -> Resu
     requires size { geometry.now.cells ≤ (D.state device.old).cells }
     ensures { PutsPhase (IsThis (done_put slot)) (D.state device.old) (D.state device.new) result }
 {
+    // A layout has no more slots than a done cell can name, as each of its calls says.
+    let _slots = geometry.slots();
     let at = geometry.done_at(slot);
     let done = Put {
         at,

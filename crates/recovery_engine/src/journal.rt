@@ -50,12 +50,7 @@ fn is_index_record(held: &RecordCell) -> bool
 }
 
 /// A journal cell, as the cell that it asks for, from this cell on.
-fn entry<D: Device>(
-    device: &mut D,
-    journal: &Journal,
-    k: u32,
-    floor: u32,
-) -> Result<Put, Fault>
+fn entry<D: Device>(device: &mut D, journal: &Journal, k: u32, floor: u32) -> Result<Put, Fault>
     requires within { k < journal.now.count }
     requires place { journal.now.place + journal.now.count ≤ (D.state device.old).cells }
     ensures called { Called (D.state device.old) (D.state device.new) }

@@ -1,7 +1,8 @@
 //! The last slot of the log: its state, and that it follows the one before.
-ghost use Rattle.std.specs.Prelude.{◌≡◌, ◌<◌, ◌≤◌, ◌+◌};
+ghost use Rattle.std.specs.Prelude.{◌≡◌, ◌<◌, ◌≤◌, ◌+◌, ◌^◌, ◌↔◌, IfSome, IsTrue};
 ghost use Rattle.worm_device.specs.Views.{Viewed};
-ghost use Rattle.recovery_engine.specs.LastSlot.{IsReserveCell, LastEnds};
+ghost use Rattle.commit_record.specs.Reservations.{reservation_of};
+ghost use Rattle.recovery_engine.specs.LastSlot.{IsFollowed, IsReserveCell, LastEnds};
 
 use cell_types::{Evidence, Fault, Geometry, RecordCell, Volume, encode};
 use commit_record::{Reservation, SlotState, slot_state};
@@ -29,14 +30,24 @@ pub fn last_slot<V: View>(view: &mut V, volume: &Volume, last: u32) -> Result<Sl
         return Ok(state);
     }
     let before = slot_state(view, volume, last - 1)?;
-    let follows = before.has_ended()
-        && before
-            .reservation()
-            .is_some_and(|lower| lower.end() == cells.start);
-    if !follows {
+    if !is_followed(&before, cells.start) {
         return Err(Fault::Tampered(out_of_order(&geometry, last, cells)));
     }
     Ok(state)
+}
+
+/// Whether cells from this one on follow those of a slot in this state.
+fn is_followed(before: &SlotState, start: u32) -> bool
+    requires { IfSome (reservation_of before.now) (λ cells. cells.start + cells.length < 2 ^ 32) }
+    ensures { IsTrue result ↔ IsFollowed before.now start }
+{
+    if !before.has_ended() {
+        return false;
+    }
+    match before.reservation() {
+        Some(cells) => cells.end() == start,
+        None => false,
+    }
 }
 
 /// Evidence that a slot's cells do not follow those before.

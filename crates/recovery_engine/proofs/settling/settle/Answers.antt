@@ -1,37 +1,39 @@
 -- Each exit, from the looks before it.
-use Rattle.std.proofs.Common.{◌≡◌, ◌≤◌, ◌<◌, ◌+◌, ◌-◌, ℕ, None, refl, sym, ◌∙◌, inl, inr, subst, arith}
-use Rattle.std.specs.Prelude.{IsTrue, Err}
-use Rattle.cell_types.specs.declared.refusal.Refusal.{Refusal}
+use Rattle.std.proofs.Common.{◌≡◌, ◌<◌, ◌+◌, ◌-◌, ℕ, refl, sym, ◌∙◌, subst, arith}
+use Rattle.std.specs.Prelude.{IsTrue, Ok}
 use Rattle.worm_device.specs.Counts.{Rose, IsStill}
 use Rattle.stored_documents.specs.Slots.{IsHorizon}
-use Rattle.recovery_engine.specs.Settling.{SettleEnds}
-use Rattle.recovery_engine.proofs.States.{within_bounds}
+use Rattle.recovery_engine.specs.Settling.{Settles}
+use Rattle.recovery_engine.specs.declared.settling.Ready.{Ready}
+use Rattle.recovery_engine.proofs.States.{of_pool}
+use Rattle.phase_writer.proofs.Passed.{handed}
+use Rattle.cell_types.specs.Refusals.{refusal_of_fault}
+use Rattle.commit_record.specs.Opening.{refusal_of}
 use Rattle.cell_types.specs.declared.geometry.TheConstants.{MAX_SLOTS}
 use Rattle.worm_device.proofs.Elapsing.{called_then}
-use Rattle.worm_device.proofs.Images.{extends_self, extends_then, unchanged_then}
-use Rattle.stored_documents.proofs.Extending.{horizon_further}
-use Rattle.recovery_engine.proofs.Looked.{looked_sync, looked_more, settled_looked, settled_ended, ending_of, sync_failed}
-use Rattle.recovery_engine.proofs.Settled.{ready, open_refused, last_refused, never_unused, volume_later}
-use Rattle.recovery_engine.proofs.Licensed.{check_refused, end_refused, last_on}
+use Rattle.worm_device.proofs.Images.{extends_then, unchanged_then}
+use Rattle.recovery_engine.proofs.Looked.{false_true, looked_sync, looked_more, settled_looked, settled_ended, ending_of, sync_failed}
+use Rattle.recovery_engine.proofs.Settled.{ready, unused_bounds, unused_ready, open_refused, last_refused, never_unused}
+use Rattle.recovery_engine.proofs.Licensed.{check_refused, end_refused, last_on, volume_later}
 use Rattle.recovery_engine.specs.Ending.{HasJournal}
 use Rattle.recovery_engine.specs.LastSlot.{IsLast}
 use Rattle.cell_types.specs.Image.{IsUnchanged}
-use Rattle.cell_types.specs.Layout.{reserve_at}
 use Rattle.worm_device.proofs.Counting.{still_first, still_second}
 use Rattle.recovery_engine.proofs.settling.settle.Goals as goal
 
 pub returns-in_default : goal.returns-in_default
 returns-in_default g c = sync_failed _ _ _ c.in_default.ensures
 
-pub returns-in-Err : goal.returns-in-Err
-returns-in-Err g c =
+pub returns-in_err-volume : goal.returns-in_err-volume
+returns-in_err-volume g c =
     let s0 = g.D.Device.state c.args.device.now in
     let s1 = g.D.Device.state c.sync.new.self in
     let l1 = looked_sync s0 s1 c.in-Ok.ensures in
     let s2 = g.D.Device.state c.open_device.new.device in
     let l2 = looked_more s0 s1 s2 l1 c.open_device.ensures.called c.open_device.ensures.quiet in
-    settled_looked s0 s2 _ l2 (subst (λ (r : Refusal). SettleEnds s0 s2 (Err r)) (sym c.refusal.ensures)
-    (open_refused s0 s1 s2 c.in-Err.fault l1 l2 c.open_device.ensures.called c.in-Err.ensures.ends))
+    rw (handed c.from_residual.result (refusal_of c.in_err-volume.field-0.0) c.from_residual.ensures.1)
+    (settled_looked s0 s2 _ l2
+    (open_refused s0 s1 s2 c.in_err-volume.field-0.0 l1 l2 c.open_device.ensures.called c.in_err-volume.ensures.ends))
 
 pub returns-in_default-horizon_of_device : goal.returns-in_default-horizon_of_device
 returns-in_default-horizon_of_device g c =
@@ -54,36 +56,25 @@ returns-then-horizon-eq0 g c =
     let l2 = looked_more s0 s1 s2 l1 c.open_device.ensures.called c.open_device.ensures.quiet in
     let s3 = g.D.Device.state c.horizon_of_device.new.device in
     let l3 = looked_more s0 s2 s3 l2 c.horizon_of_device.ensures.called c.horizon_of_device.ensures.quiet in
-    let volume = c.in-Ok-open_device.volume in
-    let opened = c.in-Ok-open_device.ensures.ends in
+    let volume = c.in_ok-volume.volume in
+    let opened = c.in_ok-volume.ensures.ends in
     let tells_1 : IsTrue s0.tells → IsTrue s1.tells = λ t. subst IsTrue (sym l1.called.tells) t in
     let tells_2 : IsTrue s0.tells → IsTrue s2.tells = λ t. subst IsTrue (sym l2.called.tells) t in
     let tells_3 : IsTrue s0.tells → IsTrue s3.tells = λ t. subst IsTrue (sym l3.called.tells) t in
     let u = c.in-Ok-horizon_of_device.horizon in
     let zero_is : u ≡ 0 = c.if-horizon-eq0.true in
-    settled_looked s0 s3 _ l3 (
-      record {
-        version = opened.0;
-        layout = opened.1;
-        size = opened.2 ∙ sym c.horizon_of_device.ensures.called.cells;
-        horizon = omega arith;
-        from = omega (arith, c.pool_at.ensures.at);
-        to = c.pool_at.ensures.inside;
-      },
-      λ tells. record {
-        volume = volume_later s2 s3 volume.geometry c.horizon_of_device.ensures.called (opened.3 (tells_1 tells));
-        horizon = subst (λ (k : ℕ). IsHorizon volume.geometry s0.image s3.image k) zero_is (horizon_further l2.called.image (extends_self s3.image) (c.in-Ok-horizon_of_device.ensures.horizon (tells_2 tells)).0);
-        taken = λ m below. absurd (omega (arith, below));
-        free = λ still under. c.horizon_of_device.ensures.quiet (still_second l2.called.foreign_writes c.horizon_of_device.ensures.called.foreign_writes still) (reserve_at 0)
-            ∙ subst (λ (k : ℕ). s2.image (reserve_at k) ≡ None) zero_is ((c.in-Ok-horizon_of_device.ensures.horizon (tells_2 tells)).0.free (omega (arith, under, zero_is)));
-        edge = inl (refl, c.pool_at.ensures.at);
-        step = λ m is. absurd (omega (arith, is));
-        synced = l3.synced tells;
-      },
-    )
+    subst (λ (r : Ready). Settles s0 s3 (Ok r)) (sym c.unused.ensures) (settled_looked s0 s3 _ l3 (
+      unused_bounds s3 volume opened.0 opened.1 (opened.2 ∙ sym c.horizon_of_device.ensures.called.cells),
+      λ tells. unused_ready s0 s2 s3 volume l2.called c.horizon_of_device.ensures.called
+          c.horizon_of_device.ensures.quiet
+          (volume_later s2 s3 volume.geometry c.horizon_of_device.ensures.called (opened.4 (tells_1 tells)))
+          (subst (λ (k : ℕ). IsHorizon volume.geometry s2.image s3.image k) zero_is
+          (c.in-Ok-horizon_of_device.ensures.horizon (tells_2 tells)).0)
+          (l3.synced tells),
+    ))
 
-pub returns-in-Err-last_slot_of_device : goal.returns-in-Err-last_slot_of_device
-returns-in-Err-last_slot_of_device g c =
+pub returns-in_err-state : goal.returns-in_err-state
+returns-in_err-state g c =
     let s0 = g.D.Device.state c.args.device.now in
     let s1 = g.D.Device.state c.sync.new.self in
     let l1 = looked_sync s0 s1 c.in-Ok.ensures in
@@ -93,8 +84,8 @@ returns-in-Err-last_slot_of_device g c =
     let l3 = looked_more s0 s2 s3 l2 c.horizon_of_device.ensures.called c.horizon_of_device.ensures.quiet in
     let s4 = g.D.Device.state c.last_slot_of_device.new.device in
     let l4 = looked_more s0 s3 s4 l3 c.last_slot_of_device.ensures.called c.last_slot_of_device.ensures.quiet in
-    let volume = c.in-Ok-open_device.volume in
-    let opened = c.in-Ok-open_device.ensures.ends in
+    let volume = c.in_ok-volume.volume in
+    let opened = c.in_ok-volume.ensures.ends in
     let tells_1 : IsTrue s0.tells → IsTrue s1.tells = λ t. subst IsTrue (sym l1.called.tells) t in
     let tells_2 : IsTrue s0.tells → IsTrue s2.tells = λ t. subst IsTrue (sym l2.called.tells) t in
     let tells_3 : IsTrue s0.tells → IsTrue s3.tells = λ t. subst IsTrue (sym l3.called.tells) t in
@@ -103,9 +94,10 @@ returns-in-Err-last_slot_of_device g c =
     let n = u - 1 in
     let next : u ≡ (u - 1) + 1 = omega (arith, c.if-horizon-eq0.false) in
     let c24 = called_then c.horizon_of_device.ensures.called c.last_slot_of_device.ensures.called in
-    settled_looked s0 s4 _ l4 (subst (λ (r : Refusal). SettleEnds s0 s4 (Err r)) (sym c.refusal_of_fault.ensures)
-    (last_refused volume.geometry n s0 s3 s4 c.in-Err-last_slot_of_device.fault l3.called c.last_slot_of_device.ensures.called
-    (λ tells. volume_later s2 s4 volume.geometry c24 (opened.3 (tells_1 tells))) c.in-Err-last_slot_of_device.ensures.ends))
+    rw (handed c.from_residual-in_err-state.result (refusal_of_fault c.in_err-state.field-0.0) c.from_residual-in_err-state.ensures.1)
+    (settled_looked s0 s4 _ l4
+    (last_refused volume.geometry n s0 s3 s4 c.in_err-state.field-0.0 l3.called c.last_slot_of_device.ensures.called l4.quiet
+    (λ tells. volume_later s2 s4 volume.geometry c24 (opened.4 (tells_1 tells))) c.in_err-state.ensures.ends))
 
 pub returns-in_default-reservation : goal.returns-in_default-reservation
 returns-in_default-reservation g c =
@@ -118,8 +110,8 @@ returns-in_default-reservation g c =
     let l3 = looked_more s0 s2 s3 l2 c.horizon_of_device.ensures.called c.horizon_of_device.ensures.quiet in
     let s4 = g.D.Device.state c.last_slot_of_device.new.device in
     let l4 = looked_more s0 s3 s4 l3 c.last_slot_of_device.ensures.called c.last_slot_of_device.ensures.quiet in
-    let volume = c.in-Ok-open_device.volume in
-    let opened = c.in-Ok-open_device.ensures.ends in
+    let volume = c.in_ok-volume.volume in
+    let opened = c.in_ok-volume.ensures.ends in
     let tells_1 : IsTrue s0.tells → IsTrue s1.tells = λ t. subst IsTrue (sym l1.called.tells) t in
     let tells_2 : IsTrue s0.tells → IsTrue s2.tells = λ t. subst IsTrue (sym l2.called.tells) t in
     let tells_3 : IsTrue s0.tells → IsTrue s3.tells = λ t. subst IsTrue (sym l3.called.tells) t in
@@ -127,23 +119,18 @@ returns-in_default-reservation g c =
     let tells_4 : IsTrue s0.tells → IsTrue s4.tells = λ t. subst IsTrue (sym l4.called.tells) t in
     let n = u - 1 in
     let next : u ≡ (u - 1) + 1 = omega (arith, c.if-horizon-eq0.false) in
-    let state = c.in-Ok-last_slot_of_device.state in
+    let state = c.in_ok-state.state in
     let c24 = called_then c.horizon_of_device.ensures.called c.last_slot_of_device.ensures.called in
-    settled_looked s0 s4 _ l4 (
-      record {
-        version = opened.0;
-        layout = opened.1;
-        size = opened.2 ∙ sym c24.cells;
-        horizon = omega arith;
-        from = omega (arith, c.pool_at-in_default-reservation.ensures.at);
-        to = c.pool_at-in_default-reservation.ensures.inside;
-      },
-      λ tells. absurd (never_unused volume.geometry n u s3 s4 state (omega (arith, next)) (c.in-Ok-horizon_of_device.ensures.horizon (tells_2 tells)).1
-          (c.in-Ok-last_slot_of_device.ensures.ends.1 (tells_3 tells)) (sym c.reservation.ensures ∙ c.in_default-reservation.is)),
-    )
+    subst (λ (r : Ready). Settles s0 s4 (Ok r)) (sym c.unused-in_default-reservation.ensures)
+    (settled_looked s0 s4 _ l4 (
+      unused_bounds s4 volume opened.0 opened.1 (opened.2 ∙ sym c24.cells),
+      λ tells. absurd (never_unused volume.geometry n u s3 s4 state (omega (arith, next))
+          (c.in-Ok-horizon_of_device.ensures.horizon (tells_2 tells)).1
+          (c.in_ok-state.ensures.ends.1 (tells_3 tells)) (sym c.reservation.ensures ∙ c.in_default-reservation.is)),
+    ))
 
-pub returns-in-Err-check_slot : goal.returns-in-Err-check_slot
-returns-in-Err-check_slot g c =
+pub returns-in_err-check_slot : goal.returns-in_err-check_slot
+returns-in_err-check_slot g c =
     let s0 = g.D.Device.state c.args.device.now in
     let s1 = g.D.Device.state c.sync.new.self in
     let l1 = looked_sync s0 s1 c.in-Ok.ensures in
@@ -155,10 +142,10 @@ returns-in-Err-check_slot g c =
     let l4 = looked_more s0 s3 s4 l3 c.last_slot_of_device.ensures.called c.last_slot_of_device.ensures.quiet in
     let s5 = g.D.Device.state c.check_slot.new.device in
     let l5 = looked_more s0 s4 s5 l4 c.check_slot.ensures.called c.check_slot.ensures.quiet in
-    let volume = c.in-Ok-open_device.volume in
-    let opened = c.in-Ok-open_device.ensures.ends in
+    let volume = c.in_ok-volume.volume in
+    let opened = c.in_ok-volume.ensures.ends in
     let layout = volume.geometry in
-    let state = c.in-Ok-last_slot_of_device.state in
+    let state = c.in_ok-state.state in
     let n = c.in-Ok-horizon_of_device.horizon - 1 in
     let less : n < layout.slots = omega (arith, c.if-horizon-eq0.false, c.in-Ok-horizon_of_device.ensures.within) in
     let small : n < MAX_SLOTS = omega (arith, c.if-horizon-eq0.false, c.in-Ok-horizon_of_device.ensures.within, opened.1.slots) in
@@ -168,13 +155,18 @@ returns-in-Err-check_slot g c =
     let tells_4 : IsTrue s0.tells → IsTrue s4.tells = λ t. subst IsTrue (sym l4.called.tells) t in
     let tells_5 : IsTrue s0.tells → IsTrue s5.tells = λ t. subst IsTrue (sym l5.called.tells) t in
     let c35 = called_then c.last_slot_of_device.ensures.called c.check_slot.ensures.called in
-    let last_4 : IsTrue s4.tells → IsLast layout s3.image s4.image n state = λ t. c.in-Ok-last_slot_of_device.ensures.ends.1 (subst IsTrue c.last_slot_of_device.ensures.called.tells t) in
-    settled_looked s0 s5 _ l5 (subst (λ (r : Refusal). SettleEnds s0 s5 (Err r)) (sym c.refusal_of_fault-in-Err-check_slot.ensures)
-    (check_refused layout n s0 s3 s4 s5 state c.in-Err-check_slot.fault less small l4.called c.check_slot.ensures.called
-    (λ tells. volume_later s2 s5 layout (called_then c.horizon_of_device.ensures.called c35) (opened.3 (tells_1 tells))) last_4 c.in-Err-check_slot.ensures.ends))
+    let last_4 : IsTrue s4.tells → IsLast layout s3.image s4.image n state = λ t. c.in_ok-state.ensures.ends.1 (subst IsTrue c.last_slot_of_device.ensures.called.tells t) in
+    rw (handed c.from_residual-in_err-check_slot.result (refusal_of_fault c.in_err-check_slot.field-0.0)
+    c.from_residual-in_err-check_slot.ensures.1)
+    (settled_looked s0 s5 _ l5
+    (check_refused layout n s0 s3 s4 s5 l3.called c.last_slot_of_device.ensures.called c.check_slot.ensures.called l4.quiet
+    c.last_slot_of_device.ensures.quiet state c.in_err-check_slot.field-0.0 c.check_slot.ensures.quiet
+    (λ tells. volume_later s2 s4 layout
+    (called_then c.horizon_of_device.ensures.called c.last_slot_of_device.ensures.called) (opened.4 (tells_1 tells)))
+    last_4 c.in_err-check_slot.ensures.ends))
 
-pub returns-in-Err-end_slot : goal.returns-in-Err-end_slot
-returns-in-Err-end_slot g c =
+pub returns-in_err-end_slot : goal.returns-in_err-end_slot
+returns-in_err-end_slot g c =
     let s0 = g.D.Device.state c.args.device.now in
     let s1 = g.D.Device.state c.sync.new.self in
     let l1 = looked_sync s0 s1 c.in-Ok.ensures in
@@ -186,10 +178,10 @@ returns-in-Err-end_slot g c =
     let l4 = looked_more s0 s3 s4 l3 c.last_slot_of_device.ensures.called c.last_slot_of_device.ensures.quiet in
     let s5 = g.D.Device.state c.check_slot.new.device in
     let l5 = looked_more s0 s4 s5 l4 c.check_slot.ensures.called c.check_slot.ensures.quiet in
-    let volume = c.in-Ok-open_device.volume in
-    let opened = c.in-Ok-open_device.ensures.ends in
+    let volume = c.in_ok-volume.volume in
+    let opened = c.in_ok-volume.ensures.ends in
     let layout = volume.geometry in
-    let state = c.in-Ok-last_slot_of_device.state in
+    let state = c.in_ok-state.state in
     let n = c.in-Ok-horizon_of_device.horizon - 1 in
     let less : n < layout.slots = omega (arith, c.if-horizon-eq0.false, c.in-Ok-horizon_of_device.ensures.within) in
     let small : n < MAX_SLOTS = omega (arith, c.if-horizon-eq0.false, c.in-Ok-horizon_of_device.ensures.within, opened.1.slots) in
@@ -199,18 +191,22 @@ returns-in-Err-end_slot g c =
     let tells_4 : IsTrue s0.tells → IsTrue s4.tells = λ t. subst IsTrue (sym l4.called.tells) t in
     let tells_5 : IsTrue s0.tells → IsTrue s5.tells = λ t. subst IsTrue (sym l5.called.tells) t in
     let c35 = called_then c.last_slot_of_device.ensures.called c.check_slot.ensures.called in
-    let last_4 : IsTrue s4.tells → IsLast layout s3.image s4.image n state = λ t. c.in-Ok-last_slot_of_device.ensures.ends.1 (subst IsTrue c.last_slot_of_device.ensures.called.tells t) in
+    let last_4 : IsTrue s4.tells → IsLast layout s3.image s4.image n state = λ t. c.in_ok-state.ensures.ends.1 (subst IsTrue c.last_slot_of_device.ensures.called.tells t) in
     let last_5 : IsTrue s5.tells → IsLast layout s3.image s5.image n state = λ t. last_on layout s3.image s4.image s5.image n state c.check_slot.ensures.called.image (last_4 (subst IsTrue c.check_slot.ensures.called.tells t)) in
     let quiet_35 : IsStill s3.foreign_writes s5.foreign_writes → IsUnchanged s3.image s5.image = λ still. unchanged_then (c.last_slot_of_device.ensures.quiet (still_first c.last_slot_of_device.ensures.called.foreign_writes c.check_slot.ensures.called.foreign_writes still)) (c.check_slot.ensures.quiet (still_second c.last_slot_of_device.ensures.called.foreign_writes c.check_slot.ensures.called.foreign_writes still)) in
     let s6 = g.D.Device.state c.end_slot.new.device in
-    let journal : IsTrue s5.tells → HasJournal layout state s5.image = λ t. c.in_default-check_slot.ensures.ends (subst IsTrue c.check_slot.ensures.called.tells t) in
+    let journal : IsTrue s5.tells → HasJournal layout state s5.image = λ t. c.in_ok-check_slot.ensures.ends (subst IsTrue c.check_slot.ensures.called.tells t) in
     let c26 = called_then c.horizon_of_device.ensures.called (called_then c35 c.end_slot.ensures.puts.called) in
-    settled_ended n s0 s5 s6 state _ _ l5 c.end_slot.ensures
+    rw (handed c.from_residual-in_err-end_slot.result (refusal_of_fault c.in_err-end_slot.field-0.0)
+    c.from_residual-in_err-end_slot.ensures.1)
+    (settled_ended n s0 s5 s6 state _ _ l5 c.end_slot.ensures
     (λ tells. ending_of layout n c.in-Ok-horizon_of_device.horizon s0 s2 s3 s5 state (omega (arith, c.if-horizon-eq0.false)) l2 c.horizon_of_device.ensures.called l5 c35
-        (volume_later s2 s5 layout (called_then c.horizon_of_device.ensures.called c35) (opened.3 (tells_1 tells))) (c.in-Ok-horizon_of_device.ensures.horizon (tells_2 tells)).0 (last_5 (tells_5 tells)))
-    (λ no. absurd no) (subst (λ (r : Refusal). SettleEnds s0 s6 (Err r)) (sym c.refusal_of_fault-in-Err-end_slot.ensures)
-    (end_refused layout n s0 s3 s5 s6 state c.in-Err-end_slot.fault less small l3.called c35 c.end_slot.ensures.puts.called quiet_35
-    (λ tells. volume_later s2 s6 layout c26 (opened.3 (tells_1 tells))) last_5 journal c.in-Err-end_slot.ensures))
+    (volume_later s2 s5 layout (called_then c.horizon_of_device.ensures.called c35) (opened.4 (tells_1 tells))) (c.in-Ok-horizon_of_device.ensures.horizon (tells_2 tells)).0 (last_5 (tells_5 tells)) (journal (tells_5 tells)))
+    (λ okay. absurd (false_true okay))
+    (end_refused layout n s0 s3 s5 s6 l3.called c35 c.end_slot.ensures.puts.called l5.quiet quiet_35 state
+    c.in_err-end_slot.field-0.0
+    (λ tells. volume_later s2 s5 layout (called_then c.horizon_of_device.ensures.called c35) (opened.4 (tells_1 tells)))
+    last_5 journal c.in_err-end_slot.ensures))
 
 pub returns : goal.returns
 returns g c =
@@ -225,10 +221,10 @@ returns g c =
     let l4 = looked_more s0 s3 s4 l3 c.last_slot_of_device.ensures.called c.last_slot_of_device.ensures.quiet in
     let s5 = g.D.Device.state c.check_slot.new.device in
     let l5 = looked_more s0 s4 s5 l4 c.check_slot.ensures.called c.check_slot.ensures.quiet in
-    let volume = c.in-Ok-open_device.volume in
-    let opened = c.in-Ok-open_device.ensures.ends in
+    let volume = c.in_ok-volume.volume in
+    let opened = c.in_ok-volume.ensures.ends in
     let layout = volume.geometry in
-    let state = c.in-Ok-last_slot_of_device.state in
+    let state = c.in_ok-state.state in
     let n = c.in-Ok-horizon_of_device.horizon - 1 in
     let less : n < layout.slots = omega (arith, c.if-horizon-eq0.false, c.in-Ok-horizon_of_device.ensures.within) in
     let small : n < MAX_SLOTS = omega (arith, c.if-horizon-eq0.false, c.in-Ok-horizon_of_device.ensures.within, opened.1.slots) in
@@ -238,32 +234,32 @@ returns g c =
     let tells_4 : IsTrue s0.tells → IsTrue s4.tells = λ t. subst IsTrue (sym l4.called.tells) t in
     let tells_5 : IsTrue s0.tells → IsTrue s5.tells = λ t. subst IsTrue (sym l5.called.tells) t in
     let c35 = called_then c.last_slot_of_device.ensures.called c.check_slot.ensures.called in
-    let last_4 : IsTrue s4.tells → IsLast layout s3.image s4.image n state = λ t. c.in-Ok-last_slot_of_device.ensures.ends.1 (subst IsTrue c.last_slot_of_device.ensures.called.tells t) in
+    let last_4 : IsTrue s4.tells → IsLast layout s3.image s4.image n state = λ t. c.in_ok-state.ensures.ends.1 (subst IsTrue c.last_slot_of_device.ensures.called.tells t) in
     let last_5 : IsTrue s5.tells → IsLast layout s3.image s5.image n state = λ t. last_on layout s3.image s4.image s5.image n state c.check_slot.ensures.called.image (last_4 (subst IsTrue c.check_slot.ensures.called.tells t)) in
     let quiet_35 : IsStill s3.foreign_writes s5.foreign_writes → IsUnchanged s3.image s5.image = λ still. unchanged_then (c.last_slot_of_device.ensures.quiet (still_first c.last_slot_of_device.ensures.called.foreign_writes c.check_slot.ensures.called.foreign_writes still)) (c.check_slot.ensures.quiet (still_second c.last_slot_of_device.ensures.called.foreign_writes c.check_slot.ensures.called.foreign_writes still)) in
     let s6 = g.D.Device.state c.end_slot.new.device in
-    let journal : IsTrue s5.tells → HasJournal layout state s5.image = λ t. c.in_default-check_slot.ensures.ends (subst IsTrue c.check_slot.ensures.called.tells t) in
+    let journal : IsTrue s5.tells → HasJournal layout state s5.image = λ t. c.in_ok-check_slot.ensures.ends (subst IsTrue c.check_slot.ensures.called.tells t) in
     let c26 = called_then c.horizon_of_device.ensures.called (called_then c35 c.end_slot.ensures.puts.called) in
     let u = c.in-Ok-horizon_of_device.horizon in
     let next : u ≡ (u - 1) + 1 = omega (arith, c.if-horizon-eq0.false) in
-    let within = within_bounds layout state c.in-Some.start c.in-Some.length c.in-Ok-last_slot_of_device.ensures.ends.0 (sym c.reservation.ensures ∙ c.in-Some.is) in
+    let within = of_pool layout state c.in-Some.cells c.in_ok-state.ensures.ends.0 (sym c.reservation.ensures ∙ c.in-Some.is) in
     settled_ended n s0 s5 s6 state _ _ l5 c.end_slot.ensures
     (λ tells. ending_of layout n c.in-Ok-horizon_of_device.horizon s0 s2 s3 s5 state (omega (arith, c.if-horizon-eq0.false)) l2 c.horizon_of_device.ensures.called l5 c35
-        (volume_later s2 s5 layout (called_then c.horizon_of_device.ensures.called c35) (opened.3 (tells_1 tells))) (c.in-Ok-horizon_of_device.ensures.horizon (tells_2 tells)).0 (last_5 (tells_5 tells)))
-    (λ okay. c.in_default-end_slot.ensures) (
+    (volume_later s2 s5 layout (called_then c.horizon_of_device.ensures.called c35) (opened.4 (tells_1 tells))) (c.in-Ok-horizon_of_device.ensures.horizon (tells_2 tells)).0 (last_5 (tells_5 tells)) (journal (tells_5 tells)))
+    (λ okay. c.in_ok-end_slot.ensures) (
       record {
         version = opened.0;
         layout = opened.1;
         size = opened.2 ∙ sym c26.cells;
         horizon = c.in-Ok-horizon_of_device.ensures.within;
-        from = omega (arith, within.0);
-        to = within.1;
+        from = omega (arith, within.1, c.end.ensures);
+        to = omega (arith, within.2, c.end.ensures);
       },
-      λ tells. ready layout n u c.in-Some.start c.in-Some.length next small s0 s2 s3 s5 s6
-          l2.called c.horizon_of_device.ensures.called c35 c.end_slot.ensures.puts.called (tells_5 tells) _ state tt refl refl refl
-          (volume_later s2 s6 layout c26 (opened.3 (tells_1 tells)))
+      λ tells. ready layout n u c.in-Some.cells next small s0 s2 s3 s5 s6
+          l2.called c.horizon_of_device.ensures.called c35 c.end_slot.ensures.puts.called (tells_5 tells) _ state tt refl refl c.end.ensures
+          (volume_later s2 s6 layout c26 (opened.4 (tells_1 tells)))
           (c.in-Ok-horizon_of_device.ensures.horizon (tells_2 tells)).0 (c.in-Ok-horizon_of_device.ensures.horizon (tells_2 tells)).1
-          (last_5 (tells_5 tells)) (sym c.reservation.ensures ∙ c.in-Some.is) (journal (tells_5 tells)) c.in_default-end_slot.ensures c.step_of.ensures
+          (last_5 (tells_5 tells)) (sym c.reservation.ensures ∙ c.in-Some.is) (journal (tells_5 tells)) c.in_ok-end_slot.ensures c.step_of.ensures
           (extends_then (l5.synced tells) c.end_slot.ensures.puts.called.sure)
           (λ still. unchanged_then (c.horizon_of_device.ensures.quiet (still_first c.horizon_of_device.ensures.called.foreign_writes c35.foreign_writes still)) (quiet_35 (still_second c.horizon_of_device.ensures.called.foreign_writes c35.foreign_writes still))),
     )
