@@ -1,5 +1,14 @@
 pub mod BlankSoFar
 pub mod Carried
-pub mod Causes
+pub mod CarriedOut
 pub mod Crashed
-pub mod LookedBefore
+pub mod FirstWritten
+pub mod LogCells
+pub mod Looked
+pub mod PutFrom
+pub mod PutPlans
+pub mod Refused
+pub mod SettledBefore
+pub mod Stated
+pub mod TakenCells
+pub mod Targets

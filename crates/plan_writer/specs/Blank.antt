@@ -53,7 +53,7 @@ pub record IsFree (image : Image) (slot : ℕ) (cells : Reservation) : Type 0 wh
   pub outcome : image (outcome_at slot) ≡ None
   pub done : image (done_at slot) ≡ None
   pub spare : image (spare_at slot) ≡ None
-  pub range : AreBlank image cells
+  pub reserved : AreBlank image cells
 
 -- The first written cell of these, by its rule: the outcome cell, the done cell, the spare cell, and then the cells that
 -- are to be reserved, upwards.

@@ -39,16 +39,17 @@ abbrev pub AsksForBlank : Plan → Image → Type 0
 AsksForBlank p image =
     (k : ℕ) (value : List ℕ) → slice_get p.journal.now k ≡ Some value → image (target_of value) ≡ None
 
--- Evidence that was found while a plan was put: it may be named; and where nobody else wrote, and the journal asked for
--- blank cells, its rule was broken there before.
-pub record IsFoundByPlan (p : Plan) (old new : DeviceState) (e : Evidence) : Type 0 where
+-- Evidence that was found while a plan was put, from entry on, seen from before the volume was settled: it may be named;
+-- and where nobody else wrote, and the journal asked for cells that were blank at entry, its rule was broken there
+-- before. (Of blank cells before settling this would be false: settling may have carried another journal out into them.)
+pub record IsFoundByPlan (p : Plan) (old entry new : DeviceState) (e : Evidence) : Type 0 where
   pub licensed : IsLicensed old new e
-  pub before : IsStill old.foreign_writes new.foreign_writes → AsksForBlank p old.image
+  pub before : IsStill old.foreign_writes new.foreign_writes → AsksForBlank p entry.image
       → IsBroken old.cells old.image e.rule e.cell
 
--- how putting a plan may end, and why, from before the volume was settled
-abbrev pub PlanEnds : Layout → Plan → ℕ → DeviceState → DeviceState → Result ℕ Fault → Type 0
-PlanEnds g p n old new (Ok slot) =
+-- how putting a plan may end, and why: from before the volume was settled, and from the call's entry
+abbrev pub PlanEnds : Layout → Plan → ℕ → DeviceState → DeviceState → DeviceState → Result ℕ Fault → Type 0
+PlanEnds g p n old entry new (Ok slot) =
     (slot ≡ n) × (IsTrue old.tells → IsCarriedOut g p n new.cells old.image new.sure)
-PlanEnds g p n old new (Err ReadFault) = Rose old.faults new.faults
-PlanEnds g p n old new (Err (Tampered e)) = IsTrue old.tells → IsFoundByPlan p old new e
+PlanEnds g p n old entry new (Err ReadFault) = Rose old.faults new.faults
+PlanEnds g p n old entry new (Err (Tampered e)) = IsTrue old.tells → IsFoundByPlan p old entry new e

@@ -25,7 +25,8 @@ pub fn put_planned<D: Device>(device: &mut D, ready: &Ready, plan: &Plan<'_>) ->
     requires suits { Suits ready.now.volume.geometry plan.now }
     ensures puts { PutsPlan ready.now.horizon plan.now (D.state device.old) (D.state device.new) }
     ensures ends { (earlier : DeviceState) → HasSettled earlier (D.state device.old) ready.now →
-        PlanEnds ready.now.volume.geometry plan.now ready.now.horizon earlier (D.state device.new) result }
+        PlanEnds ready.now.volume.geometry plan.now ready.now.horizon earlier (D.state device.old) (D.state device.new)
+        result }
 {
     let geometry = ready.volume.geometry;
     let slot = ready.horizon;

@@ -3,4 +3,4 @@ use Rattle.plan_writer.proofs.Crashed.{follows}
 use Rattle.plan_writer.proofs.laws.commits_follow_documents.Goals as goal
 
 pub returns : goal.returns
-returns c = λ g n p old new image fresh l still v here. follows g n p old new image fresh l still v here
+returns c = λ g n p image left found here. follows g n p image left found here

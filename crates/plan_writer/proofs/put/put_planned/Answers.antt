@@ -1,55 +1,62 @@
 -- The look at the free slot, and the phases.
-use Rattle.std.proofs.Common.{◌≡◌, ◌≤◌, ◌<◌, ◌+◌, ℕ, length, refl, sym, ap, ◌∙◌, subst, arith, Ok, Err}
-use Rattle.cell_types.specs.Layout.{pool_at}
-use Rattle.cell_types.specs.declared.refusal.Refusal.{Refusal}
-use Rattle.worm_device.proofs.Elapsing.{called_then}
-use Rattle.plan_writer.specs.Blank.{BlankEnds}
-use Rattle.plan_writer.specs.Ingested.{PlannedEnds}
-use Rattle.plan_writer.specs.Planned.{ingest_phases, reserved}
-use Rattle.plan_writer.proofs.LookedBefore.{crashes_looks, crashes_later}
-use Rattle.plan_writer.proofs.Causes.{blank_refused, planned_ok, planned_refused, settled_from}
+use Rattle.std.proofs.Common.{subst, Ok, Err}
+use Rattle.commit_record.specs.declared.reservation.Reservation.{Reservation}
+use Rattle.phase_writer.proofs.Passed.{handed}
+use Rattle.plan_writer.specs.Blank.{LooksForSlot}
+use Rattle.plan_writer.proofs.Looked.{phases_behind, put_by_looks, put_by_phases}
+use Rattle.plan_writer.proofs.PutPlans.{plan_done, plan_refused}
+use Rattle.plan_writer.proofs.Refused.{blank_refused}
 use Rattle.plan_writer.proofs.put.put_planned.Goals as goal
 
-pub returns-in-Err-clause-ends : goal.returns-in-Err-clause-ends
-returns-in-Err-clause-ends g c = λ s0 s1 settles called quiet.
-    let r = c.args.ready.now in
-    let settled = settled_from r s0 s1 c.requires.free settles in
-    let s2 = g.D.Device.state c.args.device.now in
-    let s3 = g.D.Device.state c.check_blank.new.device in
-    let p = c.args.plan.now in
-    blank_refused p r.volume.geometry r.horizon p.start (reserved p) s0 s1 s2 s3 r refl refl (sym c.requires.starts) c.requires.free c.requires.suits.from c.requires.suits.to
-    settled called quiet c.check_blank.ensures.called c.check_blank.ensures.quiet c.in-Err.refusal c.in-Err.ensures.ends
+-- a cell of the free slot is written, or a read failed
+pub returns-in_err-check_blank-clause-puts : goal.returns-in_err-check_blank-clause-puts
+returns-in_err-check_blank-clause-puts g c =
+    put_by_looks c.args.ready.now.horizon c.args.plan.now c.check_blank.ensures.called c.check_blank.ensures.quiet
 
-pub returns-in-Err-carry_out-clause-ends : goal.returns-in-Err-carry_out-clause-ends
-returns-in-Err-carry_out-clause-ends g c = λ s0 s1 settles called quiet.
-    let r = c.args.ready.now in
-    let settled = settled_from r s0 s1 c.requires.free settles in
+pub returns-in_err-check_blank-clause-ends : goal.returns-in_err-check_blank-clause-ends
+returns-in_err-check_blank-clause-ends g c = λ s0 has.
+    let fault = c.in_err-check_blank.field-0.0 in
+    let p = c.args.plan.now in
     let s2 = g.D.Device.state c.args.device.now in
     let s3 = g.D.Device.state c.check_blank.new.device in
-    let s4 = g.D.Device.state c.carry_out.new.device in
+    rw (handed c.from_residual.result fault c.from_residual.ensures.1)
+    (blank_refused p c.args.ready.now has c.requires.free c.requires.starts c.requires.suits fault
+    (subst (λ (r : Reservation). LooksForSlot c.args.ready.now.horizon r s2 s3 (Err fault)) c.reservation.ensures
+    c.in_err-check_blank.ensures))
+
+-- a cell of the plan is taken, or a call failed
+pub returns-in_err-carry_out-clause-puts : goal.returns-in_err-carry_out-clause-puts
+returns-in_err-carry_out-clause-puts g c =
+    put_by_phases c.args.ready.now.horizon c.args.plan.now _ _ _
+    (phases_behind c.args.ready.now.horizon c.args.plan.now c.check_blank.ensures.called c.check_blank.ensures.quiet _
+    c.carry_out.ensures)
+
+pub returns-in_err-carry_out-clause-ends : goal.returns-in_err-carry_out-clause-ends
+returns-in_err-carry_out-clause-ends g c = λ s0 has.
+    let fault = c.in_err-carry_out.field-0.0 in
     let p = c.args.plan.now in
-    subst (λ (x : Refusal). PlannedEnds p r.horizon s0 s4 (Err x)) (sym c.refusal_of_fault.ensures)
-    (planned_refused p r.volume.geometry r.horizon s0 s1 s2 s3 s4 r refl refl c.requires.bounds.layout c.requires.free c.requires.suits
-    settled called quiet c.check_blank.ensures.called c.check_blank.ensures.quiet c.in_default.ensures.ends c.in-Err-carry_out.fault c.in-Err-carry_out.ensures (g.met.D.Device.proper c.carry_out.new.device).sure)
+    let s2 = g.D.Device.state c.args.device.now in
+    let s3 = g.D.Device.state c.check_blank.new.device in
+    let looks = subst (λ (r : Reservation). LooksForSlot c.args.ready.now.horizon r s2 s3 (Ok tt)) c.reservation.ensures
+    c.in_ok-check_blank.ensures in
+    rw (handed c.from_residual-in_err-carry_out.result fault c.from_residual-in_err-carry_out.ensures.1)
+    (plan_refused p c.args.ready.now has c.requires.bounds.layout c.requires.free c.requires.suits looks.ends.1 fault
+    (phases_behind c.args.ready.now.horizon p looks.called looks.quiet (Err fault) c.in_err-carry_out.ensures)
+    (g.met.D.Device.proper c.carry_out.new.device).sure)
+
+-- the plan is carried out
+pub returns-clause-puts : goal.returns-clause-puts
+returns-clause-puts g c =
+    put_by_phases c.args.ready.now.horizon c.args.plan.now _ _ _
+    (phases_behind c.args.ready.now.horizon c.args.plan.now c.check_blank.ensures.called c.check_blank.ensures.quiet _
+    c.carry_out.ensures)
 
 pub returns-clause-ends : goal.returns-clause-ends
-returns-clause-ends g c = λ s0 s1 settles called quiet.
-    let r = c.args.ready.now in
-    let settled = settled_from r s0 s1 c.requires.free settles in
+returns-clause-ends g c = λ s0 has.
+    let p = c.args.plan.now in
     let s2 = g.D.Device.state c.args.device.now in
     let s3 = g.D.Device.state c.check_blank.new.device in
-    let s4 = g.D.Device.state c.carry_out.new.device in
-    let p = c.args.plan.now in
-    planned_ok p r.volume.geometry r.horizon s0 s1 s2 s3 s4 r refl refl c.requires.bounds.layout c.requires.free c.requires.suits
-    settled called quiet c.check_blank.ensures.called c.check_blank.ensures.quiet c.in_default.ensures.ends tt c.in_default-carry_out.ensures
-
-pub returns-in-Err-clause-crashes : goal.returns-in-Err-clause-crashes
-returns-in-Err-clause-crashes g c = crashes_looks (ingest_phases c.args.ready.now.horizon c.args.plan.now) 5 (g.D.Device.state c.args.device.now) (g.D.Device.state c.check_blank.new.device) c.check_blank.ensures.called c.check_blank.ensures.quiet
-
-pub returns-in-Err-carry_out-clause-crashes : goal.returns-in-Err-carry_out-clause-crashes
-returns-in-Err-carry_out-clause-crashes g c = crashes_later (ingest_phases c.args.ready.now.horizon c.args.plan.now) 5 (g.D.Device.state c.args.device.now) (g.D.Device.state c.check_blank.new.device) c.check_blank.ensures.called c.check_blank.ensures.quiet
-    (g.D.Device.state c.carry_out.new.device) c.carry_out.ensures.puts.called c.carry_out.ensures.crashes
-
-pub returns-clause-crashes : goal.returns-clause-crashes
-returns-clause-crashes g c = crashes_later (ingest_phases c.args.ready.now.horizon c.args.plan.now) 5 (g.D.Device.state c.args.device.now) (g.D.Device.state c.check_blank.new.device) c.check_blank.ensures.called c.check_blank.ensures.quiet
-    (g.D.Device.state c.carry_out.new.device) c.carry_out.ensures.puts.called c.carry_out.ensures.crashes
+    let looks = subst (λ (r : Reservation). LooksForSlot c.args.ready.now.horizon r s2 s3 (Ok tt)) c.reservation.ensures
+    c.in_ok-check_blank.ensures in
+    plan_done p c.args.ready.now has c.requires.bounds.layout c.requires.free c.requires.suits looks.ends.1 tt
+    (phases_behind c.args.ready.now.horizon p looks.called looks.quiet (Ok tt) c.in_ok-carry_out.ensures)

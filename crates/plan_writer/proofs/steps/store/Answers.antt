@@ -1,19 +1,30 @@
 -- The document, the journal, and the sync behind them.
-use Rattle.std.proofs.Common.{◌≡◌, ◌+◌, ℕ, length, inl, inr, subst, sym, ap, Ok, Err, arith}
-use Rattle.std.specs.Prelude.{Result}
-use Rattle.phase_writer.specs.Putting.{Puts, IsInRow}
-use Rattle.phase_writer.proofs.Phasing.{phase_ended, phase_synced, phase_unsynced, puts_ended_wider, puts_ended, puts_more}
+use Rattle.std.proofs.Common.{inl, inr}
+use Rattle.phase_writer.proofs.Passed.{handed}
+use Rattle.phase_writer.proofs.Phasing.{phase_ended, phase_synced, phase_unsynced, puts_ended, puts_ended_wider, puts_more}
 use Rattle.plan_writer.proofs.steps.store.Goals as goal
 
-pub returns-in-Err : goal.returns-in-Err
-returns-in-Err g c = phase_ended c.in-Err.fault (puts_ended_wider (λ put h. inl h) c.in-Err.fault c.in-Err.ensures)
+-- the document was not put whole
+pub returns-in_err-put_row : goal.returns-in_err-put_row
+returns-in_err-put_row g c =
+    let fault = c.in_err-put_row.field-0.0 in
+    rw (handed c.from_residual.result fault c.from_residual.ensures.1)
+    (phase_ended fault (puts_ended_wider (λ put h. inl h) fault c.in_err-put_row.ensures))
 
-pub returns-in-Err-put_row : goal.returns-in-Err-put_row
-returns-in-Err-put_row g c =
-    phase_ended c.in-Err-put_row.fault (puts_ended (λ put h. inl h) (λ put h. inr h) tt c.in_default.ensures c.in-Err-put_row.fault c.in-Err-put_row.ensures)
+-- nor the journal
+pub returns-in_err-put_row-2 : goal.returns-in_err-put_row-2
+returns-in_err-put_row-2 g c =
+    let fault = c.in_err-put_row-2.field-0.0 in
+    rw (handed c.from_residual-in_err-put_row-2.result fault c.from_residual-in_err-put_row-2.ensures.1)
+    (phase_ended fault (puts_ended (λ put h. inl h) (λ put h. inr h) tt c.in_ok-put_row.ensures fault c.in_err-put_row-2.ensures))
 
-pub returns-in_default-sync : goal.returns-in_default-sync
-returns-in_default-sync g c = phase_unsynced tt _ (puts_more (λ put h. inl h) (λ put h. inr h) tt c.in_default.ensures (λ put h. h) tt tt c.in_default-put_row.ensures) c.in_default-sync.ensures
+-- both were, and are not sure
+pub returns-in_default : goal.returns-in_default
+returns-in_default g c = phase_unsynced tt _
+    (puts_more (λ put h. inl h) (λ put h. inr h) tt c.in_ok-put_row.ensures (λ put h. h) tt tt c.in_ok-put_row-2.ensures)
+    c.in_default.ensures
 
 pub returns : goal.returns
-returns g c = phase_synced tt tt tt (puts_more (λ put h. inl h) (λ put h. inr h) tt c.in_default.ensures (λ put h. h) tt tt c.in_default-put_row.ensures) c.in-Ok.ensures
+returns g c = phase_synced tt tt tt
+    (puts_more (λ put h. inl h) (λ put h. inr h) tt c.in_ok-put_row.ensures (λ put h. h) tt tt c.in_ok-put_row-2.ensures)
+    c.in-Ok.ensures
