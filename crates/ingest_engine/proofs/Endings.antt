@@ -21,9 +21,9 @@ use Rattle.recovery_engine.specs.Settling.{HasSettled, SettleEnds, Settles}
 use Rattle.recovery_engine.specs.declared.settling.Ready.{Ready}
 use Rattle.plan_writer.specs.CrashLaws.{CrashesLeaveWholeSlots}
 use Rattle.plan_writer.specs.Planned.{PlansDocument, Suits}
-use Rattle.plan_writer.specs.PuttingPlans.{PlanEnds, PutsPlan}
+use Rattle.plan_writer.specs.PuttingPlans.{IsPlanRule, PlanEnds, PutsPlan}
 use Rattle.plan_writer.specs.declared.plan.Plan.{Plan}
-use Rattle.ingest_engine.specs.Ingesting.{ComesTo, HasNoRoom, IngestEnds, Ingests, RoomEnds}
+use Rattle.ingest_engine.specs.Ingesting.{ComesTo, HasNoRoom, IngestEnds, Ingests, IsIngestRule, RoomEnds}
 use Rattle.ingest_engine.proofs.CrashedIngests.{crashed}
 
 -- settling has just been done
@@ -33,7 +33,8 @@ just_settled {old} {new} s = record { settled = new; settles = s; looked = calle
 module _ (id body : List ℕ) (old new : DeviceState) where
   refused : (refusal : Refusal) → SettleEnds old new (Err refusal) → IngestEnds id body old new (Err refusal)
   refused DeviceFault ends = ends
-  refused (Tampered e) ends = ends
+  refused (Tampered e) ends = λ tells.
+      let found = ends tells in record { rule = inl found.rule; licensed = found.licensed; before = found.before }
   refused NotFormatted ends = ends
   refused (NotAVolume found) ends = ends
   refused (WrongSize stated real) ends = ends
@@ -72,15 +73,25 @@ module _ (id body : List ℕ) (old new : DeviceState) where
   asks_none cells image target none k value is =
       absurd (none-some value (sym (ap (λ (l : List (List ℕ)). slice_get l k) none) ∙ is))
 
+  -- what is named while a plan is put, an ingest looks at
+  plan_rule : (number : ℕ) → IsPlanRule number → IsIngestRule number
+  plan_rule number (inl r) = inl (inl (inl r))
+  plan_rule number (inr (inl r)) = inl (inl (inr (inl r)))
+  plan_rule number (inr (inr (inl r))) = inl (inl (inr (inr r)))
+  plan_rule number (inr (inr (inr (inl r)))) = inl (inr (inr r))
+  plan_rule number (inr (inr (inr (inr r)))) = inr r
+
   -- Putting a plan of no journal was ended.
-  put_refused : (g : Layout) (p : Plan) (n : ℕ) (fault : Fault) → p.journal.now ≡ [] → PlanEnds g p n old new (Err fault)
+  put_refused : (g : Layout) (p : Plan) (n : ℕ) (entry : DeviceState) (fault : Fault) → p.journal.now ≡ []
+      → PlanEnds g p n old entry new (Err fault)
       → IngestEnds id body old new (Err (refusal_of_fault fault))
-  put_refused g p n faults.ReadFault none ends = ends
-  put_refused g p n (faults.Tampered e) none ends = λ tells.
+  put_refused g p n entry faults.ReadFault none ends = ends
+  put_refused g p n entry (faults.Tampered e) none ends = λ tells.
       let found = ends tells in
       record {
+        rule = plan_rule e.rule found.rule;
         licensed = found.licensed;
-        before = λ still. found.before still (asks_none p.journal.now old.image target_of none);
+        before = λ still. found.before still (asks_none p.journal.now entry.image target_of none);
       }
 
   module _ (law : CrashesLeaveWholeSlots) (looked : DeviceState) (r : Ready) (p : Plan) (s : Settles old looked (Ok r))
@@ -90,13 +101,13 @@ module _ (id body : List ℕ) (old new : DeviceState) where
     comes_to_put = ComesTo.put looked r p (just_settled s) starts suits plans puts
 
     -- and then the plan was not put
-    pub unput : (fault : Fault) → p.journal.now ≡ [] → PlanEnds r.volume.geometry p r.horizon old new (Err fault)
+    pub unput : (fault : Fault) → p.journal.now ≡ [] → PlanEnds r.volume.geometry p r.horizon old looked new (Err fault)
         → Ingests id body old new (Err (refusal_of_fault fault))
     unput fault none ends = far law (Err (refusal_of_fault fault)) (called_then s.called puts.called) comes_to_put
-        (put_refused r.volume.geometry p r.horizon fault none ends)
+        (put_refused r.volume.geometry p r.horizon looked fault none ends)
 
     -- or it was
-    pub put : (slot : ℕ) → PlanEnds r.volume.geometry p r.horizon old new (Ok slot) → Ingests id body old new (Ok slot)
+    pub put : (slot : ℕ) → PlanEnds r.volume.geometry p r.horizon old looked new (Ok slot) → Ingests id body old new (Ok slot)
     put slot ends = far law (Ok slot) (called_then s.called puts.called) comes_to_put (λ tells.
         let carried = ends.1 tells in
         let volume : IsVolume looked.cells looked.image r.volume.geometry = (s.ends.1 tells).volume in

@@ -7,10 +7,11 @@ use Rattle.cell_types.specs.declared.refusal.Refusal.TheVariants.{DeviceFault, F
 use Rattle.stored_documents.specs.Documents.{IsDocument, stored_bytes}
 use Rattle.stored_documents.specs.Slots.{IsUnused, cells_for}
 use Rattle.stored_documents.specs.Volumes.{IsVolume}
+use Rattle.tamper_rules.specs.declared.numbers.TheConstants.{STRAY_CELL}
 use Rattle.worm_device.specs.Calls.{Called}
 use Rattle.worm_device.specs.Counts.{Rose, IsStill}
 use Rattle.worm_device.specs.State.{DeviceState, LeftSince}
-use Rattle.recovery_engine.specs.Settling.{HasSettled, IsFound, SettleEnds, Settles}
+use Rattle.recovery_engine.specs.Settling.{HasSettled, IsFound, IsSettlingRule, SettleEnds, Settles}
 use Rattle.recovery_engine.specs.declared.settling.Ready.{Ready}
 use Rattle.plan_writer.specs.CrashLaws.{IsWholeOrUncommitted}
 use Rattle.plan_writer.specs.Planned.{PlansDocument, Suits}
@@ -57,11 +58,15 @@ pub record HasNoRoom (id body : List ℕ) (old new : DeviceState) (refusal : Ref
 abbrev pub IsUnput : DeviceState → DeviceState → Type 0
 IsUnput old new = (new ≡ old) ⊎ ((r : Ready) × HasSettled old new r)
 
+-- the rules that an ingest looks at: those of settling, and that nothing stands where it is to write
+abbrev pub IsIngestRule : ℕ → Type 0
+IsIngestRule number = IsSettlingRule number ⊎ (number ≡ STRAY_CELL)
+
 -- how an ingest may end, and why
 abbrev pub IngestEnds : List ℕ → List ℕ → DeviceState → DeviceState → Result ℕ Refusal → Type 0
 IngestEnds id body old new (Ok n) = IsTrue old.tells → IsIngested id body n old new
 IngestEnds id body old new (Err DeviceFault) = Rose old.faults new.faults
-IngestEnds id body old new (Err (Tampered e)) = IsTrue old.tells → IsFound old new e
+IngestEnds id body old new (Err (Tampered e)) = IsTrue old.tells → IsFound IsIngestRule old new e
 IngestEnds id body old new (Err SlotsFull) = HasNoRoom id body old new SlotsFull
 IngestEnds id body old new (Err (Full need free)) = HasNoRoom id body old new (Full need free)
 IngestEnds id body old new (Err NoMemory) = IsUnput old new

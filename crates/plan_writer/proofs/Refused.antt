@@ -19,11 +19,19 @@ use Rattle.worm_device.proofs.Counting.{still_first, still_second}
 use Rattle.worm_device.proofs.Images.{extends_self}
 use Rattle.plan_writer.specs.Blank.{IsFirstWritten, IsOfCells, LooksForSlot, done, outcome, reserved, spare}
 use Rattle.plan_writer.specs.Planned.{Suits, reserved_by}
-use Rattle.plan_writer.specs.PuttingPlans.{IsFoundByPlan, PlanEnds}
+use Rattle.plan_writer.specs.PuttingPlans.{IsFoundByPlan, IsPlanRule, PlanEnds}
 use Rattle.plan_writer.specs.declared.plan.Plan.{Plan}
 use Rattle.plan_writer.proofs.FirstWritten.{first_breaks, first_place, first_where}
 use Rattle.plan_writer.proofs.PutFrom.{ahead_0, called, ends_0, ends_2, free_0, free_2, tells_2, volume_0, volume_2}
 use Rattle.plan_writer.proofs.SettledBefore.{IsAhead}
+
+-- it is named by a rule of its cell
+first_rule : {image : Image} {n : ℕ} {cells : Reservation} {e : Evidence} → IsFirstWritten image n cells e
+    → IsPlanRule e.rule
+first_rule (outcome r c) = inr (inl r)
+first_rule (done r c a) = inr (inr (inl r))
+first_rule (spare r c a b) = inr (inr (inr (inr r)))
+first_rule (reserved r w a b c before) = inr (inr (inr (inr r)))
 
 -- it lies ahead of the log
 first_ahead : (g : Layout) (n : ℕ) (cells : Reservation) (image : Image) (e : Evidence) → n < g.slots
@@ -80,6 +88,7 @@ module _ (p : Plan) {s0 s2 s3 : DeviceState} (r : Ready) (has : HasSettled s0 s2
 
     found : IsFoundByPlan p s0 s2 s3 e
     found = record {
+      rule = first_rule first;
       licensed = record {
         stands = stands;
         layout = r.volume.geometry;

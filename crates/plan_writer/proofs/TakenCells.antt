@@ -25,7 +25,7 @@ use Rattle.worm_device.specs.Calls.{Called}
 use Rattle.worm_device.proofs.Counting.{still_first, still_second}
 use Rattle.plan_writer.specs.Blank.{IsFree}
 use Rattle.plan_writer.specs.Planned.{INGEST_PHASES, IsAskedPut, IsStoredPut, Suits, commit_put, document_from, ingest_phases, journal_from, reserve_put, reserved_by}
-use Rattle.plan_writer.specs.PuttingPlans.{IsFoundByPlan}
+use Rattle.plan_writer.specs.PuttingPlans.{IsFoundByPlan, IsPlanRule}
 use Rattle.plan_writer.specs.declared.plan.Plan.{Plan}
 use Rattle.plan_writer.proofs.LogCells.{commit_in, done_in, once_asked, once_stored, reserve_in, stored_from, stored_to}
 use Rattle.plan_writer.proofs.Stated.{commits_by, done_by}
@@ -68,13 +68,14 @@ module _ (g : Layout) (n : ℕ) (p : Plan) {s0 s2 s4 : DeviceState} (layout : Is
       (t.taken.stood (still_4 still))
 
   -- so one of the slot's own cells was taken by somebody else
-  own : (number : ℕ) → t.taken.put.blame ≡ Rule number → IsPlaceOf g number t.taken.put.at
+  own : (number : ℕ) → IsPlanRule number → t.taken.put.blame ≡ Rule number → IsPlaceOf g number t.taken.put.at
       → (IsStill s0.foreign_writes s2.foreign_writes → s2.image t.taken.put.at ≡ None)
       → ((j : ℕ) (other : Put) → ingest_phases n p j other → other.at ≡ t.taken.put.at → other.value ≡ t.taken.put.value)
       → IsFoundByPlan p s0 s2 s4 e
-  own number blame place blank once =
+  own number named blame place blank once =
       subst (IsFoundByPlan p s0 s2 s4)
       (sym (blames t.taken.put.blame number t.taken.put.at t.taken.put.value t.taken.found e t.taken.is blame)) (record {
+        rule = named;
         licensed = record {
           stands = t.taken.stands;
           layout = g;
@@ -154,6 +155,7 @@ module _ (g : Layout) (n : ℕ) (p : Plan) {s0 s2 s4 : DeviceState} (layout : Is
     target =
         subst (IsFoundByPlan p s0 s2 s4)
         (sym (t.taken.is ∙ ap (λ (w : Blame). blamed w t.taken.put.at t.taken.put.value t.taken.found) a.blame)) (record {
+          rule = inr (inr (inr (inl refl)));
           licensed = record {
             stands = stands;
             layout = g;
@@ -178,12 +180,12 @@ module _ (g : Layout) (n : ℕ) (p : Plan) {s0 s2 s4 : DeviceState} (layout : Is
       → IsFoundByPlan p s0 s2 s4 e
   by_phase zero h before =
       let at : t.taken.put.at ≡ reserve_at n = ap (λ (x : Put). x.at) h in
-      own RESERVE_CELL (ap (λ (x : Put). x.blame) h) (ReserveCells, refl, (n, less, at))
+      own RESERVE_CELL (inl refl) (ap (λ (x : Put). x.blame) h) (ReserveCells, refl, (n, less, at))
       (λ still. ap s2.image at ∙ unreserved still)
       (λ i other q here. ap (λ (x : Put). x.value) (reserve_in g n p less suits i other q (here ∙ at)).1
       ∙ sym (ap (λ (x : Put). x.value) h))
   by_phase (suc zero) h before =
-      own STRAY_CELL (stored_blame h)
+      own STRAY_CELL (inr (inr (inr (inr refl)))) (stored_blame h)
       (StrayCells, refl, inr (inr (omega (arith, stored_from p t.taken.put h, suits.from), omega (arith, stored_to p t.taken.put h, suits.to))))
       (λ still. free.reserved t.taken.put.at
       (record { from = omega (arith, stored_from p t.taken.put h); below = stored_to p t.taken.put h }))
@@ -197,14 +199,14 @@ module _ (g : Layout) (n : ℕ) (p : Plan) {s0 s2 s4 : DeviceState} (layout : Is
           s
   by_phase (suc (suc zero)) h before =
       let at : t.taken.put.at ≡ outcome_at n = ap (λ (x : Put). x.at) h in
-      own OUTCOME_CELL (ap (λ (x : Put). x.blame) h) (OutcomeCells, refl, (n, less, at))
+      own OUTCOME_CELL (inr (inl refl)) (ap (λ (x : Put). x.blame) h) (OutcomeCells, refl, (n, less, at))
       (λ still. ap s2.image at ∙ free.outcome)
       (λ i other q here. ap (λ (x : Put). x.value) (commit_in g n p less suits i other q (here ∙ at)).1
       ∙ sym (ap (λ (x : Put). x.value) h))
   by_phase (suc (suc (suc zero))) h before = target h before
   by_phase (suc (suc (suc (suc zero)))) h before =
       let at : t.taken.put.at ≡ done_at n = ap (λ (x : Put). x.at) h in
-      own DONE_CELL (ap (λ (x : Put). x.blame) h) (DoneCells, refl, (n, less, at))
+      own DONE_CELL (inr (inr (inl refl))) (ap (λ (x : Put). x.blame) h) (DoneCells, refl, (n, less, at))
       (λ still. ap s2.image at ∙ free.done)
       (λ i other q here. ap (λ (x : Put). x.value) (done_in g n p less suits i other q (here ∙ at)).1
       ∙ sym (ap (λ (x : Put). x.value) h))

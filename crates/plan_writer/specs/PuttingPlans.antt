@@ -1,5 +1,5 @@
 -- What it means that a plan is put onto a volume that was settled, or that this was ended.
-use Rattle.std.specs.Prelude.{◌≡◌, ℕ, List, slice_get, Some, None, Result, Ok, Err, IsTrue}
+use Rattle.std.specs.Prelude.{◌≡◌, ◌⊎◌, ℕ, List, slice_get, Some, None, Result, Ok, Err, IsTrue}
 use Rattle.cell_types.specs.Image.{Image, Extends}
 use Rattle.cell_types.specs.Layout.{Layout}
 use Rattle.cell_types.specs.declared.refusal.Evidence.{Evidence}
@@ -8,6 +8,7 @@ use Rattle.cell_types.specs.declared.refusal.Fault.TheVariants.{Tampered, ReadFa
 use Rattle.stored_documents.specs.Documents.{IsDocument}
 use Rattle.stored_documents.specs.Slots.{IsUnused}
 use Rattle.tamper_rules.specs.Rules.{IsBroken}
+use Rattle.tamper_rules.specs.declared.numbers.TheConstants.{DONE_CELL, OTHER_TARGET, OUTCOME_CELL, RESERVE_CELL, STRAY_CELL}
 use Rattle.worm_device.specs.Calls.{Called}
 use Rattle.worm_device.specs.Counts.{Rose, IsStill}
 use Rattle.worm_device.specs.State.{DeviceState}
@@ -39,10 +40,17 @@ abbrev pub AsksForBlank : Plan → Image → Type 0
 AsksForBlank p image =
     (k : ℕ) (value : List ℕ) → slice_get p.journal.now k ≡ Some value → image (target_of value) ≡ None
 
--- Evidence that was found while a plan was put, from entry on, seen from before the volume was settled: it may be named;
--- and where nobody else wrote, and the journal asked for cells that were blank at entry, its rule was broken there
--- before. (Of blank cells before settling this would be false: settling may have carried another journal out into them.)
+-- the rules that are named while a plan is put
+abbrev pub IsPlanRule : ℕ → Type 0
+IsPlanRule number =
+    (number ≡ RESERVE_CELL) ⊎ (number ≡ OUTCOME_CELL) ⊎ (number ≡ DONE_CELL) ⊎ (number ≡ OTHER_TARGET)
+    ⊎ (number ≡ STRAY_CELL)
+
+-- Evidence that was found while a plan was put, from entry on, seen from before the volume was settled: it names one of
+-- these rules, and may be named; and where nobody else wrote, and the journal asked for cells that were blank at entry,
+-- its rule was broken there before. (Of blank cells before settling this would be false: settling may have carried another journal out into them.)
 pub record IsFoundByPlan (p : Plan) (old entry new : DeviceState) (e : Evidence) : Type 0 where
+  pub rule : IsPlanRule e.rule
   pub licensed : IsLicensed old new e
   pub before : IsStill old.foreign_writes new.foreign_writes → AsksForBlank p entry.image
       → IsBroken old.cells old.image e.rule e.cell

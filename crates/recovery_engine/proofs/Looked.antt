@@ -21,9 +21,9 @@ use Rattle.recovery_engine.specs.Ending.{HasJournal, IsFirstEnd, IsLastEnd, end_
 use Rattle.recovery_engine.specs.Settling.{Settles, SettleEnds, EndsByPhases, IsEnding, settle_plan}
 use Rattle.recovery_engine.specs.LastSlot.{IsLast}
 use Rattle.cell_types.specs.Layout.{Layout}
-use Rattle.stored_documents.specs.Slots.{IsHorizon}
+use Rattle.stored_documents.specs.Slots.{AreTaken, IsHorizon}
 use Rattle.stored_documents.specs.Volumes.{IsVolume}
-use Rattle.stored_documents.proofs.Extending.{horizon_further}
+use Rattle.stored_documents.proofs.Extending.{horizon_further, taken_on}
 use Rattle.recovery_engine.proofs.InOrder.{state_further}
 use Rattle.recovery_engine.specs.declared.settling.Ready.{Ready}
 
@@ -184,12 +184,13 @@ in_phases image n (Done s l b k) j put h = absurd (⊎_elim (λ (a : (j ≡ 1) �
 -- the slot that settling is to end
 pub ending_of : (g : Layout) (n u : ℕ) (s0 s2 s3 s5 : DeviceState) (state : SlotState) → u ≡ n + 1 → Looked s0 s2
     → Called s2 s3 → Looked s0 s5 → Called s3 s5
-    → IsVolume s5.cells s5.image g → IsHorizon g s2.image s3.image u → IsLast g s3.image s5.image n state
-    → HasJournal g state s5.image → IsEnding s0.cells s0.image s5.image n state
-ending_of g n u s0 s2 s3 s5 state next l2 c23 l5 c35 volume horizon last journal = record {
+    → IsVolume s5.cells s5.image g → IsHorizon g s2.image s3.image u → AreTaken s3.image u
+    → IsLast g s3.image s5.image n state → HasJournal g state s5.image → IsEnding s0.cells s0.image s5.image n state
+ending_of g n u s0 s2 s3 s5 state next l2 c23 l5 c35 volume horizon taken last journal = record {
   layout = g;
   volume = subst (λ (k : ℕ). IsVolume k s5.image g) l5.called.cells volume;
   horizon = subst (λ (k : ℕ). IsHorizon g s0.image s5.image k) next (horizon_further l2.called.image c35.image horizon);
+  taken = subst (AreTaken s5.image) next (taken_on u c35.image taken);
   is = state_further g s3.image s0.image s5.image s5.image n state (extends_then l2.called.image c23.image)
       (extends_self s5.image) last.is;
   journal = journal;

@@ -99,12 +99,13 @@ SettleEnds old new (Err refusal) = ⊥
 abbrev pub settle_plan : Image → ℕ → SlotState → ℕ → Put → Type 0
 settle_plan image n state j put = ((j ≡ 1) × IsFirstEnd image n state put) ⊎ ((j ≡ 2) × IsLastEnd n state put)
 
--- Slot n, the one below a horizon of a volume, is in this state, as seen between two images; and where it is committed,
--- each cell of its journal asks for what it may ask for.
+-- Slot n, the one below the least horizon of a volume, is in this state, as seen between two images; and where it is
+-- committed, each cell of its journal asks for what it may ask for.
 pub record IsEnding (cells : ℕ) (old between : Image) (n : ℕ) (state : SlotState) : Type 0 where
   pub layout : Layout
   pub volume : IsVolume cells between layout
   pub horizon : IsHorizon layout old between (n + 1)
+  pub taken : AreTaken between (n + 1)
   pub is : IsState layout old between n state
   pub journal : HasJournal layout state between
 

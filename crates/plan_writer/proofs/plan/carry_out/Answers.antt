@@ -1,5 +1,5 @@
 -- Each phase, as one of the plan's.
-use Rattle.phase_writer.proofs.Passed.{handed}
+use Rattle.cell_types.proofs.Passed.{handed}
 use Rattle.plan_writer.proofs.Carried.{reserve_ended, store_ended, commit_ended, apply_ended, carried, entries_there}
 use Rattle.plan_writer.proofs.plan.carry_out.Goals as goal
 

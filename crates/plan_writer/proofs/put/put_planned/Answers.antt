@@ -1,7 +1,7 @@
 -- The look at the free slot, and the phases.
 use Rattle.std.proofs.Common.{subst, Ok, Err}
 use Rattle.commit_record.specs.declared.reservation.Reservation.{Reservation}
-use Rattle.phase_writer.proofs.Passed.{handed}
+use Rattle.cell_types.proofs.Passed.{handed}
 use Rattle.plan_writer.specs.Blank.{LooksForSlot}
 use Rattle.plan_writer.proofs.Looked.{phases_behind, put_by_looks, put_by_phases}
 use Rattle.plan_writer.proofs.PutPlans.{plan_done, plan_refused}

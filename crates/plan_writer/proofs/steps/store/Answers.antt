@@ -1,6 +1,6 @@
 -- The document, the journal, and the sync behind them.
 use Rattle.std.proofs.Common.{inl, inr}
-use Rattle.phase_writer.proofs.Passed.{handed}
+use Rattle.cell_types.proofs.Passed.{handed}
 use Rattle.phase_writer.proofs.Phasing.{phase_ended, phase_synced, phase_unsynced, puts_ended, puts_ended_wider, puts_more}
 use Rattle.plan_writer.proofs.steps.store.Goals as goal
 

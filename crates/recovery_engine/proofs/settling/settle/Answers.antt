@@ -225,7 +225,8 @@ returns-in_err-end_slot g c =
     (λ tells. ending_of layout n c.in-Ok-horizon_of_device.horizon s0 s2 s3 s5 state
     (omega (arith, c.if-horizon-eq0.false)) l2 c.horizon_of_device.ensures.called l5 c35
     (volume_later s2 s5 layout (called_then c.horizon_of_device.ensures.called c35) (opened.4 (tells_1 tells)))
-    (c.in-Ok-horizon_of_device.ensures.horizon (tells_2 tells)).0 (last_5 (tells_5 tells))
+    (c.in-Ok-horizon_of_device.ensures.horizon (tells_2 tells)).0
+    (c.in-Ok-horizon_of_device.ensures.horizon (tells_2 tells)).1 (last_5 (tells_5 tells))
     (journal (tells_5 tells)))
     (λ okay. absurd (false_true okay))
     (end_refused layout n s0 s3 s5 s6 l3.called c35 c.end_slot.ensures.puts.called l5.quiet quiet_35 state
@@ -286,7 +287,8 @@ returns g c =
     (λ tells. ending_of layout n c.in-Ok-horizon_of_device.horizon s0 s2 s3 s5 state
     (omega (arith, c.if-horizon-eq0.false)) l2 c.horizon_of_device.ensures.called l5 c35
     (volume_later s2 s5 layout (called_then c.horizon_of_device.ensures.called c35) (opened.4 (tells_1 tells)))
-    (c.in-Ok-horizon_of_device.ensures.horizon (tells_2 tells)).0 (last_5 (tells_5 tells))
+    (c.in-Ok-horizon_of_device.ensures.horizon (tells_2 tells)).0
+    (c.in-Ok-horizon_of_device.ensures.horizon (tells_2 tells)).1 (last_5 (tells_5 tells))
     (journal (tells_5 tells)))
     (λ okay. c.in_ok-end_slot.ensures) (
       record {
