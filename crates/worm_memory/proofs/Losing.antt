@@ -4,7 +4,8 @@ use Rattle.std.proofs.lemmas.Bool.Decides.{nat_tests, eqb_tells}
 use Rattle.worm_device.specs.State.{Instant}
 use Rattle.worm_memory.specs.declared.change.Change.TheVariants.{Lost}
 use Rattle.worm_memory.specs.Worlds.{after_change, after_changes}
-use Rattle.worm_memory.specs.Losses.{is_among, kept_image, crash_changes, AllElseSure}
+use Rattle.worm_memory.specs.Losses.{kept_image, crash_changes, AllElseSure}
+use Rattle.worm_memory.specs.Unsure.{is_among}
 
 module _ (keep : List ℕ) where
   base : (b : Bool) (image sure : Option (List ℕ)) → (b ≡ false → image ≡ sure) → image ≡ (if b then image else sure)

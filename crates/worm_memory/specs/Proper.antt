@@ -80,7 +80,7 @@ changes_inside cells now (Wrote at value ∷ changes) stands inside all =
 changes_inside cells now (Foreign at value ∷ changes) stands inside all =
     changes_inside cells (after_change now (Foreign at value)) changes (extends_then stands (kept now.image at value))
     (written_inside cells now.image at value inside all.0 all.2) all.3
-changes_inside cells now (Synced ∷ changes) stands inside all = changes_inside cells (after_change now Synced) changes (extends_self now.image) inside all
+changes_inside cells now (Synced ∷ changes) stands inside all = changes_inside cells (after_change now Synced) changes (extends_self now.image) inside all.1
 changes_inside cells now (Lost at ∷ changes) stands inside all = changes_inside cells (after_change now (Lost at)) changes
     (record { keeps = λ cell found is. fallen_keeps (cell == at) (now.sure cell) (now.image cell) found (stands.keeps cell found is) is })
     (λ cell found is. fallen_from (λ v. (cell < cells)

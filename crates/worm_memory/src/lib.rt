@@ -21,15 +21,24 @@
 //! what a record stands for.
 #![tactic(auto)]
 
+mod arrival;
 #[cfg(test)]
 mod callers;
 mod change;
+mod commands;
 mod device;
 mod laws;
+mod losses;
+mod mark;
 mod memory_device;
+mod moment;
+mod schedule;
 #[cfg(test)]
 mod tests;
 
 pub use change::Change;
-pub use laws::a_crash_keeps;
+pub use laws::{a_crash_keeps, unsure_cells};
+pub use losses::Crash;
+pub use mark::Mark;
 pub use memory_device::MemoryDevice;
+pub use moment::Moment;
