@@ -13,14 +13,14 @@ use Rattle.worm_memory.specs.declared.change.Change.{Change}
 use Rattle.worm_memory.specs.declared.change.Change.TheVariants.{Wrote, Foreign, Synced}
 use Rattle.worm_memory.specs.Device.{ForeignWrites}
 use Rattle.worm_memory.proofs.Worlds.{Adds}
-use Rattle.worm_memory.specs.Worlds.{blank, world}
-use Rattle.worm_memory.specs.Memory.{Memory, device_of, with_change, with_foreign, with_fault, with_read, IsUnsure}
+use Rattle.worm_memory.specs.Worlds.{blank, world, IsAllSure}
+use Rattle.worm_memory.specs.Memory.{Memory, device_of, with_change, with_foreign, with_fault, with_read}
 use Rattle.worm_memory.specs.Proper.{sure_stands, blank_stands}
 use Rattle.worm_memory.proofs.Worlds.{after_append, image_is, written_here, written_elsewhere}
 use Rattle.worm_memory.proofs.Crashes.{left_still, elapses_counted, elapses_changed, image_after, sure_after}
 
 -- what every call keeps, where only counts rise
-called_counted : (m : Memory) (faults reads : ℕ) → m.faults ≤ faults → m.reads ≤ reads
+pub called_counted : (m : Memory) (faults reads : ℕ) → m.faults ≤ faults → m.reads ≤ reads
     → Called (device_of m) (device_of (record m { faults = faults; reads = reads }))
 called_counted m faults reads more_faults more_reads = record {
   cells = refl;
@@ -123,22 +123,13 @@ syncs_done m = record {
   count = refl;
 }
 
-sure_too : (low high : Option (List ℕ)) (value : List ℕ)
-    → ((found : List ℕ) → low ≡ Some found → high ≡ Some found) → high ≡ Some value → (low ≡ None → ⊥)
-    → low ≡ Some value
-sure_too None high value keeps stands some = absurd (some refl)
-sure_too (Some found) high value keeps stands some = sym (keeps found refl) ∙ stands
-
 -- where all that stands is sure, there is nothing to do
-pub syncs_idle : (m : Memory) → (IsUnsure m → ⊥) → Syncs (device_of m) (device_of m) (Ok tt)
+pub syncs_idle : (m : Memory) → IsAllSure (world m.changes) → Syncs (device_of m) (device_of m) (Ok tt)
 syncs_idle m all_sure = record {
   called = called_counted m m.faults m.reads (omega arith) (omega arith);
   leaves = leaves_all _ _ (λ image between. inl between);
   only = λ still cell. refl;
-  answer = λ tells. record {
-    keeps = λ cell value h.
-        sure_too _ _ value ((sure_stands blank m.changes blank_stands).keeps cell) h (λ free. all_sure (cell, value, h, free));
-  };
+  answer = λ tells. record { keeps = λ cell value h. sym (all_sure cell) ∙ h };
   cause = refl;
   count = refl;
 }

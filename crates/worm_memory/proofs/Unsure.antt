@@ -1,5 +1,5 @@
 -- Which cells the record shows as not sure: just those that are written and not sure, each once.
-use Rattle.std.proofs.Common.{◌≡◌, ◌==◌, if◌then◌else◌, ⊎_elim, ℕ, Bool, true, false, List, [], ◌∷◌, ◌++◌, Option, Some, None, refl, ap, sym, subst, ◌∙◌, arith}
+use Rattle.std.proofs.Common.{◌≡◌, ◌==◌, if◌then◌else◌, ⊎_elim, ℕ, Bool, true, false, List, [], ◌∷◌, ◌++◌, length, Option, Some, None, refl, ap, sym, subst, ◌∙◌, arith}
 use Rattle.std.proofs.lemmas.Bool.Decides.{nat_tests, eqb_tells}
 use Rattle.std.proofs.lemmas.Bool.{eqb-true}
 use Rattle.std.proofs.lemmas.Option.{none-some}
@@ -11,7 +11,7 @@ use Rattle.worm_memory.specs.declared.change.Change.TheVariants.{Wrote, Foreign,
 use Rattle.worm_memory.specs.Losses.{AreApart}
 use Rattle.worm_memory.specs.Proper.{kept}
 use Rattle.worm_memory.specs.Unsure.{is_among, without, unsure_then, unsure_after, unsure_of}
-use Rattle.worm_memory.specs.Worlds.{kept_or, written, fallen, after_change, after_changes, blank, world, AreChanges}
+use Rattle.worm_memory.specs.Worlds.{kept_or, written, fallen, after_change, after_changes, blank, world, AreChanges, IsAllSure}
 use Rattle.worm_memory.proofs.Worlds.{blank_below}
 
 -- a number is among these and one more
@@ -170,12 +170,13 @@ unsure_is_among now unsure cell value false is right stands free =
 first_among : (at : ℕ) (unsure : List ℕ) → is_among at (at ∷ unsure) ≡ true
 first_among at unsure = grind (arith, nat_tests)
 
-pub not_all_sure : (now : Instant) (at : ℕ) (unsure : List ℕ) → IsRight now (at ∷ unsure)
-    → ((cell : ℕ) → now.image cell ≡ now.sure cell) → ⊥
-not_all_sure now at unsure right all =
+pub not_all_sure : (now : Instant) (unsure : List ℕ) → (length unsure ≡ 0 → ⊥) → IsRight now unsure → IsAllSure now → ⊥
+not_all_sure now [] some right all = some refl
+not_all_sure now (at ∷ unsure) some right all =
     let first = right.not_sure at (first_among at unsure) in
     none-some first.0 (sym first.2 ∙ sym (all at) ∙ first.1)
 
 -- and where there is none, all is
-pub all_sure : (now : Instant) → IsRight now [] → (cell : ℕ) → now.image cell ≡ now.sure cell
-all_sure now right cell = right.else_sure cell refl
+pub all_sure : (now : Instant) (unsure : List ℕ) → length unsure ≡ 0 → IsRight now unsure → IsAllSure now
+all_sure now [] none right = λ cell. right.else_sure cell refl
+all_sure now (at ∷ unsure) none right = absurd (omega arith)

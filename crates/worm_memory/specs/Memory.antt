@@ -47,11 +47,6 @@ device_of m = record {
   past = λ moment. world (take moment m.changes);
 }
 
--- a cell is written and not sure
-abbrev pub IsUnsure : Memory → Type 0
-IsUnsure m =
-    (cell : ℕ) × (value : List ℕ) × ((world m.changes).image cell ≡ Some value) × ((world m.changes).sure cell ≡ None)
-
 -- one more change
 abbrev pub with_change : Memory → Change → Memory
 with_change m change = record m { changes = m.changes ++ change ∷ [] }

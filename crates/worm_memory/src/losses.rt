@@ -34,23 +34,21 @@ impl MemoryDevice {
         if unsure >= self.spare as usize {
             return Err(self.fail());
         }
-        let kept = count_kept(&self.unsure, keep);
-        self.take(keep);
-        Ok(Crash {
-            kept: kept as u32,
-            unsure: unsure as u32,
-        })
+        let (kept, unsure) = (count_kept(&self.unsure, keep) as u32, unsure as u32);
+        self.take(keep, unsure);
+        Ok(Crash { kept, unsure })
     }
 
-    /// Takes what is not kept, where the record has the room for it.
-    fn take(&mut self, keep: &[u32])
-        requires room { length (unsure_of (memory_of self.old).changes) + 1 ≤ room_of self.old }
+    /// Takes what is not kept of so many unsure cells, where the record has the room for it.
+    fn take(&mut self, keep: &[u32], unsure: u32)
+        requires all { unsure ≡ length (unsure_of (memory_of self.old).changes) }
+        requires room { unsure + 1 ≤ room_of self.old }
         ensures taken { memory_of self.new ≡ with_crash (memory_of self.old) keep.now }
-        ensures room { room_of self.new + length (unsure_of (memory_of self.old).changes) + 1 ≡ room_of self.old }
+        ensures room { room_of self.new + unsure + 1 ≡ room_of self.old }
     {
         lose(&mut self.cells, &mut self.changes, &self.unsure, keep);
-        self.spare -= self.unsure.len() as u32 + 1;
         self.unsure.clear();
+        self.spare = self.spare - unsure - 1;
     }
 }
 
@@ -73,6 +71,8 @@ fn lose(
     requires room { length unsure.now + 1 + vec_len changes.old ≤ vec_capacity changes.old }
     ensures changes { changes.new.items ≡ changes.old.items ++ crash_changes keep.now unsure.now }
     ensures cells { cells.new ≡ crash_cells keep.now unsure.now cells.old }
+    ensures most { vec_len changes.new ≤ vec_len changes.old + length unsure.now + 1 }
+    ensures capacity { vec_capacity changes.new ≡ vec_capacity changes.old }
 {
     for at in unsure {
         if !is_kept(keep, *at) {

@@ -6,7 +6,7 @@ use Rattle.worm_memory.specs.Worlds.{world, ours}
 use Rattle.worm_memory.specs.Memory.{device_of}
 use Rattle.worm_memory.specs.Device.{memory_of}
 use Rattle.worm_memory.proofs.Calls.{writes_done, writes_taken, writes_failed}
-use Rattle.worm_memory.proofs.device.MemoryDeviceDevice.write.Goals as goal
+use Rattle.worm_memory.proofs.memory_device.MemoryDevice.finish_write.Goals as goal
 
 pub returns-then-room-eq0-clause-writes : goal.returns-then-room-eq0-clause-writes
 returns-then-room-eq0-clause-writes c =

@@ -1,0 +1,32 @@
+-- The foreign writes that are planned, one after another.
+use Rattle.std.proofs.Common.{◌≡◌, ◌+◌, if◌then◌else◌, ℕ, zero, suc, Bool, true, false, List, [], ◌∷◌, drop, Option, Some, None, refl, ap, sym, ◌∙◌, add-one}
+use Rattle.std.specs.List.{slice_get}
+use Rattle.std.proofs.lemmas.Bool.{cond-true}
+use Rattle.std.proofs.lemmas.Option.{none-some, same_Some}
+use Rattle.worm_memory.specs.Memory.{Memory}
+use Rattle.worm_memory.specs.Outcomes.{Outcome, goes_on, after_others, after_timed}
+use Rattle.worm_memory.specs.declared.moment.Timed.{Timed}
+
+-- the next one
+next : (is_step : Bool) (planned : List Timed) (place : ℕ) (timed : Timed) (m : Memory) (room : ℕ)
+    → slice_get planned place ≡ Some timed
+    → after_others is_step (drop place planned) (goes_on m room)
+    ≡ after_others is_step (drop (suc place) planned) (after_timed is_step timed m room)
+next is_step [] place timed m room here = absurd (none-some timed here)
+next is_step (first ∷ rest) zero timed m room here =
+    ap (λ (t : Timed). after_others is_step rest (after_timed is_step t m room)) (same_Some first timed here)
+next is_step (first ∷ rest) (suc place) timed m room here = next is_step rest place timed m room here
+
+pub next_others : (is_step : Bool) (planned : List Timed) (place : ℕ) (timed : Timed) (m : Memory) (room : ℕ)
+    → slice_get planned place ≡ Some timed
+    → after_others is_step (drop place planned) (goes_on m room)
+    ≡ after_others is_step (drop (place + 1) planned) (after_timed is_step timed m room)
+next_others is_step planned place timed m room here =
+    next is_step planned place timed m room here
+    ∙ ap (λ n. after_others is_step (drop n planned) (after_timed is_step timed m room)) (sym (add-one place))
+
+-- after a failure there is none
+pub no_others : (is_step : Bool) (planned : List Timed) (now : Outcome) → now.failed ≡ true
+    → after_others is_step planned now ≡ now
+no_others is_step [] now failed = refl
+no_others is_step (timed ∷ rest) now failed = cond-true now.failed _ _ failed

@@ -1,0 +1,23 @@
+-- One more foreign write, made or failed.
+use Rattle.std.proofs.Common.{◌≡◌, ◌+◌, drop, is_err, Some, refl, ap, sym, subst, ◌∙◌}
+use Rattle.std.specs.List.{slice_get}
+use Rattle.worm_memory.specs.Device.{memory_of, outcome, room_of}
+use Rattle.worm_memory.specs.Outcomes.{Outcome, goes_on, after_others, after_timed}
+use Rattle.worm_memory.specs.Plans.{Plan}
+use Rattle.worm_memory.proofs.Others.{next_others, no_others}
+use Rattle.worm_memory.proofs.memory_device.MemoryDevice.let_others_write.Goals as goal
+use Rattle.worm_memory.proofs.memory_device.MemoryDevice.let_others_write.Goals.{in-Some+in_ok-write_planned, in_default}
+
+pub returns-in_err-write_planned-clause-others : goal.returns-in_err-write_planned-clause-others
+returns-in_err-write_planned-clause-others c =
+    let planned = c.args.self.now.schedule.foreign.items in
+    let here : slice_get planned c.loop-place.place ≡ Some c.in-Some.timed =
+        ap (λ (plan : Plan). slice_get plan.foreign c.loop-place.place) (sym c.loop-place.invariant.plan) ∙ sym c.planned.ensures ∙ c.in-Some.is in
+    let one = next_others c.args.is_step planned c.loop-place.place c.in-Some.timed (memory_of c.loop-place.self) (room_of c.loop-place.self) here in
+    let rest = drop (c.loop-place.place + 1) planned in
+    sym (no_others c.args.is_step rest _ refl)
+    ∙ ap (after_others c.args.is_step rest) c.in_err-write_planned.ensures.writes
+    ∙ sym one ∙ c.loop-place.invariant.others
+
+pub loop-place-preserved : goal.loop-place-preserved
+loop-place-preserved c = elim c.match-planned.branch [ in-Some+in_ok-write_planned w ↦ ? | in_default w ↦ ? ]
