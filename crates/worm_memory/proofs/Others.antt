@@ -30,3 +30,21 @@ pub no_others : (is_step : Bool) (planned : List Timed) (now : Outcome) → now.
     → after_others is_step planned now ≡ now
 no_others is_step [] now failed = refl
 no_others is_step (timed ∷ rest) now failed = cond-true now.failed _ _ failed
+
+-- and past the last one neither
+nothing_left : (planned : List Timed) (place : ℕ) → slice_get planned place ≡ None → drop place planned ≡ []
+nothing_left [] zero here = refl
+nothing_left [] (suc place) here = refl
+nothing_left (first ∷ rest) zero here = absurd (none-some first (sym here))
+nothing_left (first ∷ rest) (suc place) here = nothing_left rest place here
+
+nothing_next : (planned : List Timed) (place : ℕ) → slice_get planned place ≡ None → drop (suc place) planned ≡ []
+nothing_next [] place here = refl
+nothing_next (first ∷ rest) zero here = absurd (none-some first (sym here))
+nothing_next (first ∷ rest) (suc place) here = nothing_next rest place here
+
+pub past_others : (is_step : Bool) (planned : List Timed) (place : ℕ) (now : Outcome) → slice_get planned place ≡ None
+    → after_others is_step (drop (place + 1) planned) now ≡ after_others is_step (drop place planned) now
+past_others is_step planned place now here =
+    ap (λ (l : List Timed). after_others is_step l now)
+    (ap (λ n. drop n planned) (add-one place) ∙ nothing_next planned place here ∙ sym (nothing_left planned place here))

@@ -17,13 +17,22 @@ impl MemoryDevice {
         ensures faults { (memory_of self.old).faults < 2 ^ 64 }
         ensures foreign_writes { (memory_of self.old).foreign_writes < 2 ^ 64 }
     {
-        let _counts = (self.faults, self.foreign_writes);
+        self.read_counts();
         let is_refused = self.count_call(is_step);
         self.let_others_write(is_step)?;
         if is_refused {
             return Err(self.fail());
         }
         Ok(())
+    }
+
+    /// That the counts are of 64 bits is known to those who read them.
+    fn read_counts(&self)
+        ensures faults { (memory_of self.now).faults < 2 ^ 64 }
+        ensures foreign_writes { (memory_of self.now).foreign_writes < 2 ^ 64 }
+    {
+        let _faults = self.faults;
+        let _foreign_writes = self.foreign_writes;
     }
 
     /// Counts a call, and answers whether the plan makes it fail.
