@@ -1,9 +1,9 @@
 -- How a call of a device in memory comes: what others do before it, and that it fails by the plan, keep what every call
 -- keeps, and so the call itself may be said from where it came on.
-use Rattle.std.proofs.Common.{◌≡◌, ◌<◌, ◌^◌, ◌==◌, if◌then◌else◌, inl, inr, ⊎_elim, ℕ, Bool, true, false, List, [], ◌∷◌, Option, Some, None, Ok, Err, refl, ap, sym, subst, ◌∙◌, arith}
+use Rattle.std.proofs.Common.{◌≡◌, ◌<◌, ◌^◌, ◌==◌, if◌then◌else◌, inl, inr, ⊎_elim, ℕ, Bool, true, false, List, [], ◌∷◌, Option, Some, None, Result, Ok, Err, IsErr, refl, ap, sym, subst, ◌∙◌, arith}
 use Rattle.cell_types.specs.Image.{Image, Extends, Between, IsUnchanged, ChangesOnly}
 use Rattle.worm_device.specs.State.{DeviceState, Instant, LeftSince}
-use Rattle.worm_device.specs.Calls.{Called, Reads, Writes, Syncs, LeavesAll}
+use Rattle.worm_device.specs.Calls.{Called, Reads, Writes, WriteAnswers, Syncs, LeavesAll}
 use Rattle.worm_device.specs.Counts.{next_count, Rose, IsStill}
 use Rattle.worm_device.specs.declared.device.Failed.{Failed}
 use Rattle.worm_device.specs.declared.device.Written.{Written}
@@ -86,8 +86,8 @@ pub record HasCome (m : Memory) (now : Outcome) : Type 0 where
 
 either_way : {A : Type 0} (P : A → Type 0) (b : Bool) (x y : A) → (b ≡ true → P x) → (b ≡ false → P y)
     → P (if b then x else y)
-either_way P true x y yes no = yes refl
-either_way P false x y yes no = no refl
+either_way P true x y first second = first refl
+either_way P false x y first second = second refl
 
 -- it has not failed yet, and then it fails
 come_fails : (m : Memory) (now : Outcome) → now.failed ≡ false → HasCome m now → HasCome m (fails now.memory now.room)
@@ -140,7 +140,7 @@ come_others is_step (timed ∷ rest) m now come =
 come_plan : (refused : Bool) (m : Memory) (now : Outcome) → HasCome m now → HasCome m (after_plan refused now)
 come_plan refused m now come =
     either_way (HasCome m) now.failed _ _ (λ failed. come)
-    (λ ongoing. either_way (HasCome m) refused _ _ (λ yes. come_fails m now ongoing come) (λ no. come))
+    (λ ongoing. either_way (HasCome m) refused _ _ (λ planned. come_fails m now ongoing come) (λ other. come))
 
 -- each call comes so
 pub has_come : (is_step : Bool) (m : Memory) (room : ℕ) → m.faults < 2 ^ 64 → m.foreign_writes < 2 ^ 64
@@ -150,9 +150,14 @@ has_come is_step m room faults foreign_writes =
     (come_others is_step m.plan.foreign m (goes_on (with_call is_step m) room)
     (record { comes = comes_self (device_of m); cells = refl; faults = faults; foreign_writes = foreign_writes }))
 
+pub comes_as : (is_step : Bool) (m : Memory) (room : ℕ) (now : Outcome) → now ≡ arrived is_step m room → m.faults < 2 ^ 64
+    → m.foreign_writes < 2 ^ 64 → Comes (device_of m) (device_of now.memory) now.failed
+comes_as is_step m room now arrives faults foreign_writes =
+    subst (λ (o : Outcome). Comes (device_of m) (device_of o.memory) o.failed) (sym arrives) (has_come is_step m room faults foreign_writes).comes
+
 -- what a crash may leave in a call that came so: nothing was made sure before
-leaves_since : {old mid new : DeviceState} (failed : Bool) → Comes old mid failed → LeavesAll mid new → LeavesAll old new
-leaves_since {old} {mid} {new} failed come leaves = leaves_all old new (λ image between.
+leaves_since : (old mid new : DeviceState) (failed : Bool) → Comes old mid failed → LeavesAll mid new → LeavesAll old new
+leaves_since old mid new failed come leaves = leaves_all old new (λ image between.
     let left = leaves_of mid new leaves image (between_wider come.sure (extends_self new.image) between) in
     let later = (elapses_of come.called).later in
     ⊎_elim (λ now. inl now) (λ past. inr (past.0, omega (arith, later, past.1), past.2, past.3)) left)
@@ -160,56 +165,50 @@ leaves_since {old} {mid} {new} failed come leaves = leaves_all old new (λ image
 leaves_self : (s : DeviceState) → LeavesAll s s
 leaves_self s = leaves_all s s (λ image between. inl between)
 
-only_since : {old mid new : DeviceState} {at : ℕ} {value : List ℕ} → IsUnchanged old.image mid.image
-    → ChangesOnly at value mid.image new.image → ChangesOnly at value old.image new.image
-only_since {old} {mid} {new} same only = λ cell.
+only_since : (old mid new : Image) (at : ℕ) (value : List ℕ) → IsUnchanged old mid
+    → ChangesOnly at value mid new → ChangesOnly at value old new
+only_since old mid new at value same only = λ cell.
     ⊎_elim (λ still. inl (still ∙ same cell)) (λ wrote. inr (wrote.0, sym (same cell) ∙ wrote.1, wrote.2)) (only cell)
 
 -- a write from where it came on
-pub writes_since : {old mid new : DeviceState} (at : ℕ) (value : List ℕ) (written : Written) → Comes old mid false
-    → Writes at value mid new (Ok written) → Writes at value old new (Ok written)
-writes_since {old} {mid} {new} at value Done come writes = record {
-  called = called_then come.called writes.called;
-  leaves = leaves_since false come writes.leaves;
-  only = λ still. only_since (come.quiet (still_first come.called.foreign_writes writes.called.foreign_writes still))
-      (writes.only (still_second come.called.foreign_writes writes.called.foreign_writes still));
-  answer = λ tells.
-      let did = writes.answer (come.called.tells ∙ tells) in
-      (blank_below _ _ (come.called.image.keeps at) did.0, did.1);
-  cause = writes.cause ∙ come.faults;
-  count = writes.count ∙ come.reads;
-}
-writes_since {old} {mid} {new} at value (Taken found) come writes = record {
-  called = called_then come.called writes.called;
-  leaves = leaves_since false come writes.leaves;
-  only = λ still. only_since (come.quiet (still_first come.called.foreign_writes writes.called.foreign_writes still))
-      (writes.only (still_second come.called.foreign_writes writes.called.foreign_writes still));
-  answer = λ tells.
-      let did = writes.answer (come.called.tells ∙ tells) in
-      (did.0, λ still. sym (come.quiet (still_first come.called.foreign_writes writes.called.foreign_writes still) at)
-      ∙ did.1 (still_second come.called.foreign_writes writes.called.foreign_writes still));
-  cause = writes.cause ∙ come.faults;
-  count = writes.count ∙ come.reads;
-}
+write_answers_since : {old mid new : DeviceState} (at : ℕ) (value : List ℕ) (written : Written) → Comes old mid false
+    → Called mid new → WriteAnswers at value mid new written → WriteAnswers at value old new written
+write_answers_since at value Done come called did = (blank_below _ _ (come.called.image.keeps at) did.0, did.1)
+write_answers_since at value (Taken found) come called did =
+    (did.0, λ still. sym (come.quiet (still_first come.called.foreign_writes called.foreign_writes still) at)
+    ∙ did.1 (still_second come.called.foreign_writes called.foreign_writes still))
 
-pub writes_since_failed : {old mid new : DeviceState} (at : ℕ) (value : List ℕ) (failed : Failed) → Comes old mid false
-    → Writes at value mid new (Err failed) → Writes at value old new (Err failed)
-writes_since_failed {old} {mid} {new} at value failed come writes = record {
+pub writes_since : {old mid new : DeviceState} (at : ℕ) (value : List ℕ) (result : Result Written Failed)
+    → Comes old mid false → Writes at value mid new result → Writes at value old new result
+writes_since {old} {mid} {new} at value (Ok written) come writes = record {
   called = called_then come.called writes.called;
-  leaves = leaves_since false come writes.leaves;
-  only = λ still. only_since (come.quiet (still_first come.called.foreign_writes writes.called.foreign_writes still))
+  leaves = leaves_since old mid new false come writes.leaves;
+  only = λ still. only_since old.image mid.image new.image at value (come.quiet (still_first come.called.foreign_writes writes.called.foreign_writes still))
+      (writes.only (still_second come.called.foreign_writes writes.called.foreign_writes still));
+  answer = λ tells. write_answers_since at value written come writes.called (writes.answer (come.called.tells ∙ tells));
+  cause = writes.cause ∙ come.faults;
+  count = writes.count ∙ come.reads;
+}
+writes_since {old} {mid} {new} at value (Err failed) come writes = record {
+  called = called_then come.called writes.called;
+  leaves = leaves_since old mid new false come writes.leaves;
+  only = λ still. only_since old.image mid.image new.image at value (come.quiet (still_first come.called.foreign_writes writes.called.foreign_writes still))
       (writes.only (still_second come.called.foreign_writes writes.called.foreign_writes still));
   answer = λ tells. tt;
   cause = subst (λ n. Rose n new.faults) come.faults writes.cause;
   count = writes.count ∙ come.reads;
 }
 
+no_error : {A : Type 0} → false ≡ true → A
+no_error e = absurd (let clash : false ≡ true = e in cc)
+
 -- a write that came to fail
-pub writes_refused : {old new : DeviceState} (at : ℕ) (value : List ℕ) (failed : Failed) → Comes old new true
-    → Writes at value old new (Err failed)
-writes_refused {old} {new} at value failed come = record {
+pub writes_refused : {old new : DeviceState} (at : ℕ) (value : List ℕ) (result : Result Written Failed) → IsErr result
+    → Comes old new true → Writes at value old new result
+writes_refused {old} {new} at value (Ok written) is come = no_error is
+writes_refused {old} {new} at value (Err failed) is come = record {
   called = come.called;
-  leaves = leaves_since true come (leaves_self new);
+  leaves = leaves_since _ new new true come (leaves_self new);
   only = λ still cell. inl (come.quiet still cell);
   answer = λ tells. tt;
   cause = come.faults;
@@ -217,22 +216,20 @@ writes_refused {old} {new} at value failed come = record {
 }
 
 -- a sync from where it came on
-pub syncs_since : {old mid new : DeviceState} → Comes old mid false → Syncs mid new (Ok tt) → Syncs old new (Ok tt)
-syncs_since {old} {mid} {new} come syncs = record {
+pub syncs_since : {old mid new : DeviceState} (result : Result Unit Failed) → Comes old mid false → Syncs mid new result
+    → Syncs old new result
+syncs_since {old} {mid} {new} (Ok done) come syncs = record {
   called = called_then come.called syncs.called;
-  leaves = leaves_since false come syncs.leaves;
+  leaves = leaves_since old mid new false come syncs.leaves;
   only = λ still. unchanged_then (come.quiet (still_first come.called.foreign_writes syncs.called.foreign_writes still))
       (syncs.only (still_second come.called.foreign_writes syncs.called.foreign_writes still));
   answer = λ tells. extends_then come.called.image (syncs.answer (come.called.tells ∙ tells));
   cause = syncs.cause ∙ come.faults;
   count = syncs.count ∙ come.reads;
 }
-
-pub syncs_since_failed : {old mid new : DeviceState} (failed : Failed) → Comes old mid false → Syncs mid new (Err failed)
-    → Syncs old new (Err failed)
-syncs_since_failed {old} {mid} {new} failed come syncs = record {
+syncs_since {old} {mid} {new} (Err failed) come syncs = record {
   called = called_then come.called syncs.called;
-  leaves = leaves_since false come syncs.leaves;
+  leaves = leaves_since old mid new false come syncs.leaves;
   only = λ still. unchanged_then (come.quiet (still_first come.called.foreign_writes syncs.called.foreign_writes still))
       (syncs.only (still_second come.called.foreign_writes syncs.called.foreign_writes still));
   answer = λ tells. tt;
@@ -240,10 +237,13 @@ syncs_since_failed {old} {mid} {new} failed come syncs = record {
   count = syncs.count ∙ come.reads;
 }
 
-pub syncs_refused : {old new : DeviceState} (failed : Failed) → Comes old new true → Syncs old new (Err failed)
-syncs_refused {old} {new} failed come = record {
+-- a sync that came to fail
+pub syncs_refused : {old new : DeviceState} (result : Result Unit Failed) → IsErr result → Comes old new true
+    → Syncs old new result
+syncs_refused {old} {new} (Ok done) is come = no_error is
+syncs_refused {old} {new} (Err failed) is come = record {
   called = come.called;
-  leaves = leaves_since true come (leaves_self new);
+  leaves = leaves_since _ new new true come (leaves_self new);
   only = come.quiet;
   answer = λ tells. tt;
   cause = come.faults;
@@ -258,18 +258,19 @@ pub reads_come : (m : Memory) (new : DeviceState) (at : ℕ) → m.reads < 2 ^ 6
     → Reads at (device_of m) new (Ok (new.image at))
 reads_come m new at fits come = record {
   called = called_then (read_counted m fits) come.called;
-  leaves = leaves_all (device_of m) new (leaves_of (device_of (with_read m)) new (leaves_since false come (leaves_self new)));
+  leaves = leaves_all (device_of m) new (leaves_of (device_of (with_read m)) new (leaves_since _ new new false come (leaves_self new)));
   only = come.quiet;
   answer = λ tells. refl;
   cause = come.faults;
   count = come.reads;
 }
 
-pub reads_refused : (m : Memory) (new : DeviceState) (at : ℕ) (failed : Failed) → m.reads < 2 ^ 64 → Comes (device_of (with_read m)) new true
-    → Reads at (device_of m) new (Err failed)
-reads_refused m new at failed fits come = record {
+pub reads_refused : (m : Memory) (new : DeviceState) (at : ℕ) (result : Result (Option (List ℕ)) Failed) → m.reads < 2 ^ 64
+    → IsErr result → Comes (device_of (with_read m)) new true → Reads at (device_of m) new result
+reads_refused m new at (Ok found) fits is come = no_error is
+reads_refused m new at (Err failed) fits is come = record {
   called = called_then (read_counted m fits) come.called;
-  leaves = leaves_all (device_of m) new (leaves_of (device_of (with_read m)) new (leaves_since true come (leaves_self new)));
+  leaves = leaves_all (device_of m) new (leaves_of (device_of (with_read m)) new (leaves_since _ new new true come (leaves_self new)));
   only = come.quiet;
   answer = λ tells. tt;
   cause = come.faults;

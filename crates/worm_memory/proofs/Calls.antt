@@ -3,7 +3,7 @@ use Rattle.std.proofs.Common.{◌≡◌, ◌≤◌, ◌<◌, ◌^◌, ⊎_elim, 
 use Rattle.std.proofs.lemmas.Bool.Decides.{eqb_tells}
 use Rattle.cell_types.specs.Image.{Extends, ChangesOnly}
 use Rattle.worm_device.specs.State.{Instant}
-use Rattle.worm_device.specs.Calls.{Called, Reads, Writes, Syncs}
+use Rattle.worm_device.specs.Calls.{Called, Writes, Syncs}
 use Rattle.worm_device.specs.Counts.{next_count}
 use Rattle.worm_device.specs.declared.device.Failed.{Failed}
 use Rattle.worm_device.specs.declared.device.Written.TheVariants.{Done, Taken}
@@ -14,7 +14,7 @@ use Rattle.worm_memory.specs.declared.change.Change.TheVariants.{Wrote, Foreign,
 use Rattle.worm_memory.specs.Device.{ForeignWrites}
 use Rattle.worm_memory.proofs.Worlds.{Adds}
 use Rattle.worm_memory.specs.Worlds.{blank, world, IsAllSure}
-use Rattle.worm_memory.specs.Memory.{Memory, device_of, with_change, with_foreign, with_fault, with_read}
+use Rattle.worm_memory.specs.Memory.{Memory, device_of, with_change, with_foreign, with_fault}
 use Rattle.worm_memory.specs.Proper.{sure_stands, blank_stands}
 use Rattle.worm_memory.proofs.Worlds.{after_append, image_is, written_here, written_elsewhere}
 use Rattle.worm_memory.proofs.Crashes.{left_still, elapses_counted, elapses_changed, image_after, sure_after}
@@ -47,18 +47,6 @@ called_changed m change adds = record {
   foreign_writes = omega arith;
   reads = omega arith;
   crashes = elapsed_since (elapses_changed m change adds);
-}
-
--- a read answers what stands
-pub reads_of : (m : Memory) (at : ℕ) → m.reads < 2 ^ 64
-    → Reads at (device_of m) (device_of (with_read m)) (Ok ((world m.changes).image at))
-reads_of m at fits = record {
-  called = called_counted m m.faults (next_count m.reads) (omega arith) (omega arith);
-  leaves = leaves_all _ _ (λ image between. inl between);
-  only = λ still cell. refl;
-  answer = λ tells. refl;
-  cause = refl;
-  count = refl;
 }
 
 -- what stands in the cells after a blank one is written
