@@ -3,17 +3,18 @@ use Rattle.std.proofs.Common.{◌≡◌, ◌<◌, ◌==◌, if◌then◌else◌,
 use Rattle.std.proofs.Math.ListN.{length-set}
 use Rattle.std.proofs.lemmas.Bool.{cond-true, cond-false, eq-eqb}
 use Rattle.std.proofs.lemmas.Bool.Decides.{nat_tests, eqb_tells}
+use Rattle.std.proofs.lemmas.Option.{none-some}
 use Rattle.std.proofs.lemmas.List.{get_or-set_same, get_or-set_other}
 use Rattle.worm_device.specs.State.{Instant, IsDevice}
 use Rattle.worm_memory.specs.declared.change.Change.{Change}
 use Rattle.worm_memory.specs.declared.change.Change.TheVariants.{Lost}
-use Rattle.worm_memory.specs.Losses.{kept_image, crash_cells, crash_changes, AllElseSure}
+use Rattle.worm_memory.specs.Losses.{kept_image, crash_cells, crash_changes, AllElseSure, AreApart}
 use Rattle.worm_memory.specs.Memory.{Memory, device_of}
 use Rattle.worm_memory.specs.Outcomes.{with_crash}
 use Rattle.worm_memory.specs.Unsure.{is_among, unsure_then, unsure_after, unsure_of}
 use Rattle.worm_memory.specs.Worlds.{after_change, after_changes, blank, world, AreChanges, Holds}
 use Rattle.worm_memory.proofs.Unsure.{IsRight}
-use Rattle.worm_memory.proofs.Worlds.{after_row}
+use Rattle.worm_memory.proofs.Worlds.{after_row, changes_append}
 
 module _ (keep : List ℕ) where
   base : (b : Bool) (image sure : Option (List ℕ)) → (b ≡ false → image ≡ sure) → image ≡ (if b then image else sure)
@@ -114,16 +115,37 @@ crash_leaves keep [] cells now holds gone = holds
 crash_leaves keep (at ∷ unsure) cells now holds gone =
     leaves_one keep unsure at (is_among at keep) (crash_leaves keep unsure) cells now holds gone
 
--- its changes are changes
-changes_one : (cells at : ℕ) (more : List Change) (b : Bool) → ((now : Instant) → AreChanges cells now more) → (now : Instant)
-    → AreChanges cells now (if b then more else Lost at ∷ more)
-changes_one cells at more true all now = all now
-changes_one cells at more false all now = all (after_change now (Lost at))
+-- its changes are changes: each cell that is taken was not sure, also once those before it are taken
+abbrev AreUnsure : List ℕ → Instant → Type 0
+AreUnsure unsure now = (cell : ℕ) → is_among cell unsure ≡ true → now.image cell ≡ now.sure cell → ⊥
 
-pub crash_are_changes : (cells : ℕ) (keep unsure : List ℕ) (now : Instant) → AreChanges cells now (crash_changes keep unsure)
-crash_are_changes cells keep [] now = tt
-crash_are_changes cells keep (at ∷ unsure) now =
-    changes_one cells at (crash_changes keep unsure) (is_among at keep) (crash_are_changes cells keep unsure) now
+still_unsure : (unsure : List ℕ) (now : Instant) (at : ℕ) → is_among at unsure ≡ false → AreUnsure (at ∷ unsure) now
+    → AreUnsure unsure (after_change now (Lost at))
+still_unsure unsure now at new are cell among same = ⊎_elim
+    (λ here. absurd (let clash : true ≡ false = sym among ∙ ap (λ n. is_among n unsure) here.1 ∙ new in cc))
+    (λ other. are cell (among_rest cell at unsure among) (sym (cond-false (cell == at) (now.sure cell) (now.image cell) other.0) ∙ same))
+    (eqb_tells cell at)
+
+changes_one : (cells at : ℕ) (unsure : List ℕ) (more : List Change) (b : Bool)
+    → ((now : Instant) → AreUnsure unsure now → AreChanges cells now more)
+    → (now : Instant) → is_among at unsure ≡ false → AreUnsure (at ∷ unsure) now
+    → AreChanges cells now (if b then more else Lost at ∷ more)
+changes_one cells at unsure more true all now new are = all now (λ cell among. are cell (among_rest cell at unsure among))
+changes_one cells at unsure more false all now new are =
+    (are at (among_first at unsure), all (after_change now (Lost at)) (still_unsure unsure now at new are))
+
+pub crash_are_changes : (cells : ℕ) (keep unsure : List ℕ) → AreApart unsure → (now : Instant) → AreUnsure unsure now
+    → AreChanges cells now (crash_changes keep unsure)
+crash_are_changes cells keep [] apart now are = tt
+crash_are_changes cells keep (at ∷ unsure) apart now are =
+    changes_one cells at unsure (crash_changes keep unsure) (is_among at keep) (crash_are_changes cells keep unsure apart.1) now apart.0 are
+
+pub crash_follows : (cells : ℕ) (keep : List ℕ) (changes : List Change) → AreChanges cells blank changes
+    → IsRight (world changes) (unsure_of changes) → AreChanges cells blank (changes ++ crash_changes keep (unsure_of changes))
+crash_follows cells keep changes all right =
+    changes_append cells blank changes (crash_changes keep (unsure_of changes)) all
+    (crash_are_changes cells keep (unsure_of changes) right.apart (world changes) (λ cell among same.
+    let not_sure = right.not_sure cell among in none-some not_sure.0 (sym not_sure.2 ∙ sym same ∙ not_sure.1)))
 
 -- and after them nothing is unsure
 none_one : (at : ℕ) (more : List Change) (b : Bool) → ((unsure : List ℕ) → unsure_after unsure more ≡ []) → (unsure : List ℕ)

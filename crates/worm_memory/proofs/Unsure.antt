@@ -151,7 +151,7 @@ right_after cells now unsure (Foreign at value ∷ changes) right all = right_af
     (right_put now unsure at value right all.1) all.3
 right_after cells now unsure (Synced ∷ changes) right all = right_after cells (after_change now Synced) [] changes (right_all now.image) all.1
 right_after cells now unsure (Lost at ∷ changes) right all = right_after cells (after_change now (Lost at)) (without at unsure) changes
-    (right_lost now unsure at right) all
+    (right_lost now unsure at right) all.1
 right_after cells now unsure (Crashed ∷ changes) right all = right_after cells (after_change now Crashed) [] changes (right_all now.image) all
 
 -- and so it does from blank cells on

@@ -85,7 +85,7 @@ changes_inside cells now (Lost at ∷ changes) stands inside all = changes_insid
     (record { keeps = λ cell found is. fallen_keeps (cell == at) (now.sure cell) (now.image cell) found (stands.keeps cell found is) is })
     (λ cell found is. fallen_from (λ v. (cell < cells)
     × IsCell v) (cell == at) (now.sure cell) (now.image cell) found (λ sure. inside cell found (stands.keeps cell found sure)) (inside cell found) is)
-    all
+    all.1
 changes_inside cells now (Crashed ∷ changes) stands inside all = changes_inside cells (after_change now Crashed) changes (extends_self now.image) inside all
 
 pub is_device : (m : Memory)

@@ -51,8 +51,8 @@ world changes = after_changes blank changes
 abbrev pub IsAllSure : Instant → Type 0
 IsAllSure now = (cell : ℕ) → now.image cell ≡ now.sure cell
 
--- each change is one: a write puts a written cell's value into a cell of the device that was blank, and a sync makes
--- something sure that was not
+-- each change is one: a write puts a written cell's value into a cell of the device that was blank, a sync makes
+-- something sure that was not, and a crash takes a cell only where what stands there is not sure
 abbrev pub AreChanges : ℕ → Instant → List Change → Type 0
 AreChanges cells now [] = ⊤
 AreChanges cells now (Wrote at value ∷ changes) =
@@ -62,7 +62,8 @@ AreChanges cells now (Foreign at value ∷ changes) =
     (at < cells) × (now.image at ≡ None) × IsCell value
     × AreChanges cells (after_change now (Foreign at value)) changes
 AreChanges cells now (Synced ∷ changes) = (IsAllSure now → ⊥) × AreChanges cells (after_change now Synced) changes
-AreChanges cells now (Lost at ∷ changes) = AreChanges cells (after_change now (Lost at)) changes
+AreChanges cells now (Lost at ∷ changes) =
+    (now.image at ≡ now.sure at → ⊥) × AreChanges cells (after_change now (Lost at)) changes
 AreChanges cells now (Crashed ∷ changes) = AreChanges cells (after_change now Crashed) changes
 
 -- a device of blank cells has become this one: each cell holds what the image says
@@ -79,6 +80,8 @@ AreChanges-prop cells now (Wrote at value ∷ changes) =
     Prim.hlevel (props, AreChanges-prop cells (after_change now (Wrote at value)) changes)
 AreChanges-prop cells now (Foreign at value ∷ changes) =
     Prim.hlevel (props, AreChanges-prop cells (after_change now (Foreign at value)) changes)
-AreChanges-prop cells now (Synced ∷ changes) = Prim.hlevel (props, AreChanges-prop cells (after_change now Synced) changes)
-AreChanges-prop cells now (Lost at ∷ changes) = AreChanges-prop cells (after_change now (Lost at)) changes
+AreChanges-prop cells now (Synced ∷ changes) =
+    Prim.hlevel (props, AreChanges-prop cells (after_change now Synced) changes)
+AreChanges-prop cells now (Lost at ∷ changes) =
+    Prim.hlevel (props, AreChanges-prop cells (after_change now (Lost at)) changes)
 AreChanges-prop cells now (Crashed ∷ changes) = AreChanges-prop cells (after_change now Crashed) changes

@@ -1,7 +1,8 @@
 //! A device in memory as a device.
-ghost use Rattle.std.specs.Prelude.{◌≡◌, ◌<◌, true, false, is_err};
+ghost use Rattle.std.specs.Prelude.{◌≡◌, ◌<◌, true, false, is_err, IsOk};
 ghost use Rattle.worm_device.specs.Calls.{Reads, Writes, Syncs};
-ghost use Rattle.worm_memory.specs.Memory.{with_read};
+ghost use Rattle.worm_memory.specs.Memory.{with_call, with_read};
+ghost use Rattle.worm_memory.specs.Plans.{no_plan};
 ghost use Rattle.worm_memory.specs.Device.{memory_of, outcome, room_of, state_of};
 ghost use Rattle.worm_memory.specs.Outcomes.{goes_on, arrived, after_write, after_sync};
 ghost use Rattle.worm_memory.specs.Proper.{is_device};
@@ -25,6 +26,7 @@ impl Device for MemoryDevice {
         ensures reads { Reads at (state_of self.old) (state_of self.new) result }
         ensures becomes { outcome self.new (is_err result)
             ≡ arrived false (with_read (memory_of self.old)) (room_of self.old) }
+        ensures unplanned { (memory_of self.old).plan ≡ no_plan → IsOk result }
     {
         self.count_read();
         self.arrive(false)?;
@@ -37,6 +39,8 @@ impl Device for MemoryDevice {
         ensures writes { Writes at value (state_of self.old) (state_of self.new) result }
         ensures becomes { outcome self.new (is_err result)
             ≡ after_write at value (arrived true (memory_of self.old) (room_of self.old)) }
+        ensures unplanned { (memory_of self.old).plan ≡ no_plan → outcome self.new (is_err result)
+            ≡ after_write at value (goes_on (with_call true (memory_of self.old)) (room_of self.old)) }
     {
         self.arrive(true)?;
         self.finish_write(at, value)
@@ -47,6 +51,8 @@ impl Device for MemoryDevice {
         ensures syncs { Syncs (state_of self.old) (state_of self.new) result }
         ensures becomes { outcome self.new (is_err result)
             ≡ after_sync (arrived true (memory_of self.old) (room_of self.old)) }
+        ensures unplanned { (memory_of self.old).plan ≡ no_plan → outcome self.new (is_err result)
+            ≡ after_sync (goes_on (with_call true (memory_of self.old)) (room_of self.old)) }
     {
         self.arrive(true)?;
         self.finish_sync()

@@ -7,9 +7,9 @@ use Rattle.worm_memory.specs.Losses.{crash_cells, crash_changes}
 use Rattle.worm_memory.specs.Proper.{is_device}
 use Rattle.worm_memory.specs.Unsure.{unsure_of}
 use Rattle.worm_memory.specs.Worlds.{blank, world, after_changes, AreChanges, Holds}
-use Rattle.worm_memory.proofs.Losing.{crash_are_changes, crash_leaves, each_inside, unsure_inside, unsure_crashed}
+use Rattle.worm_memory.proofs.Losing.{crash_follows, crash_leaves, each_inside, unsure_inside, unsure_crashed}
 use Rattle.worm_memory.proofs.Unsure.{right_world}
-use Rattle.worm_memory.proofs.Worlds.{changes_append, after_row}
+use Rattle.worm_memory.proofs.Worlds.{after_row}
 use Rattle.worm_memory.proofs.memory_device.MemoryDevice.take.Goals as goal
 
 pub lose-requires-clause-inside : goal.lose-requires-clause-inside
@@ -24,9 +24,11 @@ lose-requires-clause-inside c =
 pub invariant_of-self-clause-are_changes : goal.invariant_of-self-clause-are_changes
 invariant_of-self-clause-are_changes c =
     let device = c.args.self.now in
-    subst (AreChanges (vec_len device.cells) blank) (sym c.lose.ensures.changes)
-    (changes_append (vec_len device.cells) blank device.changes.items (crash_changes c.args.keep.now c.deref.result.now) device.are_changes
-    (crash_are_changes (vec_len device.cells) c.args.keep.now c.deref.result.now (world device.changes.items)))
+    let right = right_world (vec_len device.cells) device.changes.items device.are_changes in
+    let listed = c.deref.ensures.value ∙ device.are_unsure in
+    subst (AreChanges (vec_len device.cells) blank)
+    (sym (c.lose.ensures.changes ∙ ap (λ l. device.changes.items ++ crash_changes c.args.keep.now l) listed))
+    (crash_follows (vec_len device.cells) c.args.keep.now device.changes.items device.are_changes right)
 
 pub invariant_of-self-clause-holds : goal.invariant_of-self-clause-holds
 invariant_of-self-clause-holds c =
