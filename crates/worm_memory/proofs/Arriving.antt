@@ -180,9 +180,11 @@ only_since old mid new at value same only = λ cell.
 write_answers_since : {old mid new : DeviceState} (at : ℕ) (value : List ℕ) (written : Written) → Comes old mid false
     → Called mid new → WriteAnswers at value mid new written → WriteAnswers at value old new written
 write_answers_since at value Done come called did = (blank_below _ _ (come.called.image.keeps at) did.0, did.1)
-write_answers_since at value (Taken found) come called did =
-    (did.0, λ still. sym (come.quiet (still_first come.called.foreign_writes called.foreign_writes still) at)
-    ∙ did.1 (still_second come.called.foreign_writes called.foreign_writes still))
+write_answers_since at value (Taken found) come called did = (
+  did.0,
+  λ still. sym (come.quiet (still_first come.called.foreign_writes called.foreign_writes still) at)
+      ∙ did.1 (still_second come.called.foreign_writes called.foreign_writes still),
+)
 
 pub writes_since : {old mid new : DeviceState} (at : ℕ) (value : List ℕ) (result : Result Written Failed)
     → Comes old mid false → Writes at value mid new result → Writes at value old new result

@@ -66,7 +66,10 @@ impl MemoryDevice {
         ensures plan { (memory_of self.new).plan ≡ (memory_of self.old).plan }
         ensures cells { (memory_of self.new).cells ≡ (memory_of self.old).cells }
     {
-        if !timed.before.names(is_step, self.schedule.steps, self.schedule.calls) {
+        if !timed
+            .before
+            .names(is_step, self.schedule.steps, self.schedule.calls)
+        {
             return Ok(());
         }
         self.foreign(timed.at, timed.value)?;

@@ -61,12 +61,7 @@ fn count_kept(unsure: &[u32], keep: &[u32]) -> usize
 }
 
 /// Takes each of these cells that is not kept, and records it.
-fn lose(
-    cells: &mut [Option<Cell>],
-    changes: &mut Vec<Change>,
-    unsure: &[u32],
-    keep: &[u32],
-)
+fn lose(cells: &mut [Option<Cell>], changes: &mut Vec<Change>, unsure: &[u32], keep: &[u32])
     requires inside { (i : ℕ) → i < length unsure.now → slice_index unsure.now i < length cells.old }
     requires room { length unsure.now + 1 + vec_len changes.old ≤ vec_capacity changes.old }
     ensures changes { changes.new.items ≡ changes.old.items ++ crash_changes keep.now unsure.now }

@@ -49,8 +49,17 @@ impl MemoryDevice {
     pub fn new(alloc: Global, cells: u32) -> Result<MemoryDevice, NoMemory>
         requires some { 1 ≤ cells }
         requires most { cells ≤ MAX_CELLS }
-        ensures blank { IfOk result (λ device. memory_of device ≡ record { cells = cells; changes = []; marks = [];
-            steps = 0; calls = 0; plan = no_plan; faults = 0; reads = 0; foreign_writes = 0 }) }
+        ensures blank { IfOk result (λ device. memory_of device ≡ record {
+          cells = cells;
+          changes = [];
+          marks = [];
+          steps = 0;
+          calls = 0;
+          plan = no_plan;
+          faults = 0;
+          reads = 0;
+          foreign_writes = 0;
+        }) }
         ensures room { IfOk result (λ device. room_of device ≡ 0) }
     {
         let Ok(blank) = vec![in alloc; None; cells as usize] else {

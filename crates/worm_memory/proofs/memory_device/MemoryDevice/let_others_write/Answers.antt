@@ -13,7 +13,7 @@ pub returns-in_err-write_planned-clause-others : goal.returns-in_err-write_plann
 returns-in_err-write_planned-clause-others c =
     let planned = c.args.self.now.schedule.foreign.items in
     let here : slice_get planned c.loop-place.place ≡ Some c.in-Some.timed =
-        ap (λ (plan : Plan). slice_get plan.foreign c.loop-place.place) (sym c.loop-place.invariant.plan) ∙ sym c.planned.ensures ∙ c.in-Some.is in
+    ap (λ (plan : Plan). slice_get plan.foreign c.loop-place.place) (sym c.loop-place.invariant.plan) ∙ sym c.planned.ensures ∙ c.in-Some.is in
     let one = next_others c.args.is_step planned c.loop-place.place c.in-Some.timed (memory_of c.loop-place.self) (room_of c.loop-place.self) here in
     let rest = drop (c.loop-place.place + 1) planned in
     ap (λ b. outcome c.write_planned.new.self b) c.from_residual.ensures.0
@@ -23,27 +23,27 @@ returns-in_err-write_planned-clause-others c =
 
 pub loop-place-preserved : goal.loop-place-preserved
 loop-place-preserved c = elim c.match-planned.branch [
-  in-Some+in_ok-write_planned w ↦
-    let planned = c.args.self.now.schedule.foreign.items in
-    let here : slice_get planned c.loop-place.place ≡ Some w.in-Some.timed =
-        ap (λ (plan : Plan). slice_get plan.foreign c.loop-place.place) (sym c.loop-place.invariant.plan) ∙ sym c.planned.ensures ∙ w.in-Some.is in
-    let one = next_others c.args.is_step planned c.loop-place.place w.in-Some.timed (memory_of c.loop-place.self) (room_of c.loop-place.self) here in
-    let rest = drop (c.loop-place.place + 1) planned in
-    record {
-      others = ap (λ (device : MemoryDevice). after_others c.args.is_step rest (outcome device false)) w.self-is
-          ∙ ap (after_others c.args.is_step rest) w.in_ok-write_planned.ensures.writes
-          ∙ sym one ∙ c.loop-place.invariant.others;
-      plan = ap (λ (device : MemoryDevice). (memory_of device).plan) w.self-is ∙ w.write_planned.ensures.plan ∙ c.loop-place.invariant.plan;
-      cells = ap (λ (device : MemoryDevice). (memory_of device).cells) w.self-is ∙ w.write_planned.ensures.cells ∙ c.loop-place.invariant.cells;
-    }
+  | in-Some+in_ok-write_planned w ↦
+      let planned = c.args.self.now.schedule.foreign.items in
+      let here : slice_get planned c.loop-place.place ≡ Some w.in-Some.timed =
+      ap (λ (plan : Plan). slice_get plan.foreign c.loop-place.place) (sym c.loop-place.invariant.plan) ∙ sym c.planned.ensures ∙ w.in-Some.is in
+      let one = next_others c.args.is_step planned c.loop-place.place w.in-Some.timed (memory_of c.loop-place.self) (room_of c.loop-place.self) here in
+      let rest = drop (c.loop-place.place + 1) planned in
+      record {
+        others = ap (λ (device : MemoryDevice). after_others c.args.is_step rest (outcome device false)) w.self-is
+            ∙ ap (after_others c.args.is_step rest) w.in_ok-write_planned.ensures.writes
+            ∙ sym one ∙ c.loop-place.invariant.others;
+        plan = ap (λ (device : MemoryDevice). (memory_of device).plan) w.self-is ∙ w.write_planned.ensures.plan ∙ c.loop-place.invariant.plan;
+        cells = ap (λ (device : MemoryDevice). (memory_of device).cells) w.self-is ∙ w.write_planned.ensures.cells ∙ c.loop-place.invariant.cells;
+      }
   | in_default w ↦
-    let planned = c.args.self.now.schedule.foreign.items in
-    let here : slice_get planned c.loop-place.place ≡ None =
-        ap (λ (plan : Plan). slice_get plan.foreign c.loop-place.place) (sym c.loop-place.invariant.plan) ∙ sym c.planned.ensures ∙ w.in_default.is in
-    record {
-      others = ap (λ (device : MemoryDevice). after_others c.args.is_step (drop (c.loop-place.place + 1) planned) (outcome device false)) w.self-is
-          ∙ past_others c.args.is_step planned c.loop-place.place _ here ∙ c.loop-place.invariant.others;
-      plan = ap (λ (device : MemoryDevice). (memory_of device).plan) w.self-is ∙ c.loop-place.invariant.plan;
-      cells = ap (λ (device : MemoryDevice). (memory_of device).cells) w.self-is ∙ c.loop-place.invariant.cells;
-    }
+      let planned = c.args.self.now.schedule.foreign.items in
+      let here : slice_get planned c.loop-place.place ≡ None =
+      ap (λ (plan : Plan). slice_get plan.foreign c.loop-place.place) (sym c.loop-place.invariant.plan) ∙ sym c.planned.ensures ∙ w.in_default.is in
+      record {
+        others = ap (λ (device : MemoryDevice). after_others c.args.is_step (drop (c.loop-place.place + 1) planned) (outcome device false)) w.self-is
+            ∙ past_others c.args.is_step planned c.loop-place.place _ here ∙ c.loop-place.invariant.others;
+        plan = ap (λ (device : MemoryDevice). (memory_of device).plan) w.self-is ∙ c.loop-place.invariant.plan;
+        cells = ap (λ (device : MemoryDevice). (memory_of device).cells) w.self-is ∙ c.loop-place.invariant.cells;
+      }
 ]

@@ -39,17 +39,17 @@ invariant_of-self-clause-holds c =
     let right = right_world (vec_len device.cells) device.changes.items device.are_changes in
     let is = is_device (memory_of device) device.some_cells device.most_cells device.are_changes in
     let left : c.lose.new.cells ≡ crash_cells keep unsure device.cells.items =
-        c.lose.ensures.cells ∙ ap (λ l. crash_cells keep l c.deref_mut.result.now) listed ∙ ap (crash_cells keep unsure) c.deref_mut.ensures.value in
+    c.lose.ensures.cells ∙ ap (λ l. crash_cells keep l c.deref_mut.result.now) listed ∙ ap (crash_cells keep unsure) c.deref_mut.ensures.value in
     let changes : c.lose.new.changes.items ≡ device.changes.items ++ crash_changes keep unsure =
-        c.lose.ensures.changes ∙ ap (λ l. device.changes.items ++ crash_changes keep l) listed in
+    c.lose.ensures.changes ∙ ap (λ l. device.changes.items ++ crash_changes keep l) listed in
     let same : length c.lose.new.cells ≡ vec_len device.cells = omega arith in
     let kept = drop (length c.lose.new.cells) device.cells.items in
     let cut : take (vec_len device.cells) (c.lose.new.cells ++ kept) ≡ c.lose.new.cells =
-        take-append-le (vec_len device.cells) c.lose.new.cells kept (omega arith)
-        ∙ ap (λ n. take n c.lose.new.cells) (sym same) ∙ take-length c.lose.new.cells in
+    take-append-le (vec_len device.cells) c.lose.new.cells kept (omega arith)
+    ∙ ap (λ n. take n c.lose.new.cells) (sym same) ∙ take-length c.lose.new.cells in
     let holds : Holds (crash_cells keep unsure device.cells.items) (world (device.changes.items ++ crash_changes keep unsure)).image =
-        subst (λ now. Holds (crash_cells keep unsure device.cells.items) now.image) (sym (after_row blank device.changes.items (crash_changes keep unsure)))
-        (crash_leaves keep unsure device.cells.items (world device.changes.items) device.holds (λ cell among. let inside = unsure_inside (memory_of device) is right cell among in (omega arith, inside.1))) in
+    subst (λ now. Holds (crash_cells keep unsure device.cells.items) now.image) (sym (after_row blank device.changes.items (crash_changes keep unsure)))
+    (crash_leaves keep unsure device.cells.items (world device.changes.items) device.holds (λ cell among. let inside = unsure_inside (memory_of device) is right cell among in (omega arith, inside.1))) in
     subst (λ cells. Holds cells (world c.lose.new.changes.items).image) (sym (cut ∙ left))
     (subst (λ l. Holds (crash_cells keep unsure device.cells.items) (world l).image) (sym changes) holds)
 
