@@ -1,8 +1,8 @@
 -- How a call of a device in memory comes: what others do before it, and that it fails by the plan, keep what every call
 -- keeps, and so the call itself may be said from where it came on.
 use Rattle.std.proofs.Common.{◌≡◌, ◌<◌, ◌^◌, ◌==◌, if◌then◌else◌, inl, inr, ⊎_elim, ℕ, Bool, true, false, List, [], ◌∷◌, Option, Some, None, Result, Ok, Err, IsErr, refl, ap, sym, subst, ◌∙◌, arith}
-use Rattle.cell_types.specs.Image.{Image, Extends, Between, IsUnchanged, ChangesOnly}
-use Rattle.worm_device.specs.State.{DeviceState, Instant, LeftSince}
+use Rattle.cell_types.specs.Image.{Image, Extends, IsUnchanged, ChangesOnly}
+use Rattle.worm_device.specs.State.{DeviceState, Instant}
 use Rattle.worm_device.specs.Calls.{Called, Reads, Writes, WriteAnswers, Syncs, LeavesAll}
 use Rattle.worm_device.specs.Counts.{next_count, Rose, IsStill}
 use Rattle.worm_device.specs.declared.device.Failed.{Failed}
@@ -12,7 +12,7 @@ use Rattle.worm_device.proofs.Counting.{still_first, still_second}
 use Rattle.worm_device.proofs.Elapsing.{called_self, called_then, elapses_of, leaves_all, leaves_of}
 use Rattle.worm_device.proofs.Images.{extends_self, extends_then, between_wider, unchanged_then}
 use Rattle.worm_memory.specs.Memory.{Memory, device_of, with_call, with_fault, with_foreign, with_read}
-use Rattle.worm_memory.specs.Outcomes.{Outcome, goes_on, fails, recorded, foreign_into, after_timed, after_others, after_plan, arrived}
+use Rattle.worm_memory.specs.Outcomes.{Outcome, goes_on, fails, foreign_into, after_timed, after_others, after_plan, arrived}
 use Rattle.worm_memory.specs.Plans.{Plan, no_plan, names, is_refused}
 use Rattle.worm_memory.specs.Worlds.{blank, world}
 use Rattle.worm_memory.specs.declared.change.Change.TheVariants.{Foreign}
@@ -62,7 +62,8 @@ comes_foreign m at value fits =
     let done = foreign_done m at value fits in
     record {
       called = done.called;
-      sure = subst (λ (now : Instant). Extends now.sure (world m.changes).sure) (sym (after_append blank m.changes (Foreign at value))) (extends_self (world m.changes).sure);
+      sure = subst (λ (now : Instant). Extends now.sure (world m.changes).sure)
+          (sym (after_append blank m.changes (Foreign at value))) (extends_self (world m.changes).sure);
       quiet = done.quiet;
       faults = refl;
       reads = refl;
@@ -92,7 +93,8 @@ either_way P false x y first second = second refl
 -- it has not failed yet, and then it fails
 come_fails : (m : Memory) (now : Outcome) → now.failed ≡ false → HasCome m now → HasCome m (fails now.memory now.room)
 come_fails m now ongoing come = record {
-  comes = comes_then true (subst (λ b. Comes (device_of m) (device_of now.memory) b) ongoing come.comes) (comes_fault now.memory come.faults);
+  comes = comes_then true (subst (λ b. Comes (device_of m) (device_of now.memory) b) ongoing come.comes)
+      (comes_fault now.memory come.faults);
   cells = come.cells;
   faults = omega (arith, come.faults);
   foreign_writes = come.foreign_writes;
@@ -111,17 +113,20 @@ come_on m now ongoing come = record {
 come_written : (m : Memory) (now : Outcome) (at room : ℕ) (value : List ℕ) → now.failed ≡ false → HasCome m now
     → HasCome m (goes_on (with_foreign now.memory at value) room)
 come_written m now at room value ongoing come = record {
-  comes = comes_then false (subst (λ b. Comes (device_of m) (device_of now.memory) b) ongoing come.comes) (comes_foreign now.memory at value come.foreign_writes);
+  comes = comes_then false (subst (λ b. Comes (device_of m) (device_of now.memory) b) ongoing come.comes)
+      (comes_foreign now.memory at value come.foreign_writes);
   cells = come.cells;
   faults = come.faults;
   foreign_writes = omega (arith, come.foreign_writes);
 }
 
-come_into : (found : Option (List ℕ)) (m : Memory) (now : Outcome) (at : ℕ) (value : List ℕ) → now.failed ≡ false → HasCome m now
+come_into : (found : Option (List ℕ)) (m : Memory) (now : Outcome) (at : ℕ) (value : List ℕ) → now.failed ≡ false
+    → HasCome m now
     → HasCome m (foreign_into found at value now.memory now.room)
 come_into (Some found) m now at value ongoing come = come_on m now ongoing come
 come_into None m now at value ongoing come =
-    either_way (HasCome m) (now.room == 0) _ _ (λ full. come_fails m now ongoing come) (λ room. come_written m now at _ value ongoing come)
+    either_way (HasCome m) (now.room == 0) _ _ (λ full. come_fails m now ongoing come)
+    (λ room. come_written m now at _ value ongoing come)
 
 come_timed : (is_step : Bool) (timed : Timed) (m : Memory) (now : Outcome) → now.failed ≡ false → HasCome m now
     → HasCome m (after_timed is_step timed now.memory now.room)
@@ -135,7 +140,8 @@ come_others : (is_step : Bool) (planned : List Timed) (m : Memory) (now : Outcom
 come_others is_step [] m now come = come
 come_others is_step (timed ∷ rest) m now come =
     either_way (HasCome m) now.failed _ _ (λ failed. come)
-    (λ ongoing. come_others is_step rest m (after_timed is_step timed now.memory now.room) (come_timed is_step timed m now ongoing come))
+    (λ ongoing. come_others is_step rest m (after_timed is_step timed now.memory now.room)
+    (come_timed is_step timed m now ongoing come))
 
 come_plan : (refused : Bool) (m : Memory) (now : Outcome) → HasCome m now → HasCome m (after_plan refused now)
 come_plan refused m now come =
@@ -150,19 +156,23 @@ has_come is_step m room faults foreign_writes =
     (come_others is_step m.plan.foreign m (goes_on (with_call is_step m) room)
     (record { comes = comes_self (device_of m); cells = refl; faults = faults; foreign_writes = foreign_writes }))
 
-pub comes_as : (is_step : Bool) (m : Memory) (room : ℕ) (now : Outcome) → now ≡ arrived is_step m room → m.faults < 2 ^ 64
+pub comes_as : (is_step : Bool) (m : Memory) (room : ℕ) (now : Outcome) → now ≡ arrived is_step m room
+    → m.faults < 2 ^ 64
     → m.foreign_writes < 2 ^ 64 → Comes (device_of m) (device_of now.memory) now.failed
 comes_as is_step m room now arrives faults foreign_writes =
-    subst (λ (o : Outcome). Comes (device_of m) (device_of o.memory) o.failed) (sym arrives) (has_come is_step m room faults foreign_writes).comes
+    subst (λ (o : Outcome). Comes (device_of m) (device_of o.memory) o.failed) (sym arrives)
+    (has_come is_step m room faults foreign_writes).comes
 
 -- where nothing is planned, a call comes as it is counted
 pub comes_unplanned : (is_step : Bool) (m : Memory) (room : ℕ) → m.plan ≡ no_plan
     → arrived is_step m room ≡ goes_on (with_call is_step m) room
 comes_unplanned is_step m room none =
-    ap (λ (plan : Plan). after_plan (is_refused is_step plan m.steps m.calls) (after_others is_step plan.foreign (goes_on (with_call is_step m) room))) none
+    ap (λ (plan : Plan). after_plan (is_refused is_step plan m.steps m.calls)
+    (after_others is_step plan.foreign (goes_on (with_call is_step m) room))) none
 
 -- what a crash may leave in a call that came so: nothing was made sure before
-leaves_since : (old mid new : DeviceState) (failed : Bool) → Comes old mid failed → LeavesAll mid new → LeavesAll old new
+leaves_since : (old mid new : DeviceState) (failed : Bool) → Comes old mid failed → LeavesAll mid new
+    → LeavesAll old new
 leaves_since old mid new failed come leaves = leaves_all old new (λ image between.
     let left = leaves_of mid new leaves image (between_wider come.sure (extends_self new.image) between) in
     let later = (elapses_of come.called).later in
@@ -191,7 +201,8 @@ pub writes_since : {old mid new : DeviceState} (at : ℕ) (value : List ℕ) (re
 writes_since {old} {mid} {new} at value (Ok written) come writes = record {
   called = called_then come.called writes.called;
   leaves = leaves_since old mid new false come writes.leaves;
-  only = λ still. only_since old.image mid.image new.image at value (come.quiet (still_first come.called.foreign_writes writes.called.foreign_writes still))
+  only = λ still. only_since old.image mid.image new.image at value
+      (come.quiet (still_first come.called.foreign_writes writes.called.foreign_writes still))
       (writes.only (still_second come.called.foreign_writes writes.called.foreign_writes still));
   answer = λ tells. write_answers_since at value written come writes.called (writes.answer (come.called.tells ∙ tells));
   cause = writes.cause ∙ come.faults;
@@ -200,7 +211,8 @@ writes_since {old} {mid} {new} at value (Ok written) come writes = record {
 writes_since {old} {mid} {new} at value (Err failed) come writes = record {
   called = called_then come.called writes.called;
   leaves = leaves_since old mid new false come writes.leaves;
-  only = λ still. only_since old.image mid.image new.image at value (come.quiet (still_first come.called.foreign_writes writes.called.foreign_writes still))
+  only = λ still. only_since old.image mid.image new.image at value
+      (come.quiet (still_first come.called.foreign_writes writes.called.foreign_writes still))
       (writes.only (still_second come.called.foreign_writes writes.called.foreign_writes still));
   answer = λ tells. tt;
   cause = subst (λ n. Rose n new.faults) come.faults writes.cause;
@@ -262,23 +274,27 @@ syncs_refused {old} {new} (Err failed) is come = record {
 read_counted : (m : Memory) → m.reads < 2 ^ 64 → Called (device_of m) (device_of (with_read m))
 read_counted m fits = called_counted m m.faults (next_count m.reads) (omega arith) (omega arith)
 
-pub reads_come : (m : Memory) (new : DeviceState) (at : ℕ) → m.reads < 2 ^ 64 → Comes (device_of (with_read m)) new false
+pub reads_come : (m : Memory) (new : DeviceState) (at : ℕ) → m.reads < 2 ^ 64
+    → Comes (device_of (with_read m)) new false
     → Reads at (device_of m) new (Ok (new.image at))
 reads_come m new at fits come = record {
   called = called_then (read_counted m fits) come.called;
-  leaves = leaves_all (device_of m) new (leaves_of (device_of (with_read m)) new (leaves_since _ new new false come (leaves_self new)));
+  leaves = leaves_all (device_of m) new (leaves_of (device_of (with_read m)) new
+      (leaves_since _ new new false come (leaves_self new)));
   only = come.quiet;
   answer = λ tells. refl;
   cause = come.faults;
   count = come.reads;
 }
 
-pub reads_refused : (m : Memory) (new : DeviceState) (at : ℕ) (result : Result (Option (List ℕ)) Failed) → m.reads < 2 ^ 64
+pub reads_refused : (m : Memory) (new : DeviceState) (at : ℕ) (result : Result (Option (List ℕ)) Failed)
+    → m.reads < 2 ^ 64
     → IsErr result → Comes (device_of (with_read m)) new true → Reads at (device_of m) new result
 reads_refused m new at (Ok found) fits is come = no_error is
 reads_refused m new at (Err failed) fits is come = record {
   called = called_then (read_counted m fits) come.called;
-  leaves = leaves_all (device_of m) new (leaves_of (device_of (with_read m)) new (leaves_since _ new new true come (leaves_self new)));
+  leaves = leaves_all (device_of m) new (leaves_of (device_of (with_read m)) new
+      (leaves_since _ new new true come (leaves_self new)));
   only = come.quiet;
   answer = λ tells. tt;
   cause = come.faults;

@@ -30,7 +30,8 @@ holds_put {at} {value} {change} put cells changes within free holds = λ cell.
     let new = (world (changes ++ change ∷ [])).image in
     let elsewhere = written_elsewhere (world changes).image at value cell in
     ⊎_elim
-    (λ same. subst (λ n. get_or (set cells at (Some value)) n None ≡ new n) (sym same.1) (holds_here put cells changes within free))
+    (λ same. subst (λ n. get_or (set cells at (Some value)) n None ≡ new n) (sym same.1)
+    (holds_here put cells changes within free))
     (λ apart. get_or-set_other cells at cell (Some value) None apart.1 ∙ holds cell ∙ sym (elsewhere apart.1)
     ∙ sym (ap (λ (image : Image). image cell) (put_image put (world changes))) ∙ sym (image_is changes change cell))
     (eqb_tells cell at)

@@ -35,7 +35,8 @@ module _ (keep : List ℕ) where
   -- numbers of which one is among these and the other is not are two
   apart : (m n : ℕ) → is_among m keep ≡ true → is_among n keep ≡ false → (n == m) ≡ false
   apart m n in_keep out = ⊎_elim
-      (λ here. absurd (let clash : true ≡ false = sym in_keep ∙ ap (λ (k : ℕ). is_among k keep) (sym here.1) ∙ out in cc))
+      (λ here. absurd (let clash : true ≡ false = sym in_keep ∙ ap (λ (k : ℕ). is_among k keep) (sym here.1)
+      ∙ out in cc))
       (λ other. other.0)
       (eqb_tells n m)
 
@@ -48,14 +49,20 @@ module _ (keep : List ℕ) where
   turned a b e = grind (arith, nat_tests)
 
   abbrev Keeps : List ℕ → Type 0
-  Keeps unsure = (now : Instant) → AllElseSure keep unsure now → (cell : ℕ) → (after_changes now (crash_changes keep unsure)).image cell ≡ kept_image keep now.image now.sure cell
+  Keeps unsure = (now : Instant) → AllElseSure keep unsure now → (cell : ℕ)
+      → (after_changes now (crash_changes keep unsure)).image cell ≡ kept_image keep now.image now.sure cell
 
-  one_more : (at : ℕ) (unsure : List ℕ) (now : Instant) (all : AllElseSure keep (at ∷ unsure) now) (cell : ℕ) (b : Bool) → is_among at keep ≡ b → Keeps unsure
-      → (after_changes now (if b then crash_changes keep unsure else Lost at ∷ crash_changes keep unsure)).image cell ≡ kept_image keep now.image now.sure cell
-  one_more at unsure now all cell true is keeps = keeps now (λ c gone free. all c (not_here (c == at) (is_among c unsure) (apart at c is free) gone) free) cell
+  one_more : (at : ℕ) (unsure : List ℕ) (now : Instant) (all : AllElseSure keep (at ∷ unsure) now) (cell : ℕ)
+      (b : Bool) → is_among at keep ≡ b → Keeps unsure
+      → (after_changes now (if b then crash_changes keep unsure else Lost at ∷ crash_changes keep unsure)).image cell
+      ≡ kept_image keep now.image now.sure cell
+  one_more at unsure now all cell true is keeps = keeps now (λ c gone free. all c
+      (not_here (c == at) (is_among c unsure) (apart at c is free) gone) free) cell
   one_more at unsure now all cell false is keeps =
-      keeps (after_change now (Lost at)) (λ c gone free. fell (c == at) (now.image c) (now.sure c) (λ other. all c (not_here (c == at) (is_among c unsure) other gone) free)) cell
-      ∙ lost_kept (cell == at) (is_among cell keep) (now.image cell) (now.sure cell) (λ kept. turned at cell (apart cell at kept is))
+      keeps (after_change now (Lost at)) (λ c gone free. fell (c == at) (now.image c) (now.sure c)
+      (λ other. all c (not_here (c == at) (is_among c unsure) other gone) free)) cell
+      ∙ lost_kept (cell == at) (is_among cell keep) (now.image cell) (now.sure cell)
+      (λ kept. turned at cell (apart cell at kept is))
 
   pub crash_image : (unsure : List ℕ) (now : Instant) → AllElseSure keep unsure now → (cell : ℕ)
       → (after_changes now (crash_changes keep unsure)).image cell ≡ kept_image keep now.image now.sure cell
@@ -63,24 +70,30 @@ module _ (keep : List ℕ) where
   crash_image (at ∷ unsure) now all cell = one_more at unsure now all cell (is_among at keep) refl (crash_image unsure)
 
   abbrev Sure : List ℕ → Type 0
-  Sure unsure = (now : Instant) (cell : ℕ) → (after_changes now (crash_changes keep unsure)).sure cell ≡ (after_changes now (crash_changes keep unsure)).image cell
+  Sure unsure = (now : Instant) (cell : ℕ) → (after_changes now (crash_changes keep unsure)).sure cell
+      ≡ (after_changes now (crash_changes keep unsure)).image cell
 
   one_sure : (at : ℕ) (unsure : List ℕ) (now : Instant) (cell : ℕ) (b : Bool) → Sure unsure
-      → (after_changes now (if b then crash_changes keep unsure else Lost at ∷ crash_changes keep unsure)).sure cell ≡ (after_changes now (if b then crash_changes keep unsure else Lost at ∷ crash_changes keep unsure)).image cell
+      → (after_changes now (if b then crash_changes keep unsure else Lost at ∷ crash_changes keep unsure)).sure cell
+      ≡ (after_changes now (if b then crash_changes keep unsure else Lost at ∷ crash_changes keep unsure)).image
+      cell
   one_sure at unsure now cell true sure = sure now cell
   one_sure at unsure now cell false sure = sure (after_change now (Lost at)) cell
 
   pub crash_sure : (unsure : List ℕ) (now : Instant) (cell : ℕ)
-      → (after_changes now (crash_changes keep unsure)).sure cell ≡ (after_changes now (crash_changes keep unsure)).image cell
+      → (after_changes now (crash_changes keep unsure)).sure cell
+      ≡ (after_changes now (crash_changes keep unsure)).image cell
   crash_sure [] now cell = refl
   crash_sure (at ∷ unsure) now cell = one_sure at unsure now cell (is_among at keep) (crash_sure unsure)
 
 -- what a crash leaves in a device's cells, where these are not sure
-lost_there : (cells : List (Option (List ℕ))) (now : Instant) (at : ℕ) → Holds cells now.image → at < length cells → now.sure at ≡ None
+lost_there : (cells : List (Option (List ℕ))) (now : Instant) (at : ℕ) → Holds cells now.image → at < length cells
+    → now.sure at ≡ None
     → Holds (set cells at None) (after_change now (Lost at)).image
 lost_there cells now at holds inside gone = λ cell. ⊎_elim
     (λ here. subst (λ n. get_or (set cells at None) n None ≡ (if n == at then now.sure n else now.image n)) (sym here.1)
-    (get_or-set_same cells at None None inside ∙ sym gone ∙ sym (cond-true (at == at) (now.sure at) (now.image at) (eq-eqb at at refl))))
+    (get_or-set_same cells at None None inside ∙ sym gone ∙ sym (cond-true (at == at) (now.sure at) (now.image at)
+    (eq-eqb at at refl))))
     (λ other. get_or-set_other cells at cell None None other.1 ∙ holds cell
     ∙ sym (cond-false (cell == at) (now.sure cell) (now.image cell) other.0))
     (eqb_tells cell at)
@@ -96,10 +109,12 @@ among_first : (at : ℕ) (unsure : List ℕ) → is_among at (at ∷ unsure) ≡
 among_first at unsure = grind (arith, nat_tests)
 
 abbrev Leaves : List ℕ → List ℕ → Type 0
-Leaves keep unsure = (cells : List (Option (List ℕ))) (now : Instant) → Holds cells now.image → AreBlank unsure cells now
+Leaves keep unsure = (cells : List (Option (List ℕ))) (now : Instant) → Holds cells now.image
+    → AreBlank unsure cells now
     → Holds (crash_cells keep unsure cells) (after_changes now (crash_changes keep unsure)).image
 
-leaves_one : (keep unsure : List ℕ) (at : ℕ) (b : Bool) → Leaves keep unsure → (cells : List (Option (List ℕ))) (now : Instant)
+leaves_one : (keep unsure : List ℕ) (at : ℕ) (b : Bool) → Leaves keep unsure
+    → (cells : List (Option (List ℕ))) (now : Instant)
     → Holds cells now.image → AreBlank (at ∷ unsure) cells now
     → Holds (crash_cells keep unsure (if b then cells else set cells at None))
     (after_changes now (if b then crash_changes keep unsure else Lost at ∷ crash_changes keep unsure)).image
@@ -123,14 +138,16 @@ still_unsure : (unsure : List ℕ) (now : Instant) (at : ℕ) → is_among at un
     → AreUnsure unsure (after_change now (Lost at))
 still_unsure unsure now at new are cell among same = ⊎_elim
     (λ here. absurd (let clash : true ≡ false = sym among ∙ ap (λ n. is_among n unsure) here.1 ∙ new in cc))
-    (λ other. are cell (among_rest cell at unsure among) (sym (cond-false (cell == at) (now.sure cell) (now.image cell) other.0) ∙ same))
+    (λ other. are cell (among_rest cell at unsure among) (sym (cond-false (cell == at) (now.sure cell)
+    (now.image cell) other.0) ∙ same))
     (eqb_tells cell at)
 
 changes_one : (cells at : ℕ) (unsure : List ℕ) (more : List Change) (b : Bool)
     → ((now : Instant) → AreUnsure unsure now → AreChanges cells now more)
     → (now : Instant) → is_among at unsure ≡ false → AreUnsure (at ∷ unsure) now
     → AreChanges cells now (if b then more else Lost at ∷ more)
-changes_one cells at unsure more true all now new are = all now (λ cell among. are cell (among_rest cell at unsure among))
+changes_one cells at unsure more true all now new are = all now (λ cell among. are cell
+    (among_rest cell at unsure among))
 changes_one cells at unsure more false all now new are =
     (are at (among_first at unsure), all (after_change now (Lost at)) (still_unsure unsure now at new are))
 
@@ -138,32 +155,38 @@ pub crash_are_changes : (cells : ℕ) (keep unsure : List ℕ) → AreApart unsu
     → AreChanges cells now (crash_changes keep unsure)
 crash_are_changes cells keep [] apart now are = tt
 crash_are_changes cells keep (at ∷ unsure) apart now are =
-    changes_one cells at unsure (crash_changes keep unsure) (is_among at keep) (crash_are_changes cells keep unsure apart.1) now apart.0 are
+    changes_one cells at unsure (crash_changes keep unsure) (is_among at keep)
+    (crash_are_changes cells keep unsure apart.1) now apart.0 are
 
 pub crash_follows : (cells : ℕ) (keep : List ℕ) (changes : List Change) → AreChanges cells blank changes
-    → IsRight (world changes) (unsure_of changes) → AreChanges cells blank (changes ++ crash_changes keep (unsure_of changes))
+    → IsRight (world changes) (unsure_of changes) → AreChanges cells blank
+    (changes ++ crash_changes keep (unsure_of changes))
 crash_follows cells keep changes all right =
     changes_append cells blank changes (crash_changes keep (unsure_of changes)) all
     (crash_are_changes cells keep (unsure_of changes) right.apart (world changes) (λ cell among same.
     let not_sure = right.not_sure cell among in none-some not_sure.0 (sym not_sure.2 ∙ sym same ∙ not_sure.1)))
 
 -- and after them nothing is unsure
-none_one : (at : ℕ) (more : List Change) (b : Bool) → ((unsure : List ℕ) → unsure_after unsure more ≡ []) → (unsure : List ℕ)
+none_one : (at : ℕ) (more : List Change) (b : Bool) → ((unsure : List ℕ) → unsure_after unsure more ≡ [])
+    → (unsure : List ℕ)
     → unsure_after unsure (if b then more else Lost at ∷ more) ≡ []
 none_one at more true none unsure = none unsure
 none_one at more false none unsure = none (unsure_then unsure (Lost at))
 
 crash_unsure : (keep cells unsure : List ℕ) → unsure_after unsure (crash_changes keep cells) ≡ []
 crash_unsure keep [] unsure = refl
-crash_unsure keep (at ∷ cells) unsure = none_one at (crash_changes keep cells) (is_among at keep) (crash_unsure keep cells) unsure
+crash_unsure keep (at ∷ cells) unsure = none_one at (crash_changes keep cells) (is_among at keep)
+    (crash_unsure keep cells) unsure
 
 unsure_row : (unsure : List ℕ) (changes more : List Change)
     → unsure_after unsure (changes ++ more) ≡ unsure_after (unsure_after unsure changes) more
 unsure_row unsure [] more = refl
 unsure_row unsure (first ∷ changes) more = unsure_row (unsure_then unsure first) changes more
 
-pub unsure_crashed : (keep cells : List ℕ) (changes : List Change) → unsure_of (changes ++ crash_changes keep cells) ≡ []
-unsure_crashed keep cells changes = unsure_row [] changes (crash_changes keep cells) ∙ crash_unsure keep cells (unsure_of changes)
+pub unsure_crashed : (keep cells : List ℕ) (changes : List Change)
+    → unsure_of (changes ++ crash_changes keep cells) ≡ []
+unsure_crashed keep cells changes = unsure_row [] changes (crash_changes keep cells)
+    ∙ crash_unsure keep cells (unsure_of changes)
 
 -- each of these is among them
 pub among_at : (unsure : List ℕ) (i : ℕ) → i < length unsure → is_among (get_or unsure i 0) unsure ≡ true

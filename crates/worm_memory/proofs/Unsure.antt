@@ -1,6 +1,6 @@
 -- Which cells the record shows as not sure: just those that are written and not sure, each once.
-use Rattle.std.proofs.Common.{◌≡◌, ◌==◌, if◌then◌else◌, ⊎_elim, ℕ, Bool, true, false, List, [], ◌∷◌, ◌++◌, length, Option, Some, None, refl, ap, sym, subst, ◌∙◌, arith}
-use Rattle.std.proofs.lemmas.Bool.Decides.{nat_tests, eqb_tells}
+use Rattle.std.proofs.Common.{◌≡◌, ◌==◌, if◌then◌else◌, ℕ, Bool, true, false, List, [], ◌∷◌, ◌++◌, length, Option, Some, None, refl, ap, sym, ◌∙◌, arith}
+use Rattle.std.proofs.lemmas.Bool.Decides.{nat_tests}
 use Rattle.std.proofs.lemmas.Bool.{eqb-true}
 use Rattle.std.proofs.lemmas.Option.{none-some}
 use Rattle.cell_types.specs.Image.{Image, Extends}
@@ -10,7 +10,7 @@ use Rattle.worm_memory.specs.declared.change.Change.{Change}
 use Rattle.worm_memory.specs.declared.change.Change.TheVariants.{Wrote, Foreign, Synced, Lost, Crashed}
 use Rattle.worm_memory.specs.Losses.{AreApart}
 use Rattle.worm_memory.specs.Proper.{kept}
-use Rattle.worm_memory.specs.Unsure.{is_among, without, unsure_then, unsure_after, unsure_of}
+use Rattle.worm_memory.specs.Unsure.{is_among, without, unsure_after, unsure_of}
 use Rattle.worm_memory.specs.Worlds.{kept_or, written, fallen, after_change, after_changes, blank, world, AreChanges, IsAllSure}
 use Rattle.worm_memory.proofs.Worlds.{blank_below}
 
@@ -19,14 +19,16 @@ same_test : (b : Bool) → (if b then true else false) ≡ b
 same_test true = refl
 same_test false = refl
 
-one_test : (b c d x : Bool) → x ≡ (if c then true else d) → (if b then true else x) ≡ (if (if b then true else c) then true else d)
+one_test : (b c d x : Bool) → x ≡ (if c then true else d) → (if b then true else x)
+    ≡ (if (if b then true else c) then true else d)
 one_test true c d x e = refl
 one_test false c d x e = e
 
 among_append : (n at : ℕ) (unsure : List ℕ)
     → is_among n (unsure ++ at ∷ []) ≡ (if is_among n unsure then true else (n == at))
 among_append n at [] = same_test (n == at)
-among_append n at (m ∷ unsure) = one_test (n == m) (is_among n unsure) (n == at) (is_among n (unsure ++ at ∷ [])) (among_append n at unsure)
+among_append n at (m ∷ unsure) = one_test (n == m) (is_among n unsure) (n == at) (is_among n (unsure ++ at ∷ []))
+    (among_append n at unsure)
 
 -- and among these without one
 among_without : (n at : ℕ) (unsure : List ℕ)
@@ -42,7 +44,8 @@ apart_append at (n ∷ unsure) apart new =
     let more = among_append n at unsure in
     (grind (arith, nat_tests), apart_append at unsure apart.1 (grind (arith, nat_tests)))
 
-apart_cons : (b : Bool) (n : ℕ) (rest : List ℕ) → (b ≡ false → is_among n rest ≡ false) → AreApart rest → AreApart (if b then rest else n ∷ rest)
+apart_cons : (b : Bool) (n : ℕ) (rest : List ℕ) → (b ≡ false → is_among n rest ≡ false) → AreApart rest
+    → AreApart (if b then rest else n ∷ rest)
 apart_cons true n rest new apart = apart
 apart_cons false n rest new apart = (new refl, apart)
 
@@ -57,7 +60,8 @@ apart_without at (n ∷ unsure) apart =
 pub record IsRight (now : Instant) (unsure : List ℕ) : Type 0 where
   pub stands : Extends now.sure now.image
   pub else_sure : (cell : ℕ) → is_among cell unsure ≡ false → now.image cell ≡ now.sure cell
-  pub not_sure : (cell : ℕ) → is_among cell unsure ≡ true → (value : List ℕ) × (now.image cell ≡ Some value) × (now.sure cell ≡ None)
+  pub not_sure : (cell : ℕ) → is_among cell unsure ≡ true → (value : List ℕ) × (now.image cell ≡ Some value)
+      × (now.sure cell ≡ None)
   pub apart : AreApart unsure
 
 -- where all is sure
@@ -70,7 +74,8 @@ right_all image = record {
 }
 
 -- a blank cell is none of the unsure ones
-blank_new : (now : Instant) (unsure : List ℕ) (at : ℕ) (b : Bool) → is_among at unsure ≡ b → IsRight now unsure → now.image at ≡ None
+blank_new : (now : Instant) (unsure : List ℕ) (at : ℕ) (b : Bool) → is_among at unsure ≡ b → IsRight now unsure
+    → now.image at ≡ None
     → is_among at unsure ≡ false
 blank_new now unsure at false is right free = is
 blank_new now unsure at true is right free =
@@ -80,7 +85,8 @@ put_stands : (here : Bool) (old : Option (List ℕ)) (value : List ℕ) → here
     → (if here then kept_or old value else old) ≡ Some value
 put_stands here old value is free = cc
 
-put_elsewhere : (here : Bool) (old : Option (List ℕ)) (value : List ℕ) → here ≡ false → (if here then kept_or old value else old) ≡ old
+put_elsewhere : (here : Bool) (old : Option (List ℕ)) (value : List ℕ) → here ≡ false
+    → (if here then kept_or old value else old) ≡ old
 put_elsewhere here old value is = cc
 
 not_either : (a b : Bool) → (if a then true else b) ≡ false → (a ≡ false) × (b ≡ false)
@@ -104,12 +110,17 @@ right_put now unsure at value right free = record {
       (is_among cell unsure) (cell == at) (sym (among_append cell at unsure) ∙ among)
       (λ old. let was = right.not_sure cell old in (was.0, (kept now.image at value).keeps cell was.0 was.1, was.2))
       (λ old here. let same = eqb-true cell at here in
-      let cell_free : now.image cell ≡ None = ap now.image same ∙ free in
-      (value, put_stands (cell == at) (now.image cell) value here cell_free, blank_below _ _ (right.stands.keeps cell) cell_free));
+      let cell_free : now.image cell ≡ None = ap now.image same ∙ free in (
+        value,
+        put_stands (cell == at) (now.image cell) value here cell_free,
+        blank_below _ _
+            (right.stands.keeps cell) cell_free,
+      ));
   apart = apart_append at unsure right.apart (blank_new now unsure at (is_among at unsure) refl right free);
 }
 
-fallen_here : (here : Bool) (sure image : Option (List ℕ)) → (here ≡ false → image ≡ sure) → (if here then sure else image) ≡ sure
+fallen_here : (here : Bool) (sure image : Option (List ℕ)) → (here ≡ false → image ≡ sure)
+    → (if here then sure else image) ≡ sure
 fallen_here true sure image e = refl
 fallen_here false sure image e = e refl
 
@@ -132,9 +143,13 @@ less_not a b e f = cc
 right_lost : (now : Instant) (unsure : List ℕ) (at : ℕ) → IsRight now unsure
     → IsRight (record { image = fallen now.image now.sure at; sure = now.sure }) (without at unsure)
 right_lost now unsure at right = record {
-  stands = record { keeps = λ cell found is. fallen_keeps (cell == at) (now.sure cell) (now.image cell) found is (right.stands.keeps cell found is) };
+  stands = record {
+    keeps = λ cell found is. fallen_keeps (cell == at) (now.sure cell) (now.image cell) found is
+        (right.stands.keeps cell found is);
+  };
   else_sure = λ cell other. fallen_here (cell == at) (now.sure cell) (now.image cell)
-      (λ apart. right.else_sure cell (less_not (cell == at) (is_among cell unsure) (sym (among_without cell at unsure) ∙ other) apart));
+      (λ apart. right.else_sure cell (less_not (cell == at) (is_among cell unsure)
+      (sym (among_without cell at unsure) ∙ other) apart));
   not_sure = λ cell among.
       let both = less (cell == at) (is_among cell unsure) (sym (among_without cell at unsure) ∙ among) in
       let was = right.not_sure cell both.1 in
@@ -143,16 +158,22 @@ right_lost now unsure at right = record {
 }
 
 pub right_after : (cells : ℕ) (now : Instant) (unsure : List ℕ) (changes : List Change)
-    → IsRight now unsure → AreChanges cells now changes → IsRight (after_changes now changes) (unsure_after unsure changes)
+    → IsRight now unsure → AreChanges cells now changes → IsRight (after_changes now changes)
+    (unsure_after unsure changes)
 right_after cells now unsure [] right all = right
-right_after cells now unsure (Wrote at value ∷ changes) right all = right_after cells (after_change now (Wrote at value)) (unsure ++ at ∷ []) changes
+right_after cells now unsure (Wrote at value ∷ changes) right all = right_after cells
+    (after_change now (Wrote at value)) (unsure ++ at ∷ []) changes
     (right_put now unsure at value right all.1) all.3
-right_after cells now unsure (Foreign at value ∷ changes) right all = right_after cells (after_change now (Foreign at value)) (unsure ++ at ∷ []) changes
+right_after cells now unsure (Foreign at value ∷ changes) right all = right_after cells
+    (after_change now (Foreign at value)) (unsure ++ at ∷ []) changes
     (right_put now unsure at value right all.1) all.3
-right_after cells now unsure (Synced ∷ changes) right all = right_after cells (after_change now Synced) [] changes (right_all now.image) all.1
-right_after cells now unsure (Lost at ∷ changes) right all = right_after cells (after_change now (Lost at)) (without at unsure) changes
+right_after cells now unsure (Synced ∷ changes) right all = right_after cells (after_change now Synced) [] changes
+    (right_all now.image) all.1
+right_after cells now unsure (Lost at ∷ changes) right all = right_after cells (after_change now (Lost at))
+    (without at unsure) changes
     (right_lost now unsure at right) all.1
-right_after cells now unsure (Crashed ∷ changes) right all = right_after cells (after_change now Crashed) [] changes (right_all now.image) all
+right_after cells now unsure (Crashed ∷ changes) right all = right_after cells (after_change now Crashed) [] changes
+    (right_all now.image) all
 
 -- and so it does from blank cells on
 pub right_world : (cells : ℕ) (changes : List Change) → AreChanges cells blank changes
@@ -160,7 +181,8 @@ pub right_world : (cells : ℕ) (changes : List Change) → AreChanges cells bla
 right_world cells changes all = right_after cells blank [] changes (right_all blank.image) all
 
 -- a cell that is written and not sure is among these
-pub unsure_is_among : (now : Instant) (unsure : List ℕ) (cell : ℕ) (value : List ℕ) (b : Bool) → is_among cell unsure ≡ b
+pub unsure_is_among : (now : Instant) (unsure : List ℕ) (cell : ℕ) (value : List ℕ) (b : Bool)
+    → is_among cell unsure ≡ b
     → IsRight now unsure → now.image cell ≡ Some value → now.sure cell ≡ None → is_among cell unsure ≡ true
 unsure_is_among now unsure cell value true is right stands free = is
 unsure_is_among now unsure cell value false is right stands free =

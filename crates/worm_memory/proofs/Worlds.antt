@@ -47,10 +47,15 @@ changes_append cells now (Wrote at value ∷ changes) more old new =
     (old.0, old.1, old.2, changes_append cells (after_change now (Wrote at value)) changes more old.3 new)
 changes_append cells now (Foreign at value ∷ changes) more old new =
     (old.0, old.1, old.2, changes_append cells (after_change now (Foreign at value)) changes more old.3 new)
-changes_append cells now (Synced ∷ changes) more old new = (old.0, changes_append cells (after_change now Synced) changes more old.1 new)
+changes_append cells now (Synced ∷ changes) more old new = (
+  old.0,
+  changes_append cells
+      (after_change now Synced) changes more old.1 new,
+)
 changes_append cells now (Lost at ∷ changes) more old new =
     (old.0, changes_append cells (after_change now (Lost at)) changes more old.1 new)
-changes_append cells now (Crashed ∷ changes) more old new = changes_append cells (after_change now Crashed) changes more old new
+changes_append cells now (Crashed ∷ changes) more old new = changes_append cells
+    (after_change now Crashed) changes more old new
 
 -- a change that only adds: every one but a loss
 abbrev pub Adds : Change → Type 0

@@ -1,5 +1,5 @@
 -- What a device in memory tells, read off its fields, and what a call does to it.
-use Rattle.std.specs.Prelude.{◌≡◌, ◌≤◌, ◌<◌, List, ℕ, Bool, ◌+◌, length, None, Some, Result, Ok, Err, vec_len}
+use Rattle.std.specs.Prelude.{◌≡◌, ◌<◌, List, ℕ, Bool, ◌+◌, length, None, Some, Result, Ok, Err, vec_len}
 use Rattle.cell_types.specs.Image.{IsUnchanged}
 use Rattle.worm_device.specs.Calls.{Called, LeavesAll}
 use Rattle.worm_device.specs.Counts.{IsStill}

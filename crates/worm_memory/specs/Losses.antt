@@ -16,7 +16,8 @@ kept_image keep image sure = λ cell. if is_among cell keep then image cell else
 -- the changes that a crash records, where these cells are not sure
 abbrev pub crash_changes : List ℕ → List ℕ → List Change
 crash_changes keep [] = Crashed ∷ []
-crash_changes keep (at ∷ unsure) = if is_among at keep then crash_changes keep unsure else Lost at ∷ crash_changes keep unsure
+crash_changes keep (at ∷ unsure) = if is_among at keep then crash_changes keep unsure else Lost at ∷ crash_changes
+    keep unsure
 
 -- each cell that is neither among these nor kept is sure as it stands
 abbrev pub AllElseSure : List ℕ → List ℕ → Instant → Type 0
@@ -28,7 +29,8 @@ abbrev pub ACrashKeeps : Type 0
 ACrashKeeps =
     (keep unsure : List ℕ) (now : Instant) → AllElseSure keep unsure now → (cell : ℕ)
     → ((after_changes now (crash_changes keep unsure)).image cell ≡ kept_image keep now.image now.sure cell)
-    × ((after_changes now (crash_changes keep unsure)).sure cell ≡ (after_changes now (crash_changes keep unsure)).image cell)
+    × ((after_changes now (crash_changes keep unsure)).sure cell
+    ≡ (after_changes now (crash_changes keep unsure)).image cell)
 
 -- how many of these are kept
 abbrev pub kept_count : List ℕ → List ℕ → ℕ

@@ -1,6 +1,6 @@
 -- What a device in memory is for contracts, and what its calls do: its record of changes, from which each
 -- state and each image that a crash could have left follow, its counts, and the present command's numbers and plan.
-use Rattle.std.specs.Prelude.{◌≡◌, ℕ, Bool, true, List, [], ◌∷◌, ◌++◌, length, take, Some, None}
+use Rattle.std.specs.Prelude.{ℕ, Bool, true, List, [], ◌∷◌, ◌++◌, length, take, Some}
 use Rattle.worm_device.specs.Counts.{next_count}
 use Rattle.worm_device.specs.State.{DeviceState}
 use Rattle.worm_memory.specs.Plans.{Plan, no_plan, next_step, begun_rows}

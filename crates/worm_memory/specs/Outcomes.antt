@@ -1,5 +1,5 @@
 -- What a call makes of a device in memory: what becomes of all that it tells, of its room, and whether the call fails.
-use Rattle.std.specs.Prelude.{◌==◌, ◌-◌, ◌++◌, if◌then◌else◌, ℕ, Bool, true, false, List, [], ◌∷◌, length, Option, Some, None}
+use Rattle.std.specs.Prelude.{◌==◌, ◌-◌, ◌++◌, if◌then◌else◌, ℕ, Bool, true, false, List, [], ◌∷◌, Option, Some, None}
 use Rattle.worm_memory.specs.Losses.{crash_changes}
 use Rattle.worm_memory.specs.Memory.{Memory, with_call, with_change, with_fault, with_foreign}
 use Rattle.worm_memory.specs.Plans.{names, is_refused}
@@ -54,7 +54,8 @@ after_plan refused now = if now.failed then now else if refused then fails now.m
 -- fails where the plan says so.
 abbrev pub arrived : Bool → Memory → ℕ → Outcome
 arrived is_step m room =
-    after_plan (is_refused is_step m.plan m.steps m.calls) (after_others is_step m.plan.foreign (goes_on (with_call is_step m) room))
+    after_plan (is_refused is_step m.plan m.steps m.calls) (after_others is_step m.plan.foreign
+    (goes_on (with_call is_step m) room))
 
 -- a cell in which this stands is written: a written one stays
 abbrev pub written_into : Option (List ℕ) → ℕ → List ℕ → Memory → ℕ → Outcome

@@ -1,5 +1,5 @@
 -- What is planned for a command, which of its calls a moment names, and how a device's counts stood when it began.
-use Rattle.std.specs.Prelude.{◌==◌, ◌&&◌, ◌||◌, if◌then◌else◌, nat_le, ℕ, Bool, false, List, [], ◌∷◌, ◌++◌, map, Option, Some, None}
+use Rattle.std.specs.Prelude.{◌≡◌, ◌<◌, ◌==◌, ◌&&◌, ◌||◌, if◌then◌else◌, nat_le, slice_get, ℕ, Bool, false, List, [], ◌∷◌, ◌++◌, map, Option, Some, None}
 use Rattle.std.specs.List.{list_any}
 use Rattle.worm_device.specs.Counts.{next_count}
 use Rattle.worm_memory.specs.declared.mark.Mark.{Mark}
@@ -53,6 +53,10 @@ abbrev pub is_refused : Bool → Plan → ℕ → ℕ → Bool
 is_refused is_step plan steps calls =
     is_stopped plan.stop steps calls
     || list_any (λ moment. names moment is_step (next_step is_step steps) (next_count calls)) plan.fails
+
+-- each of these foreign writes is of a cell of the device
+abbrev pub AreInside : ℕ → List Timed → Type 0
+AreInside cells planned = (place : ℕ) (timed : Timed) → slice_get planned place ≡ Some timed → timed.at < cells
 
 -- A moment as two numbers, and what a device keeps from a command's beginning on as rows of numbers: of each mark a
 -- row that begins with 0, of each moment that fails one that begins with 1, of the stop one that begins with 2, and of

@@ -10,7 +10,7 @@ use crate::moment::Timed;
 use worm_device::Failed;
 
 impl MemoryDevice {
-    /// Comes to the next call, which is a step or not. What it answers is of this call: where it fails, that is counted.
+    /// Comes to the next call, which is a step or not. Where this fails, the call has failed, and that is counted.
     pub(crate) fn arrive(&mut self, is_step: bool) -> Result<(), Failed>
         ensures arrives { outcome self.new (is_err result) ≡ arrived is_step (memory_of self.old) (room_of self.old) }
         ensures cells { (memory_of self.new).cells ≡ (memory_of self.old).cells }
@@ -62,7 +62,8 @@ impl MemoryDevice {
     /// Somebody else writes a cell, where this was planned before this call.
     fn write_planned(&mut self, is_step: bool, timed: Timed) -> Result<(), Failed>
         requires { timed.at < (memory_of self.old).cells }
-        ensures writes { outcome self.new (is_err result) ≡ after_timed is_step timed (memory_of self.old) (room_of self.old) }
+        ensures writes { outcome self.new (is_err result)
+            ≡ after_timed is_step timed (memory_of self.old) (room_of self.old) }
         ensures plan { (memory_of self.new).plan ≡ (memory_of self.old).plan }
         ensures cells { (memory_of self.new).cells ≡ (memory_of self.old).cells }
     {

@@ -50,7 +50,8 @@ fn keep(device: &mut MemoryDevice, at: u32, value: Cell) -> bool
 fn look_twice<D: Device>(device: &mut D, at: u32) -> Result<bool, Failed>
     requires { at < (D.state device.old).cells }
     ensures same { IsTrue (D.state device.old).tells →
-        IsStill (D.state device.old).foreign_writes (D.state device.new).foreign_writes → IfOk result (λ same. IsTrue same) }
+        IsStill (D.state device.old).foreign_writes (D.state device.new).foreign_writes →
+        IfOk result (λ same. IsTrue same) }
 {
     let first = device.read(at)?;
     let second = device.read(at)?;

@@ -49,8 +49,8 @@ impl MemoryDevice {
     }
 
     /// Plans that somebody else writes a cell right before the call that the moment names, as `foreign` does; where a
-    /// blank cell then has no room in the record, that call fails. Those of one call are made in the order in which they
-    /// were planned. Where there is no memory for the plan, nothing changes.
+    /// blank cell then has no room in the record, that call fails. Those of one call are made in the order in which
+    /// they were planned. Where there is no memory for the plan, nothing changes.
     pub fn foreign_before(&mut self, moment: Moment, at: u32, value: Cell) -> Result<(), NoMemory>
         requires { at < (memory_of self.old).cells }
         ensures planned { memory_of self.new ≡ (if is_ok result

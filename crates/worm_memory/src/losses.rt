@@ -19,8 +19,8 @@ pub struct Crash {
 }
 
 impl MemoryDevice {
-    /// A crash: of the cells that are not sure those in `keep` stay, and all that stands then is sure. Numbers in `keep`
-    /// of other cells, or of none, have no effect. The present command goes on with its plan.
+    /// A crash: of the cells that are not sure those in `keep` stay, and all that stands then is sure. Numbers in
+    /// `keep` of other cells, or of none, have no effect. The present command goes on with its plan.
     ///
     /// It uses the room of one change, and of one more for each cell that was not sure. Where the record has not that
     /// room, the crash fails: one fault is counted, and nothing else changes.

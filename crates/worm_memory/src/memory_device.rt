@@ -2,9 +2,9 @@
 ghost use Rattle.std.specs.Prelude.{◌≡◌, ◌≤◌, ◌<◌, ◌+◌, ℕ, slice_get, Some, vec_capacity, vec_len};
 ghost use Rattle.cell_types.specs.declared.geometry.TheConstants.{MAX_CELLS};
 ghost use Rattle.std.proofs.Props.{props};
+ghost use Rattle.worm_memory.specs.Plans.{AreInside};
 ghost use Rattle.worm_memory.specs.Unsure.{unsure_of};
 ghost use Rattle.worm_memory.specs.Worlds.{blank, world, AreChanges, AreChanges-prop, Holds, IsAllSure, IsPut};
-ghost use Rattle.worm_memory.specs.declared.moment.Timed.{Timed};
 
 use crate::schedule::Schedule;
 use crate::{Change, Mark};
@@ -35,7 +35,7 @@ pub struct MemoryDevice {
     ghost changes_fit: { vec_len changes + spare ≤ vec_capacity changes },
     ghost unsure_fit: { vec_len unsure + spare ≤ vec_capacity unsure },
     ghost marks_fit: { vec_len marks + spare ≤ vec_capacity marks },
-    ghost planned_inside: { (place : ℕ) (timed : Timed) → slice_get schedule.foreign.items place ≡ Some timed → timed.at < vec_len cells } by { Prim.hlevel props },
+    ghost planned_inside: { AreInside (vec_len cells) schedule.foreign.items } by { Prim.hlevel props },
 }
 
 impl MemoryDevice {
@@ -43,7 +43,8 @@ impl MemoryDevice {
     ghost use Rattle.worm_memory.specs.Memory.{Memory, with_foreign_write, with_read};
     ghost use Rattle.worm_memory.specs.Plans.{no_plan};
     ghost use Rattle.worm_memory.specs.declared.change.Change.TheVariants.{Synced};
-    ghost use Rattle.worm_memory.specs.Device.{memory_of, room_of, state_of, Records, CountsFault, ForeignEnds, ForeignWrites};
+    ghost use Rattle.worm_memory.specs.Device.{memory_of, room_of, state_of, Records, CountsFault};
+    ghost use Rattle.worm_memory.specs.Device.{ForeignEnds, ForeignWrites};
 
     /// A device of so many blank cells, 1 to 2,147,483,648. Its record has no room yet, and nothing is planned.
     pub fn new(alloc: Global, cells: u32) -> Result<MemoryDevice, NoMemory>

@@ -81,7 +81,8 @@ impl Schedule {
 
     /// Whether a moment that fails names the call that has come.
     fn is_to_fail(&self, is_step: bool) -> bool
-        ensures { result ≡ list_any (λ moment. names moment is_step self.now.steps self.now.calls) self.now.fails.items }
+        ensures { result
+            ≡ list_any (λ moment. names moment is_step self.now.steps self.now.calls) self.now.fails.items }
     {
         let (steps, calls) = (self.steps, self.calls);
         self.fails

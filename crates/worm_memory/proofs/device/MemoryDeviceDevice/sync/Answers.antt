@@ -8,11 +8,13 @@ pub returns-in_err-arrive-clause-syncs : goal.returns-in_err-arrive-clause-syncs
 returns-in_err-arrive-clause-syncs c =
     let old = c.args.self.now in
     syncs_refused c.from_residual.result c.from_residual.ensures.0
-    (comes_as true (memory_of old) (room_of old) (outcome c.arrive.new.self true) c.in_err-arrive.ensures.arrives c.arrive.ensures.faults c.arrive.ensures.foreign_writes)
+    (comes_as true (memory_of old) (room_of old) (outcome c.arrive.new.self true) c.in_err-arrive.ensures.arrives
+    c.arrive.ensures.faults c.arrive.ensures.foreign_writes)
 
 pub returns-clause-syncs : goal.returns-clause-syncs
 returns-clause-syncs c =
     let old = c.args.self.now in
     syncs_since c.finish_sync.result
-    (comes_as true (memory_of old) (room_of old) (outcome c.arrive.new.self false) c.in_ok-arrive.ensures.arrives c.arrive.ensures.faults c.arrive.ensures.foreign_writes)
+    (comes_as true (memory_of old) (room_of old) (outcome c.arrive.new.self false) c.in_ok-arrive.ensures.arrives
+    c.arrive.ensures.faults c.arrive.ensures.foreign_writes)
     c.finish_sync.ensures.syncs

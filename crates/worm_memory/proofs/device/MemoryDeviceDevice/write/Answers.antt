@@ -8,11 +8,13 @@ pub returns-in_err-arrive-clause-writes : goal.returns-in_err-arrive-clause-writ
 returns-in_err-arrive-clause-writes c =
     let old = c.args.self.now in
     writes_refused c.args.at c.args.value c.from_residual.result c.from_residual.ensures.0
-    (comes_as true (memory_of old) (room_of old) (outcome c.arrive.new.self true) c.in_err-arrive.ensures.arrives c.arrive.ensures.faults c.arrive.ensures.foreign_writes)
+    (comes_as true (memory_of old) (room_of old) (outcome c.arrive.new.self true) c.in_err-arrive.ensures.arrives
+    c.arrive.ensures.faults c.arrive.ensures.foreign_writes)
 
 pub returns-clause-writes : goal.returns-clause-writes
 returns-clause-writes c =
     let old = c.args.self.now in
     writes_since c.args.at c.args.value c.finish_write.result
-    (comes_as true (memory_of old) (room_of old) (outcome c.arrive.new.self false) c.in_ok-arrive.ensures.arrives c.arrive.ensures.faults c.arrive.ensures.foreign_writes)
+    (comes_as true (memory_of old) (room_of old) (outcome c.arrive.new.self false) c.in_ok-arrive.ensures.arrives
+    c.arrive.ensures.faults c.arrive.ensures.foreign_writes)
     c.finish_write.ensures.writes

@@ -1,6 +1,5 @@
 -- What stands after a crash, and that it is sure.
 use Rattle.std.proofs.Common.{◌≡◌, vec_len, ap, sym, subst, ◌∙◌}
-use Rattle.worm_memory.specs.Losses.{kept_image}
 use Rattle.worm_memory.specs.Memory.{Memory, device_of}
 use Rattle.worm_memory.specs.Device.{memory_of}
 use Rattle.worm_memory.proofs.Losing.{crashed_image, crashed_sure}
@@ -11,7 +10,8 @@ pub returns-clause-image : goal.returns-clause-image
 returns-clause-image c = λ cell.
     let device = c.args.self.now in
     ap (λ (m : Memory). (device_of m).image cell) c.take.ensures.taken
-    ∙ crashed_image (memory_of device) c.args.keep.now (right_world (vec_len device.cells) device.changes.items device.are_changes) cell
+    ∙ crashed_image (memory_of device) c.args.keep.now (right_world
+    (vec_len device.cells) device.changes.items device.are_changes) cell
 
 pub returns-clause-sure : goal.returns-clause-sure
 returns-clause-sure c = λ cell.

@@ -1,5 +1,5 @@
 -- A sync where nothing was unsure, where there was no room, and where it was recorded.
-use Rattle.std.proofs.Common.{◌≡◌, Ok, Err, ap, sym, subst, length, vec_len, ◌∙◌, arith}
+use Rattle.std.proofs.Common.{◌≡◌, Ok, Err, ap, sym, subst, length, vec_len, arith}
 use Rattle.std.proofs.lemmas.Bool.Decides.{nat_tests}
 use Rattle.worm_device.specs.Calls.{Syncs}
 use Rattle.worm_memory.specs.Memory.{device_of}
@@ -15,13 +15,15 @@ returns-then-is_empty-clause-syncs c =
     let device = c.args.self.now in
     let same = ap length device.are_unsure in
     let none : length (unsure_of device.changes.items) ≡ 0 = grind (arith, nat_tests) in
-    syncs_idle (memory_of device) (all_sure (world device.changes.items) (unsure_of device.changes.items) none (right_world (vec_len device.cells) device.changes.items device.are_changes))
+    syncs_idle (memory_of device) (all_sure (world device.changes.items) (unsure_of device.changes.items) none
+    (right_world (vec_len device.cells) device.changes.items device.are_changes))
 
 pub record_sync-requires-clause-unsure : goal.record_sync-requires-clause-unsure
 record_sync-requires-clause-unsure c =
     let device = c.args.self.now in
     let same = ap length device.are_unsure in
-    not_all_sure (world device.changes.items) (unsure_of device.changes.items) (λ none. grind (arith, nat_tests)) (right_world (vec_len device.cells) device.changes.items device.are_changes)
+    not_all_sure (world device.changes.items) (unsure_of device.changes.items) (λ none. grind (arith, nat_tests))
+    (right_world (vec_len device.cells) device.changes.items device.are_changes)
 
 pub returns-then-room-eq0-clause-syncs : goal.returns-then-room-eq0-clause-syncs
 returns-then-room-eq0-clause-syncs c =

@@ -11,7 +11,8 @@ use Rattle.worm_memory.proofs.memory_device.MemoryDevice.finish_write.Goals as g
 pub returns-then-room-eq0-clause-writes : goal.returns-then-room-eq0-clause-writes
 returns-then-room-eq0-clause-writes c =
     let old = memory_of c.args.self.now in
-    subst (λ m. Writes c.args.at c.args.value (device_of old) (device_of m) (Err c.fail.result)) (sym c.fail.ensures.counted.0)
+    subst (λ m. Writes c.args.at c.args.value (device_of old) (device_of m) (Err c.fail.result))
+    (sym c.fail.ensures.counted.0)
     (writes_failed old c.args.at c.args.value c.fail.result c.fail.ensures.fits)
 
 pub returns-clause-writes : goal.returns-clause-writes

@@ -6,7 +6,8 @@ use Rattle.worm_memory.proofs.memory_device.MemoryDevice.let_others_write.Given 
 
 abbrev pub invariant-loop-place : goal.invariant-loop-place
 invariant-loop-place l = record {
-  others : after_others l.is_step (drop l.place (memory_of l.fn.self).plan.foreign) (goes_on (memory_of l.self) (room_of l.self))
+  others : after_others l.is_step (drop l.place (memory_of l.fn.self).plan.foreign)
+      (goes_on (memory_of l.self) (room_of l.self))
       ≡ after_others l.is_step (memory_of l.fn.self).plan.foreign (goes_on (memory_of l.fn.self) (room_of l.fn.self));
   plan : (memory_of l.self).plan ≡ (memory_of l.fn.self).plan;
   cells : (memory_of l.self).cells ≡ (memory_of l.fn.self).cells;

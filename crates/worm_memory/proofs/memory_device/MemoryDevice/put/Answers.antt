@@ -13,12 +13,14 @@ invariant_of-self-clause-are_changes c =
     let is_cell : IsCell c.args.value = c.bytes-bytes.ensures.cell in
     subst (AreChanges (vec_len device.cells) blank) (sym c.push_reserved.ensures.items)
     (changes_append (vec_len device.cells) blank device.changes.items (c.args.change ∷ []) device.are_changes
-    (put_is_change c.requires.is (vec_len device.cells) (world device.changes.items) c.requires.inside c.requires.free is_cell))
+    (put_is_change c.requires.is (vec_len device.cells) (world device.changes.items) c.requires.inside c.requires.free
+    is_cell))
 
 pub invariant_of-self-clause-holds : goal.invariant_of-self-clause-holds
 invariant_of-self-clause-holds c =
     let device = c.args.self.now in
-    subst (λ changes. Holds (set device.cells.items c.args.at (Some c.args.value)) (world changes).image) (sym c.push_reserved.ensures.items)
+    subst (λ changes. Holds (set device.cells.items c.args.at (Some c.args.value)) (world changes).image)
+    (sym c.push_reserved.ensures.items)
     (holds_put c.requires.is device.cells.items device.changes.items (omega arith) c.requires.free device.holds)
 
 pub invariant_of-self-clause-are_unsure : goal.invariant_of-self-clause-are_unsure

@@ -11,7 +11,8 @@ pub invariant_of-self-clause-are_changes : goal.invariant_of-self-clause-are_cha
 invariant_of-self-clause-are_changes c =
     let device = c.args.self.now in
     subst (AreChanges (vec_len device.cells) blank) (sym c.push_reserved.ensures.items)
-    (changes_append (vec_len device.cells) blank device.changes.items (Synced ∷ []) device.are_changes (c.requires.unsure, tt))
+    (changes_append (vec_len device.cells) blank device.changes.items (Synced ∷ []) device.are_changes
+    (c.requires.unsure, tt))
 
 pub invariant_of-self-clause-holds : goal.invariant_of-self-clause-holds
 invariant_of-self-clause-holds c =
