@@ -35,6 +35,7 @@ impl MemoryDevice {
         ensures planned { memory_of self.new ≡
             (if is_ok result then with_failure (memory_of self.old) moment else memory_of self.old) }
         ensures room { room_of self.new ≡ room_of self.old }
+        ensures cells { (memory_of self.new).cells ≡ (memory_of self.old).cells }
     {
         self.schedule.fails.push(moment).map_err(|_| NoMemory)
     }
@@ -57,6 +58,7 @@ impl MemoryDevice {
             then with_planned (memory_of self.old) (record { before = moment; at = at; value = value })
             else memory_of self.old) }
         ensures room { room_of self.new ≡ room_of self.old }
+        ensures cells { (memory_of self.new).cells ≡ (memory_of self.old).cells }
     {
         let timed = Timed {
             before: moment,

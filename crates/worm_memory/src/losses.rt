@@ -29,6 +29,7 @@ impl MemoryDevice {
         ensures image { OnOk result ((cell : ℕ) → (state_of self.new).image cell
             ≡ kept_image keep.now (state_of self.old).image (state_of self.old).sure cell) }
         ensures sure { OnOk result ((cell : ℕ) → (state_of self.new).sure cell ≡ (state_of self.new).image cell) }
+        ensures cells { (memory_of self.new).cells ≡ (memory_of self.old).cells }
     {
         let unsure = self.unsure.len();
         if unsure >= self.spare as usize {

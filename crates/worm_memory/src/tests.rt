@@ -5,7 +5,7 @@ ghost use Rattle.worm_device.specs.Views.{Viewed};
 ghost use Rattle.worm_memory.specs.Device.{memory_of};
 
 use crate::{Change, Crash, Mark, MemoryDevice, Moment};
-use cell_types::Cell;
+use cell_types::{Cell, NoMemory};
 use std::test::Fail;
 use worm_device::{Device, Direct, Failed, View, Written};
 
@@ -147,21 +147,75 @@ fn somebody_else_writes_blank_cells_alone(rt: HostRuntime) -> Result<(), Fail> {
     Ok(())
 }
 
+/// Begins a command, where the record has room for its mark.
+fn begin(device: &mut MemoryDevice) -> Result<(), &'static str> {
+    if device.room() == 0 {
+        return Err("no room for a mark");
+    }
+    device.begin();
+    Ok(())
+}
+
+/// What a read of this cell answers.
+fn read(device: &mut MemoryDevice, at: u32) -> Result<Option<Cell>, Failed> {
+    if at >= device.cells() {
+        return Err(Failed);
+    }
+    device.read(at)
+}
+
+/// What a write of this cell answers.
+fn write(device: &mut MemoryDevice, at: u32, value: Cell) -> Result<Written, Failed> {
+    if at >= device.cells() {
+        return Err(Failed);
+    }
+    device.write(at, value)
+}
+
+/// Plans a foreign write.
+fn foreign_before(
+    device: &mut MemoryDevice,
+    moment: Moment,
+    at: u32,
+    value: Cell,
+) -> Result<(), NoMemory> {
+    if at >= device.cells() {
+        return Err(NoMemory);
+    }
+    device.foreign_before(moment, at, value)
+}
+
+/// What a foreign write of this cell answers.
+fn foreign(device: &mut MemoryDevice, at: u32, value: Cell) -> Result<Written, Failed> {
+    if at >= device.cells() {
+        return Err(Failed);
+    }
+    device.foreign(at, value)
+}
+
 #[test]
 fn a_step_fails_as_planned(rt: HostRuntime) -> Result<(), Fail> {
     let (seven, nine) = (cell(7)?, cell(9)?);
     let mut device = MemoryDevice::new(rt.alloc(), 8)?;
     device.reserve(4)?;
-    device.begin();
+    begin(&mut device)?;
     device.fail_at(Moment::Step(2))?;
     device.fail_at(Moment::Call(4))?;
     device.fail_at(Moment::Step(0))?;
     device.fail_at(Moment::Call(0))?;
-    assert_eq!(rt; device.read(3), Ok(None), "call 1 is no step");
-    assert_eq!(rt; device.write(3, seven), Ok(Written::Done), "step 1, call 2");
-    assert_eq!(rt; device.write(4, nine), Err(Failed), "step 2, call 3");
-    assert_eq!(rt; device.read(3), Err(Failed), "call 4");
-    assert_eq!(rt; device.write(4, nine), Ok(Written::Done), "step 3, call 5");
+    assert_eq!(rt; read(&mut device, 3), Ok(None), "call 1 is no step");
+    assert_eq!(rt;
+        write(&mut device, 3, seven),
+        Ok(Written::Done),
+        "step 1, call 2"
+    );
+    assert_eq!(rt; write(&mut device, 4, nine), Err(Failed), "step 2, call 3");
+    assert_eq!(rt; read(&mut device, 3), Err(Failed), "call 4");
+    assert_eq!(rt;
+        write(&mut device, 4, nine),
+        Ok(Written::Done),
+        "step 3, call 5"
+    );
     let changes = [
         Change::Wrote {
             at: 3,
@@ -170,7 +224,7 @@ fn a_step_fails_as_planned(rt: HostRuntime) -> Result<(), Fail> {
         Change::Wrote { at: 4, value: nine },
     ];
     assert_eq!(rt; device.changes(), changes.as_slice());
-    device.begin();
+    begin(&mut device)?;
     let marks = [
         Mark {
             steps: 0,
@@ -199,19 +253,19 @@ fn a_command_stops_after_a_step(rt: HostRuntime) -> Result<(), Fail> {
     let (seven, nine) = (cell(7)?, cell(9)?);
     let mut device = MemoryDevice::new(rt.alloc(), 8)?;
     device.reserve(6)?;
-    device.begin();
+    begin(&mut device)?;
     device.stop_after(Moment::Call(1));
     device.stop_after(Moment::Step(1));
-    assert_eq!(rt; device.read(3), Ok(None));
-    assert_eq!(rt; device.write(3, seven), Ok(Written::Done));
-    assert_eq!(rt; device.read(3), Err(Failed));
+    assert_eq!(rt; read(&mut device, 3), Ok(None));
+    assert_eq!(rt; write(&mut device, 3, seven), Ok(Written::Done));
+    assert_eq!(rt; read(&mut device, 3), Err(Failed));
     assert_eq!(rt; device.sync(), Err(Failed));
-    device.begin();
+    begin(&mut device)?;
     device.stop_after(Moment::Step(0));
-    assert_eq!(rt; device.read(3), Err(Failed), "no call is made at all");
-    device.begin();
+    assert_eq!(rt; read(&mut device, 3), Err(Failed), "no call is made at all");
+    begin(&mut device)?;
     assert_eq!(rt; device.sync(), Ok(()), "nothing is planned any more");
-    assert_eq!(rt; device.write(4, nine), Ok(Written::Done));
+    assert_eq!(rt; write(&mut device, 4, nine), Ok(Written::Done));
     assert_eq!(rt; device.room(), 0);
     Ok(())
 }
@@ -221,15 +275,15 @@ fn others_write_before_a_call(rt: HostRuntime) -> Result<(), Fail> {
     let (seven, nine) = (cell(7)?, cell(9)?);
     let mut device = MemoryDevice::new(rt.alloc(), 8)?;
     device.reserve(4)?;
-    device.begin();
-    device.foreign_before(Moment::Call(2), 3, nine)?;
-    device.foreign_before(Moment::Call(2), 3, seven)?;
-    device.foreign_before(Moment::Step(2), 4, nine)?;
-    device.foreign_before(Moment::Call(5), 5, nine)?;
+    begin(&mut device)?;
+    foreign_before(&mut device, Moment::Call(2), 3, nine)?;
+    foreign_before(&mut device, Moment::Call(2), 3, seven)?;
+    foreign_before(&mut device, Moment::Step(2), 4, nine)?;
+    foreign_before(&mut device, Moment::Call(5), 5, nine)?;
     device.fail_at(Moment::Step(2))?;
-    assert_eq!(rt; device.read(3), Ok(None));
+    assert_eq!(rt; read(&mut device, 3), Ok(None));
     assert_eq!(rt;
-        device.write(3, seven),
+        write(&mut device, 3, seven),
         Ok(Written::Taken(nine)),
         "the first of two wins"
     );
@@ -243,13 +297,13 @@ fn others_write_before_a_call(rt: HostRuntime) -> Result<(), Fail> {
         Change::Foreign { at: 4, value: nine },
     ];
     assert_eq!(rt; device.changes(), changes.as_slice());
-    assert_eq!(rt; device.write(6, seven), Ok(Written::Done));
+    assert_eq!(rt; write(&mut device, 6, seven), Ok(Written::Done));
     assert_eq!(rt;
-        device.read(5),
+        read(&mut device, 5),
         Err(Failed),
         "the foreign write has no room"
     );
-    assert_eq!(rt; device.read(5), Ok(None));
+    assert_eq!(rt; read(&mut device, 5), Ok(None));
     Ok(())
 }
 
@@ -258,19 +312,19 @@ fn a_crash_keeps_one_of_two_cells(rt: HostRuntime) -> Result<(), Fail> {
     let (seven, nine) = (cell(7)?, cell(9)?);
     let mut device = MemoryDevice::new(rt.alloc(), 8)?;
     device.reserve(7)?;
-    assert_eq!(rt; device.write(1, seven), Ok(Written::Done));
+    assert_eq!(rt; write(&mut device, 1, seven), Ok(Written::Done));
     assert_eq!(rt; device.sync(), Ok(()));
-    assert_eq!(rt; device.write(4, seven), Ok(Written::Done));
-    assert_eq!(rt; device.foreign(3, nine), Ok(Written::Done));
+    assert_eq!(rt; write(&mut device, 4, seven), Ok(Written::Done));
+    assert_eq!(rt; foreign(&mut device, 3, nine), Ok(Written::Done));
     assert_eq!(rt;
         device.crash(&[7, 3, 3, 9]),
         Ok(Crash { kept: 1, unsure: 2 })
     );
     assert_eq!(rt; device.room(), 0);
-    assert_eq!(rt; device.read(1), Ok(Some(seven)), "it was sure");
-    assert_eq!(rt; device.read(3), Ok(Some(nine)), "it was kept");
-    assert_eq!(rt; device.read(4), Ok(None), "it was lost");
-    assert_eq!(rt; device.read(7), Ok(None), "nobody wrote it");
+    assert_eq!(rt; read(&mut device, 1), Ok(Some(seven)), "it was sure");
+    assert_eq!(rt; read(&mut device, 3), Ok(Some(nine)), "it was kept");
+    assert_eq!(rt; read(&mut device, 4), Ok(None), "it was lost");
+    assert_eq!(rt; read(&mut device, 7), Ok(None), "nobody wrote it");
     assert_eq!(rt; device.sync(), Ok(()), "all is sure");
     assert_eq!(rt; device.crash(&[]), Err(Failed), "there is no room");
     device.reserve(1)?;
