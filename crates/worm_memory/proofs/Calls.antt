@@ -1,9 +1,9 @@
 -- What the calls of a device in memory do, over all that it tells.
-use Rattle.std.proofs.Common.{◌≡◌, ◌≤◌, ◌<◌, ◌^◌, ⊎_elim, inl, inr, ℕ, List, [], ◌∷◌, ◌++◌, length, Option, Some, None, Ok, Err, refl, ap, sym, subst, ◌∙◌, arith}
+use Rattle.std.proofs.Common.{◌≡◌, ◌≤◌, ◌<◌, ◌^◌, ⊎_elim, inl, inr, ℕ, List, [], ◌∷◌, ◌++◌, length, Some, None, Ok, Err, refl, ap, sym, subst, ◌∙◌, arith}
 use Rattle.std.proofs.lemmas.Bool.Decides.{eqb_tells}
 use Rattle.cell_types.specs.Image.{Extends, ChangesOnly}
 use Rattle.worm_device.specs.State.{Instant}
-use Rattle.worm_device.specs.Calls.{Called, Reads, Writes, Syncs}
+use Rattle.worm_device.specs.Calls.{Called, Writes, Syncs}
 use Rattle.worm_device.specs.Counts.{next_count}
 use Rattle.worm_device.specs.declared.device.Failed.{Failed}
 use Rattle.worm_device.specs.declared.device.Written.TheVariants.{Done, Taken}
@@ -13,14 +13,13 @@ use Rattle.worm_memory.specs.declared.change.Change.{Change}
 use Rattle.worm_memory.specs.declared.change.Change.TheVariants.{Wrote, Foreign, Synced}
 use Rattle.worm_memory.specs.Device.{ForeignWrites}
 use Rattle.worm_memory.proofs.Worlds.{Adds}
-use Rattle.worm_memory.specs.Worlds.{blank, world}
-use Rattle.worm_memory.specs.Memory.{Memory, device_of, with_change, with_foreign, with_fault, with_read, IsUnsure}
-use Rattle.worm_memory.specs.Proper.{sure_stands, blank_stands}
+use Rattle.worm_memory.specs.Worlds.{blank, world, IsAllSure}
+use Rattle.worm_memory.specs.Memory.{Memory, device_of, with_change, with_foreign, with_fault}
 use Rattle.worm_memory.proofs.Worlds.{after_append, image_is, written_here, written_elsewhere}
 use Rattle.worm_memory.proofs.Crashes.{left_still, elapses_counted, elapses_changed, image_after, sure_after}
 
 -- what every call keeps, where only counts rise
-called_counted : (m : Memory) (faults reads : ℕ) → m.faults ≤ faults → m.reads ≤ reads
+pub called_counted : (m : Memory) (faults reads : ℕ) → m.faults ≤ faults → m.reads ≤ reads
     → Called (device_of m) (device_of (record m { faults = faults; reads = reads }))
 called_counted m faults reads more_faults more_reads = record {
   cells = refl;
@@ -49,22 +48,11 @@ called_changed m change adds = record {
   crashes = elapsed_since (elapses_changed m change adds);
 }
 
--- a read answers what stands
-pub reads_of : (m : Memory) (at : ℕ) → m.reads < 2 ^ 64
-    → Reads at (device_of m) (device_of (with_read m)) (Ok ((world m.changes).image at))
-reads_of m at fits = record {
-  called = called_counted m m.faults (next_count m.reads) (omega arith) (omega arith);
-  leaves = leaves_all _ _ (λ image between. inl between);
-  only = λ still cell. refl;
-  answer = λ tells. refl;
-  cause = refl;
-  count = refl;
-}
-
 -- what stands in the cells after a blank one is written
 value_stands : (m : Memory) (at : ℕ) (value : List ℕ) → (world m.changes).image at ≡ None
     → (device_of (with_change m (Wrote at value))).image at ≡ Some value
-value_stands m at value free = image_is m.changes (Wrote at value) at ∙ written_here (world m.changes).image at value free
+value_stands m at value free = image_is m.changes (Wrote at value) at
+    ∙ written_here (world m.changes).image at value free
 
 changes_one : (m : Memory) (at : ℕ) (value : List ℕ) → (world m.changes).image at ≡ None
     → ChangesOnly at value (device_of m).image (device_of (with_change m (Wrote at value))).image
@@ -72,7 +60,8 @@ changes_one m at value free = λ cell.
     let new = (device_of (with_change m (Wrote at value))).image in
     ⊎_elim
     (λ here. inr (here.1, ap (world m.changes).image here.1 ∙ free, ap new here.1 ∙ value_stands m at value free))
-    (λ elsewhere. inl (image_is m.changes (Wrote at value) cell ∙ written_elsewhere (world m.changes).image at value cell elsewhere.1))
+    (λ elsewhere. inl (image_is m.changes (Wrote at value) cell ∙ written_elsewhere
+    (world m.changes).image at value cell elsewhere.1))
     (eqb_tells cell at)
 
 -- a blank cell is written
@@ -80,7 +69,11 @@ pub writes_done : (m : Memory) (at : ℕ) (value : List ℕ) → (world m.change
     → Writes at value (device_of m) (device_of (with_change m (Wrote at value))) (Ok Done)
 writes_done m at value free = record {
   called = called_changed m (Wrote at value) tt;
-  leaves = leaves_all _ _ (λ image between. inl (record { above = subst (λ (now : Instant). Extends now.sure image) (sym (after_append blank m.changes (Wrote at value))) between.above; below = between.below }));
+  leaves = leaves_all _ _ (λ image between. inl (record {
+    above = subst (λ (now : Instant). Extends now.sure image)
+        (sym (after_append blank m.changes (Wrote at value))) between.above;
+    below = between.below;
+  }));
   only = λ still. changes_one m at value free;
   answer = λ tells. (free, value_stands m at value free);
   cause = refl;
@@ -115,30 +108,29 @@ writes_failed m at value failed fits = record {
 pub syncs_done : (m : Memory) → Syncs (device_of m) (device_of (with_change m Synced)) (Ok tt)
 syncs_done m = record {
   called = called_changed m Synced tt;
-  leaves = leaves_all _ _ (λ image between. left_still m Synced (length m.changes) image (omega arith) (inl (record { above = between.above; below = record { keeps = λ cell value h. sym (image_is m.changes Synced cell) ∙ between.below.keeps cell value h } })));
+  leaves = leaves_all _ _ (λ image between. left_still m Synced (length m.changes) image (omega arith)
+      (inl (record {
+        above = between.above;
+        below = record {
+          keeps = λ cell value h. sym
+              (image_is m.changes Synced cell) ∙ between.below.keeps cell value h;
+        };
+      })));
   only = λ still cell. image_is m.changes Synced cell;
   answer = λ tells.
-      subst (λ (now : Instant). Extends (world m.changes).image now.sure) (sym (after_append blank m.changes Synced)) (extends_self (world m.changes).image);
+      subst (λ (now : Instant). Extends (world m.changes).image now.sure) (sym (after_append blank m.changes Synced))
+      (extends_self (world m.changes).image);
   cause = refl;
   count = refl;
 }
 
-sure_too : (low high : Option (List ℕ)) (value : List ℕ)
-    → ((found : List ℕ) → low ≡ Some found → high ≡ Some found) → high ≡ Some value → (low ≡ None → ⊥)
-    → low ≡ Some value
-sure_too None high value keeps stands some = absurd (some refl)
-sure_too (Some found) high value keeps stands some = sym (keeps found refl) ∙ stands
-
 -- where all that stands is sure, there is nothing to do
-pub syncs_idle : (m : Memory) → (IsUnsure m → ⊥) → Syncs (device_of m) (device_of m) (Ok tt)
+pub syncs_idle : (m : Memory) → IsAllSure (world m.changes) → Syncs (device_of m) (device_of m) (Ok tt)
 syncs_idle m all_sure = record {
   called = called_counted m m.faults m.reads (omega arith) (omega arith);
   leaves = leaves_all _ _ (λ image between. inl between);
   only = λ still cell. refl;
-  answer = λ tells. record {
-    keeps = λ cell value h.
-        sure_too _ _ value ((sure_stands blank m.changes blank_stands).keeps cell) h (λ free. all_sure (cell, value, h, free));
-  };
+  answer = λ tells. record { keeps = λ cell value h. sym (all_sure cell) ∙ h };
   cause = refl;
   count = refl;
 }
@@ -168,14 +160,29 @@ foreign_done m at value fits = record {
     faults = omega arith;
     foreign_writes = omega arith;
     reads = omega arith;
-    crashes = elapsed_since (elapses_counted (with_change m (Foreign at value)) m.faults m.reads (next_count m.foreign_writes));
+    crashes = elapsed_since (elapses_counted (with_change m (Foreign at value)) m.faults m.reads
+        (next_count m.foreign_writes));
   });
-  leaves = leaves_all _ _ (λ image between. inl (record { above = subst (λ (now : Instant). Extends now.sure image) (sym (after_append blank m.changes (Foreign at value))) between.above; below = between.below }));
+  leaves = leaves_all _ _ (λ image between. inl (record {
+    above = subst (λ (now : Instant). Extends now.sure image)
+        (sym (after_append blank m.changes (Foreign at value))) between.above;
+    below = between.below;
+  }));
   quiet = λ still. absurd (omega (arith, still.same, still.below));
 }
 
 pub foreign_taken : (m : Memory) → ForeignWrites (device_of m) (device_of m)
-foreign_taken m = record { called = called_self (device_of m); leaves = leaves_all _ _ (λ image between. inl between); quiet = λ still cell. refl }
+foreign_taken m = record {
+  called = called_self (device_of m);
+  leaves = leaves_all _ _
+      (λ image between. inl between);
+  quiet = λ still cell. refl;
+}
 
 pub foreign_failed : (m : Memory) → m.faults < 2 ^ 64 → ForeignWrites (device_of m) (device_of (with_fault m))
-foreign_failed m fits = record { called = called_counted m (next_count m.faults) m.reads (omega arith) (omega arith); leaves = leaves_all _ _ (λ image between. inl between); quiet = λ still cell. refl }
+foreign_failed m fits = record {
+  called = called_counted m (next_count m.faults) m.reads (omega arith)
+      (omega arith);
+  leaves = leaves_all _ _ (λ image between. inl between);
+  quiet = λ still cell. refl;
+}

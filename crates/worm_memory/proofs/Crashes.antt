@@ -46,11 +46,13 @@ one_longer changes change = simp length-append
 pub image_after : (m : Memory) (change : Change) → Adds change
     → Extends (device_of m).image (device_of (with_change m change)).image
 image_after m change adds =
-    subst (λ (now : Instant). Extends (world m.changes).image now.image) (sym (after_append blank m.changes change)) (image_grows (world m.changes) change adds)
+    subst (λ (now : Instant). Extends (world m.changes).image now.image) (sym (after_append blank m.changes change))
+    (image_grows (world m.changes) change adds)
 
 pub sure_after : (m : Memory) (change : Change) → Extends (device_of m).sure (device_of (with_change m change)).sure
 sure_after m change =
-    subst (λ (now : Instant). Extends (world m.changes).sure now.sure) (sym (after_append blank m.changes change)) (sure_grows (world m.changes) change (sure_stands blank m.changes blank_stands))
+    subst (λ (now : Instant). Extends (world m.changes).sure now.sure) (sym (after_append blank m.changes change))
+    (sure_grows (world m.changes) change (sure_stands blank m.changes blank_stands))
 
 -- what could be left before it can still be left: the present has become the last moment of the past
 pub left_still : (m : Memory) (change : Change) (since : ℕ) (image : Image) → since ≤ length m.changes
@@ -58,8 +60,20 @@ pub left_still : (m : Memory) (change : Change) (since : ℕ) (image : Image) �
 left_still m change since image le left =
     let longer : length (m.changes ++ change ∷ []) ≡ length m.changes + 1 = one_longer m.changes change in
     ⊎_elim
-    (λ now. inr (length m.changes, le, omega arith, subst (Left image) (sym (past_now m.changes change (length m.changes) refl)) now))
-    (λ before. inr (before.0, before.1, omega arith, subst (Left image) (sym (past_stays m.changes change before.0 (omega arith))) before.3))
+    (λ now. inr (
+      length m.changes,
+      le,
+      omega arith,
+      subst (Left image)
+          (sym (past_now m.changes change (length m.changes) refl)) now,
+    ))
+    (λ before. inr (
+      before.0,
+      before.1,
+      omega arith,
+      subst (Left image)
+          (sym (past_stays m.changes change before.0 (omega arith))) before.3,
+    ))
     left
 
 -- what could be left at a moment of the longer past could be left before

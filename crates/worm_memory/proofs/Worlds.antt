@@ -1,18 +1,15 @@
 -- What a row of changes keeps, and what one more change adds.
-use Rattle.std.proofs.Common.{◌≡◌, ◌≢◌, ◌<◌, ◌-◌, ℕ, List, [], ◌∷◌, ◌++◌, length, take, suc, Option, Some, None, refl, ap, sym, ◌∙◌, arith}
+use Rattle.std.proofs.Common.{◌≡◌, ◌≢◌, ◌<◌, ℕ, List, [], ◌∷◌, ◌++◌, Option, Some, None, refl, ap, sym, ◌∙◌, arith}
 use Rattle.std.proofs.lemmas.Bool.Decides.{nat_tests}
-use Rattle.std.specs.List.{slice_get}
-use Rattle.std.proofs.lemmas.Grind.{common_steps}
-use Rattle.std.proofs.lemmas.Option.{gets, none-some, slice_get_within, get_or_from_slice_get}
-use Rattle.std.proofs.Math.Seq.{take-suc, take-length}
+use Rattle.std.proofs.lemmas.Option.{none-some}
 use Rattle.cell_types.specs.Image.{Image, Extends}
 use Rattle.worm_device.specs.State.{Instant}
 use Rattle.worm_device.proofs.Images.{extends_self}
 use Rattle.worm_memory.specs.declared.change.Change.{Change}
 use Rattle.worm_memory.specs.declared.change.Change.TheVariants.{Wrote, Foreign, Synced, Lost, Crashed}
-use Rattle.worm_memory.specs.Proper.{kept, sure_stands, blank_stands}
+use Rattle.worm_memory.specs.Proper.{kept}
 use Rattle.cell_types.specs.Bytes.{IsCell}
-use Rattle.worm_memory.specs.Worlds.{written, IsPut, ours, theirs, after_change, after_changes, blank, world, AreChanges, EndsWithNoLoss}
+use Rattle.worm_memory.specs.Worlds.{written, IsPut, ours, theirs, after_change, after_changes, blank, world, AreChanges}
 
 -- the cell that was written holds the value, if it was blank
 pub written_here : (image : Image) (at : ℕ) (value : List ℕ) → image at ≡ None
@@ -35,28 +32,30 @@ pub image_is : (changes : List Change) (change : Change) (cell : ℕ)
     → (world (changes ++ change ∷ [])).image cell ≡ (after_change (world changes) change).image cell
 image_is changes change cell = ap (λ (now : Instant). now.image cell) (after_append blank changes change)
 
--- one more change is one, where it is one by itself
-pub changes_append : (cells : ℕ) (now : Instant) (changes : List Change) (change : Change)
-    → AreChanges cells now changes → AreChanges cells (after_changes now changes) (change ∷ [])
-    → AreChanges cells now (changes ++ change ∷ [])
-changes_append cells now [] change old one = one
-changes_append cells now (Wrote at value ∷ changes) change old one =
-    (old.0, old.1, old.2, changes_append cells (after_change now (Wrote at value)) changes change old.3 one)
-changes_append cells now (Foreign at value ∷ changes) change old one =
-    (old.0, old.1, old.2, changes_append cells (after_change now (Foreign at value)) changes change old.3 one)
-changes_append cells now (Synced ∷ changes) change old one = changes_append cells (after_change now Synced) changes change old one
-changes_append cells now (Lost at ∷ changes) change old one = changes_append cells (after_change now (Lost at)) changes change old one
-changes_append cells now (Crashed ∷ changes) change old one = changes_append cells (after_change now Crashed) changes change old one
+-- more changes
+pub after_row : (now : Instant) (changes more : List Change)
+    → after_changes now (changes ++ more) ≡ after_changes (after_changes now changes) more
+after_row now [] more = refl
+after_row now (first ∷ changes) more = after_row (after_change now first) changes more
 
--- and the last change of a row is one by itself
-pub last_changes : (cells : ℕ) (now : Instant) (changes : List Change) (change : Change)
-    → AreChanges cells now (changes ++ change ∷ []) → AreChanges cells (after_changes now changes) (change ∷ [])
-last_changes cells now [] change all = all
-last_changes cells now (Wrote at value ∷ changes) change all = last_changes cells (after_change now (Wrote at value)) changes change all.3
-last_changes cells now (Foreign at value ∷ changes) change all = last_changes cells (after_change now (Foreign at value)) changes change all.3
-last_changes cells now (Synced ∷ changes) change all = last_changes cells (after_change now Synced) changes change all
-last_changes cells now (Lost at ∷ changes) change all = last_changes cells (after_change now (Lost at)) changes change all
-last_changes cells now (Crashed ∷ changes) change all = last_changes cells (after_change now Crashed) changes change all
+-- more changes are changes, where they are by themselves
+pub changes_append : (cells : ℕ) (now : Instant) (changes more : List Change)
+    → AreChanges cells now changes → AreChanges cells (after_changes now changes) more
+    → AreChanges cells now (changes ++ more)
+changes_append cells now [] more old new = new
+changes_append cells now (Wrote at value ∷ changes) more old new =
+    (old.0, old.1, old.2, changes_append cells (after_change now (Wrote at value)) changes more old.3 new)
+changes_append cells now (Foreign at value ∷ changes) more old new =
+    (old.0, old.1, old.2, changes_append cells (after_change now (Foreign at value)) changes more old.3 new)
+changes_append cells now (Synced ∷ changes) more old new = (
+  old.0,
+  changes_append cells
+      (after_change now Synced) changes more old.1 new,
+)
+changes_append cells now (Lost at ∷ changes) more old new =
+    (old.0, changes_append cells (after_change now (Lost at)) changes more old.1 new)
+changes_append cells now (Crashed ∷ changes) more old new = changes_append cells
+    (after_change now Crashed) changes more old new
 
 -- a change that only adds: every one but a loss
 abbrev pub Adds : Change → Type 0
@@ -83,16 +82,8 @@ sure_grows now Synced stands = stands
 sure_grows now (Lost at) stands = extends_self now.sure
 sure_grows now Crashed stands = stands
 
--- a row whose last change is this one
-pub ends_with : (changes : List Change) (change : Change)
-    → slice_get changes (length changes - 1) ≡ Some change
-    → changes ≡ take (length changes - 1) changes ++ change ∷ []
-ends_with changes change last =
-    let within : length changes - 1 < length changes = slice_get_within changes _ change last in
-    let next : suc (length changes - 1) ≡ length changes = omega arith in
-    cc (take-suc changes (length changes - 1) change within, get_or_from_slice_get changes _ change change last, take-length changes, ap (λ n. take n changes) next)
-
-blank_below : (low high : Option (List ℕ)) → ((value : List ℕ) → low ≡ Some value → high ≡ Some value)
+-- where less stands than in a blank cell, nothing stands
+pub blank_below : (low high : Option (List ℕ)) → ((value : List ℕ) → low ≡ Some value → high ≡ Some value)
     → high ≡ None → low ≡ None
 blank_below None high keeps free = refl
 blank_below (Some value) high keeps free = absurd (none-some value (sym free ∙ keeps value refl))
@@ -113,52 +104,3 @@ pub put_is_change : {at : ℕ} {value : List ℕ} {change : Change} → IsPut at
     → at < cells → now.image at ≡ None → IsCell value → AreChanges cells now (change ∷ [])
 put_is_change ours cells now inside free is_cell = (inside, free, is_cell, tt)
 put_is_change theirs cells now inside free is_cell = (inside, free, is_cell, tt)
-
-put_was_free : {at : ℕ} {value : List ℕ} {change : Change} → IsPut at value change → (cells : ℕ) (now : Instant)
-    → AreChanges cells now (change ∷ []) → now.image at ≡ None
-put_was_free ours cells now all = all.1
-put_was_free theirs cells now all = all.1
-
--- after a put its cell is written and not sure
-pub unsure_after_put : {at : ℕ} {value : List ℕ} {change : Change} → IsPut at value change
-    → (cells : ℕ) (changes : List Change)
-    → AreChanges cells blank (changes ++ change ∷ [])
-    → ((world (changes ++ change ∷ [])).image at ≡ Some value) × ((world (changes ++ change ∷ [])).sure at ≡ None)
-unsure_after_put {at} {value} {change} put cells changes all =
-    let free = put_was_free put cells (world changes) (last_changes cells blank changes change all) in
-    rw (after_append blank changes change, put_image put (world changes), put_sure put (world changes)) (
-      written_here (world changes).image at value free,
-      blank_below _ _ ((sure_stands blank changes blank_stands).keeps at) free,
-    )
-
--- after a sync all that stands is sure
-pub sure_after_sync : (changes : List Change) (cell : ℕ)
-    → (world (changes ++ Synced ∷ [])).sure cell ≡ (world (changes ++ Synced ∷ [])).image cell
-sure_after_sync changes cell = rw (after_append blank changes Synced) refl
-
-pub sure_after_crash : (changes : List Change) (cell : ℕ)
-    → (world (changes ++ Crashed ∷ [])).sure cell ≡ (world (changes ++ Crashed ∷ [])).image cell
-sure_after_crash changes cell = rw (after_append blank changes Crashed) refl
-
-get_last : (changes : List Change) (change : Change)
-    → slice_get (changes ++ change ∷ []) (length (changes ++ change ∷ []) - 1) ≡ Some change
-get_last changes change = grind (arith, common_steps, gets)
-
-change_is : (a b : Change) → Some a ≡ Some b → a ≡ b
-change_is a b e = cc
-
--- a row that ends with another change ends with no loss
-pub no_loss_after : (changes : List Change) (change : Change) → ((at : ℕ) → change ≡ Lost at → ⊥)
-    → EndsWithNoLoss (changes ++ change ∷ [])
-no_loss_after changes change none = λ at last. none at (change_is change (Lost at) (sym (get_last changes change) ∙ last))
-
-pub put_no_loss : {at : ℕ} {value : List ℕ} {change : Change} → IsPut at value change → (other : ℕ)
-    → change ≡ Lost other → ⊥
-put_no_loss ours other e = cc
-put_no_loss theirs other e = cc
-
-pub synced_no_loss : (other : ℕ) → Synced ≡ Lost other → ⊥
-synced_no_loss other e = cc
-
-pub crashed_no_loss : (other : ℕ) → Crashed ≡ Lost other → ⊥
-crashed_no_loss other e = cc

@@ -1,5 +1,5 @@
 -- What a device in memory tells, read off its fields, and what a call does to it.
-use Rattle.std.specs.Prelude.{◌≡◌, List, ℕ, ◌+◌, ◌-◌, None, Some, Result, Ok, Err, vec_len, vec_capacity}
+use Rattle.std.specs.Prelude.{◌≡◌, ◌<◌, List, ℕ, Bool, ◌+◌, length, None, Some, Result, Ok, Err, vec_len}
 use Rattle.cell_types.specs.Image.{IsUnchanged}
 use Rattle.worm_device.specs.Calls.{Called, LeavesAll}
 use Rattle.worm_device.specs.Counts.{IsStill}
@@ -7,8 +7,13 @@ use Rattle.worm_device.specs.State.{DeviceState}
 use Rattle.worm_device.specs.declared.device.Failed.{Failed}
 use Rattle.worm_device.specs.declared.device.Written.{Written}
 use Rattle.worm_device.specs.declared.device.Written.TheVariants.{Done, Taken}
+use Rattle.worm_memory.specs.Losses.{kept_count}
 use Rattle.worm_memory.specs.Memory.{Memory, device_of, with_change, with_fault, with_foreign}
+use Rattle.worm_memory.specs.Outcomes.{Outcome, with_crash}
+use Rattle.worm_memory.specs.Plans.{plan_of}
+use Rattle.worm_memory.specs.Unsure.{unsure_of}
 use Rattle.worm_memory.specs.declared.change.Change.{Change}
+use Rattle.worm_memory.specs.declared.losses.Crash.{Crash}
 use Rattle.worm_memory.specs.declared.memory_device.MemoryDevice.{MemoryDevice}
 
 -- all that a device tells
@@ -16,18 +21,26 @@ abbrev pub memory_of : MemoryDevice → Memory
 memory_of device = record {
   cells = vec_len device.cells;
   changes = device.changes.items;
+  marks = device.marks.items;
+  steps = device.schedule.steps;
+  calls = device.schedule.calls;
+  plan = plan_of device.schedule;
   faults = device.faults;
   reads = device.reads;
   foreign_writes = device.foreign_writes;
 }
 
--- how many further changes its record has room for
+-- how many further changes its record has room for; a mark uses the room of one
 abbrev pub room_of : MemoryDevice → ℕ
-room_of device = vec_capacity device.changes - vec_len device.changes
+room_of device = device.spare
 
 -- what a device is as a device
 abbrev pub state_of : MemoryDevice → DeviceState
 state_of device = device_of (memory_of device)
+
+-- how a device stands after a call that failed or not
+abbrev pub outcome : MemoryDevice → Bool → Outcome
+outcome device failed = record { memory = memory_of device; room = room_of device; failed = failed }
 
 -- nothing has changed
 abbrev pub Stays : MemoryDevice → MemoryDevice → Type 0
@@ -59,3 +72,14 @@ ForeignEnds at value old new (Ok Done) = ((state_of old).image at ≡ None) × R
 ForeignEnds at value old new (Ok (Taken found)) = ((state_of old).image at ≡ Some found) × Stays old new
 ForeignEnds at value old new (Err failed) =
     ((state_of old).image at ≡ None) × (room_of old ≡ 0) × CountsFault old new
+
+-- How a crash may end, and why. It uses the room of one change, and of one more for each cell that was not sure; where
+-- the record has that room, all is done, and else the crash fails and changes nothing.
+abbrev pub CrashEnds : List ℕ → MemoryDevice → MemoryDevice → Result Crash Failed → Type 0
+CrashEnds keep old new (Ok crash) =
+    (memory_of new ≡ with_crash (memory_of old) keep)
+    × (crash.unsure ≡ length (unsure_of (memory_of old).changes))
+    × (crash.kept ≡ kept_count keep (unsure_of (memory_of old).changes))
+    × (room_of new + crash.unsure + 1 ≡ room_of old)
+CrashEnds keep old new (Err failed) =
+    (room_of old < length (unsure_of (memory_of old).changes) + 1) × CountsFault old new

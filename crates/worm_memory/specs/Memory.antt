@@ -1,11 +1,15 @@
 -- What a device in memory is for contracts, and what its calls do: its record of changes, from which each
--- state and each image that a crash could have left follow, and its counts.
-use Rattle.std.specs.Prelude.{◌≡◌, ℕ, true, List, [], ◌∷◌, ◌++◌, length, take, Some, None}
+-- state and each image that a crash could have left follow, its counts, and the present command's numbers and plan.
+use Rattle.std.specs.Prelude.{ℕ, Bool, true, List, [], ◌∷◌, ◌++◌, length, take, Some}
 use Rattle.worm_device.specs.Counts.{next_count}
 use Rattle.worm_device.specs.State.{DeviceState}
+use Rattle.worm_memory.specs.Plans.{Plan, no_plan, next_step, begun_rows}
 use Rattle.worm_memory.specs.Worlds.{world}
 use Rattle.worm_memory.specs.declared.change.Change.{Change}
 use Rattle.worm_memory.specs.declared.change.Change.TheVariants.{Foreign}
+use Rattle.worm_memory.specs.declared.mark.Mark.{Mark}
+use Rattle.worm_memory.specs.declared.moment.Moment.{Moment}
+use Rattle.worm_memory.specs.declared.moment.Timed.{Timed}
 
 -- all that a device in memory tells
 pub record Memory : Type 0 where
@@ -13,6 +17,14 @@ pub record Memory : Type 0 where
   pub cells : ℕ
   -- its record: what has changed, in order
   pub changes : List Change
+  -- what it kept when each command began, in order
+  pub marks : List Mark
+  -- how many steps the present command has made so far: writes and syncs
+  pub steps : ℕ
+  -- how many calls: reads, writes and syncs
+  pub calls : ℕ
+  -- what is planned for the present command
+  pub plan : Plan
   -- how many of its calls have failed
   pub faults : ℕ
   -- how many reads it was asked for
@@ -30,15 +42,10 @@ device_of m = record {
   faults = m.faults;
   foreign_writes = m.foreign_writes;
   reads = m.reads;
-  begun = [];
+  begun = begun_rows m.marks m.plan;
   moment = length m.changes;
   past = λ moment. world (take moment m.changes);
 }
-
--- a cell is written and not sure
-abbrev pub IsUnsure : Memory → Type 0
-IsUnsure m =
-    (cell : ℕ) × (value : List ℕ) × ((world m.changes).image cell ≡ Some value) × ((world m.changes).sure cell ≡ None)
 
 -- one more change
 abbrev pub with_change : Memory → Change → Memory
@@ -59,3 +66,34 @@ with_fault m = record m { faults = next_count m.faults }
 -- one more read
 abbrev pub with_read : Memory → Memory
 with_read m = record m { reads = next_count m.reads }
+
+-- one more call, which is a step or not
+abbrev pub with_call : Bool → Memory → Memory
+with_call is_step m = record m { steps = next_step is_step m.steps; calls = next_count m.calls }
+
+-- the mark of a command that begins here: the numbers of the command before, and how much there has been so far
+abbrev pub mark_of : Memory → Mark
+mark_of m = record {
+  steps = m.steps;
+  calls = m.calls;
+  changes = length m.changes;
+  faults = m.faults;
+  foreign_writes = m.foreign_writes;
+  reads = m.reads;
+}
+
+-- a command begins
+abbrev pub with_begin : Memory → Memory
+with_begin m = record m { marks = m.marks ++ mark_of m ∷ []; steps = 0; calls = 0; plan = no_plan }
+
+-- one more moment that fails
+abbrev pub with_failure : Memory → Moment → Memory
+with_failure m moment = record m { plan = record m.plan { fails = m.plan.fails ++ moment ∷ [] } }
+
+-- the moment after which each call fails
+abbrev pub with_stop : Memory → Moment → Memory
+with_stop m moment = record m { plan = record m.plan { stop = Some moment } }
+
+-- one more foreign write before a moment
+abbrev pub with_planned : Memory → Timed → Memory
+with_planned m timed = record m { plan = record m.plan { foreign = m.plan.foreign ++ timed ∷ [] } }

@@ -45,7 +45,10 @@ sure_stands now (Foreign at value ∷ changes) stands =
     sure_stands (after_change now (Foreign at value)) changes (extends_then stands (kept now.image at value))
 sure_stands now (Synced ∷ changes) stands = sure_stands (after_change now Synced) changes (extends_self now.image)
 sure_stands now (Lost at ∷ changes) stands =
-    sure_stands (after_change now (Lost at)) changes (record { keeps = λ cell found is. fallen_keeps (cell == at) (now.sure cell) (now.image cell) found (stands.keeps cell found is) is })
+    sure_stands (after_change now (Lost at)) changes (record {
+      keeps = λ cell found is. fallen_keeps (cell == at)
+          (now.sure cell) (now.image cell) found (stands.keeps cell found is) is;
+    })
 sure_stands now (Crashed ∷ changes) stands = sure_stands (after_change now Crashed) changes (extends_self now.image)
 
 pub blank_stands : Extends blank.sure blank.image
@@ -56,7 +59,8 @@ from_either : (P : List ℕ → Type 0) (here : Bool) (old : Option (List ℕ)) 
     → (if here then kept_or old value else old) ≡ Some found → P found
 from_either P false old value found of_value of_old stands = of_old stands
 from_either P true (Some standing) value found of_value of_old stands = of_old stands
-from_either P true None value found of_value of_old stands = subst P (ap (λ o. unwrap_or o value) stands) (of_value refl)
+from_either P true None value found of_value of_old stands = subst P (ap (λ o. unwrap_or o value) stands)
+    (of_value refl)
 
 -- each value that stands is a written cell of the device
 abbrev IsInside : ℕ → Image → Type 0
@@ -80,19 +84,27 @@ changes_inside cells now (Wrote at value ∷ changes) stands inside all =
 changes_inside cells now (Foreign at value ∷ changes) stands inside all =
     changes_inside cells (after_change now (Foreign at value)) changes (extends_then stands (kept now.image at value))
     (written_inside cells now.image at value inside all.0 all.2) all.3
-changes_inside cells now (Synced ∷ changes) stands inside all = changes_inside cells (after_change now Synced) changes (extends_self now.image) inside all
-changes_inside cells now (Lost at ∷ changes) stands inside all = changes_inside cells (after_change now (Lost at)) changes
-    (record { keeps = λ cell found is. fallen_keeps (cell == at) (now.sure cell) (now.image cell) found (stands.keeps cell found is) is })
+changes_inside cells now (Synced ∷ changes) stands inside all = changes_inside cells (after_change now Synced) changes
+    (extends_self now.image) inside all.1
+changes_inside cells now (Lost at ∷ changes) stands inside all = changes_inside cells
+    (after_change now (Lost at)) changes
+    (record {
+      keeps = λ cell found is. fallen_keeps (cell == at) (now.sure cell) (now.image cell) found
+          (stands.keeps cell found is) is;
+    })
     (λ cell found is. fallen_from (λ v. (cell < cells)
-    × IsCell v) (cell == at) (now.sure cell) (now.image cell) found (λ sure. inside cell found (stands.keeps cell found sure)) (inside cell found) is)
-    all
-changes_inside cells now (Crashed ∷ changes) stands inside all = changes_inside cells (after_change now Crashed) changes (extends_self now.image) inside all
+    × IsCell v) (cell == at) (now.sure cell) (now.image cell) found
+    (λ sure. inside cell found (stands.keeps cell found sure)) (inside cell found) is)
+    all.1
+changes_inside cells now (Crashed ∷ changes) stands inside all = changes_inside cells
+    (after_change now Crashed) changes (extends_self now.image) inside all
 
 pub is_device : (m : Memory)
     → 1 ≤ m.cells → m.cells ≤ MAX_CELLS → AreChanges m.cells blank m.changes → IsDevice (device_of m)
 is_device m some most all = record {
   sure = sure_stands blank m.changes blank_stands;
-  inside = changes_inside m.cells blank m.changes blank_stands (λ cell value stands. absurd (none-some value stands)) all;
+  inside = changes_inside m.cells blank m.changes blank_stands (λ cell value stands. absurd (none-some value stands))
+      all;
   some_cells = some;
   cells = most;
 }

@@ -1,5 +1,5 @@
 -- What a row of changes makes of blank cells: an image, and what of it is sure.
-use Rattle.std.specs.Prelude.{◌≡◌, ◌<◌, ◌==◌, if◌then◌else◌, ℕ, List, [], ◌∷◌, Option, Some, None, ⊤, length, slice_get, ◌-◌, slice_index_or}
+use Rattle.std.specs.Prelude.{◌≡◌, ◌<◌, ◌==◌, if◌then◌else◌, ℕ, List, [], ◌∷◌, Option, Some, None, ⊤, slice_index_or}
 use Rattle.std.specs.Coded.{Unit-prop}
 use Rattle.std.proofs.Props.{props}
 use Rattle.cell_types.specs.Bytes.{IsCell}
@@ -47,7 +47,12 @@ blank = record { image = λ cell. None; sure = λ cell. None }
 abbrev pub world : List Change → Instant
 world changes = after_changes blank changes
 
--- each change is one: a write puts a written cell's value into a cell of the device that was blank
+-- all that stands is sure
+abbrev pub IsAllSure : Instant → Type 0
+IsAllSure now = (cell : ℕ) → now.image cell ≡ now.sure cell
+
+-- each change is one: a write puts a written cell's value into a cell of the device that was blank, a sync makes
+-- something sure that was not, and a crash takes a cell only where what stands there is not sure
 abbrev pub AreChanges : ℕ → Instant → List Change → Type 0
 AreChanges cells now [] = ⊤
 AreChanges cells now (Wrote at value ∷ changes) =
@@ -56,8 +61,9 @@ AreChanges cells now (Wrote at value ∷ changes) =
 AreChanges cells now (Foreign at value ∷ changes) =
     (at < cells) × (now.image at ≡ None) × IsCell value
     × AreChanges cells (after_change now (Foreign at value)) changes
-AreChanges cells now (Synced ∷ changes) = AreChanges cells (after_change now Synced) changes
-AreChanges cells now (Lost at ∷ changes) = AreChanges cells (after_change now (Lost at)) changes
+AreChanges cells now (Synced ∷ changes) = (IsAllSure now → ⊥) × AreChanges cells (after_change now Synced) changes
+AreChanges cells now (Lost at ∷ changes) =
+    (now.image at ≡ now.sure at → ⊥) × AreChanges cells (after_change now (Lost at)) changes
 AreChanges cells now (Crashed ∷ changes) = AreChanges cells (after_change now Crashed) changes
 
 -- a device of blank cells has become this one: each cell holds what the image says
@@ -74,10 +80,8 @@ AreChanges-prop cells now (Wrote at value ∷ changes) =
     Prim.hlevel (props, AreChanges-prop cells (after_change now (Wrote at value)) changes)
 AreChanges-prop cells now (Foreign at value ∷ changes) =
     Prim.hlevel (props, AreChanges-prop cells (after_change now (Foreign at value)) changes)
-AreChanges-prop cells now (Synced ∷ changes) = AreChanges-prop cells (after_change now Synced) changes
-AreChanges-prop cells now (Lost at ∷ changes) = AreChanges-prop cells (after_change now (Lost at)) changes
+AreChanges-prop cells now (Synced ∷ changes) =
+    Prim.hlevel (props, AreChanges-prop cells (after_change now Synced) changes)
+AreChanges-prop cells now (Lost at ∷ changes) =
+    Prim.hlevel (props, AreChanges-prop cells (after_change now (Lost at)) changes)
 AreChanges-prop cells now (Crashed ∷ changes) = AreChanges-prop cells (after_change now Crashed) changes
-
--- no loss is the last change
-abbrev pub EndsWithNoLoss : List Change → Type 0
-EndsWithNoLoss changes = (at : ℕ) → slice_get changes (length changes - 1) ≡ Some (Lost at) → ⊥

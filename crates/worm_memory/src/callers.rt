@@ -4,6 +4,7 @@ ghost use Rattle.cell_types.specs.Image.{Extends};
 ghost use Rattle.worm_device.specs.Calls.{Called};
 ghost use Rattle.worm_device.specs.Counts.{IsStill, Rose};
 ghost use Rattle.worm_memory.specs.Device.{memory_of, room_of, state_of};
+ghost use Rattle.worm_memory.specs.Plans.{no_plan};
 
 use crate::MemoryDevice;
 use cell_types::Cell;
@@ -32,11 +33,12 @@ fn write_two_in_memory(device: &mut MemoryDevice, first: Cell, second: Cell) -> 
     write_two(device, first, second)
 }
 
-/// Where there is room, no call fails.
+/// Where there is room and nothing is planned, no call fails.
 fn keep(device: &mut MemoryDevice, at: u32, value: Cell) -> bool
     requires inside { at < (memory_of device.old).cells }
     requires free { (state_of device.old).image at ≡ None }
     requires room { 2 ≤ room_of device.old }
+    requires unplanned { (memory_of device.old).plan ≡ no_plan }
     ensures kept { IsTrue result }
     ensures sure { (state_of device.new).sure at ≡ Some value }
 {
@@ -48,7 +50,8 @@ fn keep(device: &mut MemoryDevice, at: u32, value: Cell) -> bool
 fn look_twice<D: Device>(device: &mut D, at: u32) -> Result<bool, Failed>
     requires { at < (D.state device.old).cells }
     ensures same { IsTrue (D.state device.old).tells →
-        IsStill (D.state device.old).foreign_writes (D.state device.new).foreign_writes → IfOk result (λ same. IsTrue same) }
+        IsStill (D.state device.old).foreign_writes (D.state device.new).foreign_writes →
+        IfOk result (λ same. IsTrue same) }
 {
     let first = device.read(at)?;
     let second = device.read(at)?;

@@ -1,10 +1,10 @@
 //! A device in memory as a device.
-ghost use Rattle.std.specs.Prelude.{◌≡◌, ◌<◌, ◌↔◌, ℕ, List, None, Ok, IsOk, IsErr, OnOk, OnErr};
+ghost use Rattle.std.specs.Prelude.{◌≡◌, ◌<◌, true, false, is_err, IsOk};
 ghost use Rattle.worm_device.specs.Calls.{Reads, Writes, Syncs};
-ghost use Rattle.worm_device.specs.declared.device.Written.TheVariants.{Done, Taken};
-ghost use Rattle.worm_memory.specs.Memory.{with_read, IsUnsure};
-ghost use Rattle.worm_memory.specs.Device.{memory_of, room_of, state_of, Stays, Records, CountsFault};
-ghost use Rattle.worm_memory.specs.declared.change.Change.TheVariants.{Wrote, Synced};
+ghost use Rattle.worm_memory.specs.Memory.{with_call, with_read};
+ghost use Rattle.worm_memory.specs.Plans.{no_plan};
+ghost use Rattle.worm_memory.specs.Device.{memory_of, outcome, room_of, state_of};
+ghost use Rattle.worm_memory.specs.Outcomes.{goes_on, arrived, after_write, after_sync};
 ghost use Rattle.worm_memory.specs.Proper.{is_device};
 
 use crate::{Change, MemoryDevice};
@@ -20,15 +20,16 @@ impl Device for MemoryDevice {
         self.cell_count()
     }
 
-    /// What stands in a cell, `None` where it is blank. It never fails.
+    /// What stands in a cell, `None` where it is blank. It counts as a read also where it fails.
     fn read(&mut self, at: u32) -> Result<Option<Cell>, Failed>
         requires { at < (memory_of self.old).cells }
         ensures reads { Reads at (state_of self.old) (state_of self.new) result }
-        ensures answers { IsOk result }
-        ensures counted { memory_of self.new ≡ with_read (memory_of self.old) }
-        ensures room { room_of self.new ≡ room_of self.old }
+        ensures becomes { outcome self.new (is_err result)
+            ≡ arrived false (with_read (memory_of self.old)) (room_of self.old) }
+        ensures unplanned { (memory_of self.old).plan ≡ no_plan → IsOk result }
     {
         self.count_read();
+        self.arrive(false)?;
         Ok(self.found(at))
     }
 
@@ -36,10 +37,37 @@ impl Device for MemoryDevice {
     fn write(&mut self, at: u32, value: Cell) -> Result<Written, Failed>
         requires { at < (memory_of self.old).cells }
         ensures writes { Writes at value (state_of self.old) (state_of self.new) result }
-        ensures fails { IsErr result ↔ (((state_of self.old).image at ≡ None) × (room_of self.old ≡ 0)) }
-        ensures done { result ≡ Ok Done → Records (Wrote at value) self.old self.new }
-        ensures taken { (found : List ℕ) → result ≡ Ok (Taken found) → Stays self.old self.new }
-        ensures failed { OnErr result (CountsFault self.old self.new) }
+        ensures becomes { outcome self.new (is_err result)
+            ≡ after_write at value (arrived true (memory_of self.old) (room_of self.old)) }
+        ensures unplanned { (memory_of self.old).plan ≡ no_plan → outcome self.new (is_err result)
+            ≡ after_write at value (goes_on (with_call true (memory_of self.old)) (room_of self.old)) }
+    {
+        self.arrive(true)?;
+        self.finish_write(at, value)
+    }
+
+    /// Makes each cell sure that was written when the call began. Where each is, there is nothing to do.
+    fn sync(&mut self) -> Result<(), Failed>
+        ensures syncs { Syncs (state_of self.old) (state_of self.new) result }
+        ensures becomes { outcome self.new (is_err result)
+            ≡ after_sync (arrived true (memory_of self.old) (room_of self.old)) }
+        ensures unplanned { (memory_of self.old).plan ≡ no_plan → outcome self.new (is_err result)
+            ≡ after_sync (goes_on (with_call true (memory_of self.old)) (room_of self.old)) }
+    {
+        self.arrive(true)?;
+        self.finish_sync()
+    }
+
+    ghost proper = { λ device. is_device (memory_of device) device.some_cells device.most_cells device.are_changes };
+}
+
+impl MemoryDevice {
+    /// Writes a cell, once the call has come.
+    fn finish_write(&mut self, at: u32, value: Cell) -> Result<Written, Failed>
+        requires { at < (memory_of self.old).cells }
+        ensures writes { Writes at value (state_of self.old) (state_of self.new) result }
+        ensures becomes { outcome self.new (is_err result)
+            ≡ after_write at value (goes_on (memory_of self.old) (room_of self.old)) }
     {
         if let Some(found) = self.found(at) {
             return Ok(Written::Taken(found));
@@ -51,15 +79,13 @@ impl Device for MemoryDevice {
         Ok(Written::Done)
     }
 
-    /// Makes each cell sure that was written when the call began. Where each is, there is nothing to do.
-    fn sync(&mut self) -> Result<(), Failed>
+    /// Makes all sure that stands, once the call has come.
+    fn finish_sync(&mut self) -> Result<(), Failed>
         ensures syncs { Syncs (state_of self.old) (state_of self.new) result }
-        ensures fails { IsErr result ↔ (IsUnsure (memory_of self.old) × (room_of self.old ≡ 0)) }
-        ensures synced { OnOk result (IsUnsure (memory_of self.old) → Records Synced self.old self.new) }
-        ensures idle { (IsUnsure (memory_of self.old) → ⊥) → Stays self.old self.new }
-        ensures failed { OnErr result (CountsFault self.old self.new) }
+        ensures becomes { outcome self.new (is_err result)
+            ≡ after_sync (goes_on (memory_of self.old) (room_of self.old)) }
     {
-        if !self.is_unsure() {
+        if self.unsure.is_empty() {
             return Ok(());
         }
         if self.room() == 0 {
@@ -68,6 +94,4 @@ impl Device for MemoryDevice {
         self.record_sync();
         Ok(())
     }
-
-    ghost proper = { λ device. is_device (memory_of device) device.some_cells device.most_cells device.are_changes };
 }

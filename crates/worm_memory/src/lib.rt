@@ -13,23 +13,49 @@
 //! Somebody else writes by `foreign`: such a write is a change as any other, and besides it is counted, so that callers
 //! whose clauses begin "where nobody else wrote" can be tried on a device that tells its image while others write.
 //!
-//! The record's room is taken before, by `reserve`; a call that finds none for its change fails, and that is
-//! the only fault. Writes into a written cell, and syncs that make no further cell sure, are no change. The record can
-//! also say what a crash took, cell by cell (`Lost`, `Crashed`): `a_crash_keeps` says what this row of changes leaves.
+//! The record's room is taken before, by `reserve`; a call that finds none for its change fails. Writes into a written
+//! cell, and syncs that make no further cell sure, are no change.
 //!
-//! Stands on `worm_device`. Begin with `memory_device.rt` and `device.rt`; `specs/Worlds.antt` says
-//! what a record stands for.
+//! A command can be **planned**. `begin` keeps a mark of how far things had come and forgets the plan of the command
+//! before. Then moments are named by the command's steps, its writes and syncs, or by all its calls, both from 1:
+//!
+//!     begin; fail_at(Step(2)); foreign_before(Call(3), 9, ..); stop_after(Call(4))
+//!
+//!     call 1           read 4         blank
+//!     call 2, step 1   write 4        done
+//!     call 3, step 2   write 580      somebody else writes cell 9, and then the call fails
+//!     call 4, step 3   sync           cells 4 and 9 are sure
+//!     call 5           read 4         fails, as each call from here on
+//!
+//! A call that fails changes nothing itself and counts one fault. There are no other faults than these: planned ones,
+//! and calls that found no room.
+//!
+//! A **`crash`** takes each cell that is not sure and that it is not told to keep; all that stands then is sure. It
+//! goes into the record cell by cell (`Lost`, then `Crashed`). `a_crash_keeps` says what this row of changes leaves,
+//! and `unsure_cells` which cells a crash could take.
+//!
+//! Stands on `worm_device`. Begin with `memory_device.rt` and `device.rt`; `specs/Worlds.antt` says what a record
+//! stands for, and `specs/Outcomes.antt` what a call makes of the device.
 #![tactic(auto)]
 
+mod arrival;
 #[cfg(test)]
 mod callers;
 mod change;
+mod commands;
 mod device;
 mod laws;
+mod losses;
+mod mark;
 mod memory_device;
+mod moment;
+mod schedule;
 #[cfg(test)]
 mod tests;
 
 pub use change::Change;
-pub use laws::a_crash_keeps;
+pub use laws::{a_crash_keeps, unsure_cells};
+pub use losses::Crash;
+pub use mark::Mark;
 pub use memory_device::MemoryDevice;
+pub use moment::Moment;

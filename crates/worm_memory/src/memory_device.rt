@@ -1,10 +1,13 @@
 //! The device, its memory, and the room of its record.
-ghost use Rattle.std.specs.Prelude.{◌≤◌, vec_len};
+ghost use Rattle.std.specs.Prelude.{◌≡◌, ◌≤◌, ◌<◌, ◌+◌, ℕ, slice_get, Some, vec_capacity, vec_len};
 ghost use Rattle.cell_types.specs.declared.geometry.TheConstants.{MAX_CELLS};
 ghost use Rattle.std.proofs.Props.{props};
-ghost use Rattle.worm_memory.specs.Worlds.{blank, world, AreChanges, AreChanges-prop, EndsWithNoLoss, Holds, IsPut};
+ghost use Rattle.worm_memory.specs.Plans.{AreInside};
+ghost use Rattle.worm_memory.specs.Unsure.{unsure_of};
+ghost use Rattle.worm_memory.specs.Worlds.{blank, world, AreChanges, AreChanges-prop, Holds, IsAllSure, IsPut};
 
-use crate::Change;
+use crate::schedule::Schedule;
+use crate::{Change, Mark};
 use cell_types::{Cell, NoMemory};
 use std::alloc::Global;
 use worm_device::{Failed, Written};
@@ -13,30 +16,51 @@ use worm_device::{Failed, Written};
 /// for how many further changes its record has room for.
 #[derive(Drop)]
 pub struct MemoryDevice {
-    cells: Vec<Option<Cell>>,
-    changes: Vec<Change>,
-    faults: u64,
-    reads: u64,
-    foreign_writes: u64,
+    pub(crate) cells: Vec<Option<Cell>>,
+    pub(crate) changes: Vec<Change>,
+    /// The cells that are written and not sure, in the order in which they were written.
+    pub(crate) unsure: Vec<u32>,
+    pub(crate) marks: Vec<Mark>,
+    /// How many further changes and marks there is room for.
+    pub(crate) spare: u32,
+    pub(crate) schedule: Schedule,
+    pub(crate) faults: u64,
+    pub(crate) reads: u64,
+    pub(crate) foreign_writes: u64,
     ghost some_cells: { 1 ≤ vec_len cells },
     ghost most_cells: { vec_len cells ≤ MAX_CELLS },
     ghost are_changes: { AreChanges (vec_len cells) blank changes.items } by { AreChanges-prop (vec_len cells) blank changes.items },
-    ghost no_loss: { EndsWithNoLoss changes.items } by { Prim.hlevel props },
     ghost holds: { Holds cells.items (world changes.items).image } by { Prim.hlevel props },
+    ghost are_unsure: { unsure.items ≡ unsure_of changes.items } by { Prim.hlevel props },
+    ghost changes_fit: { vec_len changes + spare ≤ vec_capacity changes },
+    ghost unsure_fit: { vec_len unsure + spare ≤ vec_capacity unsure },
+    ghost marks_fit: { vec_len marks + spare ≤ vec_capacity marks },
+    ghost planned_inside: { AreInside (vec_len cells) schedule.foreign.items } by { Prim.hlevel props },
 }
 
 impl MemoryDevice {
-    ghost use Rattle.std.specs.Prelude.{◌≡◌, ◌≤◌, ◌<◌, ◌↔◌, ◌^◌, ◌-◌, min, [], length, slice_get, None, IsTrue, IsOk, IfOk, OnOk, OnErr};
-    ghost use Rattle.worm_memory.specs.Memory.{Memory, with_foreign_write, with_read, IsUnsure};
+    ghost use Rattle.std.specs.Prelude.{◌≡◌, ◌≤◌, ◌<◌, ◌^◌, ◌-◌, ◌+◌, min, [], None, IsOk, IfOk, OnOk, OnErr};
+    ghost use Rattle.worm_memory.specs.Memory.{Memory, with_foreign_write, with_read};
+    ghost use Rattle.worm_memory.specs.Plans.{no_plan};
     ghost use Rattle.worm_memory.specs.declared.change.Change.TheVariants.{Synced};
-    ghost use Rattle.worm_memory.specs.Device.{memory_of, room_of, state_of, Records, CountsFault, ForeignEnds, ForeignWrites};
+    ghost use Rattle.worm_memory.specs.Device.{memory_of, room_of, state_of, Records, CountsFault};
+    ghost use Rattle.worm_memory.specs.Device.{ForeignEnds, ForeignWrites};
 
-    /// A device of so many blank cells, 1 to 2,147,483,648. Its record has no room yet.
+    /// A device of so many blank cells, 1 to 2,147,483,648. Its record has no room yet, and nothing is planned.
     pub fn new(alloc: Global, cells: u32) -> Result<MemoryDevice, NoMemory>
         requires some { 1 ≤ cells }
         requires most { cells ≤ MAX_CELLS }
-        ensures blank { IfOk result (λ device.
-            memory_of device ≡ record { cells = cells; changes = []; faults = 0; reads = 0; foreign_writes = 0 }) }
+        ensures blank { IfOk result (λ device. memory_of device ≡ record {
+          cells = cells;
+          changes = [];
+          marks = [];
+          steps = 0;
+          calls = 0;
+          plan = no_plan;
+          faults = 0;
+          reads = 0;
+          foreign_writes = 0;
+        }) }
         ensures room { IfOk result (λ device. room_of device ≡ 0) }
     {
         let Ok(blank) = vec![in alloc; None; cells as usize] else {
@@ -45,14 +69,18 @@ impl MemoryDevice {
         Ok(MemoryDevice {
             cells: blank,
             changes: Vec::new(alloc),
+            unsure: Vec::new(alloc),
+            marks: Vec::new(alloc),
+            spare: 0,
+            schedule: Schedule::new(alloc),
             faults: 0,
             reads: 0,
             foreign_writes: 0,
         })
     }
 
-    /// Takes memory until so many further changes can be recorded. Nothing else changes, and nothing at all where
-    /// there is no memory.
+    /// Takes memory until so many further changes can be recorded, of which each mark that `begin` puts is one. Nothing
+    /// else changes, and nothing at all where there is no memory.
     pub fn reserve(&mut self, changes: u32) -> Result<(), NoMemory>
         ensures room { OnOk result (changes ≤ room_of self.new) }
         ensures same { memory_of self.new ≡ memory_of self.old }
@@ -60,15 +88,22 @@ impl MemoryDevice {
         ensures enough { changes ≤ room_of self.old → IsOk result }
         ensures err { OnErr result (room_of self.new ≡ room_of self.old) }
     {
-        self.changes.reserve(changes as usize).map_err(|_| NoMemory)
+        if changes <= self.spare {
+            return Ok(());
+        }
+        let more = changes as usize;
+        self.changes.reserve(more).map_err(|_| NoMemory)?;
+        self.unsure.reserve(more).map_err(|_| NoMemory)?;
+        self.marks.reserve(more).map_err(|_| NoMemory)?;
+        self.spare = changes;
+        Ok(())
     }
 
     /// How many further changes can be recorded, where that is below 2^32, and else 2^32 - 1.
     pub fn room(&self) -> u32
         ensures { result ≡ min (room_of self.now) (2 ^ 32 - 1) }
     {
-        let room = self.changes.capacity() - self.changes.len();
-        u32::try_from(room).unwrap_or(u32::MAX)
+        self.spare
     }
 
     /// The changes so far, in order: what a crash could have left follows from them.
@@ -77,6 +112,13 @@ impl MemoryDevice {
         ensures are_changes { AreChanges (memory_of self.now).cells blank result.now }
     {
         &self.changes
+    }
+
+    /// What it kept when each command began, in order. The changes up to a mark's number of them stood then.
+    pub fn marks(&self) -> &[Mark]
+        ensures { result.now ≡ (memory_of self.now).marks }
+    {
+        &self.marks
     }
 
     /// How many cells it has.
@@ -92,29 +134,6 @@ impl MemoryDevice {
         ensures { result ≡ (state_of self.now).image at }
     {
         self.cells[at as usize]
-    }
-
-    /// Whether a crash could take a cell. A sync makes sure all that stands, and a write adds a cell that is
-    /// not sure, so the last change tells.
-    pub(crate) fn is_unsure(&self) -> bool
-        ensures { IsTrue result ↔ IsUnsure (memory_of self.now) }
-    {
-        match self.last_change() {
-            Some(Change::Wrote { .. }) => true,
-            Some(Change::Foreign { .. }) => true,
-            Some(Change::Synced) => false,
-            Some(Change::Lost { .. }) => false,
-            Some(Change::Crashed) => false,
-            None => false,
-        }
-    }
-
-    /// The last change so far.
-    fn last_change(&self) -> Option<Change>
-        ensures { result ≡ slice_get (memory_of self.now).changes
-            (length (memory_of self.now).changes - 1) }
-    {
-        self.changes.last().copied()
     }
 
     /// Counts a read.
@@ -147,6 +166,8 @@ impl MemoryDevice {
         let _bytes = value.bytes();
         self.cells[at as usize] = Some(value);
         self.changes.push_reserved(change);
+        self.unsure.push_reserved(at);
+        self.spare -= 1;
     }
 
     /// Counts a foreign write.
@@ -158,12 +179,15 @@ impl MemoryDevice {
         self.foreign_writes = self.foreign_writes.saturating_add(1);
     }
 
-    /// Makes sure all that stands, where the record has room.
+    /// Makes sure all that stands, where something was not sure and the record has room.
     pub(crate) fn record_sync(&mut self)
+        requires unsure { IsAllSure (world (memory_of self.old).changes) → ⊥ }
         requires room { 1 ≤ room_of self.old }
         ensures { Records Synced self.old self.new }
     {
         self.changes.push_reserved(Change::Synced);
+        self.unsure.clear();
+        self.spare -= 1;
     }
 
     /// Somebody else writes a cell. A written one stays as it is, and is not counted as a foreign write.

@@ -1,16 +1,18 @@
--- A sync is a change, and the cells hold what they held.
-use Rattle.std.proofs.Common.{sym, subst, vec_len}
-use Rattle.worm_memory.specs.Worlds.{blank, world, AreChanges, EndsWithNoLoss, Holds}
+-- A sync is a change, the cells hold what they held, and each is sure.
+use Rattle.std.proofs.Common.{sym, subst, ap, ◌∙◌, ◌∷◌, [], vec_len}
+use Rattle.worm_memory.specs.Unsure.{unsure_of}
+use Rattle.worm_memory.specs.Worlds.{blank, world, AreChanges, Holds}
 use Rattle.worm_memory.specs.declared.change.Change.TheVariants.{Synced}
-use Rattle.worm_memory.proofs.Worlds.{changes_append, no_loss_after, synced_no_loss}
-use Rattle.worm_memory.proofs.Cells.{holds_synced}
+use Rattle.worm_memory.proofs.Worlds.{changes_append}
+use Rattle.worm_memory.proofs.Cells.{holds_synced, unsure_synced}
 use Rattle.worm_memory.proofs.memory_device.MemoryDevice.record_sync.Goals as goal
 
 pub invariant_of-self-clause-are_changes : goal.invariant_of-self-clause-are_changes
 invariant_of-self-clause-are_changes c =
     let device = c.args.self.now in
     subst (AreChanges (vec_len device.cells) blank) (sym c.push_reserved.ensures.items)
-    (changes_append (vec_len device.cells) blank device.changes.items Synced device.are_changes tt)
+    (changes_append (vec_len device.cells) blank device.changes.items (Synced ∷ []) device.are_changes
+    (c.requires.unsure, tt))
 
 pub invariant_of-self-clause-holds : goal.invariant_of-self-clause-holds
 invariant_of-self-clause-holds c =
@@ -18,7 +20,7 @@ invariant_of-self-clause-holds c =
     subst (λ changes. Holds device.cells.items (world changes).image) (sym c.push_reserved.ensures.items)
     (holds_synced device.cells.items device.changes.items device.holds)
 
-pub invariant_of-self-clause-no_loss : goal.invariant_of-self-clause-no_loss
-invariant_of-self-clause-no_loss c =
+pub invariant_of-self-clause-are_unsure : goal.invariant_of-self-clause-are_unsure
+invariant_of-self-clause-are_unsure c =
     let device = c.args.self.now in
-    subst EndsWithNoLoss (sym c.push_reserved.ensures.items) (no_loss_after device.changes.items Synced synced_no_loss)
+    c.clear.ensures.items ∙ sym (ap unsure_of c.push_reserved.ensures.items ∙ unsure_synced device.changes.items)

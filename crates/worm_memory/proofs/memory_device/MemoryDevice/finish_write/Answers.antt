@@ -1,0 +1,33 @@
+-- A write into a cell that was blank, done or failed.
+use Rattle.std.proofs.Common.{◌≡◌, Some, None, Ok, Err, sym, subst, rules}
+use Rattle.worm_device.specs.Calls.{Writes}
+use Rattle.worm_device.specs.declared.device.Written.TheVariants.{Done}
+use Rattle.worm_memory.specs.Worlds.{world, ours}
+use Rattle.worm_memory.specs.Memory.{device_of}
+use Rattle.worm_memory.specs.Device.{memory_of}
+use Rattle.worm_memory.proofs.Calls.{writes_done, writes_taken, writes_failed}
+use Rattle.worm_memory.proofs.memory_device.MemoryDevice.finish_write.Goals as goal
+
+pub returns-then-room-eq0-clause-writes : goal.returns-then-room-eq0-clause-writes
+returns-then-room-eq0-clause-writes c =
+    let old = memory_of c.args.self.now in
+    subst (λ m. Writes c.args.at c.args.value (device_of old) (device_of m) (Err c.fail.result))
+    (sym c.fail.ensures.counted.0)
+    (writes_failed old c.args.at c.args.value c.fail.result c.fail.ensures.fits)
+
+pub returns-clause-writes : goal.returns-clause-writes
+returns-clause-writes c =
+    let old = memory_of c.args.self.now in
+    let free : (world old.changes).image c.args.at ≡ None = search rules in
+    subst (λ m. Writes c.args.at c.args.value (device_of old) (device_of m) (Ok Done)) (sym c.put.ensures.0)
+    (writes_done old c.args.at c.args.value free)
+
+pub returns-in-Some-clause-writes : goal.returns-in-Some-clause-writes
+returns-in-Some-clause-writes c =
+    let old = memory_of c.args.self.now in
+    let stands : (world old.changes).image c.args.at ≡ Some c.in-Some.found = search rules in
+    writes_taken old c.args.at c.args.value c.in-Some.found stands
+
+-- our own write is a put
+pub put-requires-clause-is : goal.put-requires-clause-is
+put-requires-clause-is c = ours

@@ -1,0 +1,70 @@
+//! Beginning a command on a device in memory, and planning for it: what fails, where it stops, what others write.
+ghost use Rattle.std.specs.Prelude.{◌≡◌, ◌≤◌, ◌<◌, ◌+◌, if◌then◌else◌, is_ok};
+ghost use Rattle.worm_memory.specs.Memory.{with_begin, with_failure, with_planned, with_stop};
+ghost use Rattle.worm_memory.specs.Device.{memory_of, room_of};
+
+use crate::moment::{Moment, Timed};
+use crate::{Mark, MemoryDevice};
+use cell_types::{Cell, NoMemory};
+
+impl MemoryDevice {
+    /// Begins a command: the numbers of the command before and the counts so far go into a mark, which uses the room of
+    /// one change. Then no step and no call has been made, and nothing is planned. What stands stays, and so do the
+    /// counts.
+    pub fn begin(&mut self)
+        requires room { 1 ≤ room_of self.old }
+        ensures begins { memory_of self.new ≡ with_begin (memory_of self.old) }
+        ensures room { room_of self.new + 1 ≡ room_of self.old }
+    {
+        let mark = Mark {
+            steps: self.schedule.steps,
+            calls: self.schedule.calls,
+            changes: self.changes.len(),
+            faults: self.faults,
+            foreign_writes: self.foreign_writes,
+            reads: self.reads,
+        };
+        self.marks.push_reserved(mark);
+        self.spare -= 1;
+        self.schedule.begin();
+    }
+
+    /// Plans that the call which the moment names fails: it counts a fault, and changes nothing itself. Where there is
+    /// no memory for the plan, nothing changes.
+    pub fn fail_at(&mut self, moment: Moment) -> Result<(), NoMemory>
+        ensures planned { memory_of self.new ≡
+            (if is_ok result then with_failure (memory_of self.old) moment else memory_of self.old) }
+        ensures room { room_of self.new ≡ room_of self.old }
+        ensures cells { (memory_of self.new).cells ≡ (memory_of self.old).cells }
+    {
+        self.schedule.fails.push(moment).map_err(|_| NoMemory)
+    }
+
+    /// Plans that each call fails once so many steps or calls have been made as the moment says; the call of that
+    /// number is still made, and after number 0 none is. It takes the place of what was planned so before.
+    pub fn stop_after(&mut self, moment: Moment)
+        ensures planned { memory_of self.new ≡ with_stop (memory_of self.old) moment }
+        ensures room { room_of self.new ≡ room_of self.old }
+    {
+        self.schedule.stop = Some(moment);
+    }
+
+    /// Plans that somebody else writes a cell right before the call that the moment names, as `foreign` does; where a
+    /// blank cell then has no room in the record, that call fails. Those of one call are made in the order in which
+    /// they were planned. Where there is no memory for the plan, nothing changes.
+    pub fn foreign_before(&mut self, moment: Moment, at: u32, value: Cell) -> Result<(), NoMemory>
+        requires { at < (memory_of self.old).cells }
+        ensures planned { memory_of self.new ≡ (if is_ok result
+            then with_planned (memory_of self.old) (record { before = moment; at = at; value = value })
+            else memory_of self.old) }
+        ensures room { room_of self.new ≡ room_of self.old }
+        ensures cells { (memory_of self.new).cells ≡ (memory_of self.old).cells }
+    {
+        let timed = Timed {
+            before: moment,
+            at,
+            value,
+        };
+        self.schedule.foreign.push(timed).map_err(|_| NoMemory)
+    }
+}
