@@ -45,108 +45,6 @@ fn look<V: View>(view: &mut V, at: u32) -> Result<Option<Cell>, Failed>
     view.read(at)
 }
 
-#[test]
-fn a_cell_is_written_once(rt: HostRuntime) -> Result<(), Fail> {
-    let (seven, nine) = (cell(7)?, cell(9)?);
-    let mut device = MemoryDevice::new(rt.alloc(), 8)?;
-    device.reserve(3)?;
-    assert_eq!(rt; device.cells(), 8);
-    assert_eq!(rt; device.read(3), Ok(None));
-    assert_eq!(rt; device.write(3, seven), Ok(Written::Done));
-    assert_eq!(rt; device.write(3, seven), Ok(Written::Taken(seven)));
-    assert_eq!(rt; device.write(3, nine), Ok(Written::Taken(seven)));
-    assert_eq!(rt; device.read(3), Ok(Some(seven)));
-    assert_eq!(rt; device.read(7), Ok(None));
-    assert_eq!(rt; device.sync(), Ok(()));
-    assert_eq!(rt; device.sync(), Ok(()));
-    assert_eq!(rt; device.write(0, nine), Ok(Written::Done));
-    let changes = [
-        Change::Wrote {
-            at: 3,
-            value: seven,
-        },
-        Change::Synced,
-        Change::Wrote { at: 0, value: nine },
-    ];
-    assert_eq!(rt; device.changes(), changes.as_slice());
-    Ok(())
-}
-
-#[test]
-fn a_full_record_takes_no_change(rt: HostRuntime) -> Result<(), Fail> {
-    let (seven, nine) = (cell(7)?, cell(9)?);
-    let mut device = MemoryDevice::new(rt.alloc(), 8)?;
-    assert_eq!(rt; device.room(), 0);
-    assert_eq!(rt; device.write(7, seven), Err(Failed));
-    assert_eq!(rt; device.sync(), Ok(()), "nothing is unsure");
-    device.reserve(2)?;
-    fill(&mut device, seven, 0);
-    assert_eq!(rt; device.room(), 0);
-    assert_eq!(rt; device.sync(), Err(Failed), "the last write is not sure");
-    assert_eq!(rt; device.write(7, nine), Err(Failed));
-    assert_eq!(rt; device.read(7), Ok(None));
-    assert_eq!(rt; device.write(1, nine), Ok(Written::Taken(seven)));
-    device.reserve(1)?;
-    fill(&mut device, seven, 1);
-    assert_eq!(rt; device.sync(), Ok(()));
-    assert_eq!(rt; device.room(), 0);
-    assert_eq!(rt; device.sync(), Ok(()), "nothing is unsure");
-    assert_eq!(rt; device.changes().last(), Some(&Change::Synced));
-    Ok(())
-}
-
-#[test]
-fn a_device_in_memory_is_a_device_and_a_view(rt: HostRuntime) -> Result<(), Fail> {
-    let (seven, nine) = (cell(7)?, cell(9)?);
-    let mut device = MemoryDevice::new(rt.alloc(), 8)?;
-    assert_eq!(rt;
-        drive(&mut device, 5, seven),
-        Err(Failed),
-        "there is no room"
-    );
-    device.reserve(4)?;
-    assert_eq!(rt; drive(&mut device, 5, seven), Ok((None, Written::Done)));
-    assert_eq!(rt;
-        drive(&mut device, 5, nine),
-        Ok((Some(seven), Written::Taken(seven)))
-    );
-    assert_eq!(rt; look(&mut Direct::new(&mut device), 5), Ok(Some(seven)));
-    assert_eq!(rt; look(&mut Direct::new(&mut device), 6), Ok(None));
-    let changes = [
-        Change::Wrote {
-            at: 5,
-            value: seven,
-        },
-        Change::Synced,
-    ];
-    assert_eq!(rt; device.changes(), changes.as_slice());
-    Ok(())
-}
-
-#[test]
-fn somebody_else_writes_blank_cells_alone(rt: HostRuntime) -> Result<(), Fail> {
-    let (seven, nine) = (cell(7)?, cell(9)?);
-    let mut device = MemoryDevice::new(rt.alloc(), 8)?;
-    assert_eq!(rt; device.foreign(3, nine), Err(Failed), "there is no room");
-    device.reserve(3)?;
-    assert_eq!(rt; device.foreign(3, nine), Ok(Written::Done));
-    assert_eq!(rt; device.foreign(3, seven), Ok(Written::Taken(nine)));
-    assert_eq!(rt; device.write(3, seven), Ok(Written::Taken(nine)));
-    assert_eq!(rt; device.sync(), Ok(()), "a foreign cell is made sure too");
-    assert_eq!(rt; device.write(4, seven), Ok(Written::Done));
-    assert_eq!(rt; device.foreign(4, nine), Ok(Written::Taken(seven)));
-    let changes = [
-        Change::Foreign { at: 3, value: nine },
-        Change::Synced,
-        Change::Wrote {
-            at: 4,
-            value: seven,
-        },
-    ];
-    assert_eq!(rt; device.changes(), changes.as_slice());
-    Ok(())
-}
-
 /// Begins a command, where the record has room for its mark.
 fn begin(device: &mut MemoryDevice) -> Result<(), &'static str> {
     if device.room() == 0 {
@@ -191,6 +89,112 @@ fn foreign(device: &mut MemoryDevice, at: u32, value: Cell) -> Result<Written, F
         return Err(Failed);
     }
     device.foreign(at, value)
+}
+
+#[test]
+fn a_cell_is_written_once(rt: HostRuntime) -> Result<(), Fail> {
+    let (seven, nine) = (cell(7)?, cell(9)?);
+    let mut device = MemoryDevice::new(rt.alloc(), 8)?;
+    device.reserve(3)?;
+    assert_eq!(rt; device.cells(), 8);
+    assert_eq!(rt; read(&mut device, 3), Ok(None));
+    assert_eq!(rt; write(&mut device, 3, seven), Ok(Written::Done));
+    assert_eq!(rt; write(&mut device, 3, seven), Ok(Written::Taken(seven)));
+    assert_eq!(rt; write(&mut device, 3, nine), Ok(Written::Taken(seven)));
+    assert_eq!(rt; read(&mut device, 3), Ok(Some(seven)));
+    assert_eq!(rt; read(&mut device, 7), Ok(None));
+    assert_eq!(rt; device.sync(), Ok(()));
+    assert_eq!(rt; device.sync(), Ok(()));
+    assert_eq!(rt; write(&mut device, 0, nine), Ok(Written::Done));
+    let changes = [
+        Change::Wrote {
+            at: 3,
+            value: seven,
+        },
+        Change::Synced,
+        Change::Wrote { at: 0, value: nine },
+    ];
+    assert_eq!(rt; device.changes(), changes.as_slice());
+    Ok(())
+}
+
+#[test]
+fn a_full_record_takes_no_change(rt: HostRuntime) -> Result<(), Fail> {
+    let (seven, nine) = (cell(7)?, cell(9)?);
+    let mut device = MemoryDevice::new(rt.alloc(), 8)?;
+    assert_eq!(rt; device.room(), 0);
+    assert_eq!(rt; write(&mut device, 7, seven), Err(Failed));
+    assert_eq!(rt; device.sync(), Ok(()), "nothing is unsure");
+    device.reserve(2)?;
+    fill(&mut device, seven, 0);
+    assert_eq!(rt; device.room(), 0);
+    assert_eq!(rt; device.sync(), Err(Failed), "the last write is not sure");
+    assert_eq!(rt; write(&mut device, 7, nine), Err(Failed));
+    assert_eq!(rt; read(&mut device, 7), Ok(None));
+    assert_eq!(rt; write(&mut device, 1, nine), Ok(Written::Taken(seven)));
+    device.reserve(1)?;
+    fill(&mut device, seven, 1);
+    assert_eq!(rt; device.sync(), Ok(()));
+    assert_eq!(rt; device.room(), 0);
+    assert_eq!(rt; device.sync(), Ok(()), "nothing is unsure");
+    assert_eq!(rt; device.changes().last(), Some(&Change::Synced));
+    Ok(())
+}
+
+#[test]
+fn a_device_in_memory_is_a_device_and_a_view(rt: HostRuntime) -> Result<(), Fail> {
+    let (seven, nine) = (cell(7)?, cell(9)?);
+    let mut device = MemoryDevice::new(rt.alloc(), 8)?;
+    assert_eq!(rt;
+        drive(&mut device, 5, seven),
+        Err(Failed),
+        "there is no room"
+    );
+    device.reserve(4)?;
+    assert_eq!(rt; drive(&mut device, 5, seven), Ok((None, Written::Done)));
+    assert_eq!(rt;
+        drive(&mut device, 5, nine),
+        Ok((Some(seven), Written::Taken(seven)))
+    );
+    assert_eq!(rt; look(&mut Direct::new(&mut device), 5), Ok(Some(seven)));
+    assert_eq!(rt; look(&mut Direct::new(&mut device), 6), Ok(None));
+    let changes = [
+        Change::Wrote {
+            at: 5,
+            value: seven,
+        },
+        Change::Synced,
+    ];
+    assert_eq!(rt; device.changes(), changes.as_slice());
+    Ok(())
+}
+
+#[test]
+fn somebody_else_writes_blank_cells_alone(rt: HostRuntime) -> Result<(), Fail> {
+    let (seven, nine) = (cell(7)?, cell(9)?);
+    let mut device = MemoryDevice::new(rt.alloc(), 8)?;
+    assert_eq!(rt;
+        foreign(&mut device, 3, nine),
+        Err(Failed),
+        "there is no room"
+    );
+    device.reserve(3)?;
+    assert_eq!(rt; foreign(&mut device, 3, nine), Ok(Written::Done));
+    assert_eq!(rt; foreign(&mut device, 3, seven), Ok(Written::Taken(nine)));
+    assert_eq!(rt; write(&mut device, 3, seven), Ok(Written::Taken(nine)));
+    assert_eq!(rt; device.sync(), Ok(()), "a foreign cell is made sure too");
+    assert_eq!(rt; write(&mut device, 4, seven), Ok(Written::Done));
+    assert_eq!(rt; foreign(&mut device, 4, nine), Ok(Written::Taken(seven)));
+    let changes = [
+        Change::Foreign { at: 3, value: nine },
+        Change::Synced,
+        Change::Wrote {
+            at: 4,
+            value: seven,
+        },
+    ];
+    assert_eq!(rt; device.changes(), changes.as_slice());
+    Ok(())
 }
 
 #[test]
