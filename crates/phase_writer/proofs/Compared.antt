@@ -6,7 +6,8 @@ use Rattle.std.proofs.lemmas.Slice.Eq.{bytes_eq-Decides}
 
 -- cells that compare as different are
 pub differ : (a b : List ℕ) (answer : Bool) → answer ≡ not (bytes_eq a b) → answer ≡ true → a ≢ b
-differ a b answer is told = (Decides-at answer (not (bytes_eq a b)) is (Decides-not (bytes_eq a b) (bytes_eq-Decides a b))).0 told
+differ a b answer is told = (Decides-at answer (not (bytes_eq a b)) is
+    (Decides-not (bytes_eq a b) (bytes_eq-Decides a b))).0 told
 
 is_true : (b : Bool) → not b ≡ false → b ≡ true
 is_true true e = refl

@@ -10,8 +10,8 @@
 //!     phase 3    finish    cell 6     sync
 //!
 //! A crash at any moment leaves all cells of the phases before some phase, any of that phase, and, where nobody else
-//! writes, none of those behind (`LeavesPhases`): with a commit cell the document is there, whole. Where a cell is taken
-//! by another value the row ends, in a phase that is told, with all before it sure (`IsTakenIn`).
+//! writes, none of those behind (`LeavesPhases`): with a commit cell the document is there, whole. Where a cell is
+//! taken by another value the row ends, in a phase that is told, with all before it sure (`IsTakenIn`).
 //!
 //! No list of phases is built. Each phase is a call that says which cells it puts (`PutsPhase` of a predicate), and a
 //! row of such calls is a row of phases (`PutsPhases`) by the lemmas of proofs/Phasing.antt.

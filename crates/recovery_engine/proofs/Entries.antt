@@ -24,15 +24,25 @@ pub record CheckedTo (first : ℕ) (image : Image) (place below n floor : ℕ) :
   pub floor_is : IsFloor first image place n floor
   pub lower : (k : ℕ) (cell : List ℕ) → k < n → image (place + k) ≡ Some cell → target_of cell < floor
 
-pub floor_on : {old new : Image} (first place k floor : ℕ) → Extends old new → IsFloor first old place k floor → IsFloor first new place k floor
+pub floor_on : {old new : Image} (first place k floor : ℕ) → Extends old new → IsFloor first old place k floor
+    → IsFloor first new place k floor
 floor_on {old} {new} first place k floor e f = ⊎_elim inl
-    (λ (b : (m : ℕ) × (before : List ℕ) × (k ≡ m + 1) × (old (place + m) ≡ Some before) × (floor ≡ target_of before + 1)). inr (b.0, b.1, b.2, e.keeps (place + b.0) b.1 b.3, b.4))
+    (λ (b : (m : ℕ) × (before : List ℕ) × (k ≡ m + 1) × (old (place + m) ≡ Some before) ×
+    (floor ≡ target_of before + 1)). inr (b.0, b.1, b.2, e.keeps (place + b.0) b.1 b.3, b.4))
     f
 
-pub entries_on : {old new : Image} (first place below n : ℕ) → Extends old new → AreEntries first old place below n → AreEntries first new place below n
+pub entries_on : {old new : Image} (first place below n : ℕ) → Extends old new → AreEntries first old place below n
+    → AreEntries first new place below n
 entries_on {old} {new} first place below n e entries k less =
     let h = entries k less in
-    record { cell = h.cell; floor = h.floor; stands = e.keeps (place + k) h.cell h.stands; floor_is = floor_on first place k h.floor e h.floor_is; fit = h.fit }
+    record {
+      cell = h.cell;
+      floor = h.floor;
+      stands = e.keeps (place + k) h.cell h.stands;
+      floor_is = floor_on first
+          place k h.floor e h.floor_is;
+      fit = h.fit;
+    }
 
 value_is : (a b : List ℕ) → Some a ≡ Some b → a ≡ b
 value_is a b e = cc
@@ -41,15 +51,19 @@ below_or_at : (k n : ℕ) → k < n + 1 → (k < n) ⊎ (k ≡ n)
 below_or_at k n h = grind arith
 
 -- one floor for each journal cell
-pub floor_one : (first : ℕ) (image : Image) (place k floor floor' : ℕ) → IsFloor first image place k floor → IsFloor first image place k floor' → floor ≡ floor'
+pub floor_one : (first : ℕ) (image : Image) (place k floor floor' : ℕ) → IsFloor first image place k floor
+    → IsFloor first image place k floor' → floor ≡ floor'
 floor_one first image place k floor floor' p q = ⊎_elim
     (λ (a : (k ≡ 0) × (floor ≡ first)). ⊎_elim
     (λ (b : (k ≡ 0) × (floor' ≡ first)). a.1 ∙ sym b.1)
-    (λ (b : (m : ℕ) × (before : List ℕ) × (k ≡ m + 1) × (image (place + m) ≡ Some before) × (floor' ≡ target_of before + 1)). absurd (omega (arith, a.0, b.2)))
+    (λ (b : (m : ℕ) × (before : List ℕ) × (k ≡ m + 1) × (image (place + m) ≡ Some before) ×
+    (floor' ≡ target_of before + 1)). absurd (omega (arith, a.0, b.2)))
     q)
-    (λ (a : (m : ℕ) × (before : List ℕ) × (k ≡ m + 1) × (image (place + m) ≡ Some before) × (floor ≡ target_of before + 1)). ⊎_elim
+    (λ (a : (m : ℕ) × (before : List ℕ) × (k ≡ m + 1) × (image (place + m) ≡ Some before) ×
+    (floor ≡ target_of before + 1)). ⊎_elim
     (λ (b : (k ≡ 0) × (floor' ≡ first)). absurd (omega (arith, b.0, a.2)))
-    (λ (b : (m : ℕ) × (before : List ℕ) × (k ≡ m + 1) × (image (place + m) ≡ Some before) × (floor' ≡ target_of before + 1)).
+    (λ (b : (m : ℕ) × (before : List ℕ) × (k ≡ m + 1) × (image (place + m) ≡ Some before) ×
+    (floor' ≡ target_of before + 1)).
     let same : b.0 ≡ a.0 = omega (arith, a.2, b.2) in
     let value : a.1 ≡ b.1 = value_is a.1 b.1 (sym a.3 ∙ ap (λ (m : ℕ). image (place + m)) (sym same) ∙ b.3) in
     a.4 ∙ ap (λ (v : List ℕ). target_of v + 1) value ∙ sym b.4)
@@ -58,31 +72,47 @@ floor_one first image place k floor floor' p q = ⊎_elim
 
 -- no cell yet
 pub checked_none : (first : ℕ) (image : Image) (place below : ℕ) → CheckedTo first image place below 0 first
-checked_none first image place below = record { entries = λ k less. absurd (omega (arith, less)); floor_is = inl (refl, refl); lower = λ k cell less stands. absurd (omega (arith, less)) }
+checked_none first image place below = record {
+  entries = λ k less. absurd (omega (arith, less));
+  floor_is = inl
+      (refl, refl);
+  lower = λ k cell less stands. absurd (omega (arith, less));
+}
 
 -- the same later
-pub checked_on : {old new : Image} {first place below n floor : ℕ} → Extends old new → CheckedTo first old place below n floor → CheckedTo first new place below n floor
+pub checked_on : {old new : Image} {first place below n floor : ℕ} → Extends old new
+    → CheckedTo first old place below n floor → CheckedTo first new place below n floor
 checked_on {old} {new} {first} {place} {below} {n} {floor} e c = record {
   entries = entries_on first place below n e c.entries;
   floor_is = floor_on first place n floor e c.floor_is;
   lower = λ k cell less stands.
       let h = c.entries k less in
-      c.lower k cell less (h.stands ∙ ap Some (value_is h.cell cell (sym (e.keeps (place + k) h.cell h.stands) ∙ stands)));
+      c.lower k cell less (h.stands ∙ ap Some (value_is h.cell cell
+      (sym (e.keeps (place + k) h.cell h.stands) ∙ stands)));
 }
 
 -- one cell more
-pub checked_more : (first : ℕ) (image : Image) (place below n floor next : ℕ) (put : Put) → CheckedTo first image place below n floor → IsFit floor below put.value → put.at ≡ target_of put.value
+pub checked_more : (first : ℕ) (image : Image) (place below n floor next : ℕ) (put : Put)
+    → CheckedTo first image place below n floor → IsFit floor below put.value → put.at ≡ target_of put.value
     → IsEntryOf image place n put → next ≡ put.at + 1 → CheckedTo first image place below (n + 1) next
 checked_more first image place below n floor next put c fit at is next_is = record {
   entries = λ k less. ⊎_elim
       (λ (earlier : k < n). c.entries k earlier)
-      (λ (here : k ≡ n). record { cell = put.value; floor = floor; stands = ap (λ (m : ℕ). image (place + m)) here ∙ is.stands; floor_is = subst (λ (m : ℕ). IsFloor first image place m floor) (sym here) c.floor_is; fit = fit })
+      (λ (here : k ≡ n). record {
+        cell = put.value;
+        floor = floor;
+        stands = ap (λ (m : ℕ). image (place + m)) here ∙
+            is.stands;
+        floor_is = subst (λ (m : ℕ). IsFloor first image place m floor) (sym here) c.floor_is;
+        fit = fit;
+      })
       (below_or_at k n less);
   floor_is = inr (n, put.value, refl, is.stands, next_is ∙ ap (λ (a : ℕ). a + 1) at);
   lower = λ k cell less stands. ⊎_elim
       (λ (earlier : k < n). omega (arith, c.lower k cell earlier stands, fit.from, at, next_is))
       (λ (here : k ≡ n).
-      let value : cell ≡ put.value = value_is cell put.value (sym stands ∙ ap (λ (m : ℕ). image (place + m)) here ∙ is.stands) in
+      let value : cell ≡ put.value = value_is cell put.value
+      (sym stands ∙ ap (λ (m : ℕ). image (place + m)) here ∙ is.stands) in
       omega (arith, ap target_of value, at, next_is))
       (below_or_at k n less);
 }
@@ -91,12 +121,15 @@ none_some : (a : List ℕ) → Some a ≡ None → ⊥
 none_some a e = cc
 
 same_put : (a b : Put) → a.at ≡ b.at → a.value ≡ b.value → a.blame ≡ b.blame → a ≡ b
-same_put a b e f h = ap (λ (k : ℕ). record a { at = k }) e ∙ ap (λ (v : List ℕ). record { at = b.at; value = v; blame = a.blame }) f ∙ ap (λ (w : Blame). record b { blame = w }) h
+same_put a b e f h = ap (λ (k : ℕ). record a { at = k }) e ∙ ap
+    (λ (v : List ℕ). record { at = b.at; value = v; blame = a.blame }) f ∙ ap (λ (w : Blame). record b { blame = w }) h
 
 -- a journal that is written, cell by cell
-module _ (j : Journal) (k : ℕ) (less : k < j.count) {old mid now : DeviceState} (puts : Puts (IsEntryPut old.image j.place k) old mid (Ok tt))
+module _ (j : Journal) (k : ℕ) (less : k < j.count) {old mid now : DeviceState}
+    (puts : Puts (IsEntryPut old.image j.place k) old mid (Ok tt))
     (entries : IsTrue old.tells → AreEntries j.first old.image j.place j.below j.count)
-    (called : Called mid now) (quiet : IsStill mid.foreign_writes now.foreign_writes → IsUnchanged mid.image now.image) (floor : ℕ)
+    (called : Called mid now) (quiet : IsStill mid.foreign_writes now.foreign_writes → IsUnchanged mid.image now.image)
+    (floor : ℕ)
     (checked : IsTrue old.tells → CheckedTo j.first old.image j.place j.below k floor) where
   c0 : Called old now
   c0 = called_then puts.called called
@@ -104,10 +137,12 @@ module _ (j : Journal) (k : ℕ) (less : k < j.count) {old mid now : DeviceState
   puts_now : Puts (IsEntryPut old.image j.place k) old now (Ok tt)
   puts_now = puts_looked tt tt puts called quiet
 
-  entry_left : (next : ℕ) → k ≤ next → (put : Put) → IsEntryPut old.image j.place k put → IsEntryPut old.image j.place next put
+  entry_left : (next : ℕ) → k ≤ next → (put : Put) → IsEntryPut old.image j.place k put
+      → IsEntryPut old.image j.place next put
   entry_left next more put h = (h.0, omega (arith, h.1, more), h.2)
 
-  never : (e : Evidence) → IsTrue old.tells → ((e ≡ j.commit) × (now.image (j.place + k) ≡ None)) ⊎ IsUnfitAt (j.place + k) floor j.below now.image e → ⊥
+  never : (e : Evidence) → IsTrue old.tells
+      → ((e ≡ j.commit) × (now.image (j.place + k) ≡ None)) ⊎ IsUnfitAt (j.place + k) floor j.below now.image e → ⊥
   never e tells flaw =
       let h = entries tells k less in
       let stands : now.image (j.place + k) ≡ Some h.cell = c0.image.keeps (j.place + k) h.cell h.stands in
@@ -115,7 +150,8 @@ module _ (j : Journal) (k : ℕ) (less : k < j.count) {old mid now : DeviceState
       (λ (blank : (e ≡ j.commit) × (now.image (j.place + k) ≡ None)). none_some h.cell (sym stands ∙ blank.1))
       (λ (unfit : IsUnfitAt (j.place + k) floor j.below now.image e).
       let value : e.found ≡ h.cell = value_is e.found h.cell (sym unfit.stands ∙ stands) in
-      let one : floor ≡ h.floor = floor_one j.first old.image j.place k floor h.floor (checked tells).floor_is h.floor_is in
+      let one : floor ≡ h.floor = floor_one j.first old.image j.place k floor h.floor (checked tells).floor_is
+      h.floor_is in
       let not : IsUnfit floor j.below h.cell = subst (IsUnfit floor j.below) value unfit.unfit in
       ⊎_elim
       (λ (no : IsCopy h.cell → ⊥). no h.fit.copy)
@@ -127,7 +163,8 @@ module _ (j : Journal) (k : ℕ) (less : k < j.count) {old mid now : DeviceState
       flaw
 
   -- a journal cell was not read
-  pub entry_refused : (fault : Fault) → EntryEnds j k floor mid now (Err fault) → PutsPhase (IsEntryPut old.image j.place j.count) old now (Err fault)
+  pub entry_refused : (fault : Fault) → EntryEnds j k floor mid now (Err fault)
+      → PutsPhase (IsEntryPut old.image j.place j.count) old now (Err fault)
   entry_refused ReadFault ends = phase_ended ReadFault (record {
     called = c0;
     only = λ tells still. changes_wider (entry_left j.count (omega (arith, less))) (puts_now.only tells still);
@@ -139,46 +176,59 @@ module _ (j : Journal) (k : ℕ) (less : k < j.count) {old mid now : DeviceState
     ends = λ tells. absurd (never e tells (ends (subst IsTrue (sym puts.called.tells) tells)));
   })
 
-  module _ (put : Put) (fit : IsFit floor j.below put.value) (at : put.at ≡ target_of put.value) (is : IsTrue mid.tells → IsEntryOf now.image j.place k put) where
+  module _ (put : Put) (fit : IsFit floor j.below put.value) (at : put.at ≡ target_of put.value)
+      (is : IsTrue mid.tells → IsEntryOf now.image j.place k put) where
     -- it stood at old
     entry_was : IsTrue old.tells → IsEntryOf old.image j.place k put
     entry_was tells =
         let h = entries tells k less in
         let now_is = is (subst IsTrue (sym puts.called.tells) tells) in
-        let value : h.cell ≡ put.value = value_is h.cell put.value (sym (c0.image.keeps (j.place + k) h.cell h.stands) ∙ now_is.stands) in
+        let value : h.cell ≡ put.value = value_is h.cell put.value
+        (sym (c0.image.keeps (j.place + k) h.cell h.stands) ∙ now_is.stands) in
         record { stands = h.stands ∙ ap Some value; at = now_is.at; blame = now_is.blame }
 
-    entry_right : IsTrue old.tells → (next : ℕ) → k < next → (other : Put) → other ≡ put → IsEntryPut old.image j.place next other
+    entry_right : IsTrue old.tells → (next : ℕ) → k < next → (other : Put) → other ≡ put
+        → IsEntryPut old.image j.place next other
     entry_right tells next more other e = (k, more, subst (IsEntryOf old.image j.place k) (sym e) (entry_was tells))
 
-    entry_covers : IsTrue old.tells → (other : Put) → IsEntryPut old.image j.place (k + 1) other → IsEntryPut old.image j.place k other ⊎ (other ≡ put)
+    entry_covers : IsTrue old.tells → (other : Put) → IsEntryPut old.image j.place (k + 1) other
+        → IsEntryPut old.image j.place k other ⊎ (other ≡ put)
     entry_covers tells other h = ⊎_elim
         (λ (earlier : h.0 < k). inl (h.0, earlier, h.2))
         (λ (here : h.0 ≡ k).
         let w = entry_was tells in
-        let value : other.value ≡ put.value = value_is other.value put.value (sym h.2.stands ∙ ap (λ (m : ℕ). old.image (j.place + m)) here ∙ w.stands) in
-        inr (same_put other put (h.2.at ∙ ap target_of value ∙ sym w.at) value (h.2.blame ∙ ap (λ (m : ℕ). blames.Journal (j.place + m)) here ∙ sym w.blame)))
+        let value : other.value ≡ put.value = value_is other.value put.value
+        (sym h.2.stands ∙ ap (λ (m : ℕ). old.image (j.place + m)) here ∙ w.stands) in
+        inr (same_put other put (h.2.at ∙ ap target_of value ∙ sym w.at) value
+        (h.2.blame ∙ ap (λ (m : ℕ). blames.Journal (j.place + m)) here ∙ sym w.blame)))
         (below_or_at h.0 k h.1)
 
     module _ {new : DeviceState} where
       pub entry_put : Puts (IsThis put) now new (Ok tt) → Puts (IsEntryPut old.image j.place (k + 1)) old new (Ok tt)
       entry_put then = record {
         called = called_then c0 then.called;
-        only = λ tells. (puts_more (entry_left (k + 1) (omega arith)) (entry_right tells (k + 1) (omega arith)) tt puts_now (entry_covers tells) tt tt then).only tells;
-        ends = λ tells. (puts_more (entry_left (k + 1) (omega arith)) (entry_right tells (k + 1) (omega arith)) tt puts_now (entry_covers tells) tt tt then).ends tells;
+        only = λ tells. (puts_more (entry_left (k + 1) (omega arith)) (entry_right tells (k + 1) (omega arith)) tt
+            puts_now (entry_covers tells) tt tt then).only tells;
+        ends = λ tells. (puts_more (entry_left (k + 1) (omega arith)) (entry_right tells (k + 1) (omega arith)) tt
+            puts_now (entry_covers tells) tt tt then).ends tells;
       }
 
-      pub entry_held : (fault : Fault) → Puts (IsThis put) now new (Err fault) → PutsPhase (IsEntryPut old.image j.place j.count) old new (Err fault)
+      pub entry_held : (fault : Fault) → Puts (IsThis put) now new (Err fault)
+          → PutsPhase (IsEntryPut old.image j.place j.count) old new (Err fault)
       entry_held ReadFault then = phase_ended ReadFault (record {
         called = called_then c0 then.called;
-        only = λ tells. (puts_ended (entry_left j.count (omega (arith, less))) (entry_right tells j.count less) tt puts_now ReadFault then).only tells;
+        only = λ tells. (puts_ended (entry_left j.count (omega (arith, less))) (entry_right tells j.count less) tt
+            puts_now ReadFault then).only tells;
         ends = omega (arith, then.ends, c0.faults);
       })
       entry_held (Tampered e) then = phase_ended (Tampered e) (record {
         called = called_then c0 then.called;
-        only = λ tells. (puts_ended (entry_left j.count (omega (arith, less))) (entry_right tells j.count less) tt puts_now (Tampered e) then).only tells;
-        ends = λ tells. (puts_ended (entry_left j.count (omega (arith, less))) (entry_right tells j.count less) tt puts_now (Tampered e) then).ends tells;
+        only = λ tells. (puts_ended (entry_left j.count (omega (arith, less))) (entry_right tells j.count less) tt
+            puts_now (Tampered e) then).only tells;
+        ends = λ tells. (puts_ended (entry_left j.count (omega (arith, less))) (entry_right tells j.count less) tt
+            puts_now (Tampered e) then).ends tells;
       })
 
     pub entry_checked : IsTrue old.tells → CheckedTo j.first old.image j.place j.below (k + 1) (put.at + 1)
-    entry_checked tells = checked_more j.first old.image j.place j.below k floor (put.at + 1) put (checked tells) fit at (entry_was tells) refl
+    entry_checked tells = checked_more j.first old.image j.place j.below k floor (put.at + 1) put (checked tells) fit at
+        (entry_was tells) refl

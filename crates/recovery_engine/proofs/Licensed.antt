@@ -264,7 +264,8 @@ module _ (g : Layout) (n s l b j : ℕ) where
         copies refl))
         (λ (holds : Holds image (done_at n) (records.Done n)).
         differs (value_is found value (sym other
-        ∙ met.done n s l b j k (target_of value) copy.held (record { commits = stores.commits; done = holds }) copies refl
+        ∙ met.done n s l b j k (target_of value) copy.held (record { commits = stores.commits; done = holds }) copies
+        refl
         ∙ stands)))
         stores.done;
   }
@@ -324,7 +325,8 @@ module _ (g : Layout) (n : ℕ) (s0 s3 s4 s5 : DeviceState) (c03 : Called s0 s3)
       (λ still cell. quiet_45 (still_second more c45.foreign_writes still) cell
       ∙ quiet_04 (still_first more c45.foreign_writes still) cell)
       (flaw_licensed g n s l b j s0 s5 e (volume_later s4 s5 g c45 (volume tells)) (commits_on c45.image is.commits)
-      (λ still. quiet_45 (still_second more c45.foreign_writes still) (done_at n) ∙ quiet_34 (still_34 still) (done_at n)
+      (λ still. quiet_45 (still_second more c45.foreign_writes still) (done_at n) ∙ quiet_34 (still_34 still)
+      (done_at n)
       ∙ is.done)
       (ends (tells_4 tells)))
 
@@ -393,7 +395,11 @@ module _ (g : Layout) (n : ℕ) (s0 s3 s4 s5 : DeviceState) (c03 : Called s0 s3)
             (λ (p : IsPut (IsInFirst (end_plan s4.image n (Committed s l b j)) 2) s4.image (done_at n) w.0). record {
               cell = w.0;
               stands = w.1;
-              is = record { fits = omega (arith, few); well_formed = few; same = sym p.is ∙ once p.put p.planned p.here };
+              is = record {
+                fits = omega (arith, few);
+                well_formed = few;
+                same = sym p.is ∙ once p.put p.planned p.here;
+              };
             })
             (phases.puts.only tells (still_45 still) (done_at n) w.0 w.1)))
             (look s5.image (done_at n));
@@ -416,7 +422,8 @@ module _ (g : Layout) (n : ℕ) (s0 s3 s4 s5 : DeviceState) (c03 : Called s0 s3)
           let stood : IsStill s0.foreign_writes s5.foreign_writes → s4.image (target_of put.value) ≡ Some taken.found =
           λ still. ⊎_elim
           (λ (was : s4.image put.at ≡ Some taken.found). ap s4.image (sym is.2.at) ∙ was)
-          (λ (twice : IsPutTwice (IsInFirst (end_plan s4.image n (Committed s l b j)) 2) put taken.found). absurd (⊎_elim
+          (λ (twice : IsPutTwice (IsInFirst (end_plan s4.image n (Committed s l b j)) 2) put taken.found). absurd
+          (⊎_elim
           (λ (first : (twice.planned.0 ≡ 0) × IsEntryPut s4.image (journal_at s l j) j twice.other).
           taken.differs (sym twice.is
           ∙ entries_apart (list_at g 0) s4.image (journal_at s l j) (document_at s l b j) j entries first.1.0 k

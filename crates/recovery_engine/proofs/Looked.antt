@@ -36,7 +36,8 @@ pub record IsSpared (old now : DeviceState) (image : Image) : Type 0 where
   pub below : Extends image now.image
 
 abbrev pub CrashesSpare : DeviceState → DeviceState → Type 0
-CrashesSpare old now = (since : ℕ) (image : Image) → since ≤ old.moment → LeftSince now since image → LeftSince old since image ⊎ IsSpared old now image
+CrashesSpare old now = (since : ℕ) (image : Image) → since ≤ old.moment → LeftSince now since image → LeftSince old
+    since image ⊎ IsSpared old now image
 
 pub record Looked (old now : DeviceState) : Type 0 where
   pub called : Called old now
@@ -51,10 +52,17 @@ spared_call {old} {new} called since image le left = ⊎_elim inl
 
 -- all that stood is sure
 pub looked_sync : (old new : DeviceState) → Syncs old new (Ok tt) → Looked old new
-looked_sync old new sync = record { called = sync.called; quiet = sync.only; synced = sync.answer; crashes = spared_call sync.called }
+looked_sync old new sync = record {
+  called = sync.called;
+  quiet = sync.only;
+  synced = sync.answer;
+  crashes = spared_call
+      sync.called;
+}
 
 -- one look more
-pub looked_more : (old mid new : DeviceState) → Looked old mid → Called mid new → (IsStill mid.foreign_writes new.foreign_writes → IsUnchanged mid.image new.image) → Looked old new
+pub looked_more : (old mid new : DeviceState) → Looked old mid → Called mid new
+    → (IsStill mid.foreign_writes new.foreign_writes → IsUnchanged mid.image new.image) → Looked old new
 looked_more old mid new looked called quiet = record {
   called = called_then looked.called called;
   quiet = λ still. unchanged_then (looked.quiet (still_first looked.called.foreign_writes called.foreign_writes still))
@@ -64,12 +72,15 @@ looked_more old mid new looked called quiet = record {
       (λ (before : LeftSince mid since image). ⊎_elim inl
       (λ (s : IsSpared old mid image). inr (record { above = s.above; below = extends_then s.below called.image }))
       (looked.crashes since image le before))
-      (λ (b : Between mid.sure new.image image). inr (record { above = extends_then looked.called.sure b.above; below = b.below }))
+      (λ (b : Between mid.sure new.image image). inr
+      (record { above = extends_then looked.called.sure b.above; below = b.below }))
       ((elapses_of called).adds since image (omega (arith, le, (elapses_of looked.called).later)) left);
 }
 
 -- looks, as a row of phases of which none has put anything
-pub spared_phases : (plan : ℕ → Put → Type 0) (k : ℕ) (old now : DeviceState) → (IsStill old.foreign_writes now.foreign_writes → IsUnchanged old.image now.image) → CrashesSpare old now → CrashesLeavePhases plan k old now
+pub spared_phases : (plan : ℕ → Put → Type 0) (k : ℕ) (old now : DeviceState)
+    → (IsStill old.foreign_writes now.foreign_writes → IsUnchanged old.image now.image) → CrashesSpare old now
+    → CrashesLeavePhases plan k old now
 spared_phases plan k old now quiet crashes tells since image le left = ⊎_elim inl
     (λ (s : IsSpared old now image). inr (record {
       phase = 0;
@@ -81,9 +92,11 @@ spared_phases plan k old now quiet crashes tells since image le left = ⊎_elim 
     }))
     (crashes since image le left)
 
-pub looked_phases : (plan : ℕ → Put → Type 0) → ((put : Put) → plan 0 put → ⊥) → (old now : DeviceState) → Looked old now → PutsPhases plan 1 old now (Ok tt)
+pub looked_phases : (plan : ℕ → Put → Type 0) → ((put : Put) → plan 0 put → ⊥) → (old now : DeviceState)
+    → Looked old now → PutsPhases plan 1 old now (Ok tt)
 looked_phases plan none old now looked =
-    let never : (put : Put) → IsInFirst plan 1 put → ⊥ = λ put h. none put (subst (λ (j : ℕ). plan j put) (omega (arith, h.1)) h.2) in
+    let never : (put : Put) → IsInFirst plan 1 put → ⊥ = λ put h. none put
+    (subst (λ (j : ℕ). plan j put) (omega (arith, h.1)) h.2) in
     record {
       puts = record {
         called = looked.called;
@@ -101,7 +114,9 @@ none_settles image j put h = ⊎_elim
     h
 
 -- settling ends after looks alone
-settled_spared : (old now : DeviceState) (result : Result Ready Refusal) → Called old now → (IsStill old.foreign_writes now.foreign_writes → IsUnchanged old.image now.image) → CrashesSpare old now → (IsOk result → IsTrue old.tells → Extends old.image now.sure) → SettleEnds old now result → Settles old now result
+settled_spared : (old now : DeviceState) (result : Result Ready Refusal) → Called old now
+    → (IsStill old.foreign_writes now.foreign_writes → IsUnchanged old.image now.image) → CrashesSpare old now
+    → (IsOk result → IsTrue old.tells → Extends old.image now.sure) → SettleEnds old now result → Settles old now result
 settled_spared old now result called quiet crashes synced ends = record {
   called = called;
   writes = λ tells. record {
@@ -119,12 +134,15 @@ settled_spared old now result called quiet crashes synced ends = record {
   ends = ends;
 }
 
-pub settled_looked : (old now : DeviceState) (result : Result Ready Refusal) → Looked old now → SettleEnds old now result → Settles old now result
-settled_looked old now result looked ends = settled_spared old now result looked.called looked.quiet looked.crashes (λ okay tells. looked.synced tells) ends
+pub settled_looked : (old now : DeviceState) (result : Result Ready Refusal) → Looked old now
+    → SettleEnds old now result → Settles old now result
+settled_looked old now result looked ends = settled_spared old now result looked.called looked.quiet looked.crashes
+    (λ okay tells. looked.synced tells) ends
 
 -- the sync failed
 pub sync_failed : (s0 s1 : DeviceState) (f : Failed) → Syncs s0 s1 (Err f) → Settles s0 s1 (Err DeviceFault)
-sync_failed s0 s1 f sync = settled_spared s0 s1 (Err DeviceFault) sync.called sync.only (spared_call sync.called) (λ okay tells. absurd (false_true okay)) sync.cause
+sync_failed s0 s1 f sync = settled_spared s0 s1 (Err DeviceFault) sync.called sync.only (spared_call sync.called)
+    (λ okay tells. absurd (false_true okay)) sync.cause
 
 two_phases : (state : SlotState) → end_phases state ≤ 2
 two_phases Unused = omega arith
@@ -152,15 +170,20 @@ module _ (image : Image) (n : ℕ) (state : SlotState) where
       (λ (b : (0 ≡ 2) × IsLastEnd n state put). omega (arith, b.0))
       h
 
-in_phases : (image : Image) (n : ℕ) (state : SlotState) (j : ℕ) (put : Put) → settle_plan image n state j put → j < 1 + end_phases state
+in_phases : (image : Image) (n : ℕ) (state : SlotState) (j : ℕ) (put : Put) → settle_plan image n state j put
+    → j < 1 + end_phases state
 in_phases image n Unused j put h = absurd (⊎_elim (λ (a : (j ≡ 1) × ⊥). a.1) (λ (b : (j ≡ 2) × ⊥). b.1) h)
-in_phases image n (Reserved s l) j put h = ⊎_elim (λ (a : (j ≡ 1) × IsFirstEnd image n (Reserved s l) put). omega (arith, a.0)) (λ (b : (j ≡ 2) × ⊥). absurd b.1) h
+in_phases image n (Reserved s l) j put h = ⊎_elim
+    (λ (a : (j ≡ 1) × IsFirstEnd image n (Reserved s l) put). omega (arith, a.0)) (λ (b : (j ≡ 2) × ⊥). absurd b.1) h
 in_phases image n (Abandoned s l) j put h = absurd (⊎_elim (λ (a : (j ≡ 1) × ⊥). a.1) (λ (b : (j ≡ 2) × ⊥). b.1) h)
-in_phases image n (Committed s l b k) j put h = ⊎_elim (λ (a : (j ≡ 1) × IsFirstEnd image n (Committed s l b k) put). omega (arith, a.0)) (λ (c : (j ≡ 2) × IsLastEnd n (Committed s l b k) put). omega (arith, c.0)) h
+in_phases image n (Committed s l b k) j put h = ⊎_elim
+    (λ (a : (j ≡ 1) × IsFirstEnd image n (Committed s l b k) put). omega (arith, a.0))
+    (λ (c : (j ≡ 2) × IsLastEnd n (Committed s l b k) put). omega (arith, c.0)) h
 in_phases image n (Done s l b k) j put h = absurd (⊎_elim (λ (a : (j ≡ 1) × ⊥). a.1) (λ (c : (j ≡ 2) × ⊥). c.1) h)
 
 -- the slot that settling is to end
-pub ending_of : (g : Layout) (n u : ℕ) (s0 s2 s3 s5 : DeviceState) (state : SlotState) → u ≡ n + 1 → Looked s0 s2 → Called s2 s3 → Looked s0 s5 → Called s3 s5
+pub ending_of : (g : Layout) (n u : ℕ) (s0 s2 s3 s5 : DeviceState) (state : SlotState) → u ≡ n + 1 → Looked s0 s2
+    → Called s2 s3 → Looked s0 s5 → Called s3 s5
     → IsVolume s5.cells s5.image g → IsHorizon g s2.image s3.image u → IsLast g s3.image s5.image n state
     → HasJournal g state s5.image → IsEnding s0.cells s0.image s5.image n state
 ending_of g n u s0 s2 s3 s5 state next l2 c23 l5 c35 volume horizon last journal = record {
@@ -173,9 +196,12 @@ ending_of g n u s0 s2 s3 s5 state next l2 c23 l5 c35 volume horizon last journal
 }
 
 -- settling ends after the slot was ended, or not
-pub settled_ended : (n : ℕ) (s0 s4 s5 : DeviceState) (state : SlotState) (ended : Result (Unit {0}) Fault) (result : Result Ready Refusal) → Looked s0 s4
-    → PutsPhases (end_plan s4.image n state) (end_phases state) s4 s5 ended → (IsTrue s0.tells → IsEnding s0.cells s0.image s4.image n state)
-    → (IsOk result → PutsPhases (end_plan s4.image n state) (end_phases state) s4 s5 (Ok tt)) → SettleEnds s0 s5 result → Settles s0 s5 result
+pub settled_ended : (n : ℕ) (s0 s4 s5 : DeviceState) (state : SlotState) (ended : Result (Unit {0}) Fault)
+    (result : Result Ready Refusal) → Looked s0 s4
+    → PutsPhases (end_plan s4.image n state) (end_phases state) s4 s5 ended →
+    (IsTrue s0.tells → IsEnding s0.cells s0.image s4.image n state)
+    → (IsOk result → PutsPhases (end_plan s4.image n state) (end_phases state) s4 s5 (Ok tt)) → SettleEnds s0 s5 result
+    → Settles s0 s5 result
 settled_ended n s0 s4 s5 state ended result looked phases ending okay ends = record {
   called = called_then looked.called phases.puts.called;
   writes = λ tells. writes ended phases tells;
@@ -185,13 +211,17 @@ settled_ended n s0 s4 s5 state ended result looked phases ending okay ends = rec
     plan : ℕ → Put → Type 0
     plan = settle_plan s4.image n state
 
-    all : (r : Result (Unit {0}) Fault) → PutsPhases (end_plan s4.image n state) (end_phases state) s4 s5 r → PutsPhases (settle_plan s4.image n state) (1 + end_phases state) s0 s5 r
-    all (Ok tt) p = phases_append (settle_plan s4.image n state) (end_plan s4.image n state) 1 (end_phases state) (shift_to s4.image n state) (shift_back s4.image n state) tt
+    all : (r : Result (Unit {0}) Fault) → PutsPhases (end_plan s4.image n state) (end_phases state) s4 s5 r
+        → PutsPhases (settle_plan s4.image n state) (1 + end_phases state) s0 s5 r
+    all (Ok tt) p = phases_append (settle_plan s4.image n state) (end_plan s4.image n state) 1 (end_phases state)
+        (shift_to s4.image n state) (shift_back s4.image n state) tt
         (looked_phases (settle_plan s4.image n state) (never_first s4.image n state) s0 s4 looked) tt tt p
-    all (Err fault) p = phases_append_ended (settle_plan s4.image n state) (end_plan s4.image n state) 1 (end_phases state) (shift_to s4.image n state) (shift_back s4.image n state) tt
+    all (Err fault) p = phases_append_ended (settle_plan s4.image n state) (end_plan s4.image n state) 1
+        (end_phases state) (shift_to s4.image n state) (shift_back s4.image n state) tt
         (looked_phases (settle_plan s4.image n state) (never_first s4.image n state) s0 s4 looked) fault p
 
-    writes : (r : Result (Unit {0}) Fault) → PutsPhases (end_plan s4.image n state) (end_phases state) s4 s5 r → IsTrue s0.tells → EndsByPhases s0 s5 result
+    writes : (r : Result (Unit {0}) Fault) → PutsPhases (end_plan s4.image n state) (end_phases state) s4 s5 r
+        → IsTrue s0.tells → EndsByPhases s0 s5 result
     writes r p tells =
         let whole = all r p in
         record {
@@ -207,9 +237,18 @@ settled_ended n s0 s4 s5 state ended result looked phases ending okay ends = rec
                 λ put h. sure.0 put (h.0, in_phases s4.image n state h.0 put h.2, h.2),
                 sure.1 (omega arith),
               );
-          only = λ still. changes_wider (λ put h. (h.0, omega (arith, h.1, two_phases state), h.2)) (whole.puts.only tells still);
+          only = λ still. changes_wider (λ put h. (h.0, omega (arith, h.1, two_phases state), h.2))
+              (whole.puts.only tells still);
           crashes = λ t since image le left. ⊎_elim inl
               (λ (l : LeavesPhases (settle_plan s4.image n state) (1 + end_phases state) s0 s5 image).
-              inr (record { phase = l.phase; begun = omega (arith, l.begun, two_phases state); all = l.all; sure = l.sure; synced = l.synced; only = l.only }))
+              inr (record {
+                phase = l.phase;
+                begun = omega (arith, l.begun, two_phases state);
+                all = l.all;
+                sure =
+                    l.sure;
+                synced = l.synced;
+                only = l.only;
+              }))
               (whole.crashes t since image le left);
         }

@@ -49,7 +49,8 @@ none_cells : (a : Reservation) → None ≡ Some a → ⊥
 none_cells a e = cc
 
 -- evidence of the last look, from the first state on
-named_licensed : (g : Layout) (s0 s3 s4 : DeviceState) (e : Evidence) → Called s0 s3 → Called s3 s4 → IsVolume s4.cells s4.image g
+named_licensed : (g : Layout) (s0 s3 s4 : DeviceState) (e : Evidence) → Called s0 s3 → Called s3 s4
+    → IsVolume s4.cells s4.image g
     → IsNamed g s4.cells s3.foreign_writes s4.foreign_writes s4.image e → IsLicensed s0 s4 e
 named_licensed g s0 s3 s4 e c03 c34 volume named = record {
   stands = named.stands;
@@ -59,7 +60,8 @@ named_licensed g s0 s3 s4 e c03 c34 volume named = record {
   broken = λ still. named.broken (still_second c03.foreign_writes c34.foreign_writes still) volume;
 }
 
-module _ (g : Layout) (n u : ℕ) (cells : Reservation) (next : u ≡ n + 1) (less : n < MAX_SLOTS) (s0 s2 s3 s4 s5 : DeviceState)
+module _ (g : Layout) (n u : ℕ) (cells : Reservation) (next : u ≡ n + 1) (less : n < MAX_SLOTS)
+    (s0 s2 s3 s4 s5 : DeviceState)
     (c02 : Called s0 s2) (c23 : Called s2 s3) (c34 : Called s3 s4) (c45 : Called s4 s5) (tells : IsTrue s4.tells) where
   e03 : Extends s0.image s3.image
   e03 = extends_then c02.image c23.image
@@ -68,17 +70,21 @@ module _ (g : Layout) (n u : ℕ) (cells : Reservation) (next : u ≡ n + 1) (le
   same_slot m is = omega (arith, next, is)
 
   -- what the step has made of the slot
-  pub step_makes : (state : SlotState) (u0 : Unit {0}) → IsLast g s3.image s4.image n state → HasJournal g state s4.image → reservation_of state ≡ Some cells
+  pub step_makes : (state : SlotState) (u0 : Unit {0}) → IsLast g s3.image s4.image n state
+      → HasJournal g state s4.image → reservation_of state ≡ Some cells
       → PutsPhases (end_plan s4.image n state) (end_phases state) s4 s5 (Ok u0) → StepMakes g s0 s5 u (step_of n state)
   step_makes Unused u0 last entries reserved p = absurd (none_cells cells reserved)
   step_makes (Abandoned s l) u0 last entries reserved p =
-      λ m is. subst (HasEnded g s0.image s5.image) (same_slot m is) (inl (record { start = s; length = l; abandoned = abandoned_further e03 c45.image last.is }))
+      λ m is. subst (HasEnded g s0.image s5.image) (same_slot m is)
+      (inl (record { start = s; length = l; abandoned = abandoned_further e03 c45.image last.is }))
   step_makes (Done s l b j) u0 last entries reserved p =
-      λ m is. subst (HasEnded g s0.image s5.image) (same_slot m is) (inr (record { start = s; length = l; bytes = b; journal = j; done = done_on c45.image last.is }))
+      λ m is. subst (HasEnded g s0.image s5.image) (same_slot m is)
+      (inr (record { start = s; length = l; bytes = b; journal = j; done = done_on c45.image last.is }))
   step_makes (Reserved s l) u0 last entries reserved p =
       let sure = p.sure tells in
       let synced = sure.1 (omega arith) in
-      let stands : s5.sure (outcome_at n) ≡ Some (record_bytes records.Abandon (outcome_at n)) = sure.0 (abandon_put n) (0, omega arith, inl (refl, refl)) in (
+      let stands : s5.sure (outcome_at n) ≡ Some (record_bytes records.Abandon (outcome_at n)) = sure.0 (abandon_put n)
+      (0, omega arith, inl (refl, refl)) in (
         next,
         s,
         l,
@@ -86,7 +92,12 @@ module _ (g : Layout) (n u : ℕ) (cells : Reservation) (next : u ≡ n + 1) (le
         record {
           abandons = record {
             reserves = reserves_on synced last.is.reserves;
-            outcome = record { cell = record_bytes records.Abandon (outcome_at n); stands = stands; is = record { fits = tt; well_formed = tt; same = refl } };
+            outcome = record {
+              cell = record_bytes records.Abandon (outcome_at n);
+              stands = stands;
+              is = record
+                  { fits = tt; well_formed = tt; same = refl };
+            };
           };
           done = blank_before e03 last.is.done;
         },
@@ -94,7 +105,8 @@ module _ (g : Layout) (n u : ℕ) (cells : Reservation) (next : u ≡ n + 1) (le
   step_makes (Committed s l b j) u0 last entries reserved p =
       let sure = p.sure tells in
       let synced = sure.1 (omega arith) in
-      let stands : s5.sure (done_at n) ≡ Some (record_bytes (records.Done n) (done_at n)) = sure.0 (done_put n) (1, omega arith, inr (refl, refl)) in (
+      let stands : s5.sure (done_at n) ≡ Some (record_bytes (records.Done n) (done_at n)) = sure.0 (done_put n)
+      (1, omega arith, inr (refl, refl)) in (
         next,
         s,
         l,
@@ -103,21 +115,29 @@ module _ (g : Layout) (n u : ℕ) (cells : Reservation) (next : u ≡ n + 1) (le
         committed_further e03 c45.image last.is,
         record {
           commits = commits_on synced last.is.commits;
-          done = record { cell = record_bytes (records.Done n) (done_at n); stands = stands; is = record { fits = omega (arith, less); well_formed = less; same = refl } };
+          done = record {
+            cell = record_bytes (records.Done n) (done_at n);
+            stands = stands;
+            is = record
+                { fits = omega (arith, less); well_formed = less; same = refl };
+          };
         },
         λ k within.
             let h = entries k within in (
               h.cell,
               synced.keeps (journal_at s l j + k) h.cell h.stands,
-              sure.0 (record { at = target_of h.cell; value = h.cell; blame = Journal (journal_at s l j + k) }) (0, omega arith, inl (refl, (k, within, record { stands = h.stands; at = refl; blame = refl }))),
+              sure.0 (record { at = target_of h.cell; value = h.cell; blame = Journal (journal_at s l j + k) })
+                  (0, omega arith, inl (refl, (k, within, record { stands = h.stands; at = refl; blame = refl }))),
             ),
       )
 
   -- the volume is ready
-  pub ready : (r : Ready) (state : SlotState) (u0 : Unit {0}) → r.volume.geometry ≡ g → r.horizon ≡ u → r.edge ≡ cells.start + cells.length → IsVolume s5.cells s5.image r.volume.geometry
+  pub ready : (r : Ready) (state : SlotState) (u0 : Unit {0}) → r.volume.geometry ≡ g → r.horizon ≡ u
+      → r.edge ≡ cells.start + cells.length → IsVolume s5.cells s5.image r.volume.geometry
       → IsHorizon r.volume.geometry s2.image s3.image r.horizon → AreTaken s3.image r.horizon
       → IsLast g s3.image s4.image n state → reservation_of state ≡ Some cells
-      → HasJournal g state s4.image → PutsPhases (end_plan s4.image n state) (end_phases state) s4 s5 (Ok u0) → r.step ≡ step_of n state → Extends s0.image s5.sure
+      → HasJournal g state s4.image → PutsPhases (end_plan s4.image n state) (end_phases state) s4 s5 (Ok u0) → r.step ≡
+      step_of n state → Extends s0.image s5.sure
       → (IsStill s2.foreign_writes s4.foreign_writes → IsUnchanged s2.image s4.image) → IsReady s0 s5 r
   ready r state u0 e_g e_u e_edge volume horizon taken last reserved entries phases e_step synced quiet = record {
     volume = volume;
@@ -126,7 +146,8 @@ module _ (g : Layout) (n u : ℕ) (cells : Reservation) (next : u ≡ n + 1) (le
     free = λ still under.
         let more : s2.foreign_writes ≤ s4.foreign_writes = omega (arith, c23.foreign_writes, c34.foreign_writes) in
         let e25 = still_second c02.foreign_writes (omega (arith, more, c45.foreign_writes)) still in
-        stays_free g n r.horizon state s4 s5 u0 (subst (λ (h : Layout). r.horizon < h.slots) e_g under) entries phases tells (still_second more c45.foreign_writes e25)
+        stays_free g n r.horizon state s4 s5 u0 (subst (λ (h : Layout). r.horizon < h.slots) e_g under) entries phases
+        tells (still_second more c45.foreign_writes e25)
         (quiet (still_first more c45.foreign_writes e25) (reserve_at r.horizon) ∙ horizon.free under);
     edge = inr (
       n,
@@ -137,7 +158,9 @@ module _ (g : Layout) (n u : ℕ) (cells : Reservation) (next : u ≡ n + 1) (le
           (reserves_on c45.image (reserved_by g s3.image s4.image n state cells last.is reserved)),
       e_edge,
     );
-    step = subst (λ (h : Layout). StepMakes h s0 s5 r.horizon r.step) (sym e_g) (subst (λ (k : ℕ). StepMakes g s0 s5 k r.step) (sym e_u) (subst (StepMakes g s0 s5 u) (sym e_step) (step_makes state u0 last entries reserved phases)));
+    step = subst (λ (h : Layout). StepMakes h s0 s5 r.horizon r.step) (sym e_g)
+        (subst (λ (k : ℕ). StepMakes g s0 s5 k r.step) (sym e_u)
+        (subst (StepMakes g s0 s5 u) (sym e_step) (step_makes state u0 last entries reserved phases)));
     synced = synced;
   }
 

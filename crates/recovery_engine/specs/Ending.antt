@@ -81,7 +81,8 @@ HasJournal g state image = ⊤
 
 -- the slot is committed, and this says of its journal what is wrong with it
 abbrev pub HasFlaw : Layout → ℕ → SlotState → Image → Evidence → Type 0
-HasFlaw g n (Committed start length bytes journal) image e = IsFlawed (journal_of g n start length bytes journal) image e
+HasFlaw g n (Committed start length bytes journal) image e =
+    IsFlawed (journal_of g n start length bytes journal) image e
 HasFlaw g n state image e = ⊥
 
 -- how a look at a slot's journal may end, and why

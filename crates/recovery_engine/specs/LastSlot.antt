@@ -41,8 +41,8 @@ pub record IsReserveCell (n : ℕ) (cells : Reservation) (e : Evidence) : Type 0
   pub at : e.cell ≡ reserve_at n
   pub found : e.found ≡ record_bytes (Reserve cells.start cells.length) (reserve_at n)
 
--- The evidence stands, in the place of its rule. Where nobody else wrote, as these values of the count of foreign writes
--- say, and cell 0 states this layout, its rule is broken there.
+-- The evidence stands, in the place of its rule. Where nobody else wrote, as these values of the count of foreign
+-- writes say, and cell 0 states this layout, its rule is broken there.
 pub record IsNamed (g : Layout) (cells from to : ℕ) (image : Image) (e : Evidence) : Type 0 where
   pub stands : image e.cell ≡ Some e.found
   pub place : IsPlaceOf g e.rule e.cell

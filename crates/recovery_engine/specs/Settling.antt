@@ -26,8 +26,8 @@ use Rattle.recovery_engine.specs.declared.settling.Ready.{Ready}
 use Rattle.recovery_engine.specs.declared.settling.Step.{Step}
 use Rattle.recovery_engine.specs.declared.settling.Step.TheVariants.{Nothing, Abandoned, Completed}
 
--- The evidence may be named; and where nobody else wrote in the call, its rule was broken there before the call, too: so
--- it is nothing that the call itself has written.
+-- The evidence may be named; and where nobody else wrote in the call, its rule was broken there before the call, too:
+-- so it is nothing that the call itself has written.
 pub record IsFound (old new : DeviceState) (e : Evidence) : Type 0 where
   pub licensed : IsLicensed old new e
   pub before : IsStill old.foreign_writes new.foreign_writes → IsBroken old.cells old.image e.rule e.cell
@@ -37,8 +37,8 @@ abbrev pub AreApplied : Image → ℕ → ℕ → Type 0
 AreApplied image place n =
     (k : ℕ) → k < n → (value : List ℕ) × (image (place + k) ≡ Some value) × (image (target_of value) ≡ Some value)
 
--- What a step has made of the slot below the horizon u: it had ended before; or it was reserved, and its abandon cell is
--- sure now; or it was committed, and it is done now and sure, and its journal is carried out.
+-- What a step has made of the slot below the horizon u: it had ended before; or it was reserved, and its abandon cell
+-- is sure now; or it was committed, and it is done now and sure, and its journal is carried out.
 abbrev pub StepMakes : Layout → DeviceState → DeviceState → ℕ → Step → Type 0
 StepMakes g old new u Nothing = (m : ℕ) → u ≡ m + 1 → HasEnded g old.image new.image m
 StepMakes g old new u (Abandoned n) =

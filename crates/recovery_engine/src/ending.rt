@@ -6,7 +6,8 @@ ghost use Rattle.commit_record.specs.declared.slot.SlotState.TheVariants.{Commit
 ghost use Rattle.phase_writer.specs.Putting.{IsThis, PutsPhase, PutsPhases};
 ghost use Rattle.worm_device.specs.Calls.{Called};
 ghost use Rattle.worm_device.specs.Counts.{IsStill};
-ghost use Rattle.recovery_engine.specs.Ending.{HasJournal, SlotCheckEnds, done_put, end_phases, end_plan, journal_of, step_of};
+ghost use Rattle.recovery_engine.specs.Ending.{HasJournal, SlotCheckEnds};
+ghost use Rattle.recovery_engine.specs.Ending.{done_put, end_phases, end_plan, journal_of, step_of};
 
 use crate::journal::{Journal, apply_journal, check_journal};
 use crate::settling::Step;
@@ -16,7 +17,8 @@ use phase_writer::{Blame, Put, put_one};
 use tamper_rules::{BROKEN_JOURNAL, DONE_CELL, OUTCOME_CELL};
 use worm_device::Device;
 
-/// The journal of a slot that reserves these cells, and whose commit cell states so many stored bytes and journal cells.
+/// The journal of a slot that reserves these cells, and whose commit cell states so many stored bytes and journal
+/// cells.
 pub fn journal_of(
     geometry: &Geometry,
     slot: u32,
@@ -85,7 +87,8 @@ pub fn end_slot<D: Device>(
     requires slot { slot < geometry.now.slots }
     requires size { geometry.now.cells ≤ (D.state device.old).cells }
     requires within { LiesInPool geometry.now state.now }
-    requires journal { IsTrue (D.state device.old).tells → HasJournal geometry.now state.now (D.state device.old).image }
+    requires journal { IsTrue (D.state device.old).tells →
+        HasJournal geometry.now state.now (D.state device.old).image }
     ensures { PutsPhases (end_plan (D.state device.old).image slot state.now) (end_phases state.now)
         (D.state device.old) (D.state device.new) result }
 {

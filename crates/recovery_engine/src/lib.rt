@@ -7,9 +7,9 @@
 //!     reserved            its abandon cell; sync                               Abandoned
 //!     committed           each journal cell at its target; sync; done; sync    Completed
 //!
-//! Before it trusts any of this it makes sure what stands, by a first sync, and checks that the slot follows those below
-//! it and that its journal asks for nothing but index cells. A cell that is out of place is named, with the rule that it
-//! breaks. No memory is taken, and it may be cut short anywhere and begun again.
+//! Before it trusts any of this it makes sure what stands, by a first sync, and checks that the slot follows those
+//! below it and that its journal asks for nothing but index cells. A cell that is out of place is named, with the rule
+//! that it breaks. No memory is taken, and it may be cut short anywhere and begun again.
 //!
 //! `apply_journal` and `finish` are the last two phases, which an ingest shares.
 //!

@@ -31,7 +31,8 @@ pub fn horizon_of_device<D: Device>(device: &mut D, volume: &Volume) -> Result<u
         IsUnchanged (D.state device.old).image (D.state device.new).image }
     ensures within { IfOk result (λ u. u ≤ volume.now.geometry.slots) }
     ensures horizon { IsTrue (D.state device.old).tells → IfOk result (λ u.
-        IsHorizon volume.now.geometry (D.state device.old).image (D.state device.new).image u × AreTaken (D.state device.new).image u) }
+        IsHorizon volume.now.geometry (D.state device.old).image (D.state device.new).image u
+        × AreTaken (D.state device.new).image u) }
     ensures cause { IsErr result → Rose (D.state device.old).faults (D.state device.new).faults }
 {
     horizon(&mut Direct::new(device), volume)
@@ -48,7 +49,8 @@ pub fn last_slot_of_device<D: Device>(
     ensures called { Called (D.state device.old) (D.state device.new) }
     ensures quiet { IsStill (D.state device.old).foreign_writes (D.state device.new).foreign_writes →
         IsUnchanged (D.state device.old).image (D.state device.new).image }
-    ensures ends { LastEnds volume.now.geometry last (seen_directly (D.state device.old) 0) (seen_directly (D.state device.new) 0) result }
+    ensures ends { LastEnds volume.now.geometry last (seen_directly (D.state device.old) 0)
+        (seen_directly (D.state device.new) 0) result }
 {
     last_slot(&mut Direct::new(device), volume, last)
 }

@@ -8,4 +8,5 @@ pub encode-requires : goal.encode-requires
 encode-requires g c = omega (arith, c.requires.slot, c.slots-slots.ensures.exists.slots)
 
 pub returns : goal.returns
-returns g c = this_phase _ _ _ _ _ (record_put (Done c.args.slot) 3 c.done_at-at.result _ c.encode.result c.done_at-at.ensures.at c.encode.ensures.same) c.put_one.ensures
+returns g c = this_phase _ _ _ _ _ (record_put (Done c.args.slot) 3 c.done_at-at.result _ c.encode.result
+    c.done_at-at.ensures.at c.encode.ensures.same) c.put_one.ensures

@@ -14,7 +14,11 @@ loop-k-preserved g c =
     let new = g.D.Device.state c.entry.new.device in
     record {
       called = called_then inv.called c.entry.ensures.called;
-      quiet = λ still. unchanged_then (inv.quiet (still_first inv.called.foreign_writes c.entry.ensures.called.foreign_writes still)) (c.entry.ensures.quiet (still_second inv.called.foreign_writes c.entry.ensures.called.foreign_writes still));
-      checked = λ tells. checked_more j.first new.image j.place j.below c.loop-k.k c.loop-k.floor (c.in_ok-put.put.at + 1) c.in_ok-put.put (checked_on c.entry.ensures.called.image (inv.checked tells))
-          c.in_ok-put.ensures.ends.0 c.in_ok-put.ensures.ends.1 (c.in_ok-put.ensures.ends.2 (subst IsTrue (sym inv.called.tells) tells)) refl;
+      quiet = λ still. unchanged_then (inv.quiet
+          (still_first inv.called.foreign_writes c.entry.ensures.called.foreign_writes still))
+          (c.entry.ensures.quiet (still_second inv.called.foreign_writes c.entry.ensures.called.foreign_writes still));
+      checked = λ tells. checked_more j.first new.image j.place j.below c.loop-k.k c.loop-k.floor
+          (c.in_ok-put.put.at + 1) c.in_ok-put.put (checked_on c.entry.ensures.called.image (inv.checked tells))
+          c.in_ok-put.ensures.ends.0 c.in_ok-put.ensures.ends.1
+          (c.in_ok-put.ensures.ends.2 (subst IsTrue (sym inv.called.tells) tells)) refl;
     }

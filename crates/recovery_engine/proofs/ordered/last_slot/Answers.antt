@@ -11,7 +11,8 @@ returns-then-cells-pool_at-clause-ends g c =
     first_elsewhere c.args.volume.now.geometry c.args.last (g.V.View.seen c.args.view.now)
     (g.V.View.seen c.slot_state.new.view) c.in_ok-state.state c.in-Some.cells c.out_of_order.result
     c.if-last-eq0.true c.requires.slot (sym c.reservation.ensures ∙ c.in-Some.is)
-    (λ same. c.if-cells-pool_at.true (same ∙ sym c.pool_at.ensures.at)) c.out_of_order.ensures c.in_ok-state.ensures.ends
+    (λ same. c.if-cells-pool_at.true (same ∙ sym c.pool_at.ensures.at)) c.out_of_order.ensures
+    c.in_ok-state.ensures.ends
 
 pub returns-then-not-is_followed-clause-viewed : goal.returns-then-not-is_followed-clause-viewed
 returns-then-not-is_followed-clause-viewed g c = viewed_then c.in_ok-state.ensures.viewed c.in_ok-before.ensures.viewed
@@ -26,7 +27,8 @@ returns-then-not-is_followed-clause-ends g c =
     elsewhere c.args.volume.now.geometry c.args.last (c.args.last - 1) next c.requires.slot v0 v1 v2
     c.in_ok-state.ensures.viewed c.in_ok-before.ensures.viewed c.in_ok-state.state c.in_ok-before.before c.in-Some.cells
     (sym c.reservation.ensures ∙ c.in-Some.is) c.in_ok-state.ensures.ends c.in_ok-before.ensures.ends
-    c.out_of_order-then-not-is_followed.result c.out_of_order-then-not-is_followed.ensures (λ h. false_true (c.if-not-is_followed.ensures.1 h))
+    c.out_of_order-then-not-is_followed.result c.out_of_order-then-not-is_followed.ensures
+    (λ h. false_true (c.if-not-is_followed.ensures.1 h))
 
 -- the slot follows the one before
 pub returns-clause-ends : goal.returns-clause-ends
@@ -37,4 +39,5 @@ returns-clause-ends g c =
     let next : c.args.last ≡ (c.args.last - 1) + 1 = omega (arith, c.if-last-eq0.false) in
     follows_on c.args.volume.now.geometry c.args.last (c.args.last - 1) next c.requires.slot v0 v1 v2
     c.in_ok-state.ensures.viewed c.in_ok-before.ensures.viewed c.in_ok-state.state c.in_ok-before.before c.in-Some.cells
-    (sym c.reservation.ensures ∙ c.in-Some.is) c.in_ok-state.ensures.ends c.in_ok-before.ensures.ends (c.if-not-is_followed.ensures.0 refl)
+    (sym c.reservation.ensures ∙ c.in-Some.is) c.in_ok-state.ensures.ends c.in_ok-before.ensures.ends
+    (c.if-not-is_followed.ensures.0 refl)

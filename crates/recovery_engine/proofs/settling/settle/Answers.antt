@@ -94,9 +94,11 @@ returns-in_err-state g c =
     let n = u - 1 in
     let next : u ≡ (u - 1) + 1 = omega (arith, c.if-horizon-eq0.false) in
     let c24 = called_then c.horizon_of_device.ensures.called c.last_slot_of_device.ensures.called in
-    rw (handed c.from_residual-in_err-state.result (refusal_of_fault c.in_err-state.field-0.0) c.from_residual-in_err-state.ensures.1)
+    rw (handed c.from_residual-in_err-state.result (refusal_of_fault c.in_err-state.field-0.0)
+    c.from_residual-in_err-state.ensures.1)
     (settled_looked s0 s4 _ l4
-    (last_refused volume.geometry n s0 s3 s4 c.in_err-state.field-0.0 l3.called c.last_slot_of_device.ensures.called l4.quiet
+    (last_refused volume.geometry n s0 s3 s4 c.in_err-state.field-0.0 l3.called c.last_slot_of_device.ensures.called
+    l4.quiet
     (λ tells. volume_later s2 s4 volume.geometry c24 (opened.4 (tells_1 tells))) c.in_err-state.ensures.ends))
 
 pub returns-in_default-reservation : goal.returns-in_default-reservation
@@ -148,18 +150,25 @@ returns-in_err-check_slot g c =
     let state = c.in_ok-state.state in
     let n = c.in-Ok-horizon_of_device.horizon - 1 in
     let less : n < layout.slots = omega (arith, c.if-horizon-eq0.false, c.in-Ok-horizon_of_device.ensures.within) in
-    let small : n < MAX_SLOTS = omega (arith, c.if-horizon-eq0.false, c.in-Ok-horizon_of_device.ensures.within, opened.1.slots) in
+    let small : n < MAX_SLOTS = omega (
+      arith,
+      c.if-horizon-eq0.false,
+      c.in-Ok-horizon_of_device.ensures.within,
+      opened.1.slots,
+    ) in
     let tells_1 : IsTrue s0.tells → IsTrue s1.tells = λ t. subst IsTrue (sym l1.called.tells) t in
     let tells_2 : IsTrue s0.tells → IsTrue s2.tells = λ t. subst IsTrue (sym l2.called.tells) t in
     let tells_3 : IsTrue s0.tells → IsTrue s3.tells = λ t. subst IsTrue (sym l3.called.tells) t in
     let tells_4 : IsTrue s0.tells → IsTrue s4.tells = λ t. subst IsTrue (sym l4.called.tells) t in
     let tells_5 : IsTrue s0.tells → IsTrue s5.tells = λ t. subst IsTrue (sym l5.called.tells) t in
     let c35 = called_then c.last_slot_of_device.ensures.called c.check_slot.ensures.called in
-    let last_4 : IsTrue s4.tells → IsLast layout s3.image s4.image n state = λ t. c.in_ok-state.ensures.ends.1 (subst IsTrue c.last_slot_of_device.ensures.called.tells t) in
+    let last_4 : IsTrue s4.tells → IsLast layout s3.image s4.image n state = λ t. c.in_ok-state.ensures.ends.1
+    (subst IsTrue c.last_slot_of_device.ensures.called.tells t) in
     rw (handed c.from_residual-in_err-check_slot.result (refusal_of_fault c.in_err-check_slot.field-0.0)
     c.from_residual-in_err-check_slot.ensures.1)
     (settled_looked s0 s5 _ l5
-    (check_refused layout n s0 s3 s4 s5 l3.called c.last_slot_of_device.ensures.called c.check_slot.ensures.called l4.quiet
+    (check_refused layout n s0 s3 s4 s5 l3.called c.last_slot_of_device.ensures.called c.check_slot.ensures.called
+    l4.quiet
     c.last_slot_of_device.ensures.quiet state c.in_err-check_slot.field-0.0 c.check_slot.ensures.quiet
     (λ tells. volume_later s2 s4 layout
     (called_then c.horizon_of_device.ensures.called c.last_slot_of_device.ensures.called) (opened.4 (tells_1 tells)))
@@ -184,24 +193,40 @@ returns-in_err-end_slot g c =
     let state = c.in_ok-state.state in
     let n = c.in-Ok-horizon_of_device.horizon - 1 in
     let less : n < layout.slots = omega (arith, c.if-horizon-eq0.false, c.in-Ok-horizon_of_device.ensures.within) in
-    let small : n < MAX_SLOTS = omega (arith, c.if-horizon-eq0.false, c.in-Ok-horizon_of_device.ensures.within, opened.1.slots) in
+    let small : n < MAX_SLOTS = omega (
+      arith,
+      c.if-horizon-eq0.false,
+      c.in-Ok-horizon_of_device.ensures.within,
+      opened.1.slots,
+    ) in
     let tells_1 : IsTrue s0.tells → IsTrue s1.tells = λ t. subst IsTrue (sym l1.called.tells) t in
     let tells_2 : IsTrue s0.tells → IsTrue s2.tells = λ t. subst IsTrue (sym l2.called.tells) t in
     let tells_3 : IsTrue s0.tells → IsTrue s3.tells = λ t. subst IsTrue (sym l3.called.tells) t in
     let tells_4 : IsTrue s0.tells → IsTrue s4.tells = λ t. subst IsTrue (sym l4.called.tells) t in
     let tells_5 : IsTrue s0.tells → IsTrue s5.tells = λ t. subst IsTrue (sym l5.called.tells) t in
     let c35 = called_then c.last_slot_of_device.ensures.called c.check_slot.ensures.called in
-    let last_4 : IsTrue s4.tells → IsLast layout s3.image s4.image n state = λ t. c.in_ok-state.ensures.ends.1 (subst IsTrue c.last_slot_of_device.ensures.called.tells t) in
-    let last_5 : IsTrue s5.tells → IsLast layout s3.image s5.image n state = λ t. last_on layout s3.image s4.image s5.image n state c.check_slot.ensures.called.image (last_4 (subst IsTrue c.check_slot.ensures.called.tells t)) in
-    let quiet_35 : IsStill s3.foreign_writes s5.foreign_writes → IsUnchanged s3.image s5.image = λ still. unchanged_then (c.last_slot_of_device.ensures.quiet (still_first c.last_slot_of_device.ensures.called.foreign_writes c.check_slot.ensures.called.foreign_writes still)) (c.check_slot.ensures.quiet (still_second c.last_slot_of_device.ensures.called.foreign_writes c.check_slot.ensures.called.foreign_writes still)) in
+    let last_4 : IsTrue s4.tells → IsLast layout s3.image s4.image n state = λ t. c.in_ok-state.ensures.ends.1
+    (subst IsTrue c.last_slot_of_device.ensures.called.tells t) in
+    let last_5 : IsTrue s5.tells → IsLast layout s3.image s5.image n state = λ t. last_on layout s3.image s4.image
+    s5.image n state c.check_slot.ensures.called.image (last_4 (subst IsTrue c.check_slot.ensures.called.tells t))
+    in
+    let quiet_35 : IsStill s3.foreign_writes s5.foreign_writes → IsUnchanged s3.image s5.image = λ still. unchanged_then
+    (c.last_slot_of_device.ensures.quiet (still_first c.last_slot_of_device.ensures.called.foreign_writes
+    c.check_slot.ensures.called.foreign_writes still))
+    (c.check_slot.ensures.quiet (still_second c.last_slot_of_device.ensures.called.foreign_writes
+    c.check_slot.ensures.called.foreign_writes still)) in
     let s6 = g.D.Device.state c.end_slot.new.device in
-    let journal : IsTrue s5.tells → HasJournal layout state s5.image = λ t. c.in_ok-check_slot.ensures.ends (subst IsTrue c.check_slot.ensures.called.tells t) in
+    let journal : IsTrue s5.tells → HasJournal layout state s5.image = λ t. c.in_ok-check_slot.ensures.ends
+    (subst IsTrue c.check_slot.ensures.called.tells t) in
     let c26 = called_then c.horizon_of_device.ensures.called (called_then c35 c.end_slot.ensures.puts.called) in
     rw (handed c.from_residual-in_err-end_slot.result (refusal_of_fault c.in_err-end_slot.field-0.0)
     c.from_residual-in_err-end_slot.ensures.1)
     (settled_ended n s0 s5 s6 state _ _ l5 c.end_slot.ensures
-    (λ tells. ending_of layout n c.in-Ok-horizon_of_device.horizon s0 s2 s3 s5 state (omega (arith, c.if-horizon-eq0.false)) l2 c.horizon_of_device.ensures.called l5 c35
-    (volume_later s2 s5 layout (called_then c.horizon_of_device.ensures.called c35) (opened.4 (tells_1 tells))) (c.in-Ok-horizon_of_device.ensures.horizon (tells_2 tells)).0 (last_5 (tells_5 tells)) (journal (tells_5 tells)))
+    (λ tells. ending_of layout n c.in-Ok-horizon_of_device.horizon s0 s2 s3 s5 state
+    (omega (arith, c.if-horizon-eq0.false)) l2 c.horizon_of_device.ensures.called l5 c35
+    (volume_later s2 s5 layout (called_then c.horizon_of_device.ensures.called c35) (opened.4 (tells_1 tells)))
+    (c.in-Ok-horizon_of_device.ensures.horizon (tells_2 tells)).0 (last_5 (tells_5 tells))
+    (journal (tells_5 tells)))
     (λ okay. absurd (false_true okay))
     (end_refused layout n s0 s3 s5 s6 l3.called c35 c.end_slot.ensures.puts.called l5.quiet quiet_35 state
     c.in_err-end_slot.field-0.0
@@ -227,25 +252,42 @@ returns g c =
     let state = c.in_ok-state.state in
     let n = c.in-Ok-horizon_of_device.horizon - 1 in
     let less : n < layout.slots = omega (arith, c.if-horizon-eq0.false, c.in-Ok-horizon_of_device.ensures.within) in
-    let small : n < MAX_SLOTS = omega (arith, c.if-horizon-eq0.false, c.in-Ok-horizon_of_device.ensures.within, opened.1.slots) in
+    let small : n < MAX_SLOTS = omega (
+      arith,
+      c.if-horizon-eq0.false,
+      c.in-Ok-horizon_of_device.ensures.within,
+      opened.1.slots,
+    ) in
     let tells_1 : IsTrue s0.tells → IsTrue s1.tells = λ t. subst IsTrue (sym l1.called.tells) t in
     let tells_2 : IsTrue s0.tells → IsTrue s2.tells = λ t. subst IsTrue (sym l2.called.tells) t in
     let tells_3 : IsTrue s0.tells → IsTrue s3.tells = λ t. subst IsTrue (sym l3.called.tells) t in
     let tells_4 : IsTrue s0.tells → IsTrue s4.tells = λ t. subst IsTrue (sym l4.called.tells) t in
     let tells_5 : IsTrue s0.tells → IsTrue s5.tells = λ t. subst IsTrue (sym l5.called.tells) t in
     let c35 = called_then c.last_slot_of_device.ensures.called c.check_slot.ensures.called in
-    let last_4 : IsTrue s4.tells → IsLast layout s3.image s4.image n state = λ t. c.in_ok-state.ensures.ends.1 (subst IsTrue c.last_slot_of_device.ensures.called.tells t) in
-    let last_5 : IsTrue s5.tells → IsLast layout s3.image s5.image n state = λ t. last_on layout s3.image s4.image s5.image n state c.check_slot.ensures.called.image (last_4 (subst IsTrue c.check_slot.ensures.called.tells t)) in
-    let quiet_35 : IsStill s3.foreign_writes s5.foreign_writes → IsUnchanged s3.image s5.image = λ still. unchanged_then (c.last_slot_of_device.ensures.quiet (still_first c.last_slot_of_device.ensures.called.foreign_writes c.check_slot.ensures.called.foreign_writes still)) (c.check_slot.ensures.quiet (still_second c.last_slot_of_device.ensures.called.foreign_writes c.check_slot.ensures.called.foreign_writes still)) in
+    let last_4 : IsTrue s4.tells → IsLast layout s3.image s4.image n state = λ t. c.in_ok-state.ensures.ends.1
+    (subst IsTrue c.last_slot_of_device.ensures.called.tells t) in
+    let last_5 : IsTrue s5.tells → IsLast layout s3.image s5.image n state = λ t. last_on layout s3.image s4.image
+    s5.image n state c.check_slot.ensures.called.image (last_4 (subst IsTrue c.check_slot.ensures.called.tells t))
+    in
+    let quiet_35 : IsStill s3.foreign_writes s5.foreign_writes → IsUnchanged s3.image s5.image = λ still. unchanged_then
+    (c.last_slot_of_device.ensures.quiet (still_first c.last_slot_of_device.ensures.called.foreign_writes
+    c.check_slot.ensures.called.foreign_writes still))
+    (c.check_slot.ensures.quiet (still_second c.last_slot_of_device.ensures.called.foreign_writes
+    c.check_slot.ensures.called.foreign_writes still)) in
     let s6 = g.D.Device.state c.end_slot.new.device in
-    let journal : IsTrue s5.tells → HasJournal layout state s5.image = λ t. c.in_ok-check_slot.ensures.ends (subst IsTrue c.check_slot.ensures.called.tells t) in
+    let journal : IsTrue s5.tells → HasJournal layout state s5.image = λ t. c.in_ok-check_slot.ensures.ends
+    (subst IsTrue c.check_slot.ensures.called.tells t) in
     let c26 = called_then c.horizon_of_device.ensures.called (called_then c35 c.end_slot.ensures.puts.called) in
     let u = c.in-Ok-horizon_of_device.horizon in
     let next : u ≡ (u - 1) + 1 = omega (arith, c.if-horizon-eq0.false) in
-    let within = of_pool layout state c.in-Some.cells c.in_ok-state.ensures.ends.0 (sym c.reservation.ensures ∙ c.in-Some.is) in
+    let within = of_pool layout state c.in-Some.cells c.in_ok-state.ensures.ends.0
+    (sym c.reservation.ensures ∙ c.in-Some.is) in
     settled_ended n s0 s5 s6 state _ _ l5 c.end_slot.ensures
-    (λ tells. ending_of layout n c.in-Ok-horizon_of_device.horizon s0 s2 s3 s5 state (omega (arith, c.if-horizon-eq0.false)) l2 c.horizon_of_device.ensures.called l5 c35
-    (volume_later s2 s5 layout (called_then c.horizon_of_device.ensures.called c35) (opened.4 (tells_1 tells))) (c.in-Ok-horizon_of_device.ensures.horizon (tells_2 tells)).0 (last_5 (tells_5 tells)) (journal (tells_5 tells)))
+    (λ tells. ending_of layout n c.in-Ok-horizon_of_device.horizon s0 s2 s3 s5 state
+    (omega (arith, c.if-horizon-eq0.false)) l2 c.horizon_of_device.ensures.called l5 c35
+    (volume_later s2 s5 layout (called_then c.horizon_of_device.ensures.called c35) (opened.4 (tells_1 tells)))
+    (c.in-Ok-horizon_of_device.ensures.horizon (tells_2 tells)).0 (last_5 (tells_5 tells))
+    (journal (tells_5 tells)))
     (λ okay. c.in_ok-end_slot.ensures) (
       record {
         version = opened.0;
@@ -256,10 +298,15 @@ returns g c =
         to = omega (arith, within.2, c.end.ensures);
       },
       λ tells. ready layout n u c.in-Some.cells next small s0 s2 s3 s5 s6
-          l2.called c.horizon_of_device.ensures.called c35 c.end_slot.ensures.puts.called (tells_5 tells) _ state tt refl refl c.end.ensures
+          l2.called c.horizon_of_device.ensures.called c35 c.end_slot.ensures.puts.called (tells_5 tells) _ state tt
+          refl refl c.end.ensures
           (volume_later s2 s6 layout c26 (opened.4 (tells_1 tells)))
-          (c.in-Ok-horizon_of_device.ensures.horizon (tells_2 tells)).0 (c.in-Ok-horizon_of_device.ensures.horizon (tells_2 tells)).1
-          (last_5 (tells_5 tells)) (sym c.reservation.ensures ∙ c.in-Some.is) (journal (tells_5 tells)) c.in_ok-end_slot.ensures c.step_of.ensures
+          (c.in-Ok-horizon_of_device.ensures.horizon (tells_2 tells)).0
+          (c.in-Ok-horizon_of_device.ensures.horizon (tells_2 tells)).1
+          (last_5 (tells_5 tells)) (sym c.reservation.ensures ∙ c.in-Some.is) (journal (tells_5 tells))
+          c.in_ok-end_slot.ensures c.step_of.ensures
           (extends_then (l5.synced tells) c.end_slot.ensures.puts.called.sure)
-          (λ still. unchanged_then (c.horizon_of_device.ensures.quiet (still_first c.horizon_of_device.ensures.called.foreign_writes c35.foreign_writes still)) (quiet_35 (still_second c.horizon_of_device.ensures.called.foreign_writes c35.foreign_writes still))),
+          (λ still. unchanged_then (c.horizon_of_device.ensures.quiet
+          (still_first c.horizon_of_device.ensures.called.foreign_writes c35.foreign_writes still))
+          (quiet_35 (still_second c.horizon_of_device.ensures.called.foreign_writes c35.foreign_writes still))),
     )
