@@ -39,9 +39,9 @@ abbrev pub AsksForBlank : Plan → Image → Type 0
 AsksForBlank p image =
     (k : ℕ) (value : List ℕ) → slice_get p.journal.now k ≡ Some value → image (target_of value) ≡ None
 
--- Evidence that was found while a plan was put, from entry on, seen from before the volume was settled: it may be named;
--- and where nobody else wrote, and the journal asked for cells that were blank at entry, its rule was broken there
--- before. (Of blank cells before settling this would be false: settling may have carried another journal out into them.)
+-- Evidence that was found while a plan was put, from entry on, seen from before the volume was settled: it may be
+-- named; and where nobody else wrote, and the journal asked for cells that were blank at entry, its rule was broken
+-- before, too. (Cells that were blank before settling would not do: it may have carried another journal out into them.)
 pub record IsFoundByPlan (p : Plan) (old entry new : DeviceState) (e : Evidence) : Type 0 where
   pub licensed : IsLicensed old new e
   pub before : IsStill old.foreign_writes new.foreign_writes → AsksForBlank p entry.image
