@@ -1,5 +1,5 @@
 -- The phases of a plan, one after the other.
-use Rattle.std.proofs.Common.{◌≡◌, ◌≤◌, ◌<◌, ◌+◌, ◌-◌, ◌⊎◌, ℕ, List, length, Some, Ok, Err, refl, sym, ap, ◌∙◌, inl, inr, ⊎_elim, subst, arith}
+use Rattle.std.proofs.Common.{◌≡◌, ◌+◌, ℕ, List, length, Some, Ok, Err, refl, sym, ap, ◌∙◌, inl, inr, ⊎_elim, subst, arith}
 use Rattle.std.specs.Prelude.{IsTrue, Result, slice_get}
 use Rattle.std.proofs.lemmas.Option.{slice_get_within}
 use Rattle.cell_types.specs.Image.{Image}
@@ -8,10 +8,10 @@ use Rattle.cell_types.specs.declared.refusal.Fault.{Fault}
 use Rattle.commit_record.specs.declared.reservation.Reservation.{Reservation}
 use Rattle.phase_writer.specs.declared.put.Put.{Put}
 use Rattle.phase_writer.specs.declared.put.Blame.TheVariants.{Rule}
-use Rattle.phase_writer.specs.Putting.{IsThis, IsInRow, PutsPhase, PutsPhases}
+use Rattle.phase_writer.specs.Putting.{IsThis, PutsPhase, PutsPhases}
 use Rattle.phase_writer.proofs.Phasing.{phases_none, phases_more, phases_ended, phases_wider, phase_told}
 use Rattle.recovery_engine.specs.Ending.{done_put, journal_of}
-use Rattle.recovery_engine.specs.Entries.{AreEntries, IsEntry, IsFloor, target_of}
+use Rattle.recovery_engine.specs.Entries.{AreEntries, target_of}
 use Rattle.recovery_engine.specs.Journal.{IsEntryPut}
 use Rattle.recovery_engine.specs.declared.journal.Journal.{Journal}
 use Rattle.stored_documents.specs.Slots.{cells_for}
@@ -44,9 +44,6 @@ entries_stand first place below n cells image stands entries k less =
     }
 
 module _ (n : ℕ) (p : Plan) where
-  plan : ℕ → Put → Type 0
-  plan = ingest_phases n p
-
   module _ (cells : Reservation) (cells_are : cells ≡ reserved_by p) {s0 s1 : DeviceState} where
     first_phase : (result : Result (Unit {0}) Fault) → PutsPhase (IsThis (reserve_put n cells)) s0 s1 result
         → PutsPhase (IsThis (reserve_put n (reserved_by p))) s0 s1 result
@@ -61,7 +58,8 @@ module _ (n : ℕ) (p : Plan) where
 
     module _ (first : PutsPhase (IsThis (reserve_put n cells)) s0 s1 (Ok tt)) where
       far_1 : PutsPhases (ingest_phases n p) 1 s0 s1 (Ok tt)
-      far_1 = phases_more (ingest_phases n p) 0 tt (phases_none (ingest_phases n p) s0) tt tt (first_phase (Ok tt) first)
+      far_1 = phases_more (ingest_phases n p) 0 tt (phases_none (ingest_phases n p) s0) tt tt
+          (first_phase (Ok tt) first)
 
       module _ {s2 : DeviceState} where
         -- the document and the journal were not
@@ -129,8 +127,8 @@ module _ (n : ℕ) (p : Plan) where
                     → IsAskedPut (journal_from p) p.journal.now put
                 asked_to tells put h =
                     let e = suits.entries h.0 h.1 in
-                    let got : slice_get p.journal.now h.0 ≡ Some e.cell = laid_is (journal_from p) h.0 p.journal.now e.cell
-                    e.stands in
+                    let got : slice_get p.journal.now h.0 ≡ Some e.cell = laid_is (journal_from p) h.0 p.journal.now
+                    e.cell e.stands in
                     let value : e.cell ≡ put.value = some_is e.cell put.value
                     (sym (journal_stands tells h.0 e.cell got) ∙ h.2.stands) in
                     record { k = h.0; value = got ∙ ap Some value; at = h.2.at; blame = h.2.blame }

@@ -1,8 +1,8 @@
 -- What a plan leaves that was carried out.
-use Rattle.std.proofs.Common.{◌≡◌, ◌≤◌, ◌<◌, ◌+◌, ◌-◌, ℕ, List, length, Some, Ok, refl, sym, ap, ◌∙◌, inl, subst, arith}
+use Rattle.std.proofs.Common.{◌≡◌, ◌<◌, ◌+◌, ℕ, List, length, Some, Ok, refl, sym, inl, subst, arith}
 use Rattle.std.specs.Prelude.{IsTrue}
 use Rattle.cell_types.specs.Image.{Image, Extends}
-use Rattle.cell_types.specs.Layout.{Layout, IsLayout, reserve_at, outcome_at, done_at}
+use Rattle.cell_types.specs.Layout.{Layout, IsLayout}
 use Rattle.phase_writer.specs.declared.put.Put.{Put}
 use Rattle.phase_writer.specs.declared.put.Blame.TheVariants.{Rule, Journal}
 use Rattle.phase_writer.specs.Putting.{PutsPhases}
@@ -49,8 +49,8 @@ module _ (g : Layout) (n : ℕ) (p : Plan) (old : Image) {s2 s4 : DeviceState} (
         volume = subst (λ (k : ℕ). IsVolume k s4.sure g) (sym phases.puts.called.cells) (volume_on up volume);
         slot = less;
         done = record {
-          commits = subst (λ (b : ℕ). Commits g s4.sure n p.start (reserved_by p).length b (length p.journal.now)) d.bytes
-              commits;
+          commits = subst (λ (b : ℕ). Commits g s4.sure n p.start (reserved_by p).length b (length p.journal.now))
+              d.bytes commits;
           done = done_by g n p layout less suits s4.sure (put_sure 4 (done_put n) (omega arith) refl);
         };
         spells = subst (λ (a : ℕ). Spells s4.sure a (stored_bytes id body)) begins

@@ -1,6 +1,5 @@
 -- What a crash leaves of the cells of a slot's log, by the phase that it fell in.
-use Rattle.std.proofs.Common.{◌≡◌, ◌≤◌, ◌<◌, ◌+◌, ◌⊎◌, ℕ, List, Option, length, Some, None, refl, sym, ap, ◌∙◌, inl, ⊎_elim, subst, arith}
-use Rattle.std.specs.Prelude.{slice_get}
+use Rattle.std.proofs.Common.{◌≡◌, ◌≤◌, ◌<◌, ◌+◌, ℕ, List, Option, length, Some, None, refl, sym, ap, ◌∙◌, inl, ⊎_elim, subst, arith}
 use Rattle.std.proofs.lemmas.Option.{none-some}
 use Rattle.cell_types.specs.Image.{Image}
 use Rattle.cell_types.specs.Layout.{Layout, reserve_at, outcome_at, done_at}
@@ -10,17 +9,15 @@ use Rattle.commit_record.specs.declared.slot.SlotState.{SlotState}
 use Rattle.commit_record.specs.declared.slot.SlotState.TheVariants.{Unused, Reserved, Committed, Done}
 use Rattle.phase_writer.specs.declared.put.Put.{Put}
 use Rattle.phase_writer.specs.declared.put.Blame.TheVariants.{Rule}
-use Rattle.phase_writer.specs.Putting.{AreStanding, IsPut, IsInFirst, LeavesPhases}
+use Rattle.phase_writer.specs.Putting.{AreStanding, IsPut, IsInFirst}
 use Rattle.recovery_engine.specs.Ending.{done_put}
 use Rattle.stored_documents.specs.Documents.{Spells, content_at, document_at, stored_bytes}
 use Rattle.stored_documents.specs.Slots.{Reserves, Commits, cells_for}
 use Rattle.stored_documents.specs.Volumes.{Holds}
 use Rattle.stored_documents.proofs.Holding.{one_record_holds}
 use Rattle.tamper_rules.specs.declared.numbers.TheConstants.{STRAY_CELL}
-use Rattle.worm_device.specs.Counts.{IsStill}
-use Rattle.worm_device.specs.State.{DeviceState}
-use Rattle.plan_writer.specs.CrashLaws.{IsLeftByPlan, IsPlannedFor, IsWholeOrUncommitted}
-use Rattle.plan_writer.specs.Planned.{INGEST_PHASES, IsStoredPut, PlansDocument, Suits, commit_put, document_from, ingest_phases, reserve_put, reserved_by}
+use Rattle.plan_writer.specs.CrashLaws.{IsLeftByPlan, IsWholeOrUncommitted}
+use Rattle.plan_writer.specs.Planned.{IsStoredPut, PlansDocument, Suits, commit_put, document_from, ingest_phases, reserve_put, reserved_by}
 use Rattle.plan_writer.specs.declared.plan.Plan.{Plan}
 use Rattle.plan_writer.proofs.LogCells.{commit_in, done_in, reserve_in}
 use Rattle.plan_writer.proofs.Stated.{commits_by, reserves_by}
@@ -97,9 +94,6 @@ module _ (g : Layout) (n : ℕ) (p : Plan) (image : Image) (left : IsLeftByPlan 
       same = (ended_in v here).1;
     };
   }
-
-  IsLeftIn : Type 0
-  IsLeftIn = (state : SlotState) × IsState g image image n state
 
   -- the slot is in a state
   pub has_state : (state : SlotState) × IsState g image image n state

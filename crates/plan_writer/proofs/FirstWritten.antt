@@ -1,5 +1,5 @@
 -- Why a written cell of a free slot breaks a rule.
-use Rattle.std.proofs.Common.{◌≡◌, ◌≤◌, ◌<◌, ◌+◌, ℕ, List, None, refl, inl, inr, arith}
+use Rattle.std.proofs.Common.{◌≡◌, ◌≤◌, ◌<◌, ◌+◌, ℕ, None, inl, inr, arith}
 use Rattle.cell_types.specs.Image.{Image}
 use Rattle.cell_types.specs.Layout.{Layout, reserve_at, pool_at}
 use Rattle.cell_types.specs.declared.refusal.Evidence.{Evidence}
@@ -9,7 +9,7 @@ use Rattle.commit_record.proofs.Breaking.{breaks}
 use Rattle.stored_documents.specs.Slots.{EndsBelow}
 use Rattle.stored_documents.specs.Volumes.{IsVolume, IsWritten}
 use Rattle.tamper_rules.specs.Rules.{DoneCells, IsBroken, IsPlaceOf, OutcomeCells, StrayCells}
-use Rattle.plan_writer.specs.Blank.{IsFirstWritten, IsOfCells, done, outcome, reserved, spare}
+use Rattle.plan_writer.specs.Blank.{IsFirstWritten, done, outcome, reserved, spare}
 
 -- it stays the first where the cells before it stay blank
 pub first_where : (old new : Image) (n : ℕ) (cells : Reservation) (e : Evidence)

@@ -1,7 +1,7 @@
 -- The phases of a plan, seen from before looks that came first.
-use Rattle.std.proofs.Common.{◌≡◌, ◌≤◌, ◌+◌, ◌-◌, ℕ, Ok, Err, inl, inr, ⊎_elim, subst, arith}
+use Rattle.std.proofs.Common.{◌≤◌, ◌+◌, ◌-◌, ℕ, Ok, Err, inl, inr, ⊎_elim, subst, arith}
 use Rattle.std.specs.Prelude.{Result}
-use Rattle.cell_types.specs.Image.{Image, IsUnchanged}
+use Rattle.cell_types.specs.Image.{IsUnchanged}
 use Rattle.cell_types.specs.declared.refusal.Fault.{Fault}
 use Rattle.phase_writer.specs.declared.put.Put.{Put}
 use Rattle.phase_writer.specs.Putting.{LeavesPhases, PutsPhases}
@@ -16,7 +16,8 @@ use Rattle.plan_writer.specs.declared.plan.Plan.{Plan}
 -- phases of a plan are all that putting it does
 pub put_by_phases : (n : ℕ) (p : Plan) (old new : DeviceState) (result : Result (Unit {0}) Fault)
     → PutsPhases (ingest_phases n p) INGEST_PHASES old new result → PutsPlan n p old new
-put_by_phases n p old new result phases = record { called = phases.puts.called; only = phases.puts.only; crashes = phases.crashes }
+put_by_phases n p old new result phases =
+    record { called = phases.puts.called; only = phases.puts.only; crashes = phases.crashes }
 
 module _ (n : ℕ) (p : Plan) {a b : DeviceState} (ab : Called a b)
     (quiet : IsStill a.foreign_writes b.foreign_writes → IsUnchanged a.image b.image) where

@@ -1,8 +1,8 @@
 -- A volume that was settled, and has only been looked at since, as a plan finds it.
-use Rattle.std.proofs.Common.{◌≡◌, ◌≤◌, ◌<◌, ℕ, List, Some, None, Ok, sym, ◌∙◌, subst, arith}
+use Rattle.std.proofs.Common.{◌≡◌, ◌<◌, ℕ, List, Some, None, sym, ◌∙◌, subst}
 use Rattle.std.specs.Prelude.{IsTrue}
-use Rattle.cell_types.specs.Image.{Image, Extends, IsUnchanged}
-use Rattle.cell_types.specs.Layout.{Layout, reserve_at}
+use Rattle.cell_types.specs.Image.{IsUnchanged}
+use Rattle.cell_types.specs.Layout.{reserve_at}
 use Rattle.recovery_engine.specs.Settling.{HasSettled, IsReady}
 use Rattle.recovery_engine.specs.declared.settling.Ready.{Ready}
 use Rattle.stored_documents.specs.Slots.{EndsBelow}
@@ -13,7 +13,7 @@ use Rattle.worm_device.specs.Counts.{IsStill}
 use Rattle.worm_device.specs.State.{DeviceState}
 use Rattle.worm_device.proofs.Counting.{still_first, still_second}
 use Rattle.worm_device.proofs.Elapsing.{called_then}
-use Rattle.worm_device.proofs.Images.{extends_self, extends_then}
+use Rattle.worm_device.proofs.Images.{extends_self}
 use Rattle.plan_writer.proofs.SettledBefore.{IsAhead, ends_before, stood_ahead, volume_before}
 
 module _ {s0 s2 : DeviceState} (r : Ready) (has : HasSettled s0 s2 r) where
@@ -54,8 +54,8 @@ module _ {s0 s2 : DeviceState} (r : Ready) (has : HasSettled s0 s2 r) where
         -- and what stands ahead of the log stood there before
         pub ahead_0 : (cell : ℕ) (v : List ℕ) → IsAhead r.volume.geometry r.horizon r.edge cell
             → s2.image cell ≡ Some v → s0.image cell ≡ Some v
-        ahead_0 cell v ahead here = stood_ahead r ready has.settles.ends.0 less (has.settles.writes tells) (still_1 still)
-            cell v ahead (sym (same still cell) ∙ here)
+        ahead_0 cell v ahead here = stood_ahead r ready has.settles.ends.0 less (has.settles.writes tells)
+            (still_1 still) cell v ahead (sym (same still cell) ∙ here)
 
         pub volume_0 : IsVolume s0.cells s0.image r.volume.geometry
         volume_0 = volume_before r ready has.settles.ends.0 less (has.settles.writes tells) (still_1 still)

@@ -1,5 +1,5 @@
 -- How putting a plan ends, once the free slot was looked at.
-use Rattle.std.proofs.Common.{◌≡◌, ◌≤◌, ◌<◌, ℕ, None, Ok, Err, refl, sym, subst, arith}
+use Rattle.std.proofs.Common.{◌<◌, Ok, Err, refl, arith}
 use Rattle.std.specs.Prelude.{IsTrue}
 use Rattle.cell_types.specs.Image.{Extends}
 use Rattle.cell_types.specs.Layout.{IsLayout}
@@ -12,7 +12,7 @@ use Rattle.stored_documents.specs.Slots.{IsUnused}
 use Rattle.stored_documents.proofs.Extending.{blank_before, taken_on}
 use Rattle.worm_device.specs.State.{DeviceState}
 use Rattle.worm_device.proofs.Images.{extends_then}
-use Rattle.plan_writer.specs.Blank.{IsFree, LooksForSlot}
+use Rattle.plan_writer.specs.Blank.{IsFree}
 use Rattle.plan_writer.specs.Planned.{INGEST_PHASES, Suits, ingest_phases, reserved_by}
 use Rattle.plan_writer.specs.PuttingPlans.{PlanEnds}
 use Rattle.plan_writer.specs.declared.plan.Plan.{Plan}
@@ -40,15 +40,18 @@ module _ (p : Plan) {s0 s2 : DeviceState} (r : Ready) (has : HasSettled s0 s2 r)
     refl,
     λ tells.
         let ready = has.settles.ends.1 tells in
-        carried_out r.volume.geometry r.horizon p s0.image layout less suits u phases (tells_2 r has tells) (volume_2 r has tells)
-        (taken_on r.horizon has.looked.image ready.taken) (unused tells) (extends_then ready.synced has.looked.sure),
+        carried_out r.volume.geometry r.horizon p s0.image layout less suits u phases (tells_2 r has tells)
+        (volume_2 r has tells) (taken_on r.horizon has.looked.image ready.taken) (unused tells)
+        (extends_then ready.synced has.looked.sure),
   )
 
   -- or a cell was taken, or a call failed
-  pub plan_refused : {s4 : DeviceState} (fault : Fault) → PutsPhases (ingest_phases r.horizon p) INGEST_PHASES s2 s4 (Err fault)
+  pub plan_refused : {s4 : DeviceState} (fault : Fault)
+      → PutsPhases (ingest_phases r.horizon p) INGEST_PHASES s2 s4 (Err fault)
       → Extends s4.sure s4.image → PlanEnds r.volume.geometry p r.horizon s0 s2 s4 (Err fault)
   plan_refused ReadFault phases proper = omega (arith, phases.puts.ends, (called r has).faults)
   plan_refused (Tampered e) phases proper = λ tells.
       let now = tells_2 r has tells in
-      taken_found r.volume.geometry r.horizon p layout less suits (called r has) phases.puts.called (volume_2 r has tells)
-      (free now) (λ still. free_2 r has tells less still) e (phases.sure now) (phases.puts.only now) proper
+      taken_found r.volume.geometry r.horizon p layout less suits (called r has) phases.puts.called
+      (volume_2 r has tells) (free now) (λ still. free_2 r has tells less still) e (phases.sure now)
+      (phases.puts.only now) proper

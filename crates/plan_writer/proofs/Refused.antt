@@ -1,8 +1,8 @@
 -- The look at the free slot was refused.
-use Rattle.std.proofs.Common.{◌≡◌, ◌≤◌, ◌<◌, ◌+◌, ℕ, List, Some, None, Err, refl, sym, ◌∙◌, inl, inr, subst, arith}
+use Rattle.std.proofs.Common.{◌≡◌, ◌<◌, ℕ, Some, Err, refl, sym, ◌∙◌, inl, inr, subst, arith}
 use Rattle.std.specs.Prelude.{IsTrue}
 use Rattle.cell_types.specs.Image.{Image, IsUnchanged}
-use Rattle.cell_types.specs.Layout.{Layout, pool_at}
+use Rattle.cell_types.specs.Layout.{Layout}
 use Rattle.cell_types.specs.declared.refusal.Evidence.{Evidence}
 use Rattle.cell_types.specs.declared.refusal.Fault.{Fault}
 use Rattle.cell_types.specs.declared.refusal.Fault.TheVariants.{Tampered, ReadFault}
@@ -17,7 +17,7 @@ use Rattle.worm_device.specs.Counts.{IsStill}
 use Rattle.worm_device.specs.State.{DeviceState}
 use Rattle.worm_device.proofs.Counting.{still_first, still_second}
 use Rattle.worm_device.proofs.Images.{extends_self}
-use Rattle.plan_writer.specs.Blank.{IsFirstWritten, IsOfCells, LooksForSlot, done, outcome, reserved, spare}
+use Rattle.plan_writer.specs.Blank.{IsFirstWritten, LooksForSlot, done, outcome, reserved, spare}
 use Rattle.plan_writer.specs.Planned.{Suits, reserved_by}
 use Rattle.plan_writer.specs.PuttingPlans.{IsFoundByPlan, IsPlanRule, PlanEnds}
 use Rattle.plan_writer.specs.declared.plan.Plan.{Plan}
@@ -52,7 +52,8 @@ module _ (p : Plan) {s0 s2 s3 : DeviceState} (r : Ready) (has : HasSettled s0 s2
 
     ends_3 : EndsBelow r.volume.geometry s3.image r.horizon p.start
     ends_3 = subst (EndsBelow r.volume.geometry s3.image r.horizon) (sym starts)
-        (ends_on {before = s2.image} {before' = s2.image} (extends_self s2.image) looks.called.image (ends_2 r has tells))
+        (ends_on {before = s2.image} {before' = s2.image} (extends_self s2.image) looks.called.image
+        (ends_2 r has tells))
 
     module _ (still : IsStill s0.foreign_writes s3.foreign_writes) where
       still_2 : IsStill s0.foreign_writes s2.foreign_writes
@@ -83,8 +84,8 @@ module _ (p : Plan) {s0 s2 s3 : DeviceState} (r : Ready) (has : HasSettled s0 s2
                 (subst (λ (a : ℕ). IsAhead r.volume.geometry r.horizon a e.cell) starts ahead)
                 (sym (same e.cell) ∙ stands);
           })
-          (first_where s2.image s0.image r.horizon (reserved_by p) e (λ cell none. blank_before (called r has).image none)
-          first))
+          (first_where s2.image s0.image r.horizon (reserved_by p) e
+          (λ cell none. blank_before (called r has).image none) first))
 
     found : IsFoundByPlan p s0 s2 s3 e
     found = record {

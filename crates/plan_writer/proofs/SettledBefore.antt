@@ -1,15 +1,14 @@
 -- Which cells settling puts: those that end the last slot, and none that is ahead of the log.
-use Rattle.std.proofs.Common.{◌≡◌, ◌≤◌, ◌<◌, ◌+◌, ◌-◌, ◌⊎◌, ℕ, List, Some, None, Ok, refl, sym, ap, ◌∙◌, inl, inr, ⊎_elim, subst, arith}
-use Rattle.std.specs.Prelude.{IsTrue}
+use Rattle.std.proofs.Common.{◌≡◌, ◌≤◌, ◌<◌, ◌+◌, ◌⊎◌, ℕ, List, Some, Ok, sym, ap, ◌∙◌, inl, inr, ⊎_elim, subst, arith}
 use Rattle.std.proofs.lemmas.Option.{none-some}
-use Rattle.cell_types.specs.Image.{Image, Extends}
+use Rattle.cell_types.specs.Image.{Image}
 use Rattle.cell_types.specs.Layout.{Layout, reserve_at, outcome_at, done_at, list_at}
 use Rattle.commit_record.specs.States.{IsState}
 use Rattle.commit_record.specs.declared.slot.SlotState.{SlotState}
 use Rattle.commit_record.specs.declared.slot.SlotState.TheVariants.{Unused, Reserved, Abandoned, Committed, Done}
 use Rattle.phase_writer.specs.declared.put.Put.{Put}
 use Rattle.phase_writer.specs.Putting.{IsInFirst, IsPut}
-use Rattle.recovery_engine.specs.Ending.{HasJournal, IsFirstEnd, IsLastEnd, abandon_put, done_put, end_phases}
+use Rattle.recovery_engine.specs.Ending.{HasJournal, abandon_put, done_put, end_phases}
 use Rattle.recovery_engine.specs.Journal.{IsEntryPut}
 use Rattle.recovery_engine.specs.Settling.{EndsByPhases, IsEnding, IsReady, LiesInBounds, settle_plan}
 use Rattle.recovery_engine.specs.declared.settling.Ready.{Ready}
@@ -85,15 +84,10 @@ IsAhead g n edge cell = ((reserve_at n ≤ cell) × (cell < list_at g 0)) ⊎ (e
 module _ {s0 s1 : DeviceState} (r : Ready) (ready : IsReady s0 s1 r) (bounds : LiesInBounds s1 r)
     (less : r.horizon < r.volume.geometry.slots) (writes : EndsByPhases s0 s1 (Ok r))
     (still : IsStill s0.foreign_writes s1.foreign_writes) where
-  g : Layout
-  g = r.volume.geometry
-
-  IsPlanned : Put → Type 0
-  IsPlanned = IsInFirst (settle_plan writes.between writes.slot writes.state) 3
-
   ending : (put : Put) → IsInFirst (settle_plan writes.between writes.slot writes.state) 3 put
       → IsEnding s0.cells s0.image writes.between writes.slot writes.state
-  ending put h = writes.ending (some_phases r.volume.geometry s0.image writes.between writes.slot writes.state h.0 put h.2)
+  ending put h = writes.ending
+      (some_phases r.volume.geometry s0.image writes.between writes.slot writes.state h.0 put h.2)
 
   -- what stood after settling stood before it, where it is not put
   stood : (cell : ℕ) (v : List ℕ)
@@ -129,7 +123,8 @@ module _ {s0 s1 : DeviceState} (r : Ready) (ready : IsReady s0 s1 r) (bounds : L
             (λ (yes : writes.slot < r.horizon). yes)
             (λ (above : r.horizon ≤ writes.slot).
             let w = e.taken r.horizon (omega (arith, above)) in
-            absurd (none-some w.found (sym (ready.free still less) ∙ writes.stands.keeps (reserve_at r.horizon) w.found w.stands)))
+            absurd (none-some w.found (sym (ready.free still less)
+            ∙ writes.stands.keeps (reserve_at r.horizon) w.found w.stands)))
             order
 
     -- so no reserve cell is put
@@ -178,8 +173,8 @@ module _ {s0 s1 : DeviceState} (r : Ready) (ready : IsReady s0 s1 r) (bounds : L
     index_below : IsIndexBelow r.volume.geometry writes.between writes.slot put.at → put.at < r.edge
     index_below c = ⊎_elim
         (λ (a : (r.horizon ≡ 0) × (r.edge ≡ _)). absurd (omega (arith, a.0, slot_below put h)))
-        (λ (b : (m : ℕ) × (start : ℕ) × (length : ℕ) × (r.horizon ≡ m + 1) × Reserves r.volume.geometry s1.image m start length
-        × (r.edge ≡ start + length)).
+        (λ (b : (m : ℕ) × (start : ℕ) × (length : ℕ) × (r.horizon ≡ m + 1)
+        × Reserves r.volume.geometry s1.image m start length × (r.edge ≡ start + length)).
         let same : b.0 ≡ writes.slot = omega (arith, b.3, slot_last) in
         let last = subst (λ (m : ℕ). Reserves r.volume.geometry s1.image m b.1 b.2) same b.4 in
         let mine = reserves_on writes.stands c.reserves in
@@ -192,10 +187,12 @@ module _ {s0 s1 : DeviceState} (r : Ready) (ready : IsReady s0 s1 r) (bounds : L
     -- so no put lies ahead of the log
     not_ahead : IsAhead r.volume.geometry r.horizon r.edge put.at → ⊥
     not_ahead ahead = ⊎_elim
-        (λ (a : put.at ≡ outcome_at writes.slot). low (omega (arith, a, slot_below put h)) (omega (arith, a, slot_below put h, bounds.horizon, bounds.from)))
+        (λ (a : put.at ≡ outcome_at writes.slot). low (omega (arith, a, slot_below put h))
+        (omega (arith, a, slot_below put h, bounds.horizon, bounds.from)))
         (λ (rest : (put.at ≡ done_at writes.slot)
         ⊎ IsIndexBelow r.volume.geometry writes.between writes.slot put.at). ⊎_elim
-        (λ (b : put.at ≡ done_at writes.slot). low (omega (arith, b, slot_below put h)) (omega (arith, b, slot_below put h, bounds.horizon, bounds.from)))
+        (λ (b : put.at ≡ done_at writes.slot). low (omega (arith, b, slot_below put h))
+        (omega (arith, b, slot_below put h, bounds.horizon, bounds.from)))
         (λ (c : IsIndexBelow r.volume.geometry writes.between writes.slot put.at). ⊎_elim
         (λ (x : (reserve_at r.horizon ≤ put.at) × (put.at < list_at r.volume.geometry 0)). omega (arith, x.1, c.from))
         (λ (y : r.edge ≤ put.at). omega (arith, y, index_below c))
@@ -205,7 +202,8 @@ module _ {s0 s1 : DeviceState} (r : Ready) (ready : IsReady s0 s1 r) (bounds : L
       where
         low : put.at < reserve_at r.horizon → put.at < r.edge → ⊥
         low before under = ⊎_elim
-            (λ (x : (reserve_at r.horizon ≤ put.at) × (put.at < list_at r.volume.geometry 0)). omega (arith, x.0, before))
+            (λ (x : (reserve_at r.horizon ≤ put.at) × (put.at < list_at r.volume.geometry 0)).
+            omega (arith, x.0, before))
             (λ (y : r.edge ≤ put.at). omega (arith, y, under))
             ahead
 
@@ -230,17 +228,24 @@ module _ {s0 s1 : DeviceState} (r : Ready) (ready : IsReady s0 s1 r) (bounds : L
   -- and the reserve cells
   pub ends_before : EndsBelow r.volume.geometry s0.image r.horizon r.edge
   ends_before = ⊎_elim inl
-      (λ (b : (m : ℕ) × (start : ℕ) × (length : ℕ) × (r.horizon ≡ m + 1) × Reserves r.volume.geometry s1.image m start length
-      × (r.edge ≡ start + length)).
-      inr (b.0, b.1, b.2, b.3, record {
-        slot = b.4.slot;
-        reserve = record {
-          cell = b.4.reserve.cell;
-          stands = stood (reserve_at b.0) b.4.reserve.cell (λ put h at. not_reserve put h b.0 b.4.slot at)
-              b.4.reserve.stands;
-          is = b.4.reserve.is;
-        };
-        from = b.4.from;
-        to = b.4.to;
-      }, b.5))
+      (λ (b : (m : ℕ) × (start : ℕ) × (length : ℕ) × (r.horizon ≡ m + 1)
+      × Reserves r.volume.geometry s1.image m start length × (r.edge ≡ start + length)).
+      inr (
+        b.0,
+        b.1,
+        b.2,
+        b.3,
+        record {
+          slot = b.4.slot;
+          reserve = record {
+            cell = b.4.reserve.cell;
+            stands = stood (reserve_at b.0) b.4.reserve.cell (λ put h at. not_reserve put h b.0 b.4.slot at)
+                b.4.reserve.stands;
+            is = b.4.reserve.is;
+          };
+          from = b.4.from;
+          to = b.4.to;
+        },
+        b.5,
+      ))
       ready.edge

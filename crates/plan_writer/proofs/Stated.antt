@@ -1,15 +1,16 @@
 -- What the cells of a plan state, where they stand.
-use Rattle.std.proofs.Common.{◌≡◌, ◌≤◌, ◌<◌, ◌+◌, ◌-◌, ℕ, List, length, Some, refl, arith}
+use Rattle.std.proofs.Common.{◌≡◌, ◌≤◌, ◌<◌, ℕ, length, Some, refl, arith}
 use Rattle.cell_types.specs.Image.{Image}
 use Rattle.cell_types.specs.Layout.{Layout, IsLayout, reserve_at, outcome_at, done_at}
 use Rattle.cell_types.specs.declared.record_cell.RecordCell.TheVariants as records
 use Rattle.recovery_engine.specs.Ending.{done_put}
-use Rattle.stored_documents.specs.Slots.{Reserves, Commits, IsDone, cells_for}
+use Rattle.stored_documents.specs.Slots.{Reserves, Commits}
 use Rattle.stored_documents.specs.Volumes.{Holds}
 use Rattle.plan_writer.specs.Planned.{Suits, commit_put, reserve_put, reserved_by}
 use Rattle.plan_writer.specs.declared.plan.Plan.{Plan}
 
-module _ (g : Layout) (n : ℕ) (p : Plan) (layout : IsLayout g) (less : n < g.slots) (suits : Suits g p) (image : Image) where
+module _ (g : Layout) (n : ℕ) (p : Plan) (layout : IsLayout g) (less : n < g.slots) (suits : Suits g p)
+    (image : Image) where
   -- the slot reserves the plan's cells
   pub reserves_by : image (reserve_at n) ≡ Some (reserve_put n (reserved_by p)).value
       → Reserves g image n p.start (reserved_by p).length
@@ -54,5 +55,9 @@ module _ (g : Layout) (n : ℕ) (p : Plan) (layout : IsLayout g) (less : n < g.s
   done_by stands = record {
     cell = (done_put n).value;
     stands = stands;
-    is = record { fits = omega (arith, less, layout.slots); well_formed = omega (arith, less, layout.slots); same = refl };
+    is = record {
+      fits = omega (arith, less, layout.slots);
+      well_formed = omega (arith, less, layout.slots);
+      same = refl;
+    };
   }

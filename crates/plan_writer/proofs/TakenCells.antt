@@ -1,24 +1,24 @@
 -- A cell of a plan was found taken.
-use Rattle.std.proofs.Common.{◌≡◌, ◌≢◌, ◌≤◌, ◌<◌, ◌+◌, ◌-◌, ◌⊎◌, ℕ, zero, suc, List, Option, length, Some, None, Ok, Err, refl, sym, ap, ◌∙◌, inl, inr, ⊎_elim, subst, arith}
-use Rattle.std.specs.Prelude.{IsTrue, slice_get}
+use Rattle.std.proofs.Common.{◌≡◌, ◌<◌, ◌+◌, ◌⊎◌, ℕ, zero, suc, List, Option, length, Some, None, refl, sym, ap, ◌∙◌, inr, ⊎_elim, subst, arith}
+use Rattle.std.specs.Prelude.{slice_get}
 use Rattle.std.proofs.lemmas.Option.{none-some, slice_get_within}
-use Rattle.cell_types.specs.Image.{Image, Extends}
+use Rattle.cell_types.specs.Image.{Extends}
 use Rattle.cell_types.specs.Layout.{Layout, IsLayout, reserve_at, outcome_at, done_at}
 use Rattle.cell_types.specs.Records.{IsRecordCell}
 use Rattle.cell_types.specs.declared.refusal.Evidence.{Evidence}
 use Rattle.phase_writer.specs.declared.put.Blame.{Blame}
 use Rattle.phase_writer.specs.declared.put.Blame.TheVariants.{Rule}
 use Rattle.phase_writer.specs.declared.put.Put.{Put}
-use Rattle.phase_writer.specs.Putting.{AreStanding, IsInFirst, IsInRow, IsPut, IsPutTwice, IsTakenIn, PutsPhases, blamed}
+use Rattle.phase_writer.specs.Putting.{AreStanding, IsInFirst, IsInRow, IsPut, IsPutTwice, IsTakenIn, blamed}
 use Rattle.recovery_engine.specs.Ending.{done_put}
 use Rattle.recovery_engine.specs.Entries.{target_of}
-use Rattle.stored_documents.specs.Slots.{Commits, IsDone}
+use Rattle.stored_documents.specs.Slots.{Commits}
 use Rattle.stored_documents.specs.Volumes.{IsVolume}
 use Rattle.stored_documents.proofs.Extending.{volume_on}
 use Rattle.stored_documents.proofs.Holding.{some_is}
 use Rattle.tamper_rules.specs.Journals.{Copies, journal_at}
-use Rattle.tamper_rules.specs.Rules.{DoneCells, IsBroken, IsPlaceOf, OutcomeCells, RedoneRule, ReserveCells, StrayCells, Targets}
-use Rattle.tamper_rules.specs.declared.numbers.TheConstants.{DONE_CELL, OTHER_TARGET, OUTCOME_CELL, RESERVE_CELL, STRAY_CELL}
+use Rattle.tamper_rules.specs.Rules.{DoneCells, IsPlaceOf, OutcomeCells, RedoneRule, ReserveCells, StrayCells, Targets}
+use Rattle.tamper_rules.specs.declared.numbers.TheConstants.{DONE_CELL, OUTCOME_CELL, RESERVE_CELL, STRAY_CELL}
 use Rattle.worm_device.specs.Counts.{IsStill}
 use Rattle.worm_device.specs.State.{DeviceState}
 use Rattle.worm_device.specs.Calls.{Called}
@@ -36,8 +36,8 @@ by_cell R None none some = none refl
 by_cell R (Some v) none some = some v refl
 
 -- what is blamed by the number of a rule
-blames : (w : Blame) (number at : ℕ) (value found : List ℕ) (e : Evidence) → e ≡ blamed w at value found → w ≡ Rule number
-    → e ≡ record { rule = number; cell = at; found = found }
+blames : (w : Blame) (number at : ℕ) (value found : List ℕ) (e : Evidence) → e ≡ blamed w at value found
+    → w ≡ Rule number → e ≡ record { rule = number; cell = at; found = found }
 blames w number at value found e is blame = is ∙ ap (λ (b : Blame). blamed b at value found) blame
 
 module _ (g : Layout) (n : ℕ) (p : Plan) {s0 s2 s4 : DeviceState} (layout : IsLayout g) (less : n < g.slots)
@@ -59,7 +59,8 @@ module _ (g : Layout) (n : ℕ) (p : Plan) {s0 s2 s4 : DeviceState} (layout : Is
 
   -- a cell that was blank at entry, and is put with one value, holds it where nobody else wrote
   never : IsStill s0.foreign_writes s4.foreign_writes → s2.image t.taken.put.at ≡ None
-      → ((j : ℕ) (other : Put) → ingest_phases n p j other → other.at ≡ t.taken.put.at → other.value ≡ t.taken.put.value)
+      → ((j : ℕ) (other : Put) → ingest_phases n p j other → other.at ≡ t.taken.put.at
+      → other.value ≡ t.taken.put.value)
       → ⊥
   never still blank once = ⊎_elim
       (λ (stood : s2.image t.taken.put.at ≡ Some t.taken.found). none-some t.taken.found (sym blank ∙ stood))
@@ -70,11 +71,13 @@ module _ (g : Layout) (n : ℕ) (p : Plan) {s0 s2 s4 : DeviceState} (layout : Is
   -- so one of the slot's own cells was taken by somebody else
   own : (number : ℕ) → IsPlanRule number → t.taken.put.blame ≡ Rule number → IsPlaceOf g number t.taken.put.at
       → (IsStill s0.foreign_writes s2.foreign_writes → s2.image t.taken.put.at ≡ None)
-      → ((j : ℕ) (other : Put) → ingest_phases n p j other → other.at ≡ t.taken.put.at → other.value ≡ t.taken.put.value)
+      → ((j : ℕ) (other : Put) → ingest_phases n p j other → other.at ≡ t.taken.put.at
+      → other.value ≡ t.taken.put.value)
       → IsFoundByPlan p s0 s2 s4 e
   own number named blame place blank once =
       subst (IsFoundByPlan p s0 s2 s4)
-      (sym (blames t.taken.put.blame number t.taken.put.at t.taken.put.value t.taken.found e t.taken.is blame)) (record {
+      (sym (blames t.taken.put.blame number t.taken.put.at t.taken.put.value t.taken.found e t.taken.is blame))
+      (record {
         rule = named;
         licensed = record {
           stands = t.taken.stands;
@@ -135,8 +138,8 @@ module _ (g : Layout) (n : ℕ) (p : Plan) {s0 s2 s4 : DeviceState} (layout : Is
         (λ blank. ⊎_elim
         (λ (none : s4.image (target_of t.taken.put.value) ≡ None). none-some t.taken.found (sym none ∙ other))
         (λ (same : s4.image (target_of t.taken.put.value) ≡ s4.image (journal_from p + a.k)). differs same)
-        (met.committed n p.start (reserved_by p).length p.bytes (length p.journal.now) a.k (target_of t.taken.put.value) _
-        (record { commits = commits; done = blank }) copied here))
+        (met.committed n p.start (reserved_by p).length p.bytes (length p.journal.now) a.k
+        (target_of t.taken.put.value) _ (record { commits = commits; done = blank }) copied here))
         (λ v done. differs
         (met.done n p.start (reserved_by p).length p.bytes (length p.journal.now) a.k (target_of t.taken.put.value) _
         (record {
@@ -154,7 +157,8 @@ module _ (g : Layout) (n : ℕ) (p : Plan) {s0 s2 s4 : DeviceState} (layout : Is
     target : IsFoundByPlan p s0 s2 s4 e
     target =
         subst (IsFoundByPlan p s0 s2 s4)
-        (sym (t.taken.is ∙ ap (λ (w : Blame). blamed w t.taken.put.at t.taken.put.value t.taken.found) a.blame)) (record {
+        (sym (t.taken.is ∙ ap (λ (w : Blame). blamed w t.taken.put.at t.taken.put.value t.taken.found) a.blame))
+        (record {
           rule = inr (inr (inr (inl refl)));
           licensed = record {
             stands = stands;
@@ -185,8 +189,14 @@ module _ (g : Layout) (n : ℕ) (p : Plan) {s0 s2 s4 : DeviceState} (layout : Is
       (λ i other q here. ap (λ (x : Put). x.value) (reserve_in g n p less suits i other q (here ∙ at)).1
       ∙ sym (ap (λ (x : Put). x.value) h))
   by_phase (suc zero) h before =
-      own STRAY_CELL (inr (inr (inr (inr refl)))) (stored_blame h)
-      (StrayCells, refl, inr (inr (omega (arith, stored_from p t.taken.put h, suits.from), omega (arith, stored_to p t.taken.put h, suits.to))))
+      own STRAY_CELL (inr (inr (inr (inr refl)))) (stored_blame h) (
+        StrayCells,
+        refl,
+        inr (inr (
+          omega (arith, stored_from p t.taken.put h, suits.from),
+          omega (arith, stored_to p t.taken.put h, suits.to),
+        )),
+      )
       (λ still. free.reserved t.taken.put.at
       (record { from = omega (arith, stored_from p t.taken.put h); below = stored_to p t.taken.put h }))
       (once_stored g n p less suits t.taken.put h)

@@ -1,11 +1,11 @@
 -- The cells that a plan's journal asks for: they rise, from the first list on and up to the document.
-use Rattle.std.proofs.Common.{◌≡◌, ◌≤◌, ◌<◌, ◌+◌, ◌⊎◌, ℕ, zero, suc, List, length, Some, sym, ap, ◌∙◌, inl, inr, ⊎_elim, subst, arith}
+use Rattle.std.proofs.Common.{◌≡◌, ◌≤◌, ◌<◌, ◌+◌, ◌⊎◌, ℕ, zero, suc, List, length, Some, sym, ap, ◌∙◌, ⊎_elim, subst, arith}
 use Rattle.std.specs.Prelude.{slice_get}
 use Rattle.std.proofs.lemmas.Option.{slice_get_within}
 use Rattle.cell_types.specs.Image.{Image}
 use Rattle.cell_types.specs.Layout.{Layout, list_at}
 use Rattle.phase_writer.specs.declared.put.Put.{Put}
-use Rattle.recovery_engine.specs.Entries.{AreEntries, IsEntry, target_of}
+use Rattle.recovery_engine.specs.Entries.{AreEntries, target_of}
 use Rattle.stored_documents.proofs.Holding.{some_is}
 use Rattle.plan_writer.specs.Planned.{IsAskedPut, Suits, document_from, journal_from, laid}
 use Rattle.plan_writer.specs.declared.plan.Plan.{Plan}
@@ -97,14 +97,22 @@ module _ (g : Layout) (p : Plan) (suits : Suits g p) where
   -- what is asked for lies from the first list on
   pub asked_from : (put : Put) → IsAskedPut (journal_from p) p.journal.now put → list_at g 0 ≤ put.at
   asked_from put a =
-      omega (arith, a.at, entries_from (list_at g 0) (laid (journal_from p) p.journal.now) (journal_from p) (document_from p)
-          (length p.journal.now) suits.entries a.k put.value (within put a) (there put a))
+      omega (
+        arith,
+        a.at,
+        entries_from (list_at g 0) (laid (journal_from p) p.journal.now) (journal_from p) (document_from p)
+            (length p.journal.now) suits.entries a.k put.value (within put a) (there put a),
+      )
 
   -- and before the document
   pub asked_below : (put : Put) → IsAskedPut (journal_from p) p.journal.now put → put.at < document_from p
   asked_below put a =
-      omega (arith, a.at, entries_below (list_at g 0) (laid (journal_from p) p.journal.now) (journal_from p) (document_from p)
-          (length p.journal.now) suits.entries a.k put.value (within put a) (there put a))
+      omega (
+        arith,
+        a.at,
+        entries_below (list_at g 0) (laid (journal_from p) p.journal.now) (journal_from p) (document_from p)
+            (length p.journal.now) suits.entries a.k put.value (within put a) (there put a),
+      )
 
   -- and with one value
   pub asked_once : (put other : Put) → IsAskedPut (journal_from p) p.journal.now put

@@ -1,5 +1,5 @@
 -- What a look for written cells tells: what it needs blank was blank at its entry.
-use Rattle.std.specs.Prelude.{◌≡◌, ◌<◌, ◌≤◌, ◌+◌, ◌⊎◌, ℕ, Some, None, Result, Ok, Err, IsTrue}
+use Rattle.std.specs.Prelude.{◌≡◌, ◌<◌, ◌≤◌, ◌+◌, ℕ, Some, None, Result, Ok, Err, IsTrue}
 use Rattle.cell_types.specs.Image.{Image, IsUnchanged}
 use Rattle.cell_types.specs.Layout.{outcome_at, done_at, spare_at}
 use Rattle.cell_types.specs.declared.refusal.Evidence.{Evidence}
@@ -55,8 +55,8 @@ pub record IsFree (image : Image) (slot : ℕ) (cells : Reservation) : Type 0 wh
   pub spare : image (spare_at slot) ≡ None
   pub reserved : AreBlank image cells
 
--- The first written cell of these, by its rule: the outcome cell, the done cell, the spare cell, and then the cells that
--- are to be reserved, upwards.
+-- The first written cell of these, by its rule: the outcome cell, the done cell, the spare cell, and then the cells
+-- that are to be reserved, upwards.
 pub data IsFirstWritten (image : Image) (slot : ℕ) (cells : Reservation) (e : Evidence) : Type 0 where
   outcome : e.rule ≡ OUTCOME_CELL → e.cell ≡ outcome_at slot → IsFirstWritten image slot cells e
   done : e.rule ≡ DONE_CELL → e.cell ≡ done_at slot → image (outcome_at slot) ≡ None

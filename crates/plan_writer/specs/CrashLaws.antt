@@ -1,5 +1,5 @@
 -- What a crash in the middle of an ingest leaves of its slot, where nobody else writes.
-use Rattle.std.specs.Prelude.{◌≡◌, ◌<◌, ℕ, List, Some, None, length}
+use Rattle.std.specs.Prelude.{◌≡◌, ℕ, List, Some, length}
 use Rattle.cell_types.specs.Image.{Image}
 use Rattle.cell_types.specs.Layout.{Layout, IsLayout, outcome_at}
 use Rattle.stored_documents.specs.Documents.{Spells, document_at, stored_bytes}

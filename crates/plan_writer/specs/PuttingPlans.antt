@@ -48,7 +48,8 @@ IsPlanRule number =
 
 -- Evidence that was found while a plan was put, from entry on, seen from before the volume was settled: it names one of
 -- these rules, and may be named; and where nobody else wrote, and the journal asked for cells that were blank at entry,
--- its rule was broken there before. (Of blank cells before settling this would be false: settling may have carried another journal out into them.)
+-- its rule was broken before, too. (Cells that were blank before settling would not do: it may have carried another
+-- journal out into them.)
 pub record IsFoundByPlan (p : Plan) (old entry new : DeviceState) (e : Evidence) : Type 0 where
   pub rule : IsPlanRule e.rule
   pub licensed : IsLicensed old new e

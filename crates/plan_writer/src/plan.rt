@@ -51,7 +51,12 @@ pub fn carry_out<D: Device>(
 {
     let cells = plan.reservation();
     reserve(device, geometry, slot, cells)?;
-    store(device, plan.start + plan.block_length, plan.document, plan.journal)?;
+    store(
+        device,
+        plan.start + plan.block_length,
+        plan.document,
+        plan.journal,
+    )?;
     // The document and the journal are sure by now: else a crash could leave a commit cell without them.
     let count = plan.journal.len() as u32;
     commit(device, geometry, slot, plan.bytes, count)?;

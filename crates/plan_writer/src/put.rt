@@ -11,13 +11,14 @@ use cell_types::Fault;
 use recovery_engine::Ready;
 use worm_device::Device;
 
-/// Puts what is planned into the first free slot of a volume that was settled, and has only been looked at since. Answers
-/// the slot. Takes no memory.
+/// Puts what is planned into the first free slot of a volume that was settled, and has only been looked at since.
+/// Answers the slot. Takes no memory.
 ///
 /// # Errors
 ///
-/// `Tampered` where a cell that is to be written holds another value: rule 1 at the reserve cell, 2 at the outcome cell,
-/// 3 at the done cell, 7 at the spare cell and in the cells that are reserved, 6 at a journal cell whose target is taken.
+/// `Tampered` where a cell that is to be written holds another value: rule 1 at the reserve cell, 2 at the outcome
+/// cell, 3 at the done cell, 7 at the spare cell and in the cells that are reserved, 6 at a journal cell whose target
+/// is taken.
 pub fn put_planned<D: Device>(device: &mut D, ready: &Ready, plan: &Plan<'_>) -> Result<u32, Fault>
     requires bounds { LiesInBounds (D.state device.old) ready.now }
     requires free { ready.now.horizon < ready.now.volume.geometry.slots }

@@ -22,6 +22,8 @@ mod journal;
 mod looks;
 mod ordered;
 mod settling;
+#[cfg(test)]
+mod tests;
 
 pub use ending::{finish, journal_of};
 pub use journal::{Journal, apply_journal};

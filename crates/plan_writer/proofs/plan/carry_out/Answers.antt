@@ -14,8 +14,8 @@ pub returns-in_err-store : goal.returns-in_err-store
 returns-in_err-store g c =
     let fault = c.in_err-store.field-0.0 in
     rw (handed c.from_residual-in_err-store.result fault c.from_residual-in_err-store.ensures.1)
-    (store_ended c.args.slot c.args.plan.now c.reservation-cells.result c.reservation-cells.ensures c.in_ok-reserve.ensures
-    fault c.in_err-store.ensures)
+    (store_ended c.args.slot c.args.plan.now c.reservation-cells.result c.reservation-cells.ensures
+    c.in_ok-reserve.ensures fault c.in_err-store.ensures)
 
 pub returns-in_err-commit : goal.returns-in_err-commit
 returns-in_err-commit g c =

@@ -16,15 +16,16 @@ pub returns-in_err-put_row-2 : goal.returns-in_err-put_row-2
 returns-in_err-put_row-2 g c =
     let fault = c.in_err-put_row-2.field-0.0 in
     rw (handed c.from_residual-in_err-put_row-2.result fault c.from_residual-in_err-put_row-2.ensures.1)
-    (phase_ended fault (puts_ended (λ put h. inl h) (λ put h. inr h) tt c.in_ok-put_row.ensures fault c.in_err-put_row-2.ensures))
+    (phase_ended fault (puts_ended (λ put h. inl h) (λ put h. inr h) tt c.in_ok-put_row.ensures fault
+    c.in_err-put_row-2.ensures))
 
 -- both were, and are not sure
 pub returns-in_default : goal.returns-in_default
 returns-in_default g c = phase_unsynced tt _
-    (puts_more (λ put h. inl h) (λ put h. inr h) tt c.in_ok-put_row.ensures (λ put h. h) tt tt c.in_ok-put_row-2.ensures)
-    c.in_default.ensures
+    (puts_more (λ put h. inl h) (λ put h. inr h) tt c.in_ok-put_row.ensures (λ put h. h) tt tt
+    c.in_ok-put_row-2.ensures) c.in_default.ensures
 
 pub returns : goal.returns
 returns g c = phase_synced tt tt tt
-    (puts_more (λ put h. inl h) (λ put h. inr h) tt c.in_ok-put_row.ensures (λ put h. h) tt tt c.in_ok-put_row-2.ensures)
-    c.in-Ok.ensures
+    (puts_more (λ put h. inl h) (λ put h. inr h) tt c.in_ok-put_row.ensures (λ put h. h) tt tt
+    c.in_ok-put_row-2.ensures) c.in-Ok.ensures
