@@ -140,7 +140,7 @@ module _ (g : Layout) (n : ℕ) (old : DeviceState) (volume : IsVolume old.cells
           (omega (arith, (elapses_of h.settles.called).later, (elapses_of h.looked).later)) left)
 
 -- the volume that was found ready is the one that stood at entry
-ready_layout : (old looked : DeviceState) (r : Ready) (g : Layout) → HasSettled old looked r → IsTrue old.tells
+pub ready_layout : (old looked : DeviceState) (r : Ready) (g : Layout) → HasSettled old looked r → IsTrue old.tells
     → IsVolume old.cells old.image g → (r.volume.geometry ≡ g) × IsLayout g
 ready_layout old looked r g h tells volume =
     let ready = h.settles.ends.1 tells in

@@ -5,10 +5,11 @@ use Rattle.std.specs.Str.{bytes_eq}
 use Rattle.cell_types.specs.declared.refusal.Refusal.{Refusal}
 use Rattle.cell_types.specs.declared.refusal.Refusal.TheVariants.{Usage}
 use Rattle.worm_device.specs.Calls.{Called}
-use Rattle.record_top.specs.Commands.{Asks, Does, IsUnhindered, Request, ToFormat, ToIngest}
+use Rattle.record_top.specs.Commands.{Asks, Does, IsUnhindered, Request, ToFormat, ToIngest, ToRecover}
 use Rattle.record_top.specs.Ports.{Ports, IsOkOrNoMemory}
 use Rattle.record_top.specs.Words.{digits_value}
-use Rattle.record_top.proofs.Completing.{format_completes, ingest_completes}
+use Rattle.record_top.proofs.Completing.{format_completes, ingest_completes, recover_completes}
+use Rattle.record_top.proofs.Ending.{ingest_called, ingest_is_used, recover_is_used}
 
 to_format : List (List ℕ) → Option Request
 to_format (slots ∷ lists ∷ []) = Some (ToFormat (digits_value slots) (digits_value lists))
@@ -18,19 +19,25 @@ to_ingest : List (List ℕ) → Option Request
 to_ingest (id ∷ []) = Some (ToIngest id)
 to_ingest _ = None
 
+to_recover : List (List ℕ) → Option Request
+to_recover [] = Some ToRecover
+to_recover _ = None
+
 -- what the words could ask for, by the first of them
 read : List (List ℕ) → Option Request
 read [] = None
 read (command ∷ words) =
     cond (bytes_eq command (codes "format")) (to_format words)
-    (cond (bytes_eq command (codes "ingest")) (to_ingest words) None)
+    (cond (bytes_eq command (codes "ingest")) (to_ingest words)
+    (cond (bytes_eq command (codes "recover")) (to_recover words) None))
 
 asks_reads : (words : List (List ℕ)) (request : Request) → Asks words request → read words ≡ Some request
-unfolding read to_format to_ingest
+unfolding read to_format to_ingest to_recover
 asks_reads words (ToFormat slots lists) asks =
     ap read asks.asked ∙ ap (λ (n : ℕ). Some (ToFormat n (digits_value asks.second))) (sym asks.slots_word.number.value)
     ∙ ap (λ (n : ℕ). Some (ToFormat slots n)) (sym asks.lists_word.number.value)
 asks_reads words (ToIngest id) asks = ap read asks.asked
+asks_reads words ToRecover asks = ap read asks
 
 some_is : (a b : Request) → Some a ≡ Some b → a ≡ b
 some_is a b e = cc
@@ -44,15 +51,18 @@ module _ (old new : Ports) where
   pub called_of : (request : Request) (result : Result Unit Refusal) → Does request old new result
       → Called old.device new.device
   called_of (ToFormat slots lists) result does = does.called
-  called_of (ToIngest id) result does = does.called
+  called_of (ToIngest id) result does = ingest_called id old new result does
+  called_of ToRecover result does = does.settles.called
 
   -- what is done never ends with `Usage`
   pub is_used : (request : Request) → Does request old new (Err Usage) → ⊥
   is_used (ToFormat slots lists) does = does.ends.0
-  is_used (ToIngest id) does = does.ends
+  is_used (ToIngest id) does = ingest_is_used id old new does
+  is_used ToRecover does = recover_is_used old new does.answer does.settles does.tells
 
   -- where nothing keeps it from being done, it is
   pub completes : (request : Request) (result : Result Unit Refusal) → Does request old new result
       → IsUnhindered request old new → IsOkOrNoMemory result
   completes (ToFormat slots lists) result does free = format_completes _ old new free result does
-  completes (ToIngest id) result does free = ingest_completes id free.0 free.1 old new free.2 result does
+  completes (ToIngest id) result does free = ingest_completes id free.0 free.1 free.2 old new free.3 result does
+  completes ToRecover result does free = recover_completes free.0 old new free.1 result does.answer does.settles does.tells

@@ -1,24 +1,35 @@
 -- Where all is as it is to be, no refusal but want of memory is left.
-use Rattle.std.proofs.Common.{◌≡◌, ◌≤◌, ◌++◌, ℕ, List, length, Option, Some, None, Result, Ok, Err, sym, ap, ◌∙◌, inl, inr, ⊎_elim, subst, arith, length-append}
+use Rattle.std.proofs.Common.{◌≡◌, ◌≢◌, ◌≤◌, ◌<◌, ◌+◌, ◌++◌, ℕ, List, length, Option, Some, None, Result, Ok, Err, refl, sym, ap, ◌∙◌, inl, subst, arith, length-append}
 use Rattle.std.proofs.lemmas.List.{append-nil}
-use Rattle.cell_types.specs.Image.{Image}
+use Rattle.std.proofs.lemmas.Option.{none-some}
 use Rattle.cell_types.specs.Layout.{Layout}
-use Rattle.cell_types.specs.Records.{IsRecordCell}
-use Rattle.cell_types.specs.declared.record_cell.RecordCell.TheVariants.{Volume}
+use Rattle.cell_types.specs.declared.refusal.Evidence.{Evidence}
 use Rattle.cell_types.specs.declared.refusal.Refusal.{Refusal}
-use Rattle.cell_types.specs.declared.refusal.Refusal.TheVariants.{TooLong, DeviceFault, SourceFault, SinkFault, NoMemory, NotBlank, TooSmall, NotYet}
-use Rattle.cell_types.proofs.OneRecord.{one_record}
+use Rattle.cell_types.specs.declared.refusal.Refusal.TheVariants as refusals
+use Rattle.cell_types.specs.Records.{IsRecordCell}
 use Rattle.host_ports.specs.Sources.{Gives, IsAtEnd}
-use Rattle.stored_documents.specs.Documents.{stored_bytes, content_at}
-use Rattle.stored_documents.specs.Volumes.{IsVolume, volume_record}
-use Rattle.worm_device.proofs.Counting.{rose_or_still}
-use Rattle.ingest_engine.specs.Ingest.{IsPlanned}
+use Rattle.stored_documents.specs.Documents.{stored_bytes}
+use Rattle.stored_documents.specs.Slots.{IsEdge, cells_for}
+use Rattle.stored_documents.specs.Volumes.{Holds, IsVolume, volume_record}
+use Rattle.stored_documents.proofs.Extending.{volume_on}
+use Rattle.tamper_rules.proofs.GivenUp.{one_layout}
+use Rattle.worm_device.specs.Calls.{Called}
+use Rattle.worm_device.specs.State.{DeviceState}
+use Rattle.worm_device.proofs.Counting.{rose_or_still, still_first}
+use Rattle.commit_record.specs.Opening.{IsNoVolumeCell}
+use Rattle.recovery_engine.specs.Settling.{HasSettled, IsFound, IsSettlingRule, SettleEnds, Settles}
+use Rattle.recovery_engine.specs.declared.settling.Ready.{Ready}
+use Rattle.plan_writer.proofs.PutFrom.{ends_0, free_0}
+use Rattle.ingest_engine.specs.Ingesting.{HasNoRoom, IngestEnds}
+use Rattle.ingest_engine.proofs.CrashedIngests.{ready_layout, settled_unused}
 use Rattle.record_top.specs.Formatting.{DoesFormat, IsReadyToFormat}
-use Rattle.record_top.specs.Ingesting.{DoesIngest, IsReadyToIngest}
-use Rattle.record_top.specs.Ports.{Ports, IsOkOrNoMemory}
-use Rattle.ingest_engine.specs.Puts.{CannotYet, IsTaken, PassesTheEnd, IsIngestCell}
-use Rattle.ingest_engine.proofs.Putting.{volume_later}
-use Rattle.ingest_engine.proofs.StoreSoFar.{some_is}
+use Rattle.record_top.specs.Ingesting.{DoesIngest, IsReadyToIngest, acknowledgement, misnamed, untaken, taken}
+use Rattle.record_top.specs.Ports.{Ports, IsOkOrNoMemory, Tells}
+use Rattle.record_top.specs.Recovering.{IsReadyToRecover, recovered}
+use Rattle.record_top.specs.Taking.{BodyFails, refusal_of_body_fault}
+use Rattle.record_top.specs.WholeLogs.{HasWholeLog}
+use Rattle.record_top.specs.declared.body.BodyFault.{BodyFault}
+use Rattle.record_top.specs.declared.body.BodyFault.TheVariants as faults
 
 -- a source gives no more than it has
 gives_within : (left : Option (List ℕ)) (body given : List ℕ) (new : Option (List ℕ)) → left ≡ Some body
@@ -38,110 +49,153 @@ gives_all left body given new e gives end = all new (subst (λ (l : Option (List
     all None h at_end = absurd h
     all (Some rest) h at_end = sym (append-nil given) ∙ ap (λ (r : List ℕ). given ++ r) (sym at_end) ∙ sym h
 
--- the parts of two volume records that are the same
-same_parts : (v s l c v' s' l' c' : ℕ) → Volume v s l c ≡ Volume v' s' l' c' → (s ≡ s') × (l ≡ l') × (c ≡ c')
-same_parts v s l c v' s' l' c' e = (cc, cc, cc)
+some_is : (a b : List ℕ) → Some a ≡ Some b → a ≡ b
+some_is a b e = cc
 
--- cell 0 states one layout
-layout_is_one : (cells : ℕ) (image : Image) (g g' : Layout) → IsVolume cells image g → IsVolume cells image g' → g ≡ g'
-layout_is_one cells image g g' v v' =
-    let same = some_is v'.volume.cell v.volume.cell (sym v'.volume.stands ∙ v.volume.stands) in
-    let is' = subst (λ (cell : List ℕ). IsRecordCell (volume_record g') 0 cell) same v'.volume.is in
-    let same_cells = one_record (volume_record g) (volume_record g') 0 0 v.volume.cell (omega arith) (omega arith) in
-    let one = (same_cells v.volume.is is').0 in
-    let parts = same_parts _ _ _ _ _ _ _ _ one in
-    ap (λ (n : ℕ). record { slots = n; lists = g.lists; cells = g.cells }) parts.0
-    ∙ ap (λ (n : ℕ). record { slots = g'.slots; lists = n; cells = g.cells }) parts.1
-    ∙ ap (λ (n : ℕ). record { slots = g'.slots; lists = g'.lists; cells = n }) parts.2
+-- a whole log hinders nothing that looks at these rules
+module _ {IsLookedAt : ℕ → Type 0} {g : Layout} {old new : DeviceState} (whole : HasWholeLog IsLookedAt g old new)
+    (called : Called old new) where
+  volume_now : IsVolume new.cells new.image g
+  volume_now = subst (λ (cells : ℕ). IsVolume cells new.image g) (sym called.cells) (volume_on called.image whole.volume)
 
-module _ (g : Layout) (stored : List ℕ) (at : ℕ) (v w : List ℕ) where
-  -- one value is planned for a cell
-  planned_is_one : IsPlanned g stored at v → IsPlanned g stored at w → v ≡ w
-  planned_is_one (inl p) (inl q) = p.1 ∙ sym q.1
-  planned_is_one (inl p) (inr (inl q)) = absurd (omega (arith, p.0, q.2))
-  planned_is_one (inl p) (inr (inr (inl q))) = absurd (omega (arith, p.0, q.0))
-  planned_is_one (inl p) (inr (inr (inr q))) = absurd (omega (arith, p.0, q.0))
-  planned_is_one (inr (inl p)) (inl q) = absurd (omega (arith, q.0, p.2))
-  planned_is_one (inr (inl p)) (inr (inl q)) = p.3 ∙ ap (content_at stored) (omega (arith, p.2, q.2)) ∙ sym q.3
-  planned_is_one (inr (inl p)) (inr (inr (inl q))) = absurd (omega (arith, q.0, p.2))
-  planned_is_one (inr (inl p)) (inr (inr (inr q))) = absurd (omega (arith, q.0, p.2))
-  planned_is_one (inr (inr (inl p))) (inl q) = absurd (omega (arith, p.0, q.0))
-  planned_is_one (inr (inr (inl p))) (inr (inl q)) = absurd (omega (arith, p.0, q.2))
-  planned_is_one (inr (inr (inl p))) (inr (inr (inl q))) = p.1 ∙ sym q.1
-  planned_is_one (inr (inr (inl p))) (inr (inr (inr q))) = absurd (omega (arith, p.0, q.0))
-  planned_is_one (inr (inr (inr p))) (inl q) = absurd (omega (arith, p.0, q.0))
-  planned_is_one (inr (inr (inr p))) (inr (inl q)) = absurd (omega (arith, p.0, q.2))
-  planned_is_one (inr (inr (inr p))) (inr (inr (inl q))) = absurd (omega (arith, p.0, q.0))
-  planned_is_one (inr (inr (inr p))) (inr (inr (inr q))) = p.1 ∙ sym q.1
+  -- cell 0 is no cell of another kind
+  no_other_cell : (found : List ℕ) → new.image 0 ≡ Some found → IsNoVolumeCell found → ⊥
+  no_other_cell found stands none = none g
+      (subst (λ (cell : List ℕ). IsRecordCell (volume_record g) 0 cell)
+      (some_is volume_now.volume.cell found (sym volume_now.volume.stands ∙ stands)) volume_now.volume.is)
 
-  -- and none for cell 0
-  planned_past_0 : IsPlanned g stored at v → 1 ≤ at
-  planned_past_0 (inl p) = omega (arith, p.0)
-  planned_past_0 (inr (inl p)) = omega (arith, p.2)
-  planned_past_0 (inr (inr (inl p))) = omega (arith, p.0)
-  planned_past_0 (inr (inr (inr p))) = omega (arith, p.0)
+  -- and states the device's own size
+  no_other_size : (h : Layout) (stated : ℕ) → Holds new.image 0 (volume_record h) → h.cells ≡ stated → stated ≡ new.cells
+  no_other_size h stated holds states =
+      let same : h ≡ g = one_layout {cells = h.cells} {more = new.cells} h g (record { volume = holds; size = refl }) volume_now in
+      sym states ∙ ap (λ (l : Layout). l.cells) same ∙ volume_now.size
 
-module _ (id body : List ℕ) (g : Layout) (old new : Ports) (ready : IsReadyToIngest id body g old new) where
-  volume_now : (result : Result Unit Refusal) → DoesIngest id old new result
-      → IsVolume new.device.cells new.device.image g
-  volume_now result ingests = volume_later old.device new.device g ingests.called ready.volume
+  untampered : (e : Evidence) → IsFound IsLookedAt old new e → ⊥
+  untampered e found = whole.unbroken e.rule e.cell found.rule (found.before whole.alone)
 
-  -- no cell was taken
-  not_taken : (result : Result Unit Refusal) (ingests : DoesIngest id old new result) (at : ℕ) → ingests.given ≡ body
-      → IsTaken g (stored_bytes id body) new.device at → ⊥
-  not_taken result ingests at same taken = ⊎_elim
-      (λ (unchanged : new.device.image at ≡ old.device.image at).
-      let blank = ready.blank at (planned_past_0 g (stored_bytes id body) at taken.value taken.value taken.planned) in
-      let clash : Some taken.found ≡ None = sym taken.stands ∙ unchanged ∙ blank in absurd cc)
-      (λ (put : (value : List ℕ) × IsIngestCell (stored_bytes id ingests.given) new.device at value
-      × (old.device.image at ≡ None) × (new.device.image at ≡ Some value)).
-      let layout = layout_is_one new.device.cells new.device.image put.1.0 g put.1.1 (volume_now result ingests) in
-      let here = subst (λ (l : Layout). IsPlanned l (stored_bytes id ingests.given) at put.0) layout put.1.2 in
-      let planned = subst (λ (b : List ℕ). IsPlanned g (stored_bytes id b) at put.0) same here in
-      let one = planned_is_one g (stored_bytes id body) at put.0 taken.value planned taken.planned in
-      taken.differs (some_is taken.found put.0 (sym taken.stands ∙ put.3) ∙ one))
-      (ingests.only ready.tells ready.alone at)
+-- settling ends with no refusal
+settles_whole : {g : Layout} {old new : DeviceState} (whole : HasWholeLog IsSettlingRule g old new) (called : Called old new)
+    (refusal : Refusal) → SettleEnds old new (Err refusal) → ⊥
+settles_whole whole called refusals.DeviceFault ends = rose_or_still _ _ ends whole.no_fault
+settles_whole whole called refusals.NotFormatted ends =
+    none-some whole.volume.volume.cell (sym (ends whole.tells) ∙ whole.volume.volume.stands)
+settles_whole whole called (refusals.NotAVolume found) ends =
+    let is = ends whole.tells in no_other_cell whole called found is.0 is.1
+settles_whole whole called (refusals.WrongSize stated real) ends =
+    let is = ends.2 whole.tells in ends.1 (no_other_size whole called is.0 stated is.1 is.2 ∙ sym ends.0)
+settles_whole whole called (refusals.Tampered e) ends = untampered whole called e (ends whole.tells)
+settles_whole whole called refusal ends = ends
 
-  -- nothing keeps the document from the device
-  not_kept : (result : Result Unit Refusal) (ingests : DoesIngest id old new result) (at : ℕ) → ingests.given ≡ body
-      → CannotYet (stored_bytes id body) new.device at → ⊥
-  not_kept result ingests at same (inl h) = h.1 g (volume_now result ingests)
-  not_kept result ingests at same (inr (g', volume, inl h)) =
-      let layout = layout_is_one new.device.cells new.device.image g' g volume (volume_now result ingests) in
-      let passes : PassesTheEnd g (stored_bytes id body) =
-      subst (λ (l : Layout). PassesTheEnd l (stored_bytes id body)) layout h.1 in
-      omega (arith, passes, ready.fits)
-  not_kept result ingests at same (inr (g', volume, inr taken)) =
-      let layout = layout_is_one new.device.cells new.device.image g' g volume (volume_now result ingests) in
-      let here = subst (λ (l : Layout). IsTaken l (stored_bytes id body) new.device at) layout taken in
-      not_taken result ingests at same here
+module _ (g : Layout) (old new : Ports) (ready : IsReadyToRecover g old new) where
+  -- the answer is Ok, since no memory is taken
+  pub recover_completes : (result : Result Unit Refusal) (answer : Result Ready Refusal)
+      → Settles old.device new.device answer → Tells recovered answer old new result → IsOkOrNoMemory result
+  recover_completes (Ok u) answer settles tells = tt
+  recover_completes (Err refusal) (Err refused) settles tells =
+      absurd (settles_whole ready.log settles.called refused settles.ends)
+  recover_completes (Err refusals.SinkFault) (Ok r) settles tells = rose_or_still _ _ tells.faults ready.no_sink_fault
+  recover_completes (Err refusal) (Ok r) settles tells = absurd tells
 
+-- where a slot is unused, and there is room, a settled volume has room
+module _ {id body : List ℕ} {g : Layout} {slot : ℕ} {old new : Ports} (ready : IsReadyToIngest id body g slot old new)
+    (r : Ready) (has : HasSettled old.device new.device r) where
+  layout : r.volume.geometry ≡ g
+  layout = (ready_layout old.device new.device r g has ready.log.tells ready.log.volume).0
+
+  a_slot : r.horizon ≡ r.volume.geometry.slots → ⊥
+  a_slot all =
+      let still = still_first has.settles.called.foreign_writes has.looked.foreign_writes ready.log.alone in
+      let unused = settled_unused g slot old.device ready.log.volume ready.unused has.settles ready.log.tells still in
+      let taken = (has.settles.ends.1 ready.log.tells).taken slot
+      (omega (arith, ready.unused.slot, all, ap (λ (l : Layout). l.slots) layout)) in
+      none-some taken.found (sym unused.reserve ∙ taken.stands)
+
+  a_slot_less : (r.horizon ≢ r.volume.geometry.slots) → r.horizon < r.volume.geometry.slots
+  a_slot_less some = omega (arith, some, (has.settles.ends.1 ready.log.tells).horizon.most)
+
+  -- the edge is one of the image at entry
+  edge_was : (r.horizon ≢ r.volume.geometry.slots) → IsEdge r.volume.geometry old.device.image old.device.image r.edge
+  edge_was some = record {
+    u = r.horizon;
+    most = (has.settles.ends.1 ready.log.tells).horizon.most;
+    free = λ less. free_0 r has ready.log.tells less;
+    ends = ends_0 r has ready.log.tells (a_slot_less some) ready.log.alone;
+  }
+
+  cells_behind : (r.horizon ≢ r.volume.geometry.slots)
+      → r.edge + cells_for (length (stored_bytes id body)) ≤ r.volume.geometry.cells
+  cells_behind some =
+      let fits = ready.room r.edge
+      (subst (λ (l : Layout). IsEdge l old.device.image old.device.image r.edge) layout (edge_was some)) in
+      subst (λ (l : Layout). r.edge + cells_for (length (stored_bytes id body)) ≤ l.cells) (sym layout) fits
+
+module _ {id body : List ℕ} {g : Layout} {slot : ℕ} {old new : Ports} (ready : IsReadyToIngest id body g slot old new) where
+  no_room : (refusal : Refusal) → HasNoRoom id body old.device new.device refusal → ⊥
+  no_room refusals.SlotsFull h = a_slot ready h.ready h.settled h.room
+  no_room (refusals.Full need free) h =
+      let fits = cells_behind ready h.ready h.settled h.room.0 in
+      omega (arith, fits, h.room.1, h.room.2, h.room.3)
+  no_room refusal h = absurd h.room
+
+  settling_log : HasWholeLog IsSettlingRule g old.device new.device
+  settling_log = record {
+    tells = ready.log.tells;
+    volume = ready.log.volume;
+    unbroken = λ number cell rule broken. ready.log.unbroken number cell (inl rule) broken;
+    alone = ready.log.alone;
+    no_fault = ready.log.no_fault;
+  }
+
+  -- the engine ends with no refusal but want of memory
+  ingests_whole : (called : Called old.device new.device) (refusal : Refusal)
+      → IngestEnds id body old.device new.device (Err refusal) → IsOkOrNoMemory (Err refusal)
+  ingests_whole called refusals.NoMemory ends = tt
+  ingests_whole called refusals.DeviceFault ends = rose_or_still _ _ ends ready.log.no_fault
+  ingests_whole called (refusals.Tampered e) ends = untampered ready.log called e (ends ready.log.tells)
+  ingests_whole called refusals.SlotsFull ends = no_room refusals.SlotsFull ends
+  ingests_whole called (refusals.Full need free) ends = no_room (refusals.Full need free) ends
+  ingests_whole called refusals.NotFormatted ends = settles_whole settling_log called refusals.NotFormatted ends
+  ingests_whole called (refusals.NotAVolume found) ends = settles_whole settling_log called (refusals.NotAVolume found) ends
+  ingests_whole called (refusals.WrongSize stated real) ends =
+      settles_whole settling_log called (refusals.WrongSize stated real) ends
+  ingests_whole called refusal ends = absurd ends
+
+  ends_told : (result : Result Unit Refusal) (answer : Result ℕ Refusal) → Called old.device new.device
+      → IngestEnds id body old.device new.device answer → Tells acknowledgement answer old new result → IsOkOrNoMemory result
+  ends_told (Ok u) answer called ends tells = tt
+  ends_told (Err refusal) (Err refused) called ends tells =
+      subst (λ (r : Refusal). IsOkOrNoMemory (Err r)) (sym tells.0) (ingests_whole called refused ends)
+  ends_told (Err refusals.SinkFault) (Ok n) called ends tells = rose_or_still _ _ tells.faults ready.no_sink_fault
+  ends_told (Err refusal) (Ok n) called ends tells = absurd tells
+
+  body_taken : (given : List ℕ) (fault : BodyFault) → Gives old.source.left new.source.left given
+      → BodyFails given old.source new.source fault → IsOkOrNoMemory (Err (refusal_of_body_fault fault))
+  body_taken given faults.TooLong gives fails =
+      let within = gives_within old.source.left body given new.source.left ready.source gives in
+      omega (arith, within, ready.is_body.most, fails)
+  body_taken given faults.SourceFailed gives fails = rose_or_still _ _ fails.1 ready.no_source_fault
+  body_taken given faults.NoMemory gives fails = tt
+
+module _ (id body : List ℕ) (g : Layout) (slot : ℕ) (old new : Ports) (ready : IsReadyToIngest id body g slot old new) where
   -- the answer is Ok, or want of memory
   pub ingest_completes : (result : Result Unit Refusal) → DoesIngest id old new result → IsOkOrNoMemory result
-  ingest_completes (Ok u) ingests = tt
-  ingest_completes (Err NoMemory) ingests = tt
-  ingest_completes (Err DeviceFault) ingests = rose_or_still _ _ ingests.ends.1 ready.no_device_fault
-  ingest_completes (Err SourceFault) ingests = rose_or_still _ _ ingests.ends.1 ready.no_source_fault
-  ingest_completes (Err SinkFault) ingests = rose_or_still _ _ ingests.ends.2.faults ready.no_sink_fault
-  ingest_completes (Err TooLong) ingests =
-      let within = gives_within old.source.left body ingests.given new.source.left ready.source ingests.gives in
-      omega (arith, within, ready.is_body.most, ingests.ends.0)
-  ingest_completes (Err (NotYet at)) ingests =
-      let all = gives_all old.source.left body ingests.given new.source.left ready.source ingests.gives in
-      let same = all ingests.ends.0.at_end in
-      let cause = subst (λ (b : List ℕ). CannotYet (stored_bytes id b) new.device at) same in
-      not_kept (Err (NotYet at)) ingests at same (cause (ingests.ends.1 ready.tells))
-  ingest_completes (Err refusal) ingests = absurd ingests.ends
+  ingest_completes result (misnamed bad is same) = absurd (bad ready.identifier)
+  ingest_completes result (untaken given fault name gives fails is same keeps) =
+      subst IsOkOrNoMemory (sym is) (body_taken ready given fault gives fails)
+  ingest_completes result (taken given answer name is gives end ingests tells) =
+      let all = gives_all old.source.left body given new.source.left ready.source gives end in
+      ends_told ready result answer ingests.called
+      (subst (λ (b : List ℕ). IngestEnds id b old.device new.device answer) all ingests.ends) tells
 
 module _ (g : Layout) (old new : Ports) (ready : IsReadyToFormat g old new) where
   -- the answer is Ok, since no memory is taken
   pub format_completes : (result : Result Unit Refusal) → DoesFormat g old new result → IsOkOrNoMemory result
   format_completes (Ok u) formats = tt
-  format_completes (Err NoMemory) formats = tt
-  format_completes (Err DeviceFault) formats = rose_or_still _ _ formats.ends.0.1 ready.no_device_fault
-  format_completes (Err SinkFault) formats = rose_or_still _ _ formats.ends.1.faults ready.no_sink_fault
-  format_completes (Err TooSmall) formats = formats.ends.0.0 ready.layout
-  format_completes (Err (NotBlank at)) formats =
+  format_completes (Err refusals.NoMemory) formats = tt
+  format_completes (Err refusals.DeviceFault) formats = rose_or_still _ _ formats.ends.0.1 ready.no_device_fault
+  format_completes (Err refusals.SinkFault) formats = rose_or_still _ _ formats.ends.1.faults ready.no_sink_fault
+  format_completes (Err refusals.TooSmall) formats = formats.ends.0.0 ready.layout
+  format_completes (Err (refusals.NotBlank at)) formats =
       let least = formats.ends.0.1 ready.tells in
-      let clash : Some least.found ≡ None = sym (least.stood ready.alone) ∙ ready.blank at in absurd cc
+      none-some least.found (sym (ready.blank at) ∙ least.stood ready.alone)
   format_completes (Err refusal) formats = absurd formats.ends.0

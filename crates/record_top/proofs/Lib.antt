@@ -1,6 +1,6 @@
 pub mod Asking
 pub mod Completing
-pub mod Ingesting
+pub mod Ending
 pub mod Listed
 pub mod Pieces
 pub mod Taken

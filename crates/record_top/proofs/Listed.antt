@@ -1,7 +1,13 @@
 -- Lists of so many elements, by the elements that were read.
 use Rattle.std.proofs.Common.{◌≡◌, List, [], ◌∷◌, length, get_or, sym, arith}
 
--- a list of two is the two that were read
+-- a list of one is the one that was read
+pub one : {A : Type 0} (xs : List A) (x : A) → length xs ≡ 1 → x ≡ get_or xs 0 x → xs ≡ x ∷ []
+one (a ∷ []) x n p = let e : a ≡ x = sym p in cc
+one [] x n p = absurd (omega arith)
+one (a ∷ b ∷ xs) x n p = absurd (omega arith)
+
+-- and a list of two is the two that were read
 pub two : {A : Type 0} (xs : List A) (x y : A) → length xs ≡ 2 → x ≡ get_or xs 0 x → y ≡ get_or xs 1 y → xs ≡ x ∷ y ∷ []
 two (a ∷ b ∷ []) x y n p q = let e : a ≡ x = sym p in let f : b ≡ y = sym q in cc
 two [] x y n p q = absurd (omega arith)

@@ -2,7 +2,7 @@
 use Rattle.std.proofs.Common.{◌≡◌, ℕ, List, [], ◌∷◌, map, sym, ap, ◌∙◌, arith, rules}
 use Rattle.std.specs.Prelude.{codes}
 use Rattle.std.specs.String.{string_bytes}
-use Rattle.ingest_engine.proofs.Compared.{alike}
+use Rattle.phase_writer.proofs.Compared.{alike}
 use Rattle.record_top.proofs.Listed.{two}
 use Rattle.record_top.proofs.words.ingest_of.Goals as goal
 
@@ -16,6 +16,6 @@ returns-clause-some c =
     record {
       asked = ap (map string_bytes) words ∙ ap (λ (w : List ℕ). w ∷ string_bytes given ∷ []) command
           ∙ ap (λ (w : List ℕ). codes "ingest" ∷ w ∷ []) value;
-      identifier = c.is_identifier.ensures.0 (search rules);
+      some = search rules;
       no_hyphen = search rules;
     }
