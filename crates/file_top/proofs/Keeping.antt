@@ -1,63 +1,137 @@
 -- From what a command does to the cells of a device to what it does to the bytes of the file below.
-use Rattle.std.specs.Prelude.{ℕ, List, Option, Some, None, Result, Ok, Err, IfSome, IsTrue, is_some}
-use Rattle.std.proofs.Common.{refl, ◌∙◌, sym, arith, inl, ⊎_elim}
-use Rattle.cell_types.specs.Image.{Image, Between}
+use Rattle.std.specs.Prelude.{◌≡◌, ℕ, List, [], Option, Some, None, Result, Ok, Err, IsTrue, is_some, true, false}
+use Rattle.std.proofs.Common.{refl, sym, subst, arith, inl, ⊎_elim}
+use Rattle.cell_types.specs.Image.{Image, Between, Extends}
 use Rattle.cell_types.specs.declared.refusal.Refusal.{Refusal}
+use Rattle.cell_types.specs.declared.refusal.Refusal.TheVariants.{SinkFault}
 use Rattle.host_files.specs.Cells.{image_of}
 use Rattle.host_files.specs.Crashes.{CrashesAreSeen}
-use Rattle.host_files.specs.Device.{device_at, device_over, now_in}
-use Rattle.host_files.specs.File.{FileState, Told}
+use Rattle.host_files.specs.Device.{device_at}
+use Rattle.host_files.specs.File.{Told}
 use Rattle.host_ports.specs.Sinks.{SinkState}
-use Rattle.host_ports.specs.Sources.{SourceState}
-use Rattle.record_top.specs.Ingesting.{DoesIngest, IngestCommandEnds}
-use Rattle.record_top.specs.Ports.{Ports, ports_of}
-use Rattle.cell_types.specs.declared.refusal.Refusal.TheVariants.{SinkFault}
+use Rattle.host_ports.specs.Sources.{Gives, SourceState}
+use Rattle.ingest_engine.specs.Ingesting.{IngestEnds, Ingests, IsIngested}
+use Rattle.record_top.specs.Ingesting.{DoesIngest, acknowledgement, misnamed, untaken, taken}
+use Rattle.record_top.specs.Ports.{Ports, Tells, ports_of}
+use Rattle.record_top.specs.Taking.{refusal_of_body_fault}
+use Rattle.record_top.specs.declared.body.BodyFault.{BodyFault}
+use Rattle.record_top.specs.declared.body.BodyFault.TheVariants as faults
+use Rattle.record_top.proofs.Pieces.{gives_nothing}
+use Rattle.stored_documents.specs.Documents.{IsDocument}
+use Rattle.stored_documents.proofs.Extending.{document_on}
 use Rattle.worm_device.specs.Calls.{Called}
-use Rattle.stored_documents.specs.Documents.{Stands}
-use Rattle.stored_documents.proofs.Extending.{stands_on}
 use Rattle.worm_device.specs.State.{DeviceState, LeftSince}
-use Rattle.file_top.specs.Files.{IsKeptIn, HasStored, KeepsIn}
+use Rattle.file_top.specs.Files.{Acknowledges, HasStored, IsKeptIn, IsStored, KeepsAll, KeepsIn, WhereTold, file_ports}
 
 -- what a crash from now on leaves has what is sure
 left_now : (s : DeviceState) (image : Image) → LeftSince s s.moment image → Between s.sure s.image image
 left_now s image left = ⊎_elim (λ now. now) (λ past. absurd (omega (arith, past.1, past.2))) left
 
--- where the file tells, a document that stands in the sure image is kept in its bytes
-kept_told : (cells reads faults parts : ℕ) (id body : List ℕ) (told : Option Told)
-    → CrashesAreSeen (device_at cells reads faults parts told) told
-    → (IsTrue (is_some told) → Stands cells (now_in cells told).sure 0 id body)
-    → IfSome told (IsKeptIn cells id body)
-kept_told cells reads faults parts id body None seen stands = tt
-kept_told cells reads faults parts id body (Some t) seen stands = record {
-  sure = stands refl;
+-- a document of the sure image is kept
+kept_told : (cells reads faults parts : ℕ) (told : Told) → CrashesAreSeen (device_at cells reads faults parts (Some told)) (Some told)
+    → (n : ℕ) (id body : List ℕ) → IsDocument cells (image_of cells told.now.sure) n id body → IsKeptIn cells told n id body
+kept_told cells reads faults parts told seen n id body stands = record {
+  sure = stands;
   left = λ bytes leaves.
-      let now = left_now (device_at cells reads faults parts (Some t)) (image_of cells bytes)
-      (seen t t.moment bytes refl (inl leaves)) in
-      stands_on now.above (stands refl);
+      let now = left_now (device_at cells reads faults parts (Some told)) (image_of cells bytes)
+      (seen told told.moment bytes refl (inl leaves)) in
+      document_on now.above stands;
 }
 
--- so it is where the command has stored it
-kept : (cells reads : ℕ) (file : FileState) (id given : List ℕ) (old : Ports) (source : SourceState) (sink : SinkState)
-    (result : Result Unit Refusal)
-    → let new = ports_of (device_over cells reads file) source sink in
-    Called old.device new.device → IngestCommandEnds id given old new result
-    → CrashesAreSeen (device_over cells reads file) file.told → HasStored result
-    → IfSome file.told (IsKeptIn cells id given)
-kept cells reads file id given old source sink (Ok done) called ends seen stored =
-    kept_told cells reads file.faults file.parts id given file.told seen
-    (λ tells. (ends.1 (sym called.tells ∙ tells)).0)
-kept cells reads file id given old source sink (Err SinkFault) called ends seen stored =
-    kept_told cells reads file.faults file.parts id given file.told seen
-    (λ tells. (ends.1 (sym called.tells ∙ tells)).0)
-kept cells reads file id given old source sink (Err refusal) called ends seen stored = absurd stored
+-- what stands in these bytes is sure, and so each of their documents is kept
+keeps_all : (before cells reads faults parts : ℕ) (bytes : List ℕ) (told : Told) → before ≡ cells
+    → CrashesAreSeen (device_at cells reads faults parts (Some told)) (Some told)
+    → Extends (image_of before bytes) (image_of cells told.now.sure) → KeepsAll cells bytes told
+keeps_all before cells reads faults parts bytes told same seen extends n id body stands =
+    kept_told cells reads faults parts told seen n id body
+    (document_on (subst (λ (k : ℕ). Extends (image_of k bytes) (image_of cells told.now.sure)) same extends) stands)
 
-pub keeps : (cells reads : ℕ) (file : FileState) (id : List ℕ) (old : Ports) (source : SourceState) (sink : SinkState)
-    (result : Result Unit Refusal)
-    → DoesIngest id old (ports_of (device_over cells reads file) source sink) result
-    → CrashesAreSeen (device_over cells reads file) file.told
-    → KeepsIn cells id old.source source file.told result
-keeps cells reads file id old source sink result run seen = record {
-  given = run.given;
-  gives = run.gives;
-  kept = kept cells reads file id run.given old source sink result run.called run.ends seen;
-}
+-- a device that tells goes on telling
+one_tells : true ≡ false → ⊥
+one_tells e = absurd cc
+
+-- where the file tells, by what the device was and is
+where_told : (b r f p cells reads faults parts : ℕ) (old new : Option Told) (P : Told → Told → Type 0)
+    → Called (device_at b r f p old) (device_at cells reads faults parts new)
+    → ((t u : Told) → old ≡ Some t → new ≡ Some u → P t u) → WhereTold old new P
+where_told b r f p cells reads faults parts None None P called holds = tt
+where_told b r f p cells reads faults parts None (Some u) P called holds = one_tells called.tells
+where_told b r f p cells reads faults parts (Some t) None P called holds = one_tells (sym called.tells)
+where_told b r f p cells reads faults parts (Some t) (Some u) P called holds = holds t u refl refl
+
+-- whatever was sure is kept
+pub stays : (b r f p cells reads faults parts : ℕ) (old new : Option Told)
+    → Called (device_at b r f p old) (device_at cells reads faults parts new)
+    → CrashesAreSeen (device_at cells reads faults parts new) new
+    → WhereTold old new (λ before after. KeepsAll cells before.now.sure after)
+stays b r f p cells reads faults parts None None called seen = tt
+stays b r f p cells reads faults parts None (Some u) called seen = one_tells called.tells
+stays b r f p cells reads faults parts (Some t) None called seen = one_tells (sym called.tells)
+stays b r f p cells reads faults parts (Some t) (Some u) called seen =
+    keeps_all b cells reads faults parts t.now.sure u (sym called.cells) seen called.sure
+
+-- where the document was stored, it and each that stood is kept
+stored : (b r f p cells reads faults parts : ℕ) (old new : Option Told) (id body : List ℕ) (slot : ℕ)
+    (sink sink' : SinkState) (result : Result Unit Refusal)
+    → Called (device_at b r f p old) (device_at cells reads faults parts new)
+    → CrashesAreSeen (device_at cells reads faults parts new) new
+    → (IsTrue (is_some old) → IsIngested id body slot (device_at b r f p old) (device_at cells reads faults parts new))
+    → Acknowledges result slot sink sink'
+    → WhereTold old new (λ before after. IsStored cells id body after sink sink' result × KeepsAll cells before.now.bytes after)
+stored b r f p cells reads faults parts None None id body slot sink sink' result called seen ingested named = tt
+stored b r f p cells reads faults parts None (Some u) id body slot sink sink' result called seen ingested named = one_tells called.tells
+stored b r f p cells reads faults parts (Some t) None id body slot sink sink' result called seen ingested named = one_tells (sym called.tells)
+stored b r f p cells reads faults parts (Some t) (Some u) id body slot sink sink' result called seen ingested named =
+    let is = ingested refl in (
+      record {
+        slot = slot;
+        kept = kept_told cells reads faults parts u seen slot id body is.document;
+        named = named;
+      },
+      keeps_all b cells reads faults parts t.now.bytes u (sym called.cells) seen is.synced,
+    )
+
+not_stored : (fault : BodyFault) → HasStored (Err (refusal_of_body_fault fault)) → ⊥
+not_stored faults.TooLong h = h
+not_stored faults.SourceFailed h = h
+not_stored faults.NoMemory h = h
+
+module _ (b r f p cells reads faults parts : ℕ) (told told' : Option Told) (id : List ℕ)
+    (source source' : SourceState) (sink sink' : SinkState)
+    (seen : CrashesAreSeen (device_at cells reads faults parts told') told') where
+  abbrev device : DeviceState
+  device = device_at b r f p told
+
+  abbrev later : DeviceState
+  later = device_at cells reads faults parts told'
+
+  told_of : (result : Result Unit Refusal) (given : List ℕ) (answer : Result ℕ Refusal) → Ingests id given device later answer
+      → Tells acknowledgement answer (ports_of device source sink) (ports_of later source' sink') result → HasStored result
+      → WhereTold told told' (λ before after. IsStored cells id given after sink sink' result × KeepsAll cells before.now.bytes after)
+  told_of (Ok u) given (Ok slot) ingests tells has =
+      stored b r f p cells reads faults parts told told' id given slot sink sink' (Ok u) ingests.called seen ingests.ends tells
+  told_of (Ok u) given (Err refused) ingests tells has = absurd tells
+  told_of (Err SinkFault) given (Ok slot) ingests tells has =
+      stored b r f p cells reads faults parts told told' id given slot sink sink' (Err SinkFault) ingests.called seen ingests.ends tt
+  told_of (Err SinkFault) given (Err refused) ingests tells has =
+      absurd (subst (λ (refusal : Refusal). IngestEnds id given device later (Err refusal)) (sym tells.0) ingests.ends)
+  told_of (Err refusal) given answer ingests tells has = absurd has
+
+  -- where `ingest` has stored its document
+  pub keeps : (result : Result Unit Refusal) → DoesIngest id (ports_of device source sink) (ports_of later source' sink') result
+      → KeepsIn cells id (file_ports told source sink) (file_ports told' source' sink') result
+  keeps result (misnamed bad is same) = record {
+    given = [];
+    gives = subst (λ (s : Ports). Gives source.left s.source.left []) (sym same) (gives_nothing source.left);
+    kept = λ has. absurd (subst HasStored is has);
+  }
+  keeps result (untaken given fault name gives fails is same held) = record {
+    given = given;
+    gives = gives;
+    kept = λ has. absurd (not_stored fault (subst HasStored is has));
+  }
+  keeps result (taken body answer name is gives end ingests tells) = record {
+    given = body;
+    gives = gives;
+    kept = told_of result body answer ingests tells;
+  }

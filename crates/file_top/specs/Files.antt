@@ -1,18 +1,43 @@
 -- What a command does to the bytes of a file.
-use Rattle.std.specs.Prelude.{ℕ, List, Option, Result, Ok, Err, IfSome, ⊤}
+use Rattle.std.specs.Prelude.{ℕ, List, Option, Some, None, Result, Ok, Err, ⊤}
 use Rattle.cell_types.specs.declared.refusal.Refusal.{Refusal}
 use Rattle.cell_types.specs.declared.refusal.Refusal.TheVariants.{SinkFault}
 use Rattle.host_files.specs.Cells.{image_of}
 use Rattle.host_files.specs.Crashes.{CrashLeaves}
 use Rattle.host_files.specs.File.{Told}
+use Rattle.host_ports.specs.Sinks.{SinkState, Gets}
 use Rattle.host_ports.specs.Sources.{SourceState, Gives}
-use Rattle.stored_documents.specs.Documents.{Stands}
+use Rattle.record_top.specs.Ingesting.{acknowledgement}
+use Rattle.stored_documents.specs.Documents.{IsDocument}
 
--- The document stands in the bytes that no crash takes, as the first so many cells of the file, and in each file that
--- a crash leaves from now on.
-pub record IsKeptIn (cells : ℕ) (id body : List ℕ) (told : Told) : Type 0 where
-  pub sure : Stands cells (image_of cells told.now.sure) 0 id body
-  pub left : (bytes : List ℕ) → CrashLeaves told.now bytes → Stands cells (image_of cells bytes) 0 id body
+-- what the file below tells, the source and the sink that a command is given, as they are at one moment
+pub record FilePorts : Type 0 where
+  pub told : Option Told
+  pub source : SourceState
+  pub sink : SinkState
+
+-- these three
+abbrev pub file_ports : Option Told → SourceState → SinkState → FilePorts
+file_ports told source sink = record { told = told; source = source; sink = sink }
+
+-- Where the file tells its bytes, this holds of what it told and tells. A file that tells goes on telling, and one that
+-- doesn't goes on not telling.
+abbrev pub WhereTold : Option Told → Option Told → (Told → Told → Type 0) → Type 0
+WhereTold None None P = ⊤
+WhereTold None (Some new) P = ⊥
+WhereTold (Some old) None P = ⊥
+WhereTold (Some old) (Some new) P = P old new
+
+-- The document is one of the volume's, in slot n, in the bytes that no crash takes, as the first so many cells of the
+-- file, and in each file that a crash leaves from now on.
+pub record IsKeptIn (cells : ℕ) (told : Told) (n : ℕ) (id body : List ℕ) : Type 0 where
+  pub sure : IsDocument cells (image_of cells told.now.sure) n id body
+  pub left : (bytes : List ℕ) → CrashLeaves told.now bytes → IsDocument cells (image_of cells bytes) n id body
+
+-- each document of the volume that these bytes are is kept
+abbrev pub KeepsAll : ℕ → List ℕ → Told → Type 0
+KeepsAll cells bytes told =
+    (n : ℕ) (id body : List ℕ) → IsDocument cells (image_of cells bytes) n id body → IsKeptIn cells told n id body
 
 -- `ingest` has stored its document: it was acknowledged, or the sink failed then
 abbrev pub HasStored : Result Unit Refusal → Type 0
@@ -20,10 +45,22 @@ HasStored (Ok _) = ⊤
 HasStored (Err SinkFault) = ⊤
 HasStored (Err refusal) = ⊥
 
+-- at Ok this slot was acknowledged
+abbrev pub Acknowledges : Result Unit Refusal → ℕ → SinkState → SinkState → Type 0
+Acknowledges (Ok _) n old new = Gets old.held new.held (acknowledgement n)
+Acknowledges (Err refusal) n old new = ⊤
+
+-- the document is kept in a slot, which was acknowledged at Ok
+pub record IsStored (cells : ℕ) (id body : List ℕ) (told : Told) (old new : SinkState) (result : Result Unit Refusal)
+    : Type 0 where
+  pub slot : ℕ
+  pub kept : IsKeptIn cells told slot id body
+  pub named : Acknowledges result slot old new
+
 -- Where `ingest` of an identifier has stored its document over a file that tells its bytes, the file keeps the
--- document, whose body is what the source gave.
-pub record KeepsIn (cells : ℕ) (id : List ℕ) (old new : SourceState) (told : Option Told)
-    (result : Result Unit Refusal) : Type 0 where
+-- document, whose body is what the source gave, and each document of the volume that the file was at entry.
+pub record KeepsIn (cells : ℕ) (id : List ℕ) (old new : FilePorts) (result : Result Unit Refusal) : Type 0 where
   pub given : List ℕ
-  pub gives : Gives old.left new.left given
-  pub kept : HasStored result → IfSome told (IsKeptIn cells id given)
+  pub gives : Gives old.source.left new.source.left given
+  pub kept : HasStored result → WhereTold old.told new.told (λ before after.
+      IsStored cells id given after old.sink new.sink result × KeepsAll cells before.now.bytes after)

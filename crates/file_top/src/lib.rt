@@ -6,14 +6,14 @@
 //!     bytes 9,280 to 9,295     1d 01 61 `hello world` 00 00
 //!
 //! are in the bytes that a sync made sure, with the four cells that say that it stands; and whatever a crash leaves of
-//! the file from then on, they are there.
+//! the file from then on, they are there. So is each document that stood before.
 //!
 //! Stands on `record_top` and `host_files`. Begin with `run_over_file`; `specs/Files.antt` says what is kept.
 #![tactic(auto)]
 
 ghost use Rattle.std.specs.Prelude.{ℕ, List, map};
 ghost use Rattle.std.specs.String.{string_bytes};
-ghost use Rattle.file_top.specs.Files.{KeepsIn};
+ghost use Rattle.file_top.specs.Files.{KeepsAll, KeepsIn, WhereTold, file_ports};
 ghost use Rattle.host_files.specs.Crashes.{CrashesAreSeen};
 ghost use Rattle.host_files.specs.Over.{file_below, state_over};
 ghost use Rattle.record_top.specs.Ingesting.{AsksToIngest};
@@ -34,9 +34,13 @@ pub fn run_over_file<F: HostFile, S: Source, K: Sink>(
     source: &mut S,
     sink: &mut K,
 ) -> Outcome
-    // Where `ingest` has stored its document, which it has at Ok, the file keeps it.
-    ensures keeps { (id : List ℕ) → AsksToIngest (map string_bytes words.now) id →
-        KeepsIn (state_over device.new).cells id (S.state source.old) (S.state source.new) (file_below device.new).told result }
+    // Where `ingest` has stored its document, which it has at Ok, the file keeps it, and each that stood at entry.
+    ensures keeps { (id : List ℕ) → AsksToIngest (map string_bytes words.now) id → KeepsIn (state_over device.new).cells id
+        (file_ports (file_below device.old).told (S.state source.old) (K.state sink.old))
+        (file_ports (file_below device.new).told (S.state source.new) (K.state sink.new)) result }
+    // Whatever the words are, and however it ends, the file keeps each document of the bytes that no crash took at entry.
+    ensures stays { WhereTold (file_below device.old).told (file_below device.new).told
+        (λ before after. KeepsAll (state_over device.new).cells before.now.sure after) }
     // What a crash leaves of the file, at any moment of the command, is a crash of the device, of which `run` speaks.
     ensures crashes { CrashesAreSeen (state_over device.new) (file_below device.new).told }
 {

@@ -1,6 +1,6 @@
 //! Commands over a file in memory, each call of which fails in turn. What is expected was written by hand.
 use crate::run_over_file;
-use cell_types::Refusal;
+use cell_types::{Cell, Evidence, Refusal};
 use host_files::{FileDevice, Leaving, MemoryFile, Pages};
 use host_ports::{MemorySink, MemorySource};
 use record_top::Outcome;
@@ -20,6 +20,17 @@ const DOCUMENT: [(usize, [u8; 16]); 4] = [
     (5, [3, 0, 0, 0, 13, 0, 0, 0, 0, 0, 0, 0, 0, 0, 0, 5]),
     (6, [5, 0, 0, 0, 0, 0, 0, 0, 0, 0, 0, 0, 0, 0, 0, 6]),
 ];
+
+/// The cells of the same document in slot 1, behind the cell of slot 0.
+const NEXT_DOCUMENT: [(usize, [u8; 16]); 4] = [
+    (8, [2, 0, 0, 2, 0x45, 0, 0, 0, 1, 0, 0, 0, 0, 0, 0, 8]),
+    (581, *b"\x1d\x01ahello world\0\0"),
+    (9, [3, 0, 0, 0, 13, 0, 0, 0, 0, 0, 0, 0, 0, 0, 0, 9]),
+    (10, [5, 0, 0, 0, 1, 0, 0, 0, 0, 0, 0, 0, 0, 0, 0, 10]),
+];
+
+/// Slot 0 was given up.
+const ABANDON: (usize, [u8; 16]) = (5, [4, 0, 0, 0, 0, 0, 0, 0, 0, 0, 0, 0, 0, 0, 0, 5]);
 
 /// The first eight bytes of sixteen.
 const FIRST_EIGHT: [bool; 16] = [
@@ -148,30 +159,105 @@ fn each_call_of_the_file_fails_in_turn_under_format(rt: HostRuntime) -> Result<(
     Ok(())
 }
 
-/// What a write has left of a document of which so many cells were written before, and the cell that is torn.
+/// How many cells of the document are written whole where this call fails, and whether it is the next one's write.
+/// Settling's sync and a page are read for cell 0, and a page for cell 580. Then each of four cells is asked for and
+/// written, and synced, with a sync of no cells before the last: sixteen calls.
+fn steps_before(fails: u32) -> (usize, bool) {
+    match fails {
+        0..=4 => (0, false),
+        5 => (0, true),
+        6..=7 => (1, false),
+        8 => (1, true),
+        9..=10 => (2, false),
+        11 => (2, true),
+        12..=14 => (3, false),
+        15 => (3, true),
+        _ => (4, false),
+    }
+}
+
+/// The cells that are left of the document where so many were written before, and a torn cell that tells a slot's state.
 fn left_by_ingest(
     alloc: Global,
-    written: usize,
-    in_a_write: bool,
+    fails: u32,
     leaving: Leaving,
-) -> Result<(Vec<u8>, Option<u32>), Fail> {
+) -> Result<(Vec<(usize, [u8; 16])>, Option<Evidence>), Fail> {
     let mut cells = vec![in alloc; (0usize, VOLUME); 1]?;
     let mut torn = None;
+    let (written, in_a_write) = steps_before(fails);
     for (step, (at, cell)) in DOCUMENT.iter().enumerate() {
         if step < written {
             cells.push((*at, *cell))?;
-        } else if step == written && in_a_write {
+        } else if step == written && in_a_write && leaving != Leaving::Nothing {
             let left = left_of(*cell, leaving);
             cells.push((*at, left))?;
-            if left != [0; 16] && left != *cell {
-                torn = Some(*at as u32);
+            if left != *cell {
+                torn = evidence_of(*at as u32, left);
             }
         }
     }
-    Ok((with_cells(alloc, &cells)?, torn))
+    Ok((cells, torn))
 }
 
-/// A page is read, for cell 0. Then each of four cells is asked for and written, and synced: thirteen calls.
+/// A torn cell of slot 0, as it is named: the reserve cell breaks rule 1, the outcome cell 2 and the done cell 3. What
+/// stands in the cells that the slot reserves is not looked at.
+fn evidence_of(at: u32, left: [u8; 16]) -> Option<Evidence> {
+    let rule = match at {
+        4 => 1,
+        5 => 2,
+        6 => 3,
+        _ => return None,
+    };
+    let found = Cell::from_bytes(left)?;
+    Some(Evidence {
+        rule,
+        cell: at,
+        found,
+    })
+}
+
+/// What the next ingest leaves of these cells, where no cell of slot 0 is torn: it gives slot 0 up where that is reserved
+/// alone, completes it where it is committed, and stores its document in slot 1; or in slot 0, where that is unused.
+fn left_by_the_next(alloc: Global, cells: &[(usize, [u8; 16])]) -> Result<(Vec<u8>, u32), Fail> {
+    let mut all = Vec::new(alloc);
+    all.extend_from_slice(cells)?;
+    let [reserve, content, commit, done] = DOCUMENT;
+    if written_at(cells, 4) == [0; 16] {
+        all.extend_from_slice(&[reserve, content, commit, done])?;
+        return Ok((with_cells(alloc, &all)?, 0));
+    }
+    if written_at(cells, 5) == [0; 16] {
+        all.push(ABANDON)?;
+    } else if written_at(cells, 6) == [0; 16] {
+        all.push(done)?;
+    }
+    all.extend_from_slice(&NEXT_DOCUMENT)?;
+    Ok((with_cells(alloc, &all)?, 1))
+}
+
+/// One call fails, and then the same document is ingested again. Answers whether both end as they have to, and leave what
+/// they have to.
+fn fails_and_goes_on(alloc: Global, fails: u32, leaving: Leaving) -> Result<bool, Fail> {
+    let body = b"hello world";
+    let volume = with_cells(alloc, &[(0, VOLUME)])?;
+    let mut device = failing(alloc, volume, fails, leaving)?;
+    let first = carry_out(alloc, "ingest|a", body, &mut device, b"")?;
+    let (cells, torn) = left_by_ingest(alloc, fails, leaving)?;
+    let left = with_cells(alloc, &cells)?;
+    if first != (Err(Refusal::DeviceFault), true) || device.file().bytes() != left.as_slice() {
+        return Ok(false);
+    }
+    if let Some(evidence) = torn {
+        let again = carry_out(alloc, "ingest|a", body, &mut device, b"")?;
+        let want = (Err(Refusal::Tampered(evidence)), true);
+        return Ok(again == want && device.file().bytes() == left.as_slice());
+    }
+    let (bytes, slot) = left_by_the_next(alloc, &cells)?;
+    let text = format!(in alloc; "acknowledged {slot}\n")?;
+    let again = carry_out(alloc, "ingest|a", body, &mut device, text.as_bytes())?;
+    Ok(again == (Ok(()), true) && device.file().bytes() == bytes.as_slice())
+}
+
 #[test]
 fn each_call_of_the_file_fails_in_turn_under_ingest(rt: HostRuntime) -> Result<(), Fail> {
     let alloc = rt.alloc();
@@ -179,49 +265,14 @@ fn each_call_of_the_file_fails_in_turn_under_ingest(rt: HostRuntime) -> Result<(
     let [reserve, content, commit, done] = DOCUMENT;
     let whole = with_cells(alloc, &[(0, VOLUME), reserve, content, commit, done])?;
     let volume = with_cells(alloc, &[(0, VOLUME)])?;
-    let mut device = failing(alloc, volume, 14, Leaving::Nothing)?;
+    let mut device = failing(alloc, volume, 17, Leaving::Nothing)?;
     let done = carry_out(alloc, "ingest|a", body, &mut device, text)?;
     assert_eq!(rt; done, (Ok(()), true));
     assert_eq!(rt; device.file().bytes(), whole.as_slice());
     for leaving in [Leaving::Nothing, Leaving::All, Leaving::Part(FIRST_EIGHT)] {
-        for fails in 1..14u32 {
-            let volume = with_cells(alloc, &[(0, VOLUME)])?;
-            let mut device = failing(alloc, volume, fails, leaving)?;
-            let first = carry_out(alloc, "ingest|a", body, &mut device, b"")?;
-            assert_eq!(rt;
-                first,
-                (Err(Refusal::DeviceFault), true),
-                "call {fails} {leaving:?}"
-            );
-            let written = (fails as usize - 1) / 3;
-            let (left, torn) = left_by_ingest(alloc, written, fails % 3 == 0, leaving)?;
-            assert_eq!(rt;
-                device.file().bytes(),
-                left.as_slice(),
-                "call {fails} {leaving:?}"
-            );
-
-            if let Some(at) = torn {
-                let again = carry_out(alloc, "ingest|a", body, &mut device, b"")?;
-                assert_eq!(rt;
-                    again,
-                    (Err(Refusal::NotYet(at)), true),
-                    "call {fails} {leaving:?}"
-                );
-                assert_eq!(rt;
-                    device.file().bytes(),
-                    left.as_slice(),
-                    "call {fails} {leaving:?}"
-                );
-            } else {
-                let again = carry_out(alloc, "ingest|a", body, &mut device, text)?;
-                assert_eq!(rt; again, (Ok(()), true), "call {fails} {leaving:?}");
-                assert_eq!(rt;
-                    device.file().bytes(),
-                    whole.as_slice(),
-                    "call {fails} {leaving:?}"
-                );
-            }
+        for fails in 1..17u32 {
+            let holds = fails_and_goes_on(alloc, fails, leaving)?;
+            assert!(rt; holds, "call {fails} {leaving:?}");
         }
     }
     Ok(())

@@ -1,5 +1,5 @@
 -- What a crash in the middle of an ingest leaves of a slot that was unused, where nobody else writes.
-use Rattle.std.proofs.Common.{◌≡◌, ◌≢◌, ◌≤◌, ◌<◌, ◌+◌, ◌⊎◌, ℕ, List, Result, Ok, Err, refl, sym, ap, subst, ◌∙◌, ⊎_elim, inl, inr, arith}
+use Rattle.std.proofs.Common.{◌≡◌, ◌≢◌, ◌≤◌, ◌<◌, ◌+◌, ◌⊎◌, ℕ, List, Result, sym, subst, ⊎_elim, inl, inr, arith}
 use Rattle.std.specs.Prelude.{IsTrue}
 use Rattle.cell_types.specs.Image.{Image, Extends, Between, IsUnchanged}
 use Rattle.cell_types.specs.Layout.{Layout, IsLayout}
@@ -13,14 +13,13 @@ use Rattle.worm_device.specs.Counts.{IsStill}
 use Rattle.worm_device.specs.State.{DeviceState, LeftSince}
 use Rattle.worm_device.proofs.Counting.{still_first, still_second}
 use Rattle.worm_device.proofs.Elapsing.{called_then, elapses_of}
-use Rattle.worm_device.proofs.Images.{extends_self, unchanged_then}
-use Rattle.phase_writer.specs.Putting.{ChangesBy, IsInFirst, LeavesPhases}
+use Rattle.phase_writer.specs.Putting.{IsInFirst, LeavesPhases}
 use Rattle.phase_writer.specs.declared.put.Put.{Put}
 use Rattle.commit_record.specs.States.{IsState}
 use Rattle.commit_record.specs.declared.slot.SlotState.{SlotState}
 use Rattle.commit_record.specs.declared.slot.SlotState.TheVariants.{Unused, Reserved, Abandoned, Committed, Done}
 use Rattle.recovery_engine.specs.Ending.{end_phases, IsFirstEnd, IsLastEnd}
-use Rattle.recovery_engine.specs.Settling.{EndsByPhases, HasSettled, IsEnding, LiesInBounds, Settles, settle_plan}
+use Rattle.recovery_engine.specs.Settling.{EndsByPhases, HasSettled, IsEnding, Settles, settle_plan}
 use Rattle.recovery_engine.specs.declared.settling.Ready.{Ready}
 use Rattle.plan_writer.specs.CrashLaws.{CrashesLeaveWholeSlots, IsWholeOrUncommitted}
 use Rattle.plan_writer.specs.Planned.{INGEST_PHASES, PlansDocument, Suits, ingest_phases}

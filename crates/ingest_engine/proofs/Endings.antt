@@ -1,6 +1,6 @@
 -- How an ingest ends, by how far it has come.
-use Rattle.std.proofs.Common.{◌≡◌, ◌<◌, ℕ, List, [], length, Option, Some, None, Ok, Err, Result, refl, sym, ap, subst, ◌∙◌, inl, inr, arith}
-use Rattle.std.specs.Prelude.{IsTrue, slice_get}
+use Rattle.std.proofs.Common.{◌≡◌, ℕ, List, [], length, Some, None, Ok, Err, Result, refl, sym, ap, subst, ◌∙◌, inl, inr}
+use Rattle.std.specs.Prelude.{slice_get}
 use Rattle.std.proofs.lemmas.Option.{none-some}
 use Rattle.cell_types.specs.Image.{Image}
 use Rattle.cell_types.specs.Layout.{Layout}
@@ -23,7 +23,7 @@ use Rattle.plan_writer.specs.CrashLaws.{CrashesLeaveWholeSlots}
 use Rattle.plan_writer.specs.Planned.{PlansDocument, Suits}
 use Rattle.plan_writer.specs.PuttingPlans.{IsPlanRule, PlanEnds, PutsPlan}
 use Rattle.plan_writer.specs.declared.plan.Plan.{Plan}
-use Rattle.ingest_engine.specs.Ingesting.{ComesTo, HasNoRoom, IngestEnds, Ingests, IsIngestRule, RoomEnds}
+use Rattle.ingest_engine.specs.Ingesting.{ComesTo, IngestEnds, Ingests, IsIngestRule, RoomEnds}
 use Rattle.ingest_engine.proofs.CrashedIngests.{crashed}
 
 -- settling has just been done

@@ -1,12 +1,12 @@
 -- A plan of a document and no journal.
-use Rattle.std.proofs.Common.{◌≡◌, ◌≤◌, ◌<◌, ◌+◌, ◌-◌, ℕ, List, [], length, Some, sym, ap, subst, ◌∙◌, arith}
+use Rattle.std.proofs.Common.{◌≡◌, ◌≤◌, ◌+◌, ◌-◌, ℕ, List, [], length, sym, ap, ◌∙◌, arith}
 use Rattle.std.specs.Prelude.{slice_get}
 use Rattle.cell_types.specs.Layout.{Layout, pool_at}
-use Rattle.stored_documents.specs.Documents.{IsBody, IsIdentifier, content_at, stored_bytes}
+use Rattle.stored_documents.specs.Documents.{IsBody, IsIdentifier}
 use Rattle.stored_documents.specs.Slots.{cells_for}
 use Rattle.plan_writer.specs.Planned.{PlansDocument, Suits}
 use Rattle.plan_writer.specs.declared.plan.Plan.{Plan}
-use Rattle.ingest_engine.specs.StoredCells.{AreCellsOf, IsStoredAs}
+use Rattle.ingest_engine.specs.StoredCells.{IsStoredAs}
 use Rattle.ingest_engine.specs.declared.document.StoredDocument.{StoredDocument}
 use Rattle.ingest_engine.proofs.JoinedCells.{stored_length}
 

@@ -1,13 +1,11 @@
 -- Slots that settling and an ingest leave alone.
-use Rattle.std.proofs.Common.{◌≡◌, ◌≢◌, ◌≤◌, ◌<◌, ◌+◌, ◌-◌, ◌*◌, ◌⊎◌, ℕ, zero, suc, List, length, Option, Some, None, Result, refl, sym, ap, subst, ◌∙◌, ⊎_elim, inl, inr, arith}
-use Rattle.std.specs.Prelude.{slice_get}
-use Rattle.std.proofs.lemmas.Option.{none-some, slice_get_within}
-use Rattle.cell_types.specs.Image.{Image, Extends, IsUnchanged}
+use Rattle.std.proofs.Common.{◌≡◌, ◌≢◌, ◌≤◌, ◌<◌, ◌+◌, ◌⊎◌, ℕ, zero, suc, List, length, Option, Some, None, refl, sym, ap, subst, ◌∙◌, ⊎_elim, inl, inr, arith}
+use Rattle.std.proofs.lemmas.Option.{none-some}
+use Rattle.cell_types.specs.Image.{Image, Extends}
 use Rattle.cell_types.specs.Layout.{Layout, reserve_at, outcome_at, done_at, list_at, pool_at}
 use Rattle.cell_types.specs.declared.record_cell.RecordCell.{RecordCell}
-use Rattle.cell_types.specs.declared.record_cell.RecordCell.TheVariants.{Reserve}
-use Rattle.stored_documents.specs.Documents.{Spells, document_at, stored_bytes}
-use Rattle.stored_documents.specs.Slots.{Commits, IsUnused}
+use Rattle.stored_documents.specs.Documents.{document_at}
+use Rattle.stored_documents.specs.Slots.{IsUnused}
 use Rattle.stored_documents.specs.Volumes.{Holds}
 use Rattle.stored_documents.proofs.Extending.{blank_before}
 use Rattle.tamper_rules.specs.Journals.{journal_at}
@@ -17,14 +15,13 @@ use Rattle.phase_writer.specs.declared.put.Put.{Put}
 use Rattle.commit_record.specs.States.{IsState}
 use Rattle.commit_record.specs.declared.slot.SlotState.{SlotState}
 use Rattle.commit_record.specs.declared.slot.SlotState.TheVariants.{Unused, Reserved, Abandoned, Committed, Done}
-use Rattle.recovery_engine.specs.Ending.{HasJournal, IsFirstEnd, IsLastEnd, abandon_put, done_put}
-use Rattle.recovery_engine.specs.Entries.{AreEntries, target_of}
-use Rattle.recovery_engine.specs.Journal.{IsEntryPut}
+use Rattle.recovery_engine.specs.Ending.{HasJournal, IsFirstEnd, IsLastEnd}
 use Rattle.recovery_engine.specs.Settling.{settle_plan}
-use Rattle.recovery_engine.proofs.Licensed.{entries_from}
+use Rattle.recovery_engine.proofs.Rising.{entries_from}
 use Rattle.plan_writer.specs.CrashLaws.{IsWholeOrUncommitted}
-use Rattle.plan_writer.specs.Planned.{INGEST_PHASES, IsAskedPut, IsStoredPut, Suits, commit_put, document_from, ingest_phases, journal_from, laid, reserve_put, reserved_by}
+use Rattle.plan_writer.specs.Planned.{Suits, document_from, ingest_phases}
 use Rattle.plan_writer.specs.declared.plan.Plan.{Plan}
+use Rattle.plan_writer.proofs.Targets.{asked_from}
 
 -- a cell that tells the state of slot n
 abbrev pub IsOwn : ℕ → ℕ → Type 0
@@ -141,15 +138,6 @@ module _ (g : Layout) (p : Plan) (u n : ℕ) (suits : Suits g p) (slot : n < g.s
   row_apart : (from : ℕ) (cells : List (List ℕ)) (put : Put) → pool_at g ≤ from → IsInRow from cells STRAY_CELL put → IsOwn n put.at → ⊥
   row_apart from cells put low row own = beyond_slots g n put.at slot (omega (arith, low, row.at)) own
 
-  asked_from : (put : Put) → IsAskedPut (journal_from p) p.journal.now put → list_at g 0 ≤ put.at
-  asked_from put asked =
-      let inside : asked.k < length p.journal.now = slice_get_within p.journal.now asked.k put.value asked.value in
-      let laid_there : laid (journal_from p) p.journal.now (journal_from p + asked.k) ≡ Some put.value =
-      ap (slice_get p.journal.now) (omega arith) ∙ asked.value in
-      subst (λ (i : ℕ). list_at g 0 ≤ i) (sym asked.at)
-      (entries_from (list_at g 0) (laid (journal_from p) p.journal.now) (journal_from p) (document_from p) (length p.journal.now)
-      suits.entries asked.k put.value inside laid_there)
-
   phase_apart : (j : ℕ) (put : Put) → ingest_phases u p j put → IsOwn n put.at → ⊥
   phase_apart zero put e own = differs (reserve_is u n put.at (ap (λ (q : Put). q.at) e) own)
   phase_apart (suc zero) put e own = ⊎_elim
@@ -157,7 +145,7 @@ module _ (g : Layout) (p : Plan) (u n : ℕ) (suits : Suits g p) (slot : n < g.s
       (λ (b : IsInRow (document_from p + length p.document.now) p.journal.now STRAY_CELL put). row_apart (document_from p + length p.document.now) p.journal.now put (omega (arith, suits.from)) b own)
       e
   phase_apart (suc (suc zero)) put e own = differs (outcome_is u n put.at (ap (λ (q : Put). q.at) e) own)
-  phase_apart (suc (suc (suc zero))) put e own = beyond_slots g n put.at slot (asked_from put e) own
+  phase_apart (suc (suc (suc zero))) put e own = beyond_slots g n put.at slot (asked_from g p suits put e) own
   phase_apart (suc (suc (suc (suc zero)))) put e own = differs (done_is u n put.at (ap (λ (q : Put). q.at) e) own)
   phase_apart (suc (suc (suc (suc (suc j))))) put e own = e
 

@@ -1,5 +1,5 @@
 -- What it means that a document is held as the cells that it is stored in.
-use Rattle.std.specs.Prelude.{◌≡◌, ◌<◌, ◌*◌, ℕ, List, ◌++◌, length, slice_get, Some}
+use Rattle.std.specs.Prelude.{◌≡◌, ◌<◌, ℕ, List, ◌++◌, length, slice_get, Some}
 use Rattle.stored_documents.specs.Documents.{content_at, stored_bytes}
 use Rattle.stored_documents.specs.Slots.{cells_for}
 use Rattle.ingest_engine.specs.declared.document.StoredDocument.{StoredDocument}

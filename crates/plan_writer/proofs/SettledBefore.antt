@@ -21,7 +21,7 @@ use Rattle.tamper_rules.specs.Journals.{journal_at}
 use Rattle.tamper_rules.proofs.GivenUp.{one_layout}
 use Rattle.worm_device.specs.Counts.{IsStill}
 use Rattle.worm_device.specs.State.{DeviceState}
-use Rattle.plan_writer.proofs.Targets.{entries_below, entries_from}
+use Rattle.recovery_engine.proofs.Rising.{entries_below, entries_from}
 
 at_of : (a b : Put) → a ≡ b → a.at ≡ b.at
 at_of a b e = ap (λ (x : Put). x.at) e

@@ -1,5 +1,5 @@
 -- A cell of a plan was found taken.
-use Rattle.std.proofs.Common.{◌≡◌, ◌<◌, ◌+◌, ◌⊎◌, ℕ, zero, suc, List, Option, length, Some, None, refl, sym, ap, ◌∙◌, inr, ⊎_elim, subst, arith}
+use Rattle.std.proofs.Common.{inl, ◌≡◌, ◌<◌, ◌+◌, ◌⊎◌, ℕ, zero, suc, List, Option, length, Some, None, refl, sym, ap, ◌∙◌, inr, ⊎_elim, subst, arith}
 use Rattle.std.specs.Prelude.{slice_get}
 use Rattle.std.proofs.lemmas.Option.{none-some, slice_get_within}
 use Rattle.cell_types.specs.Image.{Extends}

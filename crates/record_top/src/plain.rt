@@ -43,11 +43,30 @@ fn is_blank(cell: [u8; 16]) -> bool {
     Cell::from_bytes(cell).is_none()
 }
 
-/// The state of slot 0, by the first byte of its cells.
-pub fn state_of_slot_0(device: &mut MemoryDevice) -> State {
-    let [reserve, ..] = bytes_at(device, 4);
-    let [outcome, ..] = bytes_at(device, 5);
-    let [done, ..] = bytes_at(device, 6);
+/// The four cells of a slot, up to its done cell.
+#[derive(Clone, Copy)]
+struct SlotCells {
+    reserve: [u8; 16],
+    outcome: [u8; 16],
+    done: [u8; 16],
+}
+
+/// What stands in the cells of this slot.
+fn cells_of_slot(device: &mut MemoryDevice, slot: u32) -> SlotCells {
+    let first = slot.saturating_mul(4);
+    SlotCells {
+        reserve: bytes_at(device, first.saturating_add(4)),
+        outcome: bytes_at(device, first.saturating_add(5)),
+        done: bytes_at(device, first.saturating_add(6)),
+    }
+}
+
+/// The state of a slot, by the first byte of its cells.
+pub fn state_of_slot(device: &mut MemoryDevice, slot: u32) -> State {
+    let cells = cells_of_slot(device, slot);
+    let [reserve, ..] = cells.reserve;
+    let [outcome, ..] = cells.outcome;
+    let [done, ..] = cells.done;
     match (reserve, outcome, done) {
         (0, 0, 0) => State::Unused,
         (2, 0, 0) => State::Reserved,
@@ -58,14 +77,23 @@ pub fn state_of_slot_0(device: &mut MemoryDevice) -> State {
     }
 }
 
-/// The stored bytes of slot 0, one content cell after another, up to a cell that is none.
-fn stored_of_slot_0(alloc: Global, device: &mut MemoryDevice) -> Result<Vec<u8>, AllocError> {
-    let [_, a, b, c, d, ..] = bytes_at(device, 4);
-    let [_, e, f, g, h, ..] = bytes_at(device, 5);
-    let start = number([a, b, c, d]);
-    let count = number([e, f, g, h]);
+/// The stored bytes of a slot, one content cell after another, up to a cell that is none. They are the last of its cells,
+/// before its journal.
+fn stored_of_slot(
+    alloc: Global,
+    device: &mut MemoryDevice,
+    slot: u32,
+) -> Result<Vec<u8>, AllocError> {
+    let cells = cells_of_slot(device, slot);
+    let [_, a, b, c, d, e, f, g, h, ..] = cells.reserve;
+    let end = number([a, b, c, d]).saturating_add(number([e, f, g, h]));
+    let [_, a, b, c, d, e, f, g, h, ..] = cells.outcome;
+    let count = number([a, b, c, d]).div_ceil(15);
+    let start = end
+        .saturating_sub(number([e, f, g, h]))
+        .saturating_sub(count);
     let mut stored = Vec::new(alloc);
-    for k in 0..count.div_ceil(15) {
+    for k in 0..count {
         let cell = bytes_at(device, start.saturating_add(k));
         if is_blank(cell) || cell[0] < 0x11 || cell[0] > 0x1f {
             return Ok(stored);
@@ -76,12 +104,13 @@ fn stored_of_slot_0(alloc: Global, device: &mut MemoryDevice) -> Result<Vec<u8>,
     Ok(stored)
 }
 
-/// The document of slot 0, where its stored bytes have an identifier.
-pub fn document_of_slot_0(
+/// The document of a slot, where its stored bytes have an identifier.
+pub fn document_of_slot(
     alloc: Global,
     device: &mut MemoryDevice,
+    slot: u32,
 ) -> Result<Option<Document>, AllocError> {
-    let stored = stored_of_slot_0(alloc, device)?;
+    let stored = stored_of_slot(alloc, device, slot)?;
     let Some((length, rest)) = stored.split_first() else {
         return Ok(None);
     };

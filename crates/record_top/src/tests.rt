@@ -2,9 +2,9 @@
 ghost use Rattle.std.specs.Prelude.{◌≤◌};
 ghost use Rattle.cell_types.specs.declared.geometry.TheConstants.{MAX_CELLS};
 
-use crate::plain::{Document, State, document_of_slot_0, state_of_slot_0};
+use crate::plain::{Document, State, document_of_slot, state_of_slot};
 use crate::{Outcome, run};
-use cell_types::{Cell, Refusal};
+use cell_types::{Cell, Evidence, Refusal};
 use host_ports::{MemorySink, MemorySource};
 use std::alloc::Global;
 use std::test::Fail;
@@ -26,6 +26,21 @@ const COMMIT: [u8; 16] = [3, 0, 0, 0, 13, 0, 0, 0, 0, 0, 0, 0, 0, 0, 0, 5];
 
 /// Slot 0 is done.
 const DONE: [u8; 16] = [5, 0, 0, 0, 0, 0, 0, 0, 0, 0, 0, 0, 0, 0, 0, 6];
+
+/// Slot 1 reserves one cell, cell 581.
+const RESERVE_1: [u8; 16] = [2, 0, 0, 2, 0x45, 0, 0, 0, 1, 0, 0, 0, 0, 0, 0, 8];
+
+/// The document `b` with an empty body.
+const DOCUMENT_1: [u8; 16] = [0x12, 1, 0x62, 0, 0, 0, 0, 0, 0, 0, 0, 0, 0, 0, 0, 0];
+
+/// Slot 1 has a document of 2 stored bytes.
+const COMMIT_1: [u8; 16] = [3, 0, 0, 0, 2, 0, 0, 0, 0, 0, 0, 0, 0, 0, 0, 9];
+
+/// Slot 1 is done.
+const DONE_1: [u8; 16] = [5, 0, 0, 0, 1, 0, 0, 0, 0, 0, 0, 0, 0, 0, 0, 10];
+
+/// Slot 1 was given up.
+const ABANDON_1: [u8; 16] = [4, 0, 0, 0, 0, 0, 0, 0, 0, 0, 0, 0, 0, 0, 0, 9];
 
 /// The cell of these bytes.
 fn cell(bytes: [u8; 16]) -> Result<Cell, &'static str> {
@@ -98,61 +113,67 @@ fn outcome_of<D: Device>(
     Ok((outcome, put))
 }
 
+/// Whether the record of changes holds these four cells from this place on, each with a sync behind it.
+fn has_four_steps(
+    device: &MemoryDevice,
+    from: usize,
+    cells: [(u32, [u8; 16]); 4],
+) -> Result<bool, &'static str> {
+    let mut at = from;
+    for (address, bytes) in cells {
+        let wrote = Change::Wrote {
+            at: address,
+            value: cell(bytes)?,
+        };
+        let changes = device.changes();
+        if changes.get(at) != Some(&wrote)
+            || changes.get(at.saturating_add(1)) != Some(&Change::Synced)
+        {
+            return Ok(false);
+        }
+        at = at.saturating_add(2);
+    }
+    Ok(true)
+}
+
 #[test]
 fn a_document_is_stored_in_eight_steps(rt: HostRuntime) -> Result<(), Fail> {
     let alloc = rt.alloc();
     let mut device = formatted(alloc, 1_000, 64)?;
-    assert_eq!(rt; state_of_slot_0(&mut device), State::Unused);
+    assert_eq!(rt; state_of_slot(&mut device, 0), State::Unused);
     let (outcome, put) = outcome_of(alloc, "ingest|a", &mut device, b"hello world")?;
     assert_eq!(rt; outcome, Ok(()));
     assert_eq!(rt; put.as_slice(), b"acknowledged 0\n".as_slice());
-    let changes = [
-        Change::Wrote {
-            at: 0,
-            value: cell(VOLUME)?,
-        },
-        Change::Synced,
-        Change::Wrote {
-            at: 4,
-            value: cell(RESERVE)?,
-        },
-        Change::Synced,
-        Change::Wrote {
-            at: 580,
-            value: cell(DOCUMENT)?,
-        },
-        Change::Synced,
-        Change::Wrote {
-            at: 5,
-            value: cell(COMMIT)?,
-        },
-        Change::Synced,
-        Change::Wrote {
-            at: 6,
-            value: cell(DONE)?,
-        },
-        Change::Synced,
-    ];
-    assert_eq!(rt; device.changes(), changes.as_slice());
-    assert_eq!(rt; state_of_slot_0(&mut device), State::Done);
-
-    // The same document again finds its own cells. Another finds them taken, the first that differs.
-    for (body, want) in [
-        ("hello world", Ok(())),
-        ("hello there world!!", Err(Refusal::NotYet(4))),
-        ("hello worle", Err(Refusal::NotYet(580))),
-    ] {
-        let (outcome, _) = outcome_of(alloc, "ingest|a", &mut device, body.as_bytes())?;
-        assert_eq!(rt; outcome, want, "{body}");
-    }
+    // The volume cell and its sync stood before. All is sure at entry, so settling adds no change.
+    let first = [(4, RESERVE), (580, DOCUMENT), (5, COMMIT), (6, DONE)];
+    assert!(rt; has_four_steps(&device, 2, first)?);
     assert_eq!(rt; device.changes().len(), 10);
+    assert_eq!(rt; state_of_slot(&mut device, 0), State::Done);
+
+    // The next document goes into the next slot, behind the cells of this one.
+    let (outcome, put) = outcome_of(alloc, "ingest|b", &mut device, b"")?;
+    assert_eq!(rt; outcome, Ok(()));
+    assert_eq!(rt; put.as_slice(), b"acknowledged 1\n".as_slice());
+    let next = [
+        (8, RESERVE_1),
+        (581, DOCUMENT_1),
+        (9, COMMIT_1),
+        (10, DONE_1),
+    ];
+    assert!(rt; has_four_steps(&device, 10, next)?);
+    assert_eq!(rt; device.changes().len(), 18);
+
+    let (outcome, put) = outcome_of(alloc, "recover", &mut device, b"")?;
+    assert_eq!(rt; outcome, Ok(()));
+    assert_eq!(rt; put.as_slice(), b"nothing to settle\n".as_slice());
+    assert_eq!(rt; device.changes().len(), 18);
     Ok(())
 }
 
 #[test]
-fn what_was_written_decodes_to_the_document(rt: HostRuntime) -> Result<(), Fail> {
+fn what_was_written_decodes_to_the_documents(rt: HostRuntime) -> Result<(), Fail> {
     let alloc = rt.alloc();
-    for (id, body) in [
+    let documents = [
         ("a", ""),
         ("a", "hello world"),
         ("ab", "hello there!"),
@@ -160,19 +181,61 @@ fn what_was_written_decodes_to_the_document(rt: HostRuntime) -> Result<(), Fail>
             "2024-03-07/0001",
             "Invoice 4711 paid, and a good deal more than one cell holds",
         ),
-    ] {
-        let mut device = formatted(alloc, 1_000, 64)?;
+    ];
+    let mut device = formatted(alloc, 1_000, 64)?;
+    for (id, body) in documents {
         let words = format!(in alloc; "ingest|{id}")?;
         let (outcome, _) = outcome_of(alloc, words.as_str(), &mut device, body.as_bytes())?;
         assert_eq!(rt; outcome, Ok(()));
-        let found = document_of_slot_0(alloc, &mut device)?.ok_or("no document")?;
+    }
+    let mut slot = 0;
+    for (id, body) in documents {
+        assert_eq!(rt; state_of_slot(&mut device, slot), State::Done);
         let Document {
             id: found_id,
             body: found_body,
-        } = found;
+        } = document_of_slot(alloc, &mut device, slot)?.ok_or("no document")?;
         assert_eq!(rt; found_id.as_slice(), id.as_bytes());
         assert_eq!(rt; found_body.as_slice(), body.as_bytes());
+        slot = slot.saturating_add(1);
     }
+    assert_eq!(rt; state_of_slot(&mut device, slot), State::Unused);
+    Ok(())
+}
+
+#[test]
+fn a_volume_has_so_many_slots(rt: HostRuntime) -> Result<(), Fail> {
+    let alloc = rt.alloc();
+    let mut device = blank(alloc, 400, 64)?;
+    let (outcome, _) = outcome_of(alloc, "format|1|1", &mut device, b"")?;
+    assert_eq!(rt; outcome, Ok(()));
+    let (outcome, put) = outcome_of(alloc, "ingest|a", &mut device, b"")?;
+    assert_eq!(rt; outcome, Ok(()));
+    assert_eq!(rt; put.as_slice(), b"acknowledged 0\n".as_slice());
+    let (outcome, put) = outcome_of(alloc, "ingest|b", &mut device, b"")?;
+    assert_eq!(rt; outcome, Err(Refusal::SlotsFull));
+    assert_eq!(rt; put.len(), 0);
+    Ok(())
+}
+
+#[test]
+fn a_written_cell_of_the_next_slot_is_named(rt: HostRuntime) -> Result<(), Fail> {
+    let alloc = rt.alloc();
+    let mut device = formatted(alloc, 1_000, 64)?;
+    let (outcome, _) = outcome_of(alloc, "ingest|a", &mut device, b"hello world")?;
+    assert_eq!(rt; outcome, Ok(()));
+    let found = cell(ABANDON_1)?;
+    if device.cells() == 1_000 {
+        let _ = device.write(9, found)?;
+    }
+    let (outcome, put) = outcome_of(alloc, "ingest|b", &mut device, b"")?;
+    let evidence = Evidence {
+        rule: 2,
+        cell: 9,
+        found,
+    };
+    assert_eq!(rt; outcome, Err(Refusal::Tampered(evidence)));
+    assert_eq!(rt; put.len(), 0);
     Ok(())
 }
 
@@ -241,9 +304,10 @@ fn words_that_are_no_command_are_usage(rt: HostRuntime) -> Result<(), Fail> {
         "ingest|a|b",
         "Ingest|a",
         "ingest|",
-        "ingest|a b",
-        "ingest|M\u{fc}ller",
         "ingest|-a",
+        "recover|a",
+        "recover|",
+        "Recover",
         "format|0|2",
         "format|8|4097",
         "format|16777217|1",
@@ -263,11 +327,11 @@ fn words_that_are_no_command_are_usage(rt: HostRuntime) -> Result<(), Fail> {
 }
 
 #[test]
-fn an_identifier_has_a_greatest_length(rt: HostRuntime) -> Result<(), Fail> {
+fn a_word_is_an_identifier_or_not(rt: HostRuntime) -> Result<(), Fail> {
     let alloc = rt.alloc();
     for (count, want) in [
         (MAX_IDENTIFIER_BYTES, Ok(())),
-        (MAX_IDENTIFIER_BYTES + 1, Err(Refusal::Usage)),
+        (MAX_IDENTIFIER_BYTES + 1, Err(Refusal::BadIdentifier)),
     ] {
         let mut device = formatted(alloc, 1_000, 64)?;
         let mut words = String::from_str(alloc, "ingest|")?;
@@ -277,21 +341,40 @@ fn an_identifier_has_a_greatest_length(rt: HostRuntime) -> Result<(), Fail> {
         let (outcome, _) = outcome_of(alloc, words.as_str(), &mut device, b"")?;
         assert_eq!(rt; outcome, want);
     }
+    for words in ["ingest|a b", "ingest|M\u{fc}ller"] {
+        let mut device = formatted(alloc, 1_000, 64)?;
+        let (outcome, put) = outcome_of(alloc, words, &mut device, b"hello world")?;
+        assert_eq!(rt; outcome, Err(Refusal::BadIdentifier), "{words}");
+        assert_eq!(rt; put.len(), 0);
+        assert_eq!(rt; device.changes().len(), 2);
+    }
     Ok(())
 }
 
 #[test]
 fn cell_0_has_to_state_the_device(rt: HostRuntime) -> Result<(), Fail> {
     let alloc = rt.alloc();
-    let mut device = blank(alloc, 1_000, 64)?;
-    let (outcome, _) = outcome_of(alloc, "ingest|a", &mut device, b"hello world")?;
-    assert_eq!(rt; outcome, Err(Refusal::NotYet(0)));
-    for (cells, bytes) in [(999, VOLUME), (1_000, [0xff; 16]), (1_000, DONE)] {
-        let mut device = blank(alloc, cells, 64)?;
-        let written = device.write(0, cell(bytes)?)?;
-        assert_eq!(rt; written, Written::Done);
-        let (outcome, _) = outcome_of(alloc, "ingest|a", &mut device, b"hello world")?;
-        assert_eq!(rt; outcome, Err(Refusal::NotYet(0)));
+    let wrong_size = Refusal::WrongSize {
+        stated: 1_000,
+        real: 999,
+    };
+    for words in ["ingest|a", "recover"] {
+        let mut device = blank(alloc, 1_000, 64)?;
+        let (outcome, put) = outcome_of(alloc, words, &mut device, b"hello world")?;
+        assert_eq!(rt; outcome, Err(Refusal::NotFormatted), "{words}");
+        assert_eq!(rt; put.len(), 0);
+        for (cells, bytes, want) in [
+            (999, VOLUME, wrong_size),
+            (1_000, [0xff; 16], Refusal::NotAVolume(cell([0xff; 16])?)),
+            (1_000, DONE, Refusal::NotAVolume(cell(DONE)?)),
+        ] {
+            let mut device = blank(alloc, cells, 64)?;
+            let written = device.write(0, cell(bytes)?)?;
+            assert_eq!(rt; written, Written::Done);
+            let (outcome, put) = outcome_of(alloc, words, &mut device, b"hello world")?;
+            assert_eq!(rt; outcome, Err(want), "{words}");
+            assert_eq!(rt; put.len(), 0);
+        }
     }
     Ok(())
 }
@@ -302,12 +385,16 @@ fn a_body_has_a_greatest_length(rt: HostRuntime) -> Result<(), Fail> {
     let most = letters(alloc, MAX_BODY_BYTES)?;
     let more = letters(alloc, MAX_BODY_BYTES + 1)?;
     // Its 1,048,578 stored bytes take 69,906 cells, from cell 580 on.
+    let one_less = Refusal::Full {
+        need: 69_906,
+        free: 69_905,
+    };
     for (cells, body, want) in [
         (70_486, most.as_slice(), Ok(())),
-        (70_485, most.as_slice(), Err(Refusal::NotYet(70_485))),
+        (70_485, most.as_slice(), Err(one_less)),
         (70_486, more.as_slice(), Err(Refusal::TooLong)),
         (581, [].as_slice(), Ok(())),
-        (580, [].as_slice(), Err(Refusal::NotYet(580))),
+        (580, [].as_slice(), Err(Refusal::Full { need: 1, free: 0 })),
     ] {
         let mut device = formatted(alloc, cells, 70_000)?;
         let (outcome, _) = outcome_of(alloc, "ingest|a", &mut device, body)?;
@@ -316,10 +403,11 @@ fn a_body_has_a_greatest_length(rt: HostRuntime) -> Result<(), Fail> {
     Ok(())
 }
 
+/// The first change is settling's sync, of the cells that fill the record. Then come the eight steps.
 #[test]
 fn the_device_fails_at_each_change_in_turn(rt: HostRuntime) -> Result<(), Fail> {
     let alloc = rt.alloc();
-    for room in 0..9 {
+    for room in 0..10 {
         let mut device = formatted(alloc, 1_000, 64)?;
         // The record is filled up to so much room by cells that the document does not need.
         for at in 600..1_000 {
@@ -329,12 +417,25 @@ fn the_device_fails_at_each_change_in_turn(rt: HostRuntime) -> Result<(), Fail> 
         }
         assert_eq!(rt; device.room(), room);
         let (outcome, put) = outcome_of(alloc, "ingest|a", &mut device, b"hello world")?;
-        if room < 8 {
+        if room < 9 {
             assert_eq!(rt; outcome, Err(Refusal::DeviceFault), "{room}");
             assert_eq!(rt; put.len(), 0);
         } else {
             assert_eq!(rt; outcome, Ok(()));
         }
+
+        // With the reserve cell alone the slot is given up, and with the commit cell it is completed.
+        device.reserve(64)?;
+        let (text, state) = match room {
+            0..=1 => ("nothing to settle\n", State::Unused),
+            2..=5 => ("slot 0 abandoned\n", State::Abandoned),
+            6..=7 => ("slot 0 completed\n", State::Done),
+            _ => ("nothing to settle\n", State::Done),
+        };
+        let (outcome, put) = outcome_of(alloc, "recover", &mut device, b"")?;
+        assert_eq!(rt; outcome, Ok(()));
+        assert_eq!(rt; put.as_slice(), text.as_bytes(), "{room}");
+        assert_eq!(rt; state_of_slot(&mut device, 0), state, "{room}");
     }
     Ok(())
 }
@@ -351,7 +452,7 @@ fn the_source_and_the_sink_fail(rt: HostRuntime) -> Result<(), Fail> {
         let outcome = run(alloc, &words, &mut device, &mut source, &mut sink);
         assert_eq!(rt; outcome, Err(Refusal::SourceFault));
         assert_eq!(rt; sink.bytes().len(), 0);
-        assert_eq!(rt; state_of_slot_0(&mut device), State::Unused);
+        assert_eq!(rt; state_of_slot(&mut device, 0), State::Unused);
     }
     let mut device = formatted(alloc, 1_000, 64)?;
     let mut source = source_of(alloc, b"hello world")?;
@@ -360,6 +461,6 @@ fn the_source_and_the_sink_fail(rt: HostRuntime) -> Result<(), Fail> {
     let outcome = run(alloc, &words, &mut device, &mut source, &mut sink);
     assert_eq!(rt; outcome, Err(Refusal::SinkFault));
     assert!(rt; b"acknowledged 0\n".starts_with(sink.bytes()));
-    assert_eq!(rt; state_of_slot_0(&mut device), State::Done);
+    assert_eq!(rt; state_of_slot(&mut device, 0), State::Done);
     Ok(())
 }

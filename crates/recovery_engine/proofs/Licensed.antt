@@ -1,5 +1,5 @@
 -- Evidence that settling names in a journal, and in the cells that end a slot.
-use Rattle.std.proofs.Common.{◌≡◌, ◌≢◌, ◌≤◌, ◌<◌, ◌+◌, ◌^◌, ◌⊎◌, ℕ, zero, suc, List, Some, None, Ok, Err, refl, sym, ap, ◌∙◌, inl, inr, ⊎_elim, subst, arith}
+use Rattle.std.proofs.Common.{◌≡◌, ◌≢◌, ◌≤◌, ◌<◌, ◌+◌, ◌^◌, ◌⊎◌, ℕ, List, Some, None, Ok, Err, refl, sym, ap, ◌∙◌, inl, inr, ⊎_elim, subst, arith}
 use Rattle.std.specs.Prelude.{IsTrue, Result}
 use Rattle.cell_types.specs.Image.{Image, Extends, IsUnchanged}
 use Rattle.cell_types.specs.Layout.{Layout, reserve_at, outcome_at, done_at, list_at}
@@ -40,6 +40,7 @@ use Rattle.recovery_engine.specs.Journal.{IsEntryPut, IsUnfitAt, IsFlawed, Journ
 use Rattle.recovery_engine.specs.declared.journal.Journal.{Journal}
 use Rattle.recovery_engine.specs.LastSlot.{IsLast}
 use Rattle.recovery_engine.specs.Settling.{IsFound, IsSettlingRule, SettleEnds}
+use Rattle.recovery_engine.proofs.Rising.{entries_apart, entries_from}
 use Rattle.recovery_engine.proofs.InOrder.{state_further}
 
 none_some : (a : List ℕ) → Some a ≡ None → ⊥
@@ -47,12 +48,6 @@ none_some a e = cc
 
 value_is : (a b : List ℕ) → Some a ≡ Some b → a ≡ b
 value_is a b e = cc
-
-below_or_at : (k n : ℕ) → k < n + 1 → (k < n) ⊎ (k ≡ n)
-below_or_at k n h = grind arith
-
-one_of_three : (k n : ℕ) → (k < n) ⊎ (n < k) ⊎ (k ≡ n)
-one_of_three k n = grind arith
 
 -- a volume stays one on the device, over calls
 pub volume_later : (old new : DeviceState) (g : Layout) → Called old new → IsVolume old.cells old.image g
@@ -89,72 +84,6 @@ found_looked old now e rule called quiet licensed = record {
   licensed = licensed;
   before = λ still. broken_before old now e.rule e.cell called (quiet still) (licensed.broken still);
 }
-
--- each target lies from the first list on
-pub entries_from : (first : ℕ) (image : Image) (place below n : ℕ) → AreEntries first image place below n
-    → (k : ℕ) (cell : List ℕ) → k < n → image (place + k) ≡ Some cell → first ≤ target_of cell
-entries_from first image place below n entries zero cell less stands =
-    let h = entries 0 less in
-    let value : h.cell ≡ cell = value_is h.cell cell (sym h.stands ∙ stands) in
-    ⊎_elim
-    (λ (a : (0 ≡ 0) × (h.floor ≡ first)). omega (arith, a.1, h.fit.from, ap target_of value))
-    (λ (b : (m : ℕ) × (before : List ℕ) × (0 ≡ m + 1) × (image (place + m) ≡ Some before)
-    × (h.floor ≡ target_of before + 1)). absurd (omega (arith, b.2)))
-    h.floor_is
-entries_from first image place below n entries (suc k) cell less stands =
-    let h = entries (suc k) less in
-    let value : h.cell ≡ cell = value_is h.cell cell (sym h.stands ∙ stands) in
-    ⊎_elim
-    (λ (a : (suc k ≡ 0) × (h.floor ≡ first)). absurd (omega (arith, a.0)))
-    (λ (b : (m : ℕ) × (before : List ℕ) × (suc k ≡ m + 1) × (image (place + m) ≡ Some before)
-    × (h.floor ≡ target_of before + 1)).
-    let same : b.0 ≡ k = omega (arith, b.2) in
-    let here : image (place + k) ≡ Some b.1 = ap (λ (m : ℕ). image (place + m)) (sym same) ∙ b.3 in
-    let low : first ≤ target_of b.1 = entries_from first image place below n entries k b.1 (omega (arith, less)) here in
-    omega (arith, low, b.4, h.fit.from, ap target_of value))
-    h.floor_is
-
--- targets rise
-entries_rise : (first : ℕ) (image : Image) (place below n : ℕ) → AreEntries first image place below n
-    → (k m : ℕ) (a b : List ℕ) → k < m → m < n → image (place + k) ≡ Some a → image (place + m) ≡ Some b
-    → target_of a < target_of b
-entries_rise first image place below n entries k zero a b less within at_k at_m = absurd (omega (arith, less))
-entries_rise first image place below n entries k (suc m) a b less within at_k at_m =
-    let h = entries (suc m) within in
-    let value : h.cell ≡ b = value_is h.cell b (sym h.stands ∙ at_m) in
-    ⊎_elim
-    (λ (z : (suc m ≡ 0) × (h.floor ≡ first)). absurd (omega (arith, z.0)))
-    (λ (c : (p : ℕ) × (before : List ℕ) × (suc m ≡ p + 1) × (image (place + p) ≡ Some before)
-    × (h.floor ≡ target_of before + 1)).
-    let same : c.0 ≡ m = omega (arith, c.2) in
-    let here : image (place + m) ≡ Some c.1 = ap (λ (p : ℕ). image (place + p)) (sym same) ∙ c.3 in
-    let later : k < m + 1 = omega (arith, less) in
-    ⊎_elim
-    (λ (lower : k < m).
-    let low : target_of a < target_of c.1 =
-    entries_rise first image place below n entries k m a c.1 lower (omega (arith, within)) at_k here in
-    omega (arith, low, c.4, h.fit.from, ap target_of value))
-    (λ (is : k ≡ m).
-    let cell : a ≡ c.1 = value_is a c.1 (sym at_k ∙ ap (λ (p : ℕ). image (place + p)) is ∙ here) in
-    omega (arith, ap target_of cell, c.4, h.fit.from, ap target_of value))
-    (below_or_at k m later))
-    h.floor_is
-
--- so no two journal cells have one target
-entries_apart : (first : ℕ) (image : Image) (place below n : ℕ) → AreEntries first image place below n
-    → (k m : ℕ) (a b : List ℕ) → k < n → m < n → image (place + k) ≡ Some a → image (place + m) ≡ Some b
-    → target_of a ≡ target_of b → a ≡ b
-entries_apart first image place below n entries k m a b in_k in_m at_k at_m same = ⊎_elim
-    (λ (less : k < m).
-    let low : target_of a < target_of b = entries_rise first image place below n entries k m a b less in_m at_k at_m in
-    absurd (omega (arith, low, same)))
-    (λ rest. ⊎_elim
-    (λ (more : m < k).
-    let low : target_of b < target_of a = entries_rise first image place below n entries m k b a more in_k at_m at_k in
-    absurd (omega (arith, low, same)))
-    (λ (is : k ≡ m). value_is a b (sym at_k ∙ ap (λ (p : ℕ). image (place + p)) is ∙ at_m))
-    rest)
-    (one_of_three k m)
 
 module _ (g : Layout) (n s l b j : ℕ) where
   -- a journal cell that is in order is fit

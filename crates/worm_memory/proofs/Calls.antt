@@ -49,7 +49,7 @@ called_changed m change adds = record {
 }
 
 -- what stands in the cells after a blank one is written
-value_stands : (m : Memory) (at : ℕ) (value : List ℕ) → (world m.changes).image at ≡ None
+pub value_stands : (m : Memory) (at : ℕ) (value : List ℕ) → (world m.changes).image at ≡ None
     → (device_of (with_change m (Wrote at value))).image at ≡ Some value
 value_stands m at value free = image_is m.changes (Wrote at value) at
     ∙ written_here (world m.changes).image at value free

@@ -1,6 +1,7 @@
 pub mod Arriving
 pub mod Calls
 pub mod Cells
+pub mod Keeping
 pub mod Losing
 pub mod Crashes
 pub mod Others

@@ -40,6 +40,7 @@ fn keep(device: &mut MemoryDevice, at: u32, value: Cell) -> bool
     requires room { 2 ≤ room_of device.old }
     requires unplanned { (memory_of device.old).plan ≡ no_plan }
     ensures kept { IsTrue result }
+    ensures sure { (state_of device.new).sure at ≡ Some value }
 {
     device.write(at, value).is_ok() && device.sync().is_ok()
 }

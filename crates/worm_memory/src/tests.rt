@@ -1,111 +1,180 @@
 //! A device of eight cells, called as its callers do. What is expected was written by hand.
-ghost use Rattle.std.specs.Prelude.{◌≡◌, ◌<◌, ◌≤◌};
-ghost use Rattle.worm_device.specs.Calls.{Called};
-ghost use Rattle.worm_device.specs.Views.{Viewed};
-ghost use Rattle.worm_memory.specs.Device.{memory_of};
-
+use crate::tests::Action::{
+    Begin, FailAt, Foreign, ForeignBefore, Read, Reserve, StopAfter, Sync, Write,
+};
 use crate::{Change, Crash, Mark, MemoryDevice, Moment};
 use cell_types::{Cell, NoMemory};
+use std::alloc::Global;
+use std::process::Abort;
 use std::test::Fail;
 use worm_device::{Device, Direct, Failed, View, Written};
 
-/// A cell whose last byte is this one.
-fn cell(last: u8) -> Result<Cell, &'static str> {
-    Cell::from_bytes([0, 0, 0, 0, 0, 0, 0, 0, 0, 0, 0, 0, 0, 0, 0, last]).ok_or("a blank cell")
+/// What is done to a device.
+#[derive(Clone, Copy)]
+enum Action {
+    Reserve(u32),
+    Read(u32),
+    Write(u32, Cell),
+    Sync,
+    Foreign(u32, Cell),
+    Begin,
+    FailAt(Moment),
+    StopAfter(Moment),
+    ForeignBefore(Moment, u32, Cell),
 }
 
-/// Writes one cell after another until so much room is left.
-fn fill(device: &mut MemoryDevice, value: Cell, left: u32)
-    ensures cells { (memory_of device.new).cells ≡ (memory_of device.old).cells }
-{
-    for at in 0..device.cells() {
-        if device.room() <= left {
-            return;
-        }
-        let _ = device.write(at, value);
-    }
+/// What stood in the cell that an action names, or that it failed.
+type Answer = Result<Option<Cell>, Failed>;
+
+/// The cell of 15 zeros and a last byte.
+fn cell(rt: &impl Abort, last: u8) -> Cell {
+    Cell::from_bytes([0, 0, 0, 0, 0, 0, 0, 0, 0, 0, 0, 0, 0, 0, 0, last]).expect(
+        rt,
+        "the last byte is not 0",
+    )
 }
 
-/// Looks at a blank cell, writes it and makes it sure.
-fn drive<D: Device>(device: &mut D, at: u32, value: Cell) -> Result<(Option<Cell>, Written), Failed>
-    requires { at < (D.state device.old).cells }
-    ensures called { Called (D.state device.old) (D.state device.new) }
-{
-    let before = device.read(at)?;
-    let written = device.write(at, value)?;
-    device.sync()?;
-    Ok((before, written))
+/// A blank device of eight cells, with room for so many changes.
+fn blank(alloc: Global, changes: u32) -> Result<MemoryDevice, NoMemory> {
+    let mut device = MemoryDevice::new(alloc, 8)?;
+    device.reserve(changes)?;
+    Ok(device)
 }
 
-/// Looks at a cell through a view.
-fn look<V: View>(view: &mut V, at: u32) -> Result<Option<Cell>, Failed>
-    requires { at < (V.seen view.old).cells }
-    ensures viewed { Viewed (V.seen view.old) (V.seen view.new) }
-{
-    view.read(at)
-}
-
-/// Begins a command, where the record has room for its mark.
-fn begin(device: &mut MemoryDevice) -> Result<(), &'static str> {
-    if device.room() == 0 {
-        return Err("no room for a mark");
-    }
-    device.begin();
-    Ok(())
-}
-
-/// What a read of this cell answers.
-fn read(device: &mut MemoryDevice, at: u32) -> Result<Option<Cell>, Failed> {
-    if at >= device.cells() {
+/// What stood in a cell before it was written.
+fn stood(written: Result<Written, Failed>) -> Answer {
+    let Ok(written) = written else {
         return Err(Failed);
+    };
+    match written {
+        Written::Done => Ok(None),
+        Written::Taken(found) => Ok(Some(found)),
     }
+}
+
+/// Takes memory for so many changes.
+fn reserve(device: &mut MemoryDevice, changes: u32) -> Answer {
+    device.reserve(changes).map_err(|_| Failed)?;
+    Ok(None)
+}
+
+/// Reads a cell that the device has.
+fn read(rt: &impl Abort, device: &mut MemoryDevice, at: u32) -> Answer {
+    assert!(rt; at < device.cells());
     device.read(at)
 }
 
-/// What a write of this cell answers.
-fn write(device: &mut MemoryDevice, at: u32, value: Cell) -> Result<Written, Failed> {
-    if at >= device.cells() {
-        return Err(Failed);
-    }
-    device.write(at, value)
+/// Writes a cell that the device has.
+fn write(rt: &impl Abort, device: &mut MemoryDevice, at: u32, value: Cell) -> Answer {
+    assert!(rt; at < device.cells());
+    stood(device.write(at, value))
 }
 
-/// Plans a foreign write.
+/// Makes all sure.
+fn sync(device: &mut MemoryDevice) -> Answer {
+    device.sync()?;
+    Ok(None)
+}
+
+/// Somebody else writes a cell that the device has.
+fn foreign(rt: &impl Abort, device: &mut MemoryDevice, at: u32, value: Cell) -> Answer {
+    assert!(rt; at < device.cells());
+    stood(device.foreign(at, value))
+}
+
+/// Begins a command, for whose mark there is room.
+fn begin(rt: &impl Abort, device: &mut MemoryDevice) -> Answer {
+    assert!(rt; device.room() > 0);
+    device.begin();
+    Ok(None)
+}
+
+/// Plans that a call fails.
+fn fail_at(device: &mut MemoryDevice, moment: Moment) -> Answer {
+    device.fail_at(moment).map_err(|_| Failed)?;
+    Ok(None)
+}
+
+/// Plans that each call fails from a moment on.
+fn stop_after(device: &mut MemoryDevice, moment: Moment) -> Answer {
+    device.stop_after(moment);
+    Ok(None)
+}
+
+/// Plans that somebody else writes a cell that the device has.
 fn foreign_before(
+    rt: &impl Abort,
     device: &mut MemoryDevice,
     moment: Moment,
     at: u32,
     value: Cell,
-) -> Result<(), NoMemory> {
-    if at >= device.cells() {
-        return Err(NoMemory);
-    }
-    device.foreign_before(moment, at, value)
+) -> Answer {
+    assert!(rt; at < device.cells());
+    device
+        .foreign_before(moment, at, value)
+        .map_err(|_| Failed)?;
+    Ok(None)
 }
 
-/// What a foreign write of this cell answers.
-fn foreign(device: &mut MemoryDevice, at: u32, value: Cell) -> Result<Written, Failed> {
-    if at >= device.cells() {
-        return Err(Failed);
+/// Does this to a device.
+fn act(rt: &impl Abort, device: &mut MemoryDevice, action: Action) -> Answer {
+    match action {
+        Reserve(changes) => reserve(device, changes),
+        Read(at) => read(rt, device, at),
+        Write(at, value) => write(rt, device, at, value),
+        Sync => sync(device),
+        Foreign(at, value) => foreign(rt, device, at, value),
+        Begin => begin(rt, device),
+        FailAt(moment) => fail_at(device, moment),
+        StopAfter(moment) => stop_after(device, moment),
+        ForeignBefore(moment, at, value) => foreign_before(rt, device, moment, at, value),
     }
-    device.foreign(at, value)
+}
+
+/// Does these in order, each of which has this answer.
+fn expect(rt: &impl Abort, device: &mut MemoryDevice, actions: &[(Action, Answer)]) {
+    for (number, (action, answer)) in actions.iter().enumerate() {
+        assert_eq!(rt; act(rt, device, *action), *answer, "action {number}");
+    }
+}
+
+/// The device has made these changes, and has no more room.
+fn expect_changes(rt: &impl Abort, device: &MemoryDevice, changes: &[Change]) {
+    assert_eq!(rt; device.changes(), changes);
+    assert_eq!(rt; device.room(), 0);
+}
+
+/// Writes a blank cell, and makes it sure. Answers what stood there before.
+fn drive<D: Device>(rt: &impl Abort, device: &mut D, at: u32, value: Cell) -> Answer {
+    assert!(rt; at < device.cells());
+    let found = device.read(at)?;
+    let _ = device.write(at, value)?;
+    device.sync()?;
+    Ok(found)
+}
+
+/// Looks at a cell through a view.
+fn look<V: View>(rt: &impl Abort, view: &mut V, at: u32) -> Answer {
+    assert!(rt; at < view.cells());
+    view.read(at)
 }
 
 #[test]
 fn a_cell_is_written_once(rt: HostRuntime) -> Result<(), Fail> {
-    let (seven, nine) = (cell(7)?, cell(9)?);
-    let mut device = MemoryDevice::new(rt.alloc(), 8)?;
-    device.reserve(3)?;
-    assert_eq!(rt; device.cells(), 8);
-    assert_eq!(rt; read(&mut device, 3), Ok(None));
-    assert_eq!(rt; write(&mut device, 3, seven), Ok(Written::Done));
-    assert_eq!(rt; write(&mut device, 3, seven), Ok(Written::Taken(seven)));
-    assert_eq!(rt; write(&mut device, 3, nine), Ok(Written::Taken(seven)));
-    assert_eq!(rt; read(&mut device, 3), Ok(Some(seven)));
-    assert_eq!(rt; read(&mut device, 7), Ok(None));
-    assert_eq!(rt; device.sync(), Ok(()));
-    assert_eq!(rt; device.sync(), Ok(()));
-    assert_eq!(rt; write(&mut device, 0, nine), Ok(Written::Done));
+    let (seven, nine) = (cell(&rt, 7), cell(&rt, 9));
+    let mut device = blank(rt.alloc(), 3)?;
+    let actions = [
+        (Read(3), Ok(None)),
+        (Write(3, seven), Ok(None)),
+        (Write(3, seven), Ok(Some(seven))),
+        (Write(3, nine), Ok(Some(seven))),
+        (Read(3), Ok(Some(seven))),
+        (Read(7), Ok(None)),
+        (Sync, Ok(None)),
+        (Sync, Ok(None)),
+        (Write(0, nine), Ok(None)),
+    ];
+    expect(&rt, &mut device, &actions);
     let changes = [
         Change::Wrote {
             at: 3,
@@ -114,50 +183,54 @@ fn a_cell_is_written_once(rt: HostRuntime) -> Result<(), Fail> {
         Change::Synced,
         Change::Wrote { at: 0, value: nine },
     ];
-    assert_eq!(rt; device.changes(), changes.as_slice());
+    expect_changes(&rt, &device, &changes);
     Ok(())
 }
 
 #[test]
 fn a_full_record_takes_no_change(rt: HostRuntime) -> Result<(), Fail> {
-    let (seven, nine) = (cell(7)?, cell(9)?);
-    let mut device = MemoryDevice::new(rt.alloc(), 8)?;
-    assert_eq!(rt; device.room(), 0);
-    assert_eq!(rt; write(&mut device, 7, seven), Err(Failed));
-    assert_eq!(rt; device.sync(), Ok(()), "nothing is unsure");
-    device.reserve(2)?;
-    fill(&mut device, seven, 0);
-    assert_eq!(rt; device.room(), 0);
-    assert_eq!(rt; device.sync(), Err(Failed), "the last write is not sure");
-    assert_eq!(rt; write(&mut device, 7, nine), Err(Failed));
-    assert_eq!(rt; read(&mut device, 7), Ok(None));
-    assert_eq!(rt; write(&mut device, 1, nine), Ok(Written::Taken(seven)));
-    device.reserve(1)?;
-    fill(&mut device, seven, 1);
-    assert_eq!(rt; device.sync(), Ok(()));
-    assert_eq!(rt; device.room(), 0);
-    assert_eq!(rt; device.sync(), Ok(()), "nothing is unsure");
-    assert_eq!(rt; device.changes().last(), Some(&Change::Synced));
+    let (seven, nine) = (cell(&rt, 7), cell(&rt, 9));
+    let mut device = blank(rt.alloc(), 0)?;
+    let actions = [
+        (Write(7, seven), Err(Failed)),
+        (Sync, Ok(None)), // nothing is unsure
+        (Reserve(2), Ok(None)),
+        (Write(0, seven), Ok(None)),
+        (Write(1, seven), Ok(None)),
+        (Sync, Err(Failed)), // the last write is not sure
+        (Write(7, nine), Err(Failed)),
+        (Read(7), Ok(None)),
+        (Write(1, nine), Ok(Some(seven))),
+        (Reserve(1), Ok(None)),
+        (Sync, Ok(None)),
+        (Sync, Ok(None)), // nothing is unsure
+    ];
+    expect(&rt, &mut device, &actions);
+    let changes = [
+        Change::Wrote {
+            at: 0,
+            value: seven,
+        },
+        Change::Wrote {
+            at: 1,
+            value: seven,
+        },
+        Change::Synced,
+    ];
+    expect_changes(&rt, &device, &changes);
     Ok(())
 }
 
 #[test]
 fn a_device_in_memory_is_a_device_and_a_view(rt: HostRuntime) -> Result<(), Fail> {
-    let (seven, nine) = (cell(7)?, cell(9)?);
-    let mut device = MemoryDevice::new(rt.alloc(), 8)?;
+    let (seven, nine) = (cell(&rt, 7), cell(&rt, 9));
+    let mut device = blank(rt.alloc(), 2)?;
+    assert_eq!(rt; drive(&rt, &mut device, 5, seven), Ok(None));
+    assert_eq!(rt; drive(&rt, &mut device, 5, nine), Ok(Some(seven)));
     assert_eq!(rt;
-        drive(&mut device, 5, seven),
-        Err(Failed),
-        "there is no room"
+        look(&rt, &mut Direct::new(&mut device), 5),
+        Ok(Some(seven))
     );
-    device.reserve(4)?;
-    assert_eq!(rt; drive(&mut device, 5, seven), Ok((None, Written::Done)));
-    assert_eq!(rt;
-        drive(&mut device, 5, nine),
-        Ok((Some(seven), Written::Taken(seven)))
-    );
-    assert_eq!(rt; look(&mut Direct::new(&mut device), 5), Ok(Some(seven)));
-    assert_eq!(rt; look(&mut Direct::new(&mut device), 6), Ok(None));
     let changes = [
         Change::Wrote {
             at: 5,
@@ -165,26 +238,25 @@ fn a_device_in_memory_is_a_device_and_a_view(rt: HostRuntime) -> Result<(), Fail
         },
         Change::Synced,
     ];
-    assert_eq!(rt; device.changes(), changes.as_slice());
+    expect_changes(&rt, &device, &changes);
     Ok(())
 }
 
 #[test]
 fn somebody_else_writes_blank_cells_alone(rt: HostRuntime) -> Result<(), Fail> {
-    let (seven, nine) = (cell(7)?, cell(9)?);
-    let mut device = MemoryDevice::new(rt.alloc(), 8)?;
-    assert_eq!(rt;
-        foreign(&mut device, 3, nine),
-        Err(Failed),
-        "there is no room"
-    );
-    device.reserve(3)?;
-    assert_eq!(rt; foreign(&mut device, 3, nine), Ok(Written::Done));
-    assert_eq!(rt; foreign(&mut device, 3, seven), Ok(Written::Taken(nine)));
-    assert_eq!(rt; write(&mut device, 3, seven), Ok(Written::Taken(nine)));
-    assert_eq!(rt; device.sync(), Ok(()), "a foreign cell is made sure too");
-    assert_eq!(rt; write(&mut device, 4, seven), Ok(Written::Done));
-    assert_eq!(rt; foreign(&mut device, 4, nine), Ok(Written::Taken(seven)));
+    let (seven, nine) = (cell(&rt, 7), cell(&rt, 9));
+    let mut device = blank(rt.alloc(), 0)?;
+    let actions = [
+        (Foreign(3, nine), Err(Failed)), // there is no room
+        (Reserve(3), Ok(None)),
+        (Foreign(3, nine), Ok(None)),
+        (Foreign(3, seven), Ok(Some(nine))),
+        (Write(3, seven), Ok(Some(nine))),
+        (Sync, Ok(None)), // a foreign cell is made sure too
+        (Write(4, seven), Ok(None)),
+        (Foreign(4, nine), Ok(Some(seven))),
+    ];
+    expect(&rt, &mut device, &actions);
     let changes = [
         Change::Foreign { at: 3, value: nine },
         Change::Synced,
@@ -193,33 +265,28 @@ fn somebody_else_writes_blank_cells_alone(rt: HostRuntime) -> Result<(), Fail> {
             value: seven,
         },
     ];
-    assert_eq!(rt; device.changes(), changes.as_slice());
+    expect_changes(&rt, &device, &changes);
     Ok(())
 }
 
 #[test]
 fn a_step_fails_as_planned(rt: HostRuntime) -> Result<(), Fail> {
-    let (seven, nine) = (cell(7)?, cell(9)?);
-    let mut device = MemoryDevice::new(rt.alloc(), 8)?;
-    device.reserve(4)?;
-    begin(&mut device)?;
-    device.fail_at(Moment::Step(2))?;
-    device.fail_at(Moment::Call(4))?;
-    device.fail_at(Moment::Step(0))?;
-    device.fail_at(Moment::Call(0))?;
-    assert_eq!(rt; read(&mut device, 3), Ok(None), "call 1 is no step");
-    assert_eq!(rt;
-        write(&mut device, 3, seven),
-        Ok(Written::Done),
-        "step 1, call 2"
-    );
-    assert_eq!(rt; write(&mut device, 4, nine), Err(Failed), "step 2, call 3");
-    assert_eq!(rt; read(&mut device, 3), Err(Failed), "call 4");
-    assert_eq!(rt;
-        write(&mut device, 4, nine),
-        Ok(Written::Done),
-        "step 3, call 5"
-    );
+    let (seven, nine) = (cell(&rt, 7), cell(&rt, 9));
+    let mut device = blank(rt.alloc(), 4)?;
+    let actions = [
+        (Begin, Ok(None)),
+        (FailAt(Moment::Step(2)), Ok(None)),
+        (FailAt(Moment::Call(4)), Ok(None)),
+        (FailAt(Moment::Step(0)), Ok(None)),
+        (FailAt(Moment::Call(0)), Ok(None)),
+        (Read(3), Ok(None)), // call 1 is no step
+        (Write(3, seven), Ok(None)), // step 1, call 2
+        (Write(4, nine), Err(Failed)), // step 2, call 3
+        (Read(3), Err(Failed)), // call 4
+        (Write(4, nine), Ok(None)), // step 3, call 5
+        (Begin, Ok(None)),
+    ];
+    expect(&rt, &mut device, &actions);
     let changes = [
         Change::Wrote {
             at: 3,
@@ -227,8 +294,7 @@ fn a_step_fails_as_planned(rt: HostRuntime) -> Result<(), Fail> {
         },
         Change::Wrote { at: 4, value: nine },
     ];
-    assert_eq!(rt; device.changes(), changes.as_slice());
-    begin(&mut device)?;
+    expect_changes(&rt, &device, &changes);
     let marks = [
         Mark {
             steps: 0,
@@ -248,90 +314,97 @@ fn a_step_fails_as_planned(rt: HostRuntime) -> Result<(), Fail> {
         },
     ];
     assert_eq!(rt; device.marks(), marks.as_slice());
-    assert_eq!(rt; device.room(), 0);
     Ok(())
 }
 
 #[test]
 fn a_command_stops_after_a_step(rt: HostRuntime) -> Result<(), Fail> {
-    let (seven, nine) = (cell(7)?, cell(9)?);
-    let mut device = MemoryDevice::new(rt.alloc(), 8)?;
-    device.reserve(6)?;
-    begin(&mut device)?;
-    device.stop_after(Moment::Call(1));
-    device.stop_after(Moment::Step(1));
-    assert_eq!(rt; read(&mut device, 3), Ok(None));
-    assert_eq!(rt; write(&mut device, 3, seven), Ok(Written::Done));
-    assert_eq!(rt; read(&mut device, 3), Err(Failed));
-    assert_eq!(rt; device.sync(), Err(Failed));
-    begin(&mut device)?;
-    device.stop_after(Moment::Step(0));
-    assert_eq!(rt; read(&mut device, 3), Err(Failed), "no call is made at all");
-    begin(&mut device)?;
-    assert_eq!(rt; device.sync(), Ok(()), "nothing is planned any more");
-    assert_eq!(rt; write(&mut device, 4, nine), Ok(Written::Done));
-    assert_eq!(rt; device.room(), 0);
+    let (seven, nine) = (cell(&rt, 7), cell(&rt, 9));
+    let mut device = blank(rt.alloc(), 6)?;
+    let actions = [
+        (Begin, Ok(None)),
+        (StopAfter(Moment::Call(1)), Ok(None)),
+        (StopAfter(Moment::Step(1)), Ok(None)),
+        (Read(3), Ok(None)),
+        (Write(3, seven), Ok(None)),
+        (Read(3), Err(Failed)),
+        (Sync, Err(Failed)),
+        (Begin, Ok(None)),
+        (StopAfter(Moment::Step(0)), Ok(None)),
+        (Read(3), Err(Failed)), // no call is made at all
+        (Begin, Ok(None)),
+        (Sync, Ok(None)), // nothing is planned any more
+        (Write(4, nine), Ok(None)),
+    ];
+    expect(&rt, &mut device, &actions);
+    let changes = [
+        Change::Wrote {
+            at: 3,
+            value: seven,
+        },
+        Change::Synced,
+        Change::Wrote { at: 4, value: nine },
+    ];
+    expect_changes(&rt, &device, &changes);
     Ok(())
 }
 
 #[test]
 fn others_write_before_a_call(rt: HostRuntime) -> Result<(), Fail> {
-    let (seven, nine) = (cell(7)?, cell(9)?);
-    let mut device = MemoryDevice::new(rt.alloc(), 8)?;
-    device.reserve(4)?;
-    begin(&mut device)?;
-    foreign_before(&mut device, Moment::Call(2), 3, nine)?;
-    foreign_before(&mut device, Moment::Call(2), 3, seven)?;
-    foreign_before(&mut device, Moment::Step(2), 4, nine)?;
-    foreign_before(&mut device, Moment::Call(5), 5, nine)?;
-    device.fail_at(Moment::Step(2))?;
-    assert_eq!(rt; read(&mut device, 3), Ok(None));
-    assert_eq!(rt;
-        write(&mut device, 3, seven),
-        Ok(Written::Taken(nine)),
-        "the first of two wins"
-    );
-    assert_eq!(rt;
-        device.sync(),
-        Err(Failed),
-        "others write also before a call that fails"
-    );
+    let (seven, nine) = (cell(&rt, 7), cell(&rt, 9));
+    let mut device = blank(rt.alloc(), 4)?;
+    let actions = [
+        (Begin, Ok(None)),
+        (ForeignBefore(Moment::Call(2), 3, nine), Ok(None)),
+        (ForeignBefore(Moment::Call(2), 3, seven), Ok(None)),
+        (ForeignBefore(Moment::Step(2), 4, nine), Ok(None)),
+        (ForeignBefore(Moment::Call(5), 5, nine), Ok(None)),
+        (FailAt(Moment::Step(2)), Ok(None)),
+        (Read(3), Ok(None)),
+        (Write(3, seven), Ok(Some(nine))), // the first of two wins
+        (Sync, Err(Failed)), // others write also before a call that fails
+        (Write(6, seven), Ok(None)),
+        (Read(5), Err(Failed)), // the foreign write has no room
+        (Read(5), Ok(None)),
+    ];
+    expect(&rt, &mut device, &actions);
     let changes = [
         Change::Foreign { at: 3, value: nine },
         Change::Foreign { at: 4, value: nine },
+        Change::Wrote {
+            at: 6,
+            value: seven,
+        },
     ];
-    assert_eq!(rt; device.changes(), changes.as_slice());
-    assert_eq!(rt; write(&mut device, 6, seven), Ok(Written::Done));
-    assert_eq!(rt;
-        read(&mut device, 5),
-        Err(Failed),
-        "the foreign write has no room"
-    );
-    assert_eq!(rt; read(&mut device, 5), Ok(None));
+    expect_changes(&rt, &device, &changes);
     Ok(())
 }
 
 #[test]
 fn a_crash_keeps_one_of_two_cells(rt: HostRuntime) -> Result<(), Fail> {
-    let (seven, nine) = (cell(7)?, cell(9)?);
-    let mut device = MemoryDevice::new(rt.alloc(), 8)?;
-    device.reserve(7)?;
-    assert_eq!(rt; write(&mut device, 1, seven), Ok(Written::Done));
-    assert_eq!(rt; device.sync(), Ok(()));
-    assert_eq!(rt; write(&mut device, 4, seven), Ok(Written::Done));
-    assert_eq!(rt; foreign(&mut device, 3, nine), Ok(Written::Done));
+    let (seven, nine) = (cell(&rt, 7), cell(&rt, 9));
+    let mut device = blank(rt.alloc(), 7)?;
+    let before = [
+        (Write(1, seven), Ok(None)),
+        (Sync, Ok(None)),
+        (Write(4, seven), Ok(None)),
+        (Foreign(3, nine), Ok(None)),
+    ];
+    expect(&rt, &mut device, &before);
     assert_eq!(rt;
         device.crash(&[7, 3, 3, 9]),
         Ok(Crash { kept: 1, unsure: 2 })
     );
-    assert_eq!(rt; device.room(), 0);
-    assert_eq!(rt; read(&mut device, 1), Ok(Some(seven)), "it was sure");
-    assert_eq!(rt; read(&mut device, 3), Ok(Some(nine)), "it was kept");
-    assert_eq!(rt; read(&mut device, 4), Ok(None), "it was lost");
-    assert_eq!(rt; read(&mut device, 7), Ok(None), "nobody wrote it");
-    assert_eq!(rt; device.sync(), Ok(()), "all is sure");
     assert_eq!(rt; device.crash(&[]), Err(Failed), "there is no room");
-    device.reserve(1)?;
+    let after = [
+        (Read(1), Ok(Some(seven))), // it was sure
+        (Read(3), Ok(Some(nine))), // it was kept
+        (Read(4), Ok(None)), // it was lost
+        (Read(7), Ok(None)), // nobody wrote it
+        (Sync, Ok(None)), // all is sure
+        (Reserve(1), Ok(None)),
+    ];
+    expect(&rt, &mut device, &after);
     assert_eq!(rt; device.crash(&[]), Ok(Crash { kept: 0, unsure: 0 }));
     let changes = [
         Change::Wrote {
@@ -348,6 +421,6 @@ fn a_crash_keeps_one_of_two_cells(rt: HostRuntime) -> Result<(), Fail> {
         Change::Crashed,
         Change::Crashed,
     ];
-    assert_eq!(rt; device.changes(), changes.as_slice());
+    expect_changes(&rt, &device, &changes);
     Ok(())
 }

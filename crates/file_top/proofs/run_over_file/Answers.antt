@@ -1,16 +1,24 @@
 -- The device of which `run` speaks is one over the file.
-use Rattle.host_files.specs.Device.{device_over}
 use Rattle.record_top.specs.Commands.{ToIngest}
-use Rattle.record_top.specs.Ports.{ports_of}
-use Rattle.file_top.proofs.Keeping.{keeps}
+use Rattle.file_top.proofs.Keeping.{keeps, stays}
 use Rattle.file_top.proofs.run_over_file.Goals as goal
 
 pub returns-clause-keeps : goal.returns-clause-keeps
 returns-clause-keeps g c id asks =
     let before = c.args.device.now in
     let device = c.run-outcome.new.device in
-    let old = ports_of (device_over before.cells before.reads (g.F.HostFile.state before.file))
-    (g.S.Source.state c.args.source.now) (g.K.Sink.state c.args.sink.now) in
-    keeps device.cells device.reads (g.F.HostFile.state device.file) id old (g.S.Source.state c.run-outcome.new.source)
-    (g.K.Sink.state c.run-outcome.new.sink) c.run-outcome.result (c.run-outcome.ensures.does (ToIngest id) asks)
-    c.crashes_are_seen.ensures
+    let old = g.F.HostFile.state before.file in
+    let new = g.F.HostFile.state device.file in
+    keeps before.cells before.reads old.faults old.parts device.cells device.reads new.faults new.parts old.told new.told id
+    (g.S.Source.state c.args.source.now) (g.S.Source.state c.run-outcome.new.source)
+    (g.K.Sink.state c.args.sink.now) (g.K.Sink.state c.run-outcome.new.sink) c.crashes_are_seen.ensures c.run-outcome.result
+    (c.run-outcome.ensures.does (ToIngest id) asks)
+
+pub returns-clause-stays : goal.returns-clause-stays
+returns-clause-stays g c =
+    let before = c.args.device.now in
+    let device = c.run-outcome.new.device in
+    let old = g.F.HostFile.state before.file in
+    let new = g.F.HostFile.state device.file in
+    stays before.cells before.reads old.faults old.parts device.cells device.reads new.faults new.parts old.told new.told
+    c.run-outcome.ensures.called c.crashes_are_seen.ensures

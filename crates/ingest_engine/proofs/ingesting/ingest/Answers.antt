@@ -1,5 +1,5 @@
 -- Where an ingest ends, and what it has come to.
-use Rattle.std.proofs.Common.{◌≡◌, refl, ◌∙◌, ap, arith, ℕ, length}
+use Rattle.std.proofs.Common.{refl, arith}
 use Rattle.cell_types.proofs.Passed.{handed}
 use Rattle.cell_types.specs.Refusals.{refusal_of_fault}
 use Rattle.ingest_engine.proofs.Endings.{just_settled, put, unput, unroomed, unsettled}
