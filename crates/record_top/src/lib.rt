@@ -11,11 +11,7 @@ mod body;
 mod command;
 mod format;
 mod ingest;
-#[cfg(test)]
-mod plain;
 mod recover;
-#[cfg(test)]
-mod tests;
 mod text;
 mod words;
 

@@ -1,11 +1,11 @@
-//! The first path, over a device, a source and a sink in memory. What is expected was written by hand.
+//! Commands over a device, a source and a sink in memory. What is expected was written by hand.
 ghost use Rattle.std.specs.Prelude.{◌≤◌};
 ghost use Rattle.cell_types.specs.declared.geometry.TheConstants.{MAX_CELLS};
 
-use crate::plain::{Document, State, document_of_slot, state_of_slot};
-use crate::{Outcome, run};
+use crate::decoder::{Document, State, document_of_slot, state_of_slot};
+use crate::volume::{outcome_of, sink, source_of, words_of};
 use cell_types::{Cell, Evidence, Refusal};
-use host_ports::{MemorySink, MemorySource};
+use record_top::run;
 use std::alloc::Global;
 use std::test::Fail;
 use stored_documents::{MAX_BODY_BYTES, MAX_IDENTIFIER_BYTES};
@@ -69,48 +69,9 @@ fn formatted(alloc: Global, cells: u32, changes: u32) -> Result<MemoryDevice, Fa
     Ok(device)
 }
 
-/// The words of a command, between bars.
-fn words_of(alloc: Global, text: &str) -> Result<Vec<String>, Fail> {
-    let mut all = Vec::new(alloc);
-    for word in text.split('|') {
-        all.push(String::from_str(alloc, word)?)?;
-    }
-    Ok(all)
-}
-
 /// So many times the letter `a`.
 fn letters(alloc: Global, count: usize) -> Result<Vec<u8>, Fail> {
     Ok(vec![in alloc; b'a'; count]?)
-}
-
-/// A source of these bytes.
-fn source_of(alloc: Global, body: &[u8]) -> Result<MemorySource, Fail> {
-    let mut bytes = Vec::new(alloc);
-    bytes.extend_from_slice(body)?;
-    Ok(MemorySource::new(bytes))
-}
-
-/// A sink with room for an acknowledgement.
-fn sink(alloc: Global) -> Result<MemorySink, Fail> {
-    let mut sink = MemorySink::new(alloc);
-    sink.reserve(64)?;
-    Ok(sink)
-}
-
-/// Carries out the words over this body, and answers the outcome and what was put out.
-fn outcome_of<D: Device>(
-    alloc: Global,
-    words: &str,
-    device: &mut D,
-    body: &[u8],
-) -> Result<(Outcome, Vec<u8>), Fail> {
-    let words = words_of(alloc, words)?;
-    let mut source = source_of(alloc, body)?;
-    let mut sink = sink(alloc)?;
-    let outcome = run(alloc, &words, device, &mut source, &mut sink);
-    let mut put = Vec::new(alloc);
-    put.extend_from_slice(sink.bytes())?;
-    Ok((outcome, put))
 }
 
 /// Whether the record of changes holds these four cells from this place on, each with a sync behind it.

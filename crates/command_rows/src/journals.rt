@@ -1,6 +1,6 @@
 //! A slot whose journal was written by hand: settling carries it out, whatever stands already of it.
-use crate::decoder::{State, bytes_at, state_of};
-use crate::volume::{answer_of, begin};
+use crate::decoder::{State, bytes_at, state_of_slot};
+use crate::volume::{begin, outcome_of};
 use cell_types::Cell;
 use std::test::Fail;
 use worm_device::Device;
@@ -19,7 +19,12 @@ const LOG: [(u32, [u8; 16]); 4] = [
 /// that leads to the node, and a posting at the block's first place. They rise by target.
 const JOURNAL: [(u32, [u8; 16]); 4] = [
     (164, [7, 0, 0, 2, 0x44, 0, 0, 0, 0, 0, 0, 0, 0, 0, 0, 164]),
-    (560, [8, 0, 0, 0, 0, 0xca, 0x97, 0x81, 0x12, 0xca, 0x1b, 0xbd, 0, 0, 2, 0x30]),
+    (
+        560,
+        [
+            8, 0, 0, 0, 0, 0xca, 0x97, 0x81, 0x12, 0xca, 0x1b, 0xbd, 0, 0, 2, 0x30,
+        ],
+    ),
     (567, [9, 0, 0, 3, 0x44, 0, 0, 0, 0, 0, 0, 0, 0, 0, 2, 0x37]),
     (580, [6, 0, 0, 0, 0, 0, 1, 2, 3, 4, 5, 6, 0, 0, 2, 0x44]),
 ];
@@ -52,11 +57,11 @@ fn a_journal_is_carried_out_from_each_subset_of_its_targets(rt: HostRuntime) -> 
             place += 1;
             left /= 2;
         }
-        assert_eq!(rt; state_of(&mut device, 0), State::Committed);
-        let answer = answer_of(alloc, "recover", &mut device, b"")?;
-        assert_eq!(rt; answer.outcome, Ok(()), "{bits}");
-        assert_eq!(rt; answer.text.as_slice(), b"slot 0 completed\n".as_slice());
-        assert_eq!(rt; state_of(&mut device, 0), State::Done);
+        assert_eq!(rt; state_of_slot(&mut device, 0), State::Committed);
+        let (outcome, put) = outcome_of(alloc, "recover", &mut device, b"")?;
+        assert_eq!(rt; outcome, Ok(()), "{bits}");
+        assert_eq!(rt; put.as_slice(), b"slot 0 completed\n".as_slice());
+        assert_eq!(rt; state_of_slot(&mut device, 0), State::Done);
         for (target, bytes) in &JOURNAL {
             assert_eq!(rt; bytes_at(&mut device, *target), *bytes, "{bits}");
         }

@@ -1,6 +1,6 @@
 //! Every cut of an ingest and of `recover`, with crashes that keep each subset of what was not sure.
-use crate::decoder::{State, state_of};
-use crate::volume::{answer_of, begin, holds, ingest, unsure, volume_with};
+use crate::decoder::{State, state_of_slot};
+use crate::volume::{begin, holds, ingest, outcome_of, unsure, volume_with};
 use cell_types::Refusal;
 use std::alloc::Global;
 use std::test::Fail;
@@ -53,30 +53,33 @@ fn cut_ingest(alloc: Global, call: u32) -> Result<Option<MemoryDevice>, Fail> {
     let mut device = volume_with(alloc, SLOTS, BEFORE)?;
     begin(&mut device)?;
     device.fail_at(Moment::Call(call))?;
-    match ingest(alloc, &mut device, BEFORE)?.outcome {
-        Err(Refusal::DeviceFault) => Ok(Some(device)),
-        _ => Ok(None),
-    }
+    let (outcome, _) = ingest(alloc, &mut device, BEFORE)?;
+    Ok(if outcome == Err(Refusal::DeviceFault) {
+        Some(device)
+    } else {
+        None
+    })
 }
 
 /// That all documents from before stand, that the one that was cut is whole or its slot given up or unused, and that the
 /// next goes in behind it.
 fn check(alloc: Global, device: &mut MemoryDevice) -> Result<(), Fail> {
     begin(device)?;
-    if answer_of(alloc, "recover", device, b"")?.outcome.is_err() {
+    let (outcome, _) = outcome_of(alloc, "recover", device, b"")?;
+    if outcome.is_err() {
         return Err(Fail::from("the volume was not settled"));
     }
     let whole = holds(alloc, device, BEFORE, BEFORE)?;
-    let next = match state_of(device, BEFORE) {
+    let next = match state_of_slot(device, BEFORE) {
         State::Unused => BEFORE,
         State::Abandoned => BEFORE + 1,
         State::Done if whole => BEFORE + 1,
         _ => return Err(Fail::from("the document that was cut is not whole")),
     };
     begin(device)?;
-    let answer = ingest(alloc, device, BEFORE + 1)?;
+    let (outcome, put) = ingest(alloc, device, BEFORE + 1)?;
     let text = format!(in alloc; "acknowledged {next}\n")?;
-    if answer.outcome.is_err() || answer.text.as_slice() != text.as_bytes() {
+    if outcome.is_err() || put.as_slice() != text.as_bytes() {
         return Err(Fail::from("the next document was not acknowledged"));
     }
     if !holds(alloc, device, next, BEFORE + 1)? {
@@ -98,8 +101,8 @@ fn forty_documents_go_into_forty_slots(rt: HostRuntime) -> Result<(), Fail> {
         assert!(rt; holds(alloc, &mut device, i, i)?, "{i}");
     }
     begin(&mut device)?;
-    let answer = ingest(alloc, &mut device, SLOTS)?;
-    assert_eq!(rt; answer.outcome, Err(Refusal::SlotsFull));
+    let (outcome, _) = ingest(alloc, &mut device, SLOTS)?;
+    assert_eq!(rt; outcome, Err(Refusal::SlotsFull));
     Ok(())
 }
 
@@ -144,9 +147,9 @@ fn recover_that_is_cut_is_made_up_for(rt: HostRuntime) -> Result<(), Fail> {
                 let mut device = half_done(alloc, step)?;
                 begin(&mut device)?;
                 device.fail_at(Moment::Call(call))?;
-                let answer = answer_of(alloc, "recover", &mut device, b"")?;
-                if answer.outcome == Err(Refusal::DeviceFault) {
-                    assert_eq!(rt; answer.text.len(), 0);
+                let (outcome, put) = outcome_of(alloc, "recover", &mut device, b"")?;
+                if outcome == Err(Refusal::DeviceFault) {
+                    assert_eq!(rt; put.len(), 0);
                     crash(alloc, &mut device, bits)?;
                     cuts = cuts.saturating_add(1);
                 }

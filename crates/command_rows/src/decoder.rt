@@ -23,7 +23,7 @@ pub struct Document {
 }
 
 /// The bytes of a cell, zeros where it is blank or not on the device.
-fn bytes_at(device: &mut MemoryDevice, at: u32) -> [u8; 16] {
+pub fn bytes_at(device: &mut MemoryDevice, at: u32) -> [u8; 16] {
     if at >= device.cells() {
         return [0; 16];
     }

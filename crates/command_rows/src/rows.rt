@@ -1,7 +1,7 @@
 //! Single cases, cell by cell. The device is formatted with 8 slots and 2 lists on 1,000 cells: slot 0 has cells 4 to 7,
 //! slot 1 cells 8 to 11, and the pool begins at cell 580.
-use crate::decoder::{State, bytes_at, state_of};
-use crate::volume::{answer_of, begin};
+use crate::decoder::{State, bytes_at, state_of_slot};
+use crate::volume::{begin, outcome_of};
 use cell_types::{Cell, Evidence, Refusal};
 use std::alloc::Global;
 use std::test::Fail;
@@ -21,8 +21,8 @@ const DONE: [u8; 16] = [5, 0, 0, 0, 0, 0, 0, 0, 0, 0, 0, 0, 0, 0, 0, 6];
 fn formatted(alloc: Global) -> Result<MemoryDevice, Fail> {
     let mut device = MemoryDevice::new(alloc, 1_000)?;
     begin(&mut device)?;
-    let answer = answer_of(alloc, "format|8|2", &mut device, b"")?;
-    if answer.outcome.is_err() {
+    let (outcome, _) = outcome_of(alloc, "format|8|2", &mut device, b"")?;
+    if outcome.is_err() {
         return Err(Fail::from("the volume was not formatted"));
     }
     Ok(device)
@@ -35,8 +35,8 @@ fn stopped_at_commit(alloc: Global, keep: &[u32]) -> Result<(MemoryDevice, Crash
     begin(&mut device)?;
     // sync, cell 4, sync, cell 580, sync, cell 5
     device.stop_after(Moment::Step(6));
-    let answer = answer_of(alloc, "ingest|a", &mut device, b"hello world")?;
-    if answer.outcome != Err(Refusal::DeviceFault) || !answer.text.is_empty() {
+    let (outcome, put) = outcome_of(alloc, "ingest|a", &mut device, b"hello world")?;
+    if outcome != Err(Refusal::DeviceFault) || !put.is_empty() {
         return Err(Fail::from("the ingest was not stopped"));
     }
     begin(&mut device)?;
@@ -50,9 +50,9 @@ fn a_commit_cell_that_is_lost_gives_the_slot_up(rt: HostRuntime) -> Result<(), F
     let (mut device, crash) = stopped_at_commit(alloc, &[])?;
     assert_eq!(rt; crash, Crash { kept: 0, unsure: 1 });
     begin(&mut device)?;
-    let answer = answer_of(alloc, "recover", &mut device, b"")?;
-    assert_eq!(rt; answer.outcome, Ok(()));
-    assert_eq!(rt; answer.text.as_slice(), b"slot 0 abandoned\n".as_slice());
+    let (outcome, put) = outcome_of(alloc, "recover", &mut device, b"")?;
+    assert_eq!(rt; outcome, Ok(()));
+    assert_eq!(rt; put.as_slice(), b"slot 0 abandoned\n".as_slice());
     assert_eq!(rt; bytes_at(&mut device, 5), ABANDON);
     Ok(())
 }
@@ -63,13 +63,13 @@ fn a_commit_cell_that_is_kept_completes_the_slot(rt: HostRuntime) -> Result<(), 
     let (mut device, crash) = stopped_at_commit(alloc, &[5])?;
     assert_eq!(rt; crash, Crash { kept: 1, unsure: 1 });
     begin(&mut device)?;
-    let answer = answer_of(alloc, "recover", &mut device, b"")?;
-    assert_eq!(rt; answer.text.as_slice(), b"slot 0 completed\n".as_slice());
+    let (_, put) = outcome_of(alloc, "recover", &mut device, b"")?;
+    assert_eq!(rt; put.as_slice(), b"slot 0 completed\n".as_slice());
     assert_eq!(rt; bytes_at(&mut device, 6), DONE);
-    assert_eq!(rt; state_of(&mut device, 0), State::Done);
+    assert_eq!(rt; state_of_slot(&mut device, 0), State::Done);
     begin(&mut device)?;
-    let answer = answer_of(alloc, "recover", &mut device, b"")?;
-    assert_eq!(rt; answer.text.as_slice(), b"nothing to settle\n".as_slice());
+    let (_, put) = outcome_of(alloc, "recover", &mut device, b"")?;
+    assert_eq!(rt; put.as_slice(), b"nothing to settle\n".as_slice());
     Ok(())
 }
 
@@ -78,20 +78,20 @@ fn a_stray_outcome_cell_is_named(rt: HostRuntime) -> Result<(), Fail> {
     let alloc = rt.alloc();
     let mut device = formatted(alloc)?;
     begin(&mut device)?;
-    let answer = answer_of(alloc, "ingest|a", &mut device, b"hello world")?;
-    assert_eq!(rt; answer.text.as_slice(), b"acknowledged 0\n".as_slice());
+    let (_, put) = outcome_of(alloc, "ingest|a", &mut device, b"hello world")?;
+    assert_eq!(rt; put.as_slice(), b"acknowledged 0\n".as_slice());
     begin(&mut device)?;
     let stray = Cell::from_bytes(STRAY).ok_or("a blank cell")?;
     if 9 < device.cells() {
         let _ = device.foreign(9, stray)?;
     }
     begin(&mut device)?;
-    let answer = answer_of(alloc, "ingest|b", &mut device, b"")?;
+    let (outcome, _) = outcome_of(alloc, "ingest|b", &mut device, b"")?;
     let evidence = Evidence {
         rule: 2,
         cell: 9,
         found: stray,
     };
-    assert_eq!(rt; answer.outcome, Err(Refusal::Tampered(evidence)));
+    assert_eq!(rt; outcome, Err(Refusal::Tampered(evidence)));
     Ok(())
 }

@@ -1,42 +1,54 @@
 //! A volume in memory, and the commands that are run over it.
-use crate::decoder::{State, state_of, stored_in};
+use crate::decoder::{State, document_of_slot, state_of_slot};
 use host_ports::{MemorySink, MemorySource};
 use record_top::{Outcome, run};
 use std::alloc::Global;
 use std::test::Fail;
+use worm_device::Device;
 use worm_memory::{Change, MemoryDevice};
 
 /// How many cells a volume has here, and room for how many changes its record gets before each command.
 const CELLS: u32 = 3_000;
+
 const CHANGES: u32 = 200;
 
-/// What a command answered, and what it put out.
-#[derive(Debug, Drop)]
-pub struct Answer {
-    pub outcome: Outcome,
-    pub text: Vec<u8>,
-}
-
-/// Runs the words, which stand between bars, over this body.
-pub fn answer_of(
-    alloc: Global,
-    words: &str,
-    device: &mut MemoryDevice,
-    body: &[u8],
-) -> Result<Answer, Fail> {
+/// The words of a command, between bars.
+pub fn words_of(alloc: Global, text: &str) -> Result<Vec<String>, Fail> {
     let mut all = Vec::new(alloc);
-    for word in words.split('|') {
+    for word in text.split('|') {
         all.push(String::from_str(alloc, word)?)?;
     }
-    let mut given = Vec::new(alloc);
-    given.extend_from_slice(body)?;
-    let mut source = MemorySource::new(given);
+    Ok(all)
+}
+
+/// A source of these bytes.
+pub fn source_of(alloc: Global, body: &[u8]) -> Result<MemorySource, Fail> {
+    let mut bytes = Vec::new(alloc);
+    bytes.extend_from_slice(body)?;
+    Ok(MemorySource::new(bytes))
+}
+
+/// A sink with room for an acknowledgement.
+pub fn sink(alloc: Global) -> Result<MemorySink, Fail> {
     let mut sink = MemorySink::new(alloc);
     sink.reserve(64)?;
-    let outcome = run(alloc, &all, device, &mut source, &mut sink);
-    let mut text = Vec::new(alloc);
-    text.extend_from_slice(sink.bytes())?;
-    Ok(Answer { outcome, text })
+    Ok(sink)
+}
+
+/// Carries out the words over this body, and answers the outcome and what was put out.
+pub fn outcome_of<D: Device>(
+    alloc: Global,
+    words: &str,
+    device: &mut D,
+    body: &[u8],
+) -> Result<(Outcome, Vec<u8>), Fail> {
+    let words = words_of(alloc, words)?;
+    let mut source = source_of(alloc, body)?;
+    let mut sink = sink(alloc)?;
+    let outcome = run(alloc, &words, device, &mut source, &mut sink);
+    let mut put = Vec::new(alloc);
+    put.extend_from_slice(sink.bytes())?;
+    Ok((outcome, put))
 }
 
 /// Begins a command: nothing is planned for it, and its changes have room.
@@ -51,8 +63,8 @@ pub fn volume_of(alloc: Global, slots: u32) -> Result<MemoryDevice, Fail> {
     let mut device = MemoryDevice::new(alloc, CELLS)?;
     begin(&mut device)?;
     let words = format!(in alloc; "format|{slots}|1")?;
-    let answer = answer_of(alloc, words.as_str(), &mut device, b"")?;
-    if answer.outcome.is_err() {
+    let (outcome, _) = outcome_of(alloc, words.as_str(), &mut device, b"")?;
+    if outcome.is_err() {
         return Err(Fail::from("the volume was not formatted"));
     }
     Ok(device)
@@ -68,10 +80,14 @@ pub fn body_of(alloc: Global, i: u32) -> Result<Vec<u8>, Fail> {
 }
 
 /// Ingests document i.
-pub fn ingest(alloc: Global, device: &mut MemoryDevice, i: u32) -> Result<Answer, Fail> {
+pub fn ingest(
+    alloc: Global,
+    device: &mut MemoryDevice,
+    i: u32,
+) -> Result<(Outcome, Vec<u8>), Fail> {
     let body = body_of(alloc, i)?;
     let words = format!(in alloc; "ingest|d{i}")?;
-    answer_of(alloc, words.as_str(), device, &body)
+    outcome_of(alloc, words.as_str(), device, &body)
 }
 
 /// A volume that holds the first so many documents.
@@ -79,7 +95,8 @@ pub fn volume_with(alloc: Global, slots: u32, documents: u32) -> Result<MemoryDe
     let mut device = volume_of(alloc, slots)?;
     for i in 0..documents {
         begin(&mut device)?;
-        if ingest(alloc, &mut device, i)?.outcome.is_err() {
+        let (outcome, _) = ingest(alloc, &mut device, i)?;
+        if outcome.is_err() {
             return Err(Fail::from("a document was not ingested"));
         }
     }
@@ -87,18 +104,15 @@ pub fn volume_with(alloc: Global, slots: u32, documents: u32) -> Result<MemoryDe
 }
 
 /// Whether the slot is done and holds document i.
-pub fn holds(
-    alloc: Global,
-    device: &mut MemoryDevice,
-    slot: u32,
-    i: u32,
-) -> Result<bool, Fail> {
+pub fn holds(alloc: Global, device: &mut MemoryDevice, slot: u32, i: u32) -> Result<bool, Fail> {
     let id = format!(in alloc; "d{i}")?;
-    let mut want = Vec::new(alloc);
-    want.push(id.len() as u8)?;
-    want.extend_from_slice(id.as_bytes())?;
-    want.extend_from_slice(&body_of(alloc, i)?)?;
-    Ok(state_of(device, slot) == State::Done && stored_in(alloc, device, slot)? == want)
+    let body = body_of(alloc, i)?;
+    let found = document_of_slot(alloc, device, slot)?;
+    Ok(
+        state_of_slot(device, slot) == State::Done
+            && found.is_some_and(|found| found.id.as_slice() == id.as_bytes()
+                && found.body == body),
+    )
 }
 
 /// The cells that are written and not sure, in order: those of the changes since the last sync or crash.
