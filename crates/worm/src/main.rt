@@ -3,6 +3,7 @@
 //!
 //!     worm volume.img format 8 2
 //!     worm volume.img ingest invoice-4711 < invoice.txt
+//!     worm volume.img recover
 //!
 //! IMAGE is the path of a file that exists; a new device is a file of zeros. Where IMAGE is `-`, the device is one
 //! in memory that holds a small volume, so what is stored there is gone when the program ends. No other IMAGE begins

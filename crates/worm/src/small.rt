@@ -9,8 +9,8 @@ const CELLS: u32 = 1_000;
 
 /// A device in memory with the volume of 8 slots and 2 lists.
 pub fn small_volume(alloc: Global) -> Result<MemoryDevice, Refusal> {
-    let mut device = MemoryDevice::new(alloc, CELLS).map_err(|_| Refusal::NoMemory)?;
-    device.reserve(2 * CELLS).map_err(|_| Refusal::NoMemory)?;
+    let mut device = MemoryDevice::new(alloc, CELLS)?;
+    device.reserve(2 * CELLS)?;
     let volume = RecordCell::Volume {
         version: FORMAT_VERSION,
         slots: 8,
