@@ -15,7 +15,7 @@ pub enum Moment {
 }
 
 /// A foreign write, before the call that a moment names.
-#[derive(Clone, Copy, Debug, PartialEq, Eq)]
+#[derive(Clone, Copy)]
 pub(crate) struct Timed {
     pub(crate) before: Moment,
     pub(crate) at: u32,

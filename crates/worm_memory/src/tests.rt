@@ -1,4 +1,4 @@
-//! A device of eight cells, called as its callers do. What is expected was written by hand.
+//! A device of eight cells, called as its callers do, as a device where it is one. What is expected was written by hand.
 use crate::tests::Action::{
     Begin, FailAt, Foreign, ForeignBefore, Read, Reserve, StopAfter, Sync, Write,
 };
@@ -52,26 +52,28 @@ fn stood(written: Result<Written, Failed>) -> Answer {
     }
 }
 
-/// Takes memory for so many changes.
-fn reserve(device: &mut MemoryDevice, changes: u32) -> Answer {
-    device.reserve(changes).map_err(|_| Failed)?;
+/// Whether there was memory.
+fn taken(memory: Result<(), NoMemory>) -> Answer {
+    let Ok(()) = memory else {
+        return Err(Failed);
+    };
     Ok(None)
 }
 
 /// Reads a cell that the device has.
-fn read(rt: &impl Abort, device: &mut MemoryDevice, at: u32) -> Answer {
+fn read(rt: &impl Abort, device: &mut impl Device, at: u32) -> Answer {
     assert!(rt; at < device.cells());
     device.read(at)
 }
 
 /// Writes a cell that the device has.
-fn write(rt: &impl Abort, device: &mut MemoryDevice, at: u32, value: Cell) -> Answer {
+fn write(rt: &impl Abort, device: &mut impl Device, at: u32, value: Cell) -> Answer {
     assert!(rt; at < device.cells());
     stood(device.write(at, value))
 }
 
 /// Makes all sure.
-fn sync(device: &mut MemoryDevice) -> Answer {
+fn sync(device: &mut impl Device) -> Answer {
     device.sync()?;
     Ok(None)
 }
@@ -89,18 +91,6 @@ fn begin(rt: &impl Abort, device: &mut MemoryDevice) -> Answer {
     Ok(None)
 }
 
-/// Plans that a call fails.
-fn fail_at(device: &mut MemoryDevice, moment: Moment) -> Answer {
-    device.fail_at(moment).map_err(|_| Failed)?;
-    Ok(None)
-}
-
-/// Plans that each call fails from a moment on.
-fn stop_after(device: &mut MemoryDevice, moment: Moment) -> Answer {
-    device.stop_after(moment);
-    Ok(None)
-}
-
 /// Plans that somebody else writes a cell that the device has.
 fn foreign_before(
     rt: &impl Abort,
@@ -110,31 +100,31 @@ fn foreign_before(
     value: Cell,
 ) -> Answer {
     assert!(rt; at < device.cells());
-    device
-        .foreign_before(moment, at, value)
-        .map_err(|_| Failed)?;
-    Ok(None)
+    taken(device.foreign_before(moment, at, value))
 }
 
 /// Does this to a device.
-fn act(rt: &impl Abort, device: &mut MemoryDevice, action: Action) -> Answer {
-    match action {
-        Reserve(changes) => reserve(device, changes),
+fn act(rt: &impl Abort, device: &mut MemoryDevice, action: &Action) -> Answer {
+    match *action {
+        Reserve(changes) => taken(device.reserve(changes)),
         Read(at) => read(rt, device, at),
         Write(at, value) => write(rt, device, at, value),
         Sync => sync(device),
         Foreign(at, value) => foreign(rt, device, at, value),
         Begin => begin(rt, device),
-        FailAt(moment) => fail_at(device, moment),
-        StopAfter(moment) => stop_after(device, moment),
+        FailAt(moment) => taken(device.fail_at(moment)),
+        StopAfter(moment) => {
+            device.stop_after(moment);
+            Ok(None)
+        }
         ForeignBefore(moment, at, value) => foreign_before(rt, device, moment, at, value),
     }
 }
 
 /// Does these in order, each of which has this answer.
-fn expect(rt: &impl Abort, device: &mut MemoryDevice, actions: &[(Action, Answer)]) {
+fn perform(rt: &impl Abort, device: &mut MemoryDevice, actions: &[(Action, Answer)]) {
     for (number, (action, answer)) in actions.iter().enumerate() {
-        assert_eq!(rt; act(rt, device, *action), *answer, "action {number}");
+        assert_eq!(rt; act(rt, device, action), *answer, "action {number}");
     }
 }
 
@@ -144,13 +134,32 @@ fn expect_changes(rt: &impl Abort, device: &MemoryDevice, changes: &[Change]) {
     assert_eq!(rt; device.room(), 0);
 }
 
-/// Writes a blank cell, and makes it sure. Answers what stood there before.
-fn drive<D: Device>(rt: &impl Abort, device: &mut D, at: u32, value: Cell) -> Answer {
-    assert!(rt; at < device.cells());
-    let found = device.read(at)?;
-    let _ = device.write(at, value)?;
-    device.sync()?;
-    Ok(found)
+/// Each command on the device began with one of these marks.
+fn expect_marks(rt: &impl Abort, device: &MemoryDevice, marks: &[Mark]) {
+    assert_eq!(rt; device.marks(), marks);
+}
+
+/// A crash that keeps these cells ends so.
+fn expect_crash(
+    rt: &impl Abort,
+    device: &mut MemoryDevice,
+    keep: &[u32],
+    end: Result<Crash, Failed>,
+) {
+    assert_eq!(rt; device.crash(keep), end);
+}
+
+/// On a blank device with room for so many changes, these actions have these answers, and leave these changes.
+fn expect(
+    rt: &(impl AllocGlobal + Abort),
+    room: u32,
+    actions: &[(Action, Answer)],
+    changes: &[Change],
+) -> Result<MemoryDevice, NoMemory> {
+    let mut device = blank(rt.alloc(), room)?;
+    perform(rt, &mut device, actions);
+    expect_changes(rt, &device, changes);
+    Ok(device)
 }
 
 /// Looks at a cell through a view.
@@ -162,7 +171,6 @@ fn look<V: View>(rt: &impl Abort, view: &mut V, at: u32) -> Answer {
 #[test]
 fn a_cell_is_written_once(rt: HostRuntime) -> Result<(), Fail> {
     let (seven, nine) = (cell(&rt, 7), cell(&rt, 9));
-    let mut device = blank(rt.alloc(), 3)?;
     let actions = [
         (Read(3), Ok(None)),
         (Write(3, seven), Ok(None)),
@@ -174,7 +182,6 @@ fn a_cell_is_written_once(rt: HostRuntime) -> Result<(), Fail> {
         (Sync, Ok(None)),
         (Write(0, nine), Ok(None)),
     ];
-    expect(&rt, &mut device, &actions);
     let changes = [
         Change::Wrote {
             at: 3,
@@ -183,14 +190,13 @@ fn a_cell_is_written_once(rt: HostRuntime) -> Result<(), Fail> {
         Change::Synced,
         Change::Wrote { at: 0, value: nine },
     ];
-    expect_changes(&rt, &device, &changes);
+    let _ = expect(&rt, 3, &actions, &changes)?;
     Ok(())
 }
 
 #[test]
 fn a_full_record_takes_no_change(rt: HostRuntime) -> Result<(), Fail> {
     let (seven, nine) = (cell(&rt, 7), cell(&rt, 9));
-    let mut device = blank(rt.alloc(), 0)?;
     let actions = [
         (Write(7, seven), Err(Failed)),
         (Sync, Ok(None)), // nothing is unsure
@@ -205,7 +211,6 @@ fn a_full_record_takes_no_change(rt: HostRuntime) -> Result<(), Fail> {
         (Sync, Ok(None)),
         (Sync, Ok(None)), // nothing is unsure
     ];
-    expect(&rt, &mut device, &actions);
     let changes = [
         Change::Wrote {
             at: 0,
@@ -217,35 +222,24 @@ fn a_full_record_takes_no_change(rt: HostRuntime) -> Result<(), Fail> {
         },
         Change::Synced,
     ];
-    expect_changes(&rt, &device, &changes);
+    let _ = expect(&rt, 0, &actions, &changes)?;
     Ok(())
 }
 
 #[test]
-fn a_device_in_memory_is_a_device_and_a_view(rt: HostRuntime) -> Result<(), Fail> {
-    let (seven, nine) = (cell(&rt, 7), cell(&rt, 9));
-    let mut device = blank(rt.alloc(), 2)?;
-    assert_eq!(rt; drive(&rt, &mut device, 5, seven), Ok(None));
-    assert_eq!(rt; drive(&rt, &mut device, 5, nine), Ok(Some(seven)));
-    assert_eq!(rt;
-        look(&rt, &mut Direct::new(&mut device), 5),
-        Ok(Some(seven))
-    );
-    let changes = [
-        Change::Wrote {
-            at: 5,
-            value: seven,
-        },
-        Change::Synced,
-    ];
-    expect_changes(&rt, &device, &changes);
+fn a_device_in_memory_is_a_view(rt: HostRuntime) -> Result<(), Fail> {
+    let seven = cell(&rt, 7);
+    let mut device = blank(rt.alloc(), 1)?;
+    perform(&rt, &mut device, &[(Write(5, seven), Ok(None))]);
+    let mut view = Direct::new(&mut device);
+    assert_eq!(rt; look(&rt, &mut view, 5), Ok(Some(seven)));
+    assert_eq!(rt; look(&rt, &mut view, 6), Ok(None));
     Ok(())
 }
 
 #[test]
 fn somebody_else_writes_blank_cells_alone(rt: HostRuntime) -> Result<(), Fail> {
     let (seven, nine) = (cell(&rt, 7), cell(&rt, 9));
-    let mut device = blank(rt.alloc(), 0)?;
     let actions = [
         (Foreign(3, nine), Err(Failed)), // there is no room
         (Reserve(3), Ok(None)),
@@ -256,7 +250,6 @@ fn somebody_else_writes_blank_cells_alone(rt: HostRuntime) -> Result<(), Fail> {
         (Write(4, seven), Ok(None)),
         (Foreign(4, nine), Ok(Some(seven))),
     ];
-    expect(&rt, &mut device, &actions);
     let changes = [
         Change::Foreign { at: 3, value: nine },
         Change::Synced,
@@ -265,14 +258,13 @@ fn somebody_else_writes_blank_cells_alone(rt: HostRuntime) -> Result<(), Fail> {
             value: seven,
         },
     ];
-    expect_changes(&rt, &device, &changes);
+    let _ = expect(&rt, 0, &actions, &changes)?;
     Ok(())
 }
 
 #[test]
 fn a_step_fails_as_planned(rt: HostRuntime) -> Result<(), Fail> {
     let (seven, nine) = (cell(&rt, 7), cell(&rt, 9));
-    let mut device = blank(rt.alloc(), 4)?;
     let actions = [
         (Begin, Ok(None)),
         (FailAt(Moment::Step(2)), Ok(None)),
@@ -286,7 +278,6 @@ fn a_step_fails_as_planned(rt: HostRuntime) -> Result<(), Fail> {
         (Write(4, nine), Ok(None)), // step 3, call 5
         (Begin, Ok(None)),
     ];
-    expect(&rt, &mut device, &actions);
     let changes = [
         Change::Wrote {
             at: 3,
@@ -294,7 +285,7 @@ fn a_step_fails_as_planned(rt: HostRuntime) -> Result<(), Fail> {
         },
         Change::Wrote { at: 4, value: nine },
     ];
-    expect_changes(&rt, &device, &changes);
+    let device = expect(&rt, 4, &actions, &changes)?;
     let marks = [
         Mark {
             steps: 0,
@@ -313,14 +304,13 @@ fn a_step_fails_as_planned(rt: HostRuntime) -> Result<(), Fail> {
             reads: 2,
         },
     ];
-    assert_eq!(rt; device.marks(), marks.as_slice());
+    expect_marks(&rt, &device, &marks);
     Ok(())
 }
 
 #[test]
 fn a_command_stops_after_a_step(rt: HostRuntime) -> Result<(), Fail> {
     let (seven, nine) = (cell(&rt, 7), cell(&rt, 9));
-    let mut device = blank(rt.alloc(), 6)?;
     let actions = [
         (Begin, Ok(None)),
         (StopAfter(Moment::Call(1)), Ok(None)),
@@ -336,7 +326,6 @@ fn a_command_stops_after_a_step(rt: HostRuntime) -> Result<(), Fail> {
         (Sync, Ok(None)), // nothing is planned any more
         (Write(4, nine), Ok(None)),
     ];
-    expect(&rt, &mut device, &actions);
     let changes = [
         Change::Wrote {
             at: 3,
@@ -345,14 +334,13 @@ fn a_command_stops_after_a_step(rt: HostRuntime) -> Result<(), Fail> {
         Change::Synced,
         Change::Wrote { at: 4, value: nine },
     ];
-    expect_changes(&rt, &device, &changes);
+    let _ = expect(&rt, 6, &actions, &changes)?;
     Ok(())
 }
 
 #[test]
 fn others_write_before_a_call(rt: HostRuntime) -> Result<(), Fail> {
     let (seven, nine) = (cell(&rt, 7), cell(&rt, 9));
-    let mut device = blank(rt.alloc(), 4)?;
     let actions = [
         (Begin, Ok(None)),
         (ForeignBefore(Moment::Call(2), 3, nine), Ok(None)),
@@ -367,7 +355,6 @@ fn others_write_before_a_call(rt: HostRuntime) -> Result<(), Fail> {
         (Read(5), Err(Failed)), // the foreign write has no room
         (Read(5), Ok(None)),
     ];
-    expect(&rt, &mut device, &actions);
     let changes = [
         Change::Foreign { at: 3, value: nine },
         Change::Foreign { at: 4, value: nine },
@@ -376,7 +363,7 @@ fn others_write_before_a_call(rt: HostRuntime) -> Result<(), Fail> {
             value: seven,
         },
     ];
-    expect_changes(&rt, &device, &changes);
+    let _ = expect(&rt, 4, &actions, &changes)?;
     Ok(())
 }
 
@@ -390,12 +377,10 @@ fn a_crash_keeps_one_of_two_cells(rt: HostRuntime) -> Result<(), Fail> {
         (Write(4, seven), Ok(None)),
         (Foreign(3, nine), Ok(None)),
     ];
-    expect(&rt, &mut device, &before);
-    assert_eq!(rt;
-        device.crash(&[7, 3, 3, 9]),
-        Ok(Crash { kept: 1, unsure: 2 })
-    );
-    assert_eq!(rt; device.crash(&[]), Err(Failed), "there is no room");
+    perform(&rt, &mut device, &before);
+    let one_of_two = Crash { kept: 1, unsure: 2 };
+    expect_crash(&rt, &mut device, &[7, 3, 3, 9], Ok(one_of_two));
+    expect_crash(&rt, &mut device, &[], Err(Failed)); // there is no room
     let after = [
         (Read(1), Ok(Some(seven))), // it was sure
         (Read(3), Ok(Some(nine))), // it was kept
@@ -404,8 +389,8 @@ fn a_crash_keeps_one_of_two_cells(rt: HostRuntime) -> Result<(), Fail> {
         (Sync, Ok(None)), // all is sure
         (Reserve(1), Ok(None)),
     ];
-    expect(&rt, &mut device, &after);
-    assert_eq!(rt; device.crash(&[]), Ok(Crash { kept: 0, unsure: 0 }));
+    perform(&rt, &mut device, &after);
+    expect_crash(&rt, &mut device, &[], Ok(Crash { kept: 0, unsure: 0 }));
     let changes = [
         Change::Wrote {
             at: 1,

@@ -10,10 +10,10 @@ returns-then-is_ok-clause-sure c =
     let mid = c.write.new.self in
     let new = c.sync.new.self in
     let written = has_written (memory_of old) (room_of old) c.args.at c.args.value
-        (outcome mid (is_err c.write.result)) c.requires.free (omega arith)
-        (c.write.ensures.unplanned c.requires.unplanned) in
+    (outcome mid (is_err c.write.result)) c.requires.free (omega arith)
+    (c.write.ensures.unplanned c.requires.unplanned) in
     let is : is_err c.sync.result ≡ false = sync_goes_on (memory_of mid) (room_of mid)
-        (outcome new (is_err c.sync.result)) (omega (arith, written.left))
-        (c.sync.ensures.unplanned (written.plan ∙ c.requires.unplanned)) in
+    (outcome new (is_err c.sync.result)) (omega (arith, written.left))
+    (c.sync.ensures.unplanned (written.plan ∙ c.requires.unplanned)) in
     let kept = sync_makes_sure c.sync.result is c.sync.ensures.syncs refl in
     kept.keeps c.args.at c.args.value written.stands
