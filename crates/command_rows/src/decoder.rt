@@ -77,8 +77,8 @@ pub fn state_of_slot(device: &mut MemoryDevice, slot: u32) -> State {
     }
 }
 
-/// The stored bytes of a slot, one content cell after another, up to a cell that is none. They are the last of its cells,
-/// before its journal.
+/// The stored bytes of a slot, one content cell after another, up to a cell that is none. They are the last of its
+/// cells, before its journal.
 fn stored_of_slot(
     alloc: Global,
     device: &mut MemoryDevice,

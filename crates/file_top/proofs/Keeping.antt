@@ -28,8 +28,10 @@ left_now : (s : DeviceState) (image : Image) → LeftSince s s.moment image → 
 left_now s image left = ⊎_elim (λ now. now) (λ past. absurd (omega (arith, past.1, past.2))) left
 
 -- a document of the sure image is kept
-kept_told : (cells reads faults parts : ℕ) (told : Told) → CrashesAreSeen (device_at cells reads faults parts (Some told)) (Some told)
-    → (n : ℕ) (id body : List ℕ) → IsDocument cells (image_of cells told.now.sure) n id body → IsKeptIn cells told n id body
+kept_told : (cells reads faults parts : ℕ) (told : Told)
+    → CrashesAreSeen (device_at cells reads faults parts (Some told)) (Some told)
+    → (n : ℕ) (id body : List ℕ) → IsDocument cells (image_of cells told.now.sure) n id body
+    → IsKeptIn cells told n id body
 kept_told cells reads faults parts told seen n id body stands = record {
   sure = stands;
   left = λ bytes leaves.
@@ -50,15 +52,6 @@ keeps_all before cells reads faults parts bytes told same seen extends n id body
 one_tells : true ≡ false → ⊥
 one_tells e = absurd cc
 
--- where the file tells, by what the device was and is
-where_told : (b r f p cells reads faults parts : ℕ) (old new : Option Told) (P : Told → Told → Type 0)
-    → Called (device_at b r f p old) (device_at cells reads faults parts new)
-    → ((t u : Told) → old ≡ Some t → new ≡ Some u → P t u) → WhereTold old new P
-where_told b r f p cells reads faults parts None None P called holds = tt
-where_told b r f p cells reads faults parts None (Some u) P called holds = one_tells called.tells
-where_told b r f p cells reads faults parts (Some t) None P called holds = one_tells (sym called.tells)
-where_told b r f p cells reads faults parts (Some t) (Some u) P called holds = holds t u refl refl
-
 -- whatever was sure is kept
 pub stays : (b r f p cells reads faults parts : ℕ) (old new : Option Told)
     → Called (device_at b r f p old) (device_at cells reads faults parts new)
@@ -77,10 +70,13 @@ stored : (b r f p cells reads faults parts : ℕ) (old new : Option Told) (id bo
     → CrashesAreSeen (device_at cells reads faults parts new) new
     → (IsTrue (is_some old) → IsIngested id body slot (device_at b r f p old) (device_at cells reads faults parts new))
     → Acknowledges result slot sink sink'
-    → WhereTold old new (λ before after. IsStored cells id body after sink sink' result × KeepsAll cells before.now.bytes after)
+    → WhereTold old new (λ before after.
+    IsStored cells id body after sink sink' result × KeepsAll cells before.now.bytes after)
 stored b r f p cells reads faults parts None None id body slot sink sink' result called seen ingested named = tt
-stored b r f p cells reads faults parts None (Some u) id body slot sink sink' result called seen ingested named = one_tells called.tells
-stored b r f p cells reads faults parts (Some t) None id body slot sink sink' result called seen ingested named = one_tells (sym called.tells)
+stored b r f p cells reads faults parts None (Some u) id body slot sink sink' result called seen ingested named =
+    one_tells called.tells
+stored b r f p cells reads faults parts (Some t) None id body slot sink sink' result called seen ingested named =
+    one_tells (sym called.tells)
 stored b r f p cells reads faults parts (Some t) (Some u) id body slot sink sink' result called seen ingested named =
     let is = ingested refl in (
       record {
@@ -105,20 +101,26 @@ module _ (b r f p cells reads faults parts : ℕ) (told told' : Option Told) (id
   abbrev later : DeviceState
   later = device_at cells reads faults parts told'
 
-  told_of : (result : Result Unit Refusal) (given : List ℕ) (answer : Result ℕ Refusal) → Ingests id given device later answer
-      → Tells acknowledgement answer (ports_of device source sink) (ports_of later source' sink') result → HasStored result
-      → WhereTold told told' (λ before after. IsStored cells id given after sink sink' result × KeepsAll cells before.now.bytes after)
+  told_of : (result : Result Unit Refusal) (given : List ℕ) (answer : Result ℕ Refusal)
+      → Ingests id given device later answer
+      → Tells acknowledgement answer (ports_of device source sink) (ports_of later source' sink') result
+      → HasStored result
+      → WhereTold told told' (λ before after.
+      IsStored cells id given after sink sink' result × KeepsAll cells before.now.bytes after)
   told_of (Ok u) given (Ok slot) ingests tells has =
-      stored b r f p cells reads faults parts told told' id given slot sink sink' (Ok u) ingests.called seen ingests.ends tells
+      stored b r f p cells reads faults parts told told' id given slot sink sink' (Ok u) ingests.called seen
+      ingests.ends tells
   told_of (Ok u) given (Err refused) ingests tells has = absurd tells
   told_of (Err SinkFault) given (Ok slot) ingests tells has =
-      stored b r f p cells reads faults parts told told' id given slot sink sink' (Err SinkFault) ingests.called seen ingests.ends tt
+      stored b r f p cells reads faults parts told told' id given slot sink sink' (Err SinkFault) ingests.called
+      seen ingests.ends tt
   told_of (Err SinkFault) given (Err refused) ingests tells has =
       absurd (subst (λ (refusal : Refusal). IngestEnds id given device later (Err refusal)) (sym tells.0) ingests.ends)
   told_of (Err refusal) given answer ingests tells has = absurd has
 
   -- where `ingest` has stored its document
-  pub keeps : (result : Result Unit Refusal) → DoesIngest id (ports_of device source sink) (ports_of later source' sink') result
+  pub keeps : (result : Result Unit Refusal)
+      → DoesIngest id (ports_of device source sink) (ports_of later source' sink') result
       → KeepsIn cells id (file_ports told source sink) (file_ports told' source' sink') result
   keeps result (misnamed bad is same) = record {
     given = [];

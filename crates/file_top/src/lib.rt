@@ -35,10 +35,12 @@ pub fn run_over_file<F: HostFile, S: Source, K: Sink>(
     sink: &mut K,
 ) -> Outcome
     // Where `ingest` has stored its document, which it has at Ok, the file keeps it, and each that stood at entry.
-    ensures keeps { (id : List ℕ) → AsksToIngest (map string_bytes words.now) id → KeepsIn (state_over device.new).cells id
+    ensures keeps { (id : List ℕ) → AsksToIngest (map string_bytes words.now) id →
+        KeepsIn (state_over device.new).cells id
         (file_ports (file_below device.old).told (S.state source.old) (K.state sink.old))
         (file_ports (file_below device.new).told (S.state source.new) (K.state sink.new)) result }
-    // Whatever the words are, and however it ends, the file keeps each document of the bytes that no crash took at entry.
+    // Whatever the words are, and however it ends, the file keeps each document of the bytes that no crash could take
+    // at entry.
     ensures stays { WhereTold (file_below device.old).told (file_below device.new).told
         (λ before after. KeepsAll (state_over device.new).cells before.now.sure after) }
     // What a crash leaves of the file, at any moment of the command, is a crash of the device, of which `run` speaks.

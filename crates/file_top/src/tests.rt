@@ -176,7 +176,8 @@ fn steps_before(fails: u32) -> (usize, bool) {
     }
 }
 
-/// The cells that are left of the document where so many were written before, and a torn cell that tells a slot's state.
+/// The cells that are left of the volume where this call fails, and the torn cell among them that tells a slot's
+/// state.
 fn left_by_ingest(
     alloc: Global,
     fails: u32,
@@ -216,8 +217,9 @@ fn evidence_of(at: u32, left: [u8; 16]) -> Option<Evidence> {
     })
 }
 
-/// What the next ingest leaves of these cells, where no cell of slot 0 is torn: it gives slot 0 up where that is reserved
-/// alone, completes it where it is committed, and stores its document in slot 1; or in slot 0, where that is unused.
+/// What the next ingest leaves of these cells, where no cell of slot 0 is torn: it gives slot 0 up where that is
+/// reserved alone, completes it where it is committed, and stores its document in slot 1; or in slot 0, where that is
+/// unused.
 fn left_by_the_next(alloc: Global, cells: &[(usize, [u8; 16])]) -> Result<(Vec<u8>, u32), Fail> {
     let mut all = Vec::new(alloc);
     all.extend_from_slice(cells)?;
@@ -235,8 +237,8 @@ fn left_by_the_next(alloc: Global, cells: &[(usize, [u8; 16])]) -> Result<(Vec<u
     Ok((with_cells(alloc, &all)?, 1))
 }
 
-/// One call fails, and then the same document is ingested again. Answers whether both end as they have to, and leave what
-/// they have to.
+/// One call fails, and then the same document is ingested again. Answers whether both end as they have to, and leave
+/// what they have to.
 fn fails_and_goes_on(alloc: Global, fails: u32, leaving: Leaving) -> Result<bool, Fail> {
     let body = b"hello world";
     let volume = with_cells(alloc, &[(0, VOLUME)])?;

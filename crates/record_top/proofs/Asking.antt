@@ -65,4 +65,5 @@ module _ (old new : Ports) where
       → IsUnhindered request old new → IsOkOrNoMemory result
   completes (ToFormat slots lists) result does free = format_completes _ old new free result does
   completes (ToIngest id) result does free = ingest_completes id free.0 free.1 free.2 old new free.3 result does
-  completes ToRecover result does free = recover_completes free.0 old new free.1 result does.answer does.settles does.tells
+  completes ToRecover result does free =
+      recover_completes free.0 old new free.1 result does.answer does.settles does.tells

@@ -56,7 +56,8 @@ some_is a b e = cc
 module _ {IsLookedAt : ℕ → Type 0} {g : Layout} {old new : DeviceState} (whole : HasWholeLog IsLookedAt g old new)
     (called : Called old new) where
   volume_now : IsVolume new.cells new.image g
-  volume_now = subst (λ (cells : ℕ). IsVolume cells new.image g) (sym called.cells) (volume_on called.image whole.volume)
+  volume_now =
+      subst (λ (cells : ℕ). IsVolume cells new.image g) (sym called.cells) (volume_on called.image whole.volume)
 
   -- cell 0 is no cell of another kind
   no_other_cell : (found : List ℕ) → new.image 0 ≡ Some found → IsNoVolumeCell found → ⊥
@@ -65,17 +66,19 @@ module _ {IsLookedAt : ℕ → Type 0} {g : Layout} {old new : DeviceState} (who
       (some_is volume_now.volume.cell found (sym volume_now.volume.stands ∙ stands)) volume_now.volume.is)
 
   -- and states the device's own size
-  no_other_size : (h : Layout) (stated : ℕ) → Holds new.image 0 (volume_record h) → h.cells ≡ stated → stated ≡ new.cells
+  no_other_size : (h : Layout) (stated : ℕ) → Holds new.image 0 (volume_record h) → h.cells ≡ stated
+      → stated ≡ new.cells
   no_other_size h stated holds states =
-      let same : h ≡ g = one_layout {cells = h.cells} {more = new.cells} h g (record { volume = holds; size = refl }) volume_now in
+      let same : h ≡ g = one_layout {cells = h.cells} {more = new.cells} h g
+      (record { volume = holds; size = refl }) volume_now in
       sym states ∙ ap (λ (l : Layout). l.cells) same ∙ volume_now.size
 
   untampered : (e : Evidence) → IsFound IsLookedAt old new e → ⊥
   untampered e found = whole.unbroken e.rule e.cell found.rule (found.before whole.alone)
 
 -- settling ends with no refusal
-settles_whole : {g : Layout} {old new : DeviceState} (whole : HasWholeLog IsSettlingRule g old new) (called : Called old new)
-    (refusal : Refusal) → SettleEnds old new (Err refusal) → ⊥
+settles_whole : {g : Layout} {old new : DeviceState} (whole : HasWholeLog IsSettlingRule g old new)
+    (called : Called old new) (refusal : Refusal) → SettleEnds old new (Err refusal) → ⊥
 settles_whole whole called refusals.DeviceFault ends = rose_or_still _ _ ends whole.no_fault
 settles_whole whole called refusals.NotFormatted ends =
     none-some whole.volume.volume.cell (sym (ends whole.tells) ∙ whole.volume.volume.stands)
@@ -129,7 +132,8 @@ module _ {id body : List ℕ} {g : Layout} {slot : ℕ} {old new : Ports} (ready
       (subst (λ (l : Layout). IsEdge l old.device.image old.device.image r.edge) layout (edge_was some)) in
       subst (λ (l : Layout). r.edge + cells_for (length (stored_bytes id body)) ≤ l.cells) (sym layout) fits
 
-module _ {id body : List ℕ} {g : Layout} {slot : ℕ} {old new : Ports} (ready : IsReadyToIngest id body g slot old new) where
+module _ {id body : List ℕ} {g : Layout} {slot : ℕ} {old new : Ports}
+    (ready : IsReadyToIngest id body g slot old new) where
   no_room : (refusal : Refusal) → HasNoRoom id body old.device new.device refusal → ⊥
   no_room refusals.SlotsFull h = a_slot ready h.ready h.settled h.room
   no_room (refusals.Full need free) h =
@@ -155,13 +159,15 @@ module _ {id body : List ℕ} {g : Layout} {slot : ℕ} {old new : Ports} (ready
   ingests_whole called refusals.SlotsFull ends = no_room refusals.SlotsFull ends
   ingests_whole called (refusals.Full need free) ends = no_room (refusals.Full need free) ends
   ingests_whole called refusals.NotFormatted ends = settles_whole settling_log called refusals.NotFormatted ends
-  ingests_whole called (refusals.NotAVolume found) ends = settles_whole settling_log called (refusals.NotAVolume found) ends
+  ingests_whole called (refusals.NotAVolume found) ends =
+      settles_whole settling_log called (refusals.NotAVolume found) ends
   ingests_whole called (refusals.WrongSize stated real) ends =
       settles_whole settling_log called (refusals.WrongSize stated real) ends
   ingests_whole called refusal ends = absurd ends
 
   ends_told : (result : Result Unit Refusal) (answer : Result ℕ Refusal) → Called old.device new.device
-      → IngestEnds id body old.device new.device answer → Tells acknowledgement answer old new result → IsOkOrNoMemory result
+      → IngestEnds id body old.device new.device answer → Tells acknowledgement answer old new result
+      → IsOkOrNoMemory result
   ends_told (Ok u) answer called ends tells = tt
   ends_told (Err refusal) (Err refused) called ends tells =
       subst (λ (r : Refusal). IsOkOrNoMemory (Err r)) (sym tells.0) (ingests_whole called refused ends)
@@ -176,7 +182,8 @@ module _ {id body : List ℕ} {g : Layout} {slot : ℕ} {old new : Ports} (ready
   body_taken given faults.SourceFailed gives fails = rose_or_still _ _ fails.1 ready.no_source_fault
   body_taken given faults.NoMemory gives fails = tt
 
-module _ (id body : List ℕ) (g : Layout) (slot : ℕ) (old new : Ports) (ready : IsReadyToIngest id body g slot old new) where
+module _ (id body : List ℕ) (g : Layout) (slot : ℕ) (old new : Ports)
+    (ready : IsReadyToIngest id body g slot old new) where
   -- the answer is Ok, or want of memory
   pub ingest_completes : (result : Result Unit Refusal) → DoesIngest id old new result → IsOkOrNoMemory result
   ingest_completes result (misnamed bad is same) = absurd (bad ready.identifier)

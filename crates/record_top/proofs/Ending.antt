@@ -45,7 +45,8 @@ module _ (old new : Ports) where
 module _ (id : List ℕ) (old new : Ports) where
   -- an ingest keeps what every call of the device keeps
   pub ingest_called : (result : Result Unit Refusal) → DoesIngest id old new result → Called old.device new.device
-  ingest_called result (misnamed bad is same) = subst (λ (p : Ports). Called old.device p.device) (sym same) (called_self old.device)
+  ingest_called result (misnamed bad is same) =
+      subst (λ (p : Ports). Called old.device p.device) (sym same) (called_self old.device)
   ingest_called result (untaken given fault name gives fails is same keeps) =
       subst (λ (d : DeviceState). Called old.device d) (sym same) (called_self old.device)
   ingest_called result (taken body answer name is gives end ingests tells) = ingests.called
@@ -53,6 +54,9 @@ module _ (id : List ℕ) (old new : Ports) where
   -- and never ends with `Usage`
   pub ingest_is_used : DoesIngest id old new (Err Usage) → ⊥
   ingest_is_used (misnamed bad is same) = no_name (one_refusal (Err Usage) Usage BadIdentifier refl is)
-  ingest_is_used (untaken given fault name gives fails is same keeps) = no_fault fault (one_refusal (Err Usage) Usage (refusal_of_body_fault fault) refl is)
+  ingest_is_used (untaken given fault name gives fails is same keeps) =
+      no_fault fault (one_refusal (Err Usage) Usage (refusal_of_body_fault fault) refl is)
   ingest_is_used (taken body answer name is gives end ingests tells) = told acknowledgement answer old new
-      (λ (e : answer ≡ Err Usage). subst (λ (r : Result ℕ Refusal). IngestEnds id body old.device new.device r) e ingests.ends) tells
+      (λ (e : answer ≡ Err Usage).
+      subst (λ (r : Result ℕ Refusal). IngestEnds id body old.device new.device r) e ingests.ends)
+      tells

@@ -32,8 +32,8 @@ pub data DoesIngest (id : List ℕ) (old new : Ports) (result : Result Unit Refu
   untaken : (given : List ℕ) (fault : BodyFault) → IsIdentifier id → Gives old.source.left new.source.left given
       → BodyFails given old.source new.source fault → result ≡ Err (refusal_of_body_fault fault)
       → new.device ≡ old.device → KeepsSink old new → DoesIngest id old new result
-  -- The body is what the source gives up to its end. It is stored, or that is ended, as the engine says, and its answer is
-  -- told.
+  -- The body is what the source gives up to its end. It is stored, or that is ended, as the engine says, and its
+  -- answer is told.
   taken : (body : List ℕ) (answer : Result ℕ Refusal) → IsIdentifier id → IsBody body
       → Gives old.source.left new.source.left body → IsAtEnd new.source.left
       → Ingests id body old.device new.device answer → Tells acknowledgement answer old new result

@@ -29,8 +29,8 @@ step_text (Completed n) = slot_line (codes "slot ") n (codes " completed\n")
 abbrev pub recovered : Ready → List ℕ
 recovered ready = step_text ready.step
 
--- What the command does: the volume is settled, or that is ended, as the engine says, and its answer is told. It takes no
--- memory.
+-- What the command does: the volume is settled, or that is ended, as the engine says, and its answer is told. It takes
+-- no memory.
 pub record DoesRecover (old new : Ports) (result : Result Unit Refusal) : Type 0 where
   pub answer : Result Ready Refusal
   pub settles : Settles old.device new.device answer

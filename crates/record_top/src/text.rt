@@ -44,8 +44,8 @@ pub fn put_text<K: Sink>(sink: &mut K, text: &[u8]) -> Result<(), SinkFailed>
     Ok(())
 }
 
-/// Puts out a line that tells of a slot: its number, with these words before and behind it. It is made in place, without
-/// memory.
+/// Puts out a line that tells of a slot: its number, with these words before and behind it. It is made in place,
+/// without memory.
 pub fn put_slot_line<K: Sink>(
     sink: &mut K,
     before: &str,

@@ -9,9 +9,11 @@ returns-clause-keeps g c id asks =
     let device = c.run-outcome.new.device in
     let old = g.F.HostFile.state before.file in
     let new = g.F.HostFile.state device.file in
-    keeps before.cells before.reads old.faults old.parts device.cells device.reads new.faults new.parts old.told new.told id
+    keeps before.cells before.reads old.faults old.parts device.cells device.reads new.faults new.parts old.told
+    new.told id
     (g.S.Source.state c.args.source.now) (g.S.Source.state c.run-outcome.new.source)
-    (g.K.Sink.state c.args.sink.now) (g.K.Sink.state c.run-outcome.new.sink) c.crashes_are_seen.ensures c.run-outcome.result
+    (g.K.Sink.state c.args.sink.now) (g.K.Sink.state c.run-outcome.new.sink)
+    c.crashes_are_seen.ensures c.run-outcome.result
     (c.run-outcome.ensures.does (ToIngest id) asks)
 
 pub returns-clause-stays : goal.returns-clause-stays
@@ -20,5 +22,6 @@ returns-clause-stays g c =
     let device = c.run-outcome.new.device in
     let old = g.F.HostFile.state before.file in
     let new = g.F.HostFile.state device.file in
-    stays before.cells before.reads old.faults old.parts device.cells device.reads new.faults new.parts old.told new.told
+    stays before.cells before.reads old.faults old.parts device.cells device.reads new.faults new.parts old.told
+    new.told
     c.run-outcome.ensures.called c.crashes_are_seen.ensures
