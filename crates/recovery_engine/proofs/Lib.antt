@@ -1,3 +1,4 @@
+pub mod CrashedSettling
 pub mod Entries
 pub mod InOrder
 pub mod LastCells

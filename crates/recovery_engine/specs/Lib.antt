@@ -1,3 +1,4 @@
+pub mod CrashLaws
 pub mod Ending
 pub mod Entries
 pub mod Journal

@@ -19,6 +19,7 @@
 
 mod ending;
 mod journal;
+mod laws;
 mod looks;
 mod ordered;
 mod settling;
@@ -27,4 +28,5 @@ mod tests;
 
 pub use ending::{finish, journal_of};
 pub use journal::{Journal, apply_journal};
+pub use laws::settling_keeps_states;
 pub use settling::{Ready, Step, settle};
