@@ -47,14 +47,12 @@ fn a_journal_is_carried_out_from_each_subset_of_its_targets(rt: HostRuntime) -> 
         for (at, bytes) in &LOG {
             put(&mut device, *at, *bytes)?;
         }
-        let mut place = 869;
         let mut left = bits;
-        for (target, bytes) in &JOURNAL {
+        for (place, (target, bytes)) in (869..873).zip(&JOURNAL) {
             put(&mut device, place, *bytes)?;
             if left % 2 == 1 {
                 put(&mut device, *target, *bytes)?;
             }
-            place += 1;
             left /= 2;
         }
         assert_eq!(rt; state_of_slot(&mut device, 0), State::Committed);

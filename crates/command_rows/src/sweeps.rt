@@ -23,7 +23,7 @@ fn drawn(seed: u32) -> u32 {
 /// Which of so many unsure cells the crash keeps: all subsets of up to six, and drawn ones of more. None when all were
 /// tried.
 fn subset(count: usize, turn: u32) -> Option<u32> {
-    if count < 6 && turn >= 1 << count || turn >= SUBSETS {
+    if count < 6 && turn >= 1 << count {
         return None;
     }
     Some(if count <= 6 {
@@ -111,8 +111,10 @@ fn an_ingest_that_is_cut_is_whole_or_given_up(rt: HostRuntime) -> Result<(), Fai
     let alloc = rt.alloc();
     let mut cuts: u32 = 0;
     for call in 1..200 {
-        let mut turn: u32 = 0;
-        while let Some(mut device) = cut_ingest(alloc, call)? {
+        for turn in 0..SUBSETS {
+            let Some(mut device) = cut_ingest(alloc, call)? else {
+                break;
+            };
             let count = unsure(alloc, &device)?.len();
             let Some(bits) = subset(count, turn) else {
                 break;
@@ -120,7 +122,6 @@ fn an_ingest_that_is_cut_is_whole_or_given_up(rt: HostRuntime) -> Result<(), Fai
             crash(alloc, &mut device, bits)?;
             check(alloc, &mut device)?;
             cuts = cuts.saturating_add(1);
-            turn = turn.saturating_add(1);
         }
     }
     assert!(rt; cuts > 100, "{cuts}");
