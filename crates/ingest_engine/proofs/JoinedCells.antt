@@ -9,7 +9,7 @@ use Rattle.std.proofs.lemmas.Option.{gets}
 use Rattle.cell_types.specs.Contents.{content_bytes}
 use Rattle.stored_documents.specs.Documents.{content_at, stored_bytes}
 use Rattle.stored_documents.specs.Slots.{cells_for}
-use Rattle.ingest_engine.specs.StoredCells.{AddsCellsOf, AreCellsOf}
+use Rattle.append_file.specs.StoredCells.{AddsCellsOf, AreCellsOf}
 
 get_first : (xs ys : List (List ℕ)) (k : ℕ) → k < length xs → slice_get (xs ++ ys) k ≡ slice_get xs k
 get_first xs ys k h = grind (arith, common_steps, gets)

@@ -1,4 +1,3 @@
-pub mod CellsSoFar
 pub mod CrashedIngests
 pub mod Endings
 pub mod JoinedCells

@@ -1,19 +1,8 @@
 -- What it means that a document is held as the cells that it is stored in.
-use Rattle.std.specs.Prelude.{◌≡◌, ◌<◌, ℕ, List, ◌++◌, length, slice_get, Some}
-use Rattle.stored_documents.specs.Documents.{content_at, stored_bytes}
-use Rattle.stored_documents.specs.Slots.{cells_for}
+use Rattle.std.specs.Prelude.{◌≡◌, ℕ, List, length}
+use Rattle.append_file.specs.StoredCells.{AreCellsOf}
+use Rattle.stored_documents.specs.Documents.{stored_bytes}
 use Rattle.ingest_engine.specs.declared.document.StoredDocument.{StoredDocument}
-
--- the cells are the content cells of these bytes, in order
-pub record AreCellsOf (bytes : List ℕ) (cells : List (List ℕ)) : Type 0 where
-  pub count : length cells ≡ cells_for (length bytes)
-  pub each : (k : ℕ) → k < cells_for (length bytes) → slice_get cells k ≡ Some (content_at bytes k)
-
--- the content cells of these bytes were added to the others
-pub record AddsCellsOf (bytes : List ℕ) (old new : List (List ℕ)) : Type 0 where
-  pub added : List (List ℕ)
-  pub cells : AreCellsOf bytes added
-  pub whole : new ≡ old ++ added
 
 -- it holds the document of this identifier and this body
 pub record IsStoredAs (id body : List ℕ) (document : StoredDocument) : Type 0 where

@@ -1,13 +1,11 @@
 //! A document as the cells that it is stored in.
-ghost use Rattle.std.specs.Prelude.{◌≡◌, ◌<◌, ◌^◌, length, IfOk, OnOk};
+ghost use Rattle.std.specs.Prelude.{IfOk};
 ghost use Rattle.stored_documents.specs.Documents.{IsBody, IsIdentifier};
-ghost use Rattle.ingest_engine.specs.StoredCells.{AddsCellsOf, IsStoredAs};
+ghost use Rattle.ingest_engine.specs.StoredCells.{IsStoredAs};
 
-use cell_types::{Cell, content};
+use append_file::{CONTENT_BYTES, push_content};
+use cell_types::Cell;
 use std::alloc::{AllocError, Global};
-
-/// How many bytes a content cell holds.
-const CONTENT_BYTES: usize = 15;
 
 /// A document as it is stored: the identifier's length, the identifier and the body, as content cells.
 #[derive(Debug, Drop)]
@@ -26,13 +24,13 @@ impl StoredDocument {
     {
         let bytes = 1 + id.len() + body.len();
         // The head ends where a cell does, so the rest of the body begins a cell of its own.
-        let head_length = (1 + id.len()).next_multiple_of(CONTENT_BYTES).min(bytes);
+        let head_length = (1 + id.len()).next_multiple_of(CONTENT_BYTES as usize).min(bytes);
         let (front, rest) = body.split_at(head_length - 1 - id.len());
         let mut head = Vec::with_capacity(alloc, head_length)?;
         head.push(id.len() as u8)?;
         head.extend_from_slice(id)?;
         head.extend_from_slice(front)?;
-        let mut cells = Vec::with_capacity(alloc, bytes.div_ceil(CONTENT_BYTES))?;
+        let mut cells = Vec::with_capacity(alloc, bytes.div_ceil(CONTENT_BYTES as usize))?;
         push_content(&mut cells, &head)?;
         push_content(&mut cells, rest)?;
         Ok(StoredDocument {
@@ -40,17 +38,4 @@ impl StoredDocument {
             cells,
         })
     }
-}
-
-/// Adds the content cells of these bytes: 15 of them in each but the last.
-fn push_content(cells: &mut Vec<Cell>, bytes: &[u8]) -> Result<(), AllocError>
-    ensures { OnOk result (AddsCellsOf bytes.now cells.old.items cells.new.items) }
-{
-    let mut rest = bytes;
-    while !rest.is_empty() {
-        let (front, behind) = rest.split_at(CONTENT_BYTES.min(rest.len()));
-        cells.push(content(front))?;
-        rest = behind;
-    }
-    Ok(())
 }

@@ -1,6 +1,6 @@
 -- The head fills whole cells, or holds all of the document.
 use Rattle.std.proofs.Common.{◌≡◌, ◌≤◌, ◌-◌, ◌/◌, ℕ, List, [], ◌∷◌, ◌++◌, length, take, sym, ap, ◌∙◌, subst, arith}
-use Rattle.ingest_engine.specs.StoredCells.{AddsCellsOf}
+use Rattle.append_file.specs.StoredCells.{AddsCellsOf}
 use Rattle.ingest_engine.proofs.JoinedCells.{stored_length, stored_whole, whole_or_all}
 use Rattle.ingest_engine.proofs.document.StoredDocument.new.Goals as goal
 

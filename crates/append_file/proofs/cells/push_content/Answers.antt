@@ -1,8 +1,8 @@
 -- Each turn makes the cell of the next 15 bytes, or of all that are left.
 use Rattle.std.proofs.Common.{◌≡◌, ◌<◌, ℕ, length, take, drop, ◌∙◌, ap, rules}
 use Rattle.cell_types.specs.Contents.{content_bytes}
-use Rattle.ingest_engine.proofs.CellsSoFar.{added_more, added_all, take_min, drop_min}
-use Rattle.ingest_engine.proofs.document.push_content.Goals as goal
+use Rattle.append_file.proofs.CellsSoFar.{added_more, added_all, take_min, drop_min}
+use Rattle.append_file.proofs.cells.push_content.Goals as goal
 
 pub loop-rest-preserved : goal.loop-rest-preserved
 loop-rest-preserved c =

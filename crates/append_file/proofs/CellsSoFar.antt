@@ -7,7 +7,7 @@ use Rattle.std.proofs.lemmas.List.{drop-drop}
 use Rattle.cell_types.specs.Contents.{content_bytes}
 use Rattle.stored_documents.specs.Documents.{content_at}
 use Rattle.stored_documents.specs.Slots.{cells_for}
-use Rattle.ingest_engine.specs.StoredCells.{AddsCellsOf, AreCellsOf}
+use Rattle.append_file.specs.StoredCells.{AddsCellsOf, AreCellsOf}
 
 -- the cells are the first ones of these stored bytes, and rest is what they leave
 pub record CellsSoFar (stored : List ℕ) (cells : List (List ℕ)) (rest : List ℕ) : Type 0 where

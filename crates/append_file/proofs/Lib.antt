@@ -1,0 +1,3 @@
+pub mod CellsSoFar
+pub mod GoingOn
+pub mod Spelled

@@ -1,0 +1,34 @@
+-- The cells of a document part, each by its place.
+use Rattle.std.specs.Prelude.{◌≡◌, ◌+◌, ◌-◌, ◌*◌, min, ℕ, List, length, take, Some, Result, Ok, Err, IsTrue}
+use Rattle.cell_types.specs.Bytes.{AreBytes}
+use Rattle.cell_types.specs.Contents.{content_bytes}
+use Rattle.cell_types.specs.Image.{Image}
+use Rattle.cell_types.specs.declared.held_bytes.Content.{Content}
+use Rattle.worm_device.specs.Counts.{Rose}
+use Rattle.worm_device.specs.Views.{ViewState}
+use Rattle.append_file.specs.declared.piece.ContentFault.{ContentFault}
+use Rattle.append_file.specs.declared.piece.ContentFault.TheVariants.{Broken, ReadFault}
+
+-- what the cell of place k may hold in a part of so many bytes: fifteen of them, and fewer in the last cell alone
+pub record IsPiece (bytes k : ℕ) (piece : List ℕ) : Type 0 where
+  pub length_is : length piece ≡ min 15 (bytes - 15 * k)
+  pub fits : AreBytes piece
+
+-- the cell of place k, in a part of so many bytes from start on, is blank or no content cell of its place
+abbrev pub IsBrokenAt : Image → ℕ → ℕ → ℕ → Type 0
+IsBrokenAt image start bytes k =
+    (piece : List ℕ) → IsPiece bytes k piece → image (start + k) ≡ Some (content_bytes piece) → ⊥
+
+-- the bytes that are held
+abbrev pub held_bytes : Content → List ℕ
+held_bytes held = take held.length held.bytes
+
+-- how reading a cell may end, and why: no fault is counted but where the read failed
+abbrev pub PieceEnds : ℕ → ℕ → ℕ → ViewState → ViewState → Result Content ContentFault → Type 0
+PieceEnds start bytes k old new (Ok held) =
+    (new.base.faults ≡ old.base.faults)
+    × (held.length ≡ min 15 (bytes - 15 * k)) × IsPiece bytes k (held_bytes held)
+    × (IsTrue old.base.tells → new.image (start + k) ≡ Some (content_bytes (held_bytes held)))
+PieceEnds start bytes k old new (Err Broken) =
+    (new.base.faults ≡ old.base.faults) × (IsTrue old.base.tells → IsBrokenAt new.image start bytes k)
+PieceEnds start bytes k old new (Err ReadFault) = Rose old.base.faults new.base.faults

@@ -1,0 +1,48 @@
+//! One cell of a document part.
+ghost use Rattle.std.specs.Prelude.{◌<◌, ◌≤◌, ◌+◌, ◌*◌};
+ghost use Rattle.append_file.specs.Pieces.{PieceEnds};
+ghost use Rattle.worm_device.specs.Views.{Viewed};
+
+use crate::CONTENT_BYTES;
+use cell_types::{Content, content_of};
+use worm_device::View;
+
+/// Why bytes of a document are not read.
+#[derive(Clone, Copy, Debug, PartialEq, Eq)]
+pub enum ContentFault {
+    /// The cell is blank, no content cell, or holds another number of bytes than its place asks for.
+    Broken,
+    /// A read failed.
+    ReadFault,
+}
+
+/// The bytes that the cell of this place holds, places from 0, in a part of so many bytes in the cells from start on:
+/// 15 bytes, and those that are left in the last cell. It makes one read at most.
+pub fn read_piece<V: View>(
+    view: &mut V,
+    start: u32,
+    bytes: u32,
+    place: u32,
+) -> Result<Content, ContentFault>
+    requires place { 15 * place < bytes }
+    requires inside { start + place < (V.seen view.old).cells }
+    ensures viewed { Viewed (V.seen view.old) (V.seen view.new) }
+    ensures reads { (V.seen view.new).base.reads ≤ (V.seen view.old).base.reads + 1 }
+    ensures ends { PieceEnds start bytes place (V.seen view.old) (V.seen view.new) result }
+{
+    // That its cells are fewer than 2 to the 32 is known to those who ask.
+    let _cells = view.cells();
+    let Ok(found) = view.read(start + place) else {
+        return Err(ContentFault::ReadFault);
+    };
+    let Some(cell) = found else {
+        return Err(ContentFault::Broken);
+    };
+    let Some(held) = content_of(cell) else {
+        return Err(ContentFault::Broken);
+    };
+    if u32::from(held.length) != CONTENT_BYTES.min(bytes - CONTENT_BYTES * place) {
+        return Err(ContentFault::Broken);
+    }
+    Ok(held)
+}

@@ -1,0 +1,1 @@
+//! Parts read to their ends, and cells written by hand.
