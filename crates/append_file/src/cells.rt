@@ -31,7 +31,7 @@ pub fn push_content(cells: &mut Vec<Cell>, bytes: &[u8]) -> Result<(), AllocErro
 {
     let mut rest = bytes;
     while !rest.is_empty() {
-        let (front, behind) = rest.split_at(rest.len().min(CONTENT_BYTES as usize));
+        let (front, behind) = rest.split_at((CONTENT_BYTES as usize).min(rest.len()));
         cells.push(content(front))?;
         rest = behind;
     }

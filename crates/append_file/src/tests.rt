@@ -1,1 +1,134 @@
-//! Parts read to their ends, and cells written by hand.
+//! Parts of a document, stored and read again, and parts with a wrong cell. What is expected was written by hand.
+ghost use Rattle.std.specs.Prelude.{◌≡◌, ◌≤◌, ◌+◌};
+ghost use Rattle.cell_types.specs.declared.geometry.TheConstants.{MAX_CELLS};
+ghost use Rattle.stored_documents.specs.Slots.{cells_for};
+
+use crate::{ContentFault, Reader, content_cells};
+use cell_types::{Cell, content};
+use std::alloc::{AllocError, Global};
+use std::test::Fail;
+use worm_device::{Device, Direct, View};
+use worm_memory::{MemoryDevice, Moment};
+
+/// 31 bytes: they take three cells, of which the last one holds one byte.
+const STORED: &[u8] = b"the first cell,and the second:.";
+
+/// The last answer of a reader that was asked for 31 bytes, and then once more.
+type Last = Option<Result<u8, ContentFault>>;
+
+/// A device of eight cells that holds these from cell 2 on, with room for more.
+fn device_with(alloc: Global, cells: &[Cell]) -> Result<MemoryDevice, Fail> {
+    let mut device = MemoryDevice::new(alloc, 8)?;
+    device.reserve(16)?;
+    let mut at = 2;
+    for &value in cells {
+        if at < device.cells() {
+            let _ = device.foreign(at, value)?;
+            at += 1;
+        }
+    }
+    Ok(device)
+}
+
+/// The cells of the 31 bytes, with this one at a place.
+fn cells_with(alloc: Global, place: usize, value: Cell) -> Result<Vec<Cell>, Fail> {
+    let mut cells = content_cells(alloc, STORED)?;
+    if place < cells.len() {
+        cells[place] = value;
+    }
+    Ok(cells)
+}
+
+/// Asks for so many bytes, up to the first answer that is none, and once more. Answers the bytes, and the last two
+/// answers.
+fn read_part<V: View>(
+    alloc: Global,
+    view: &mut V,
+    start: u32,
+    bytes: u32,
+) -> Result<(Vec<u8>, Last, Last), AllocError>
+    requires { start + cells_for bytes ≤ (V.seen view.old).cells }
+{
+    let mut given = Vec::new(alloc);
+    let mut reader = Reader::new(view, start, bytes);
+    for _ in 0..bytes {
+        match reader.next_byte() {
+            Some(Ok(byte)) => given.push(byte)?,
+            last => return Ok((given, last, reader.next_byte())),
+        }
+    }
+    let last = reader.next_byte();
+    Ok((given, last, reader.next_byte()))
+}
+
+/// Reads the 31 bytes from cell 2 on.
+fn read_stored(
+    alloc: Global,
+    device: &mut MemoryDevice,
+) -> Result<(Vec<u8>, Last, Last), Fail> {
+    let mut view = Direct::new(device);
+    if view.cells() < 5 {
+        return Err("a device of eight cells".into());
+    }
+    Ok(read_part(alloc, &mut view, 2, 31)?)
+}
+
+#[test]
+fn a_document_of_thirteen_bytes_is_one_cell(rt: HostRuntime) -> Result<(), Fail> {
+    let cells = content_cells(rt.alloc(), b"\x01ahello world")?;
+    let want = [0x1d, 0x01, b'a', b'h', b'e', b'l', b'l', b'o', b' ', b'w', b'o', b'r', b'l', b'd', 0, 0];
+    assert_eq!(rt; cells.len(), 1);
+    assert_eq!(rt; cells[0].bytes(), want);
+    assert_eq!(rt; content_cells(rt.alloc(), b"")?.len(), 0);
+    Ok(())
+}
+
+#[test]
+fn a_part_of_three_cells_is_read_to_its_end(rt: HostRuntime) -> Result<(), Fail> {
+    let cells = content_cells(rt.alloc(), STORED)?;
+    assert_eq!(rt; cells.len(), 3);
+    let mut device = device_with(rt.alloc(), &cells)?;
+    let (given, last, after) = read_stored(rt.alloc(), &mut device)?;
+    assert_eq!(rt; given.as_slice(), STORED);
+    assert_eq!(rt; (last, after), (None, None));
+    Ok(())
+}
+
+#[test]
+fn a_reader_ends_at_a_broken_cell(rt: HostRuntime) -> Result<(), Fail> {
+    let record = Cell::from_bytes([2, 0, 0, 2, 0x44, 0, 0, 0, 4, 0, 0, 0, 0, 0, 0, 4]).ok_or("a blank cell")?;
+    for (place, value, want) in [
+        (0, content(b"the first cell"), &b""[..]),
+        (1, content(b"and the second"), b"the first cell,"),
+        (1, record, b"the first cell,"),
+        (2, content(b".."), b"the first cell,and the second:"),
+    ] {
+        let cells = cells_with(rt.alloc(), place, value)?;
+        let mut device = device_with(rt.alloc(), &cells)?;
+        let (given, last, after) = read_stored(rt.alloc(), &mut device)?;
+        assert_eq!(rt; given.as_slice(), want);
+        assert_eq!(rt; (last, after), (Some(Err(ContentFault::Broken)), None));
+    }
+    Ok(())
+}
+
+#[test]
+fn a_reader_ends_at_a_blank_cell(rt: HostRuntime) -> Result<(), Fail> {
+    let cells = content_cells(rt.alloc(), b"the first cell,and the second:")?;
+    let mut device = device_with(rt.alloc(), &cells)?;
+    let (given, last, after) = read_stored(rt.alloc(), &mut device)?;
+    assert_eq!(rt; given.as_slice(), b"the first cell,and the second:");
+    assert_eq!(rt; (last, after), (Some(Err(ContentFault::Broken)), None));
+    Ok(())
+}
+
+#[test]
+fn a_reader_ends_at_a_failed_read(rt: HostRuntime) -> Result<(), Fail> {
+    let cells = content_cells(rt.alloc(), STORED)?;
+    let mut device = device_with(rt.alloc(), &cells)?;
+    device.fail_at(Moment::Call(2))?;
+    let (given, last, after) = read_stored(rt.alloc(), &mut device)?;
+    assert_eq!(rt; given.as_slice(), b"the first cell,");
+    assert_eq!(rt; (last, after), (Some(Err(ContentFault::ReadFault)), None));
+    Ok(())
+}

@@ -26,6 +26,7 @@ pub fn content(bytes: &[u8]) -> Cell
 /// 15, and nothing but zeros stand behind so many bytes.
 pub fn content_of(cell: Cell) -> Option<Content>
     ensures some { IfSome result (λ held. IsContentCell (take held.length held.bytes) cell) }
+    ensures most { IfSome result (λ held. held.length ≤ 15) }
     ensures zeros { IfSome result (λ held.
         held.bytes ≡ take held.length held.bytes ++ replicate (15 - held.length) 0) }
     ensures none { IfNone result ((bytes : List ℕ) → IsContentCell bytes cell → ⊥) }

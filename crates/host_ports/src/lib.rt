@@ -18,8 +18,9 @@
 //! sink may have got some first bytes of the piece; one in memory gets none. No clause says that a reader or a
 //! writer of the host succeeds.
 //!
-//! Stands on `worm_device`, for `Failed` and the words on counts, and on `cell_types`, for `NoMemory`. Begin with
-//! `source.rt`; `specs/Sources.antt` says what a call of a source does.
+//! `put_all` puts a whole piece, in as many calls as it takes. Stands on `worm_device`, for `Failed` and the words on
+//! counts, and on `cell_types`, for `NoMemory`. Begin with `source.rt`; `specs/Sources.antt` says what a call of a
+//! source does.
 #![tactic(auto)]
 
 #[cfg(test)]
@@ -31,9 +32,11 @@ mod source;
 mod standard;
 #[cfg(test)]
 mod tests;
+mod whole;
 
 pub use memory::{MemorySink, MemorySource};
 pub use sink::Sink;
 pub use source::Source;
 pub use standard::{StdSink, StdSource};
+pub use whole::put_all;
 pub use worm_device::Failed;

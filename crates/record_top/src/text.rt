@@ -6,7 +6,7 @@ ghost use Rattle.record_top.specs.Recovering.{slot_line};
 
 use arrayvec::ArrayString;
 use cell_types::Refusal;
-use host_ports::{Failed, Sink};
+use host_ports::{Failed, Sink, put_all};
 
 /// How many bytes a line may have that tells of a slot.
 const LINE_BYTES: usize = 64;
@@ -36,11 +36,7 @@ pub fn put_text<K: Sink>(sink: &mut K, text: &[u8]) -> Result<(), SinkFailed>
     ensures whole { OnOk result (Gets (K.state sink.old).held (K.state sink.new).held text.now) }
     ensures part { OnErr result (PutsPart text.now (K.state sink.old) (K.state sink.new)) }
 {
-    let mut rest = text;
-    while !rest.is_empty() {
-        let put = sink.put(rest)?;
-        rest = &rest[put..];
-    }
+    put_all(sink, text)?;
     Ok(())
 }
 

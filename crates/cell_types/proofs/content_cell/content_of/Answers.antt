@@ -13,4 +13,4 @@ returns-then-eq c =
     sym ((bytes_decides c.content.result c.args.cell).0 (sym c.eq.ensures ∙ c.if-eq.true)) ∙ (rw c.from.ensures at c.content.ensures) in
     let copied : bytes ≡ take 15 (drop 1 c.args.cell) = rw c.bytes-all.ensures.same at c.copy_from_slice.ensures.after in
     let held = content_found c.args.cell bytes n c.bytes-all.ensures.cell copied (omega arith) (omega arith) same in
-    record { some = held.0; zeros = held.1; none = tt }
+    record { some = held.0; most = omega arith; zeros = held.1; none = tt }
