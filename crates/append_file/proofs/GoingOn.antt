@@ -1,17 +1,15 @@
 -- How a position goes on, byte by byte and cell by cell.
-use Rattle.std.proofs.Common.{◌≡◌, ◌<◌, ◌≤◌, ◌+◌, ◌-◌, ◌*◌, ◌⊎◌, min, ℕ, List, [], ◌∷◌, ◌++◌, length, take, drop, Some, refl, sym, ap, ◌∙◌, inl, inr, subst, ⊎_elim, arith, slice_index, suc}
-use Rattle.std.proofs.Math.ListN.{get_or, get_or-eq_default, get_or-append}
+use Rattle.std.proofs.Common.{◌≡◌, ◌<◌, ◌≤◌, ◌+◌, ◌-◌, ◌*◌, ◌⊎◌, min, ℕ, List, [], ◌∷◌, ◌++◌, length, take, drop, Some, sym, ap, ◌∙◌, inl, inr, subst, ⊎_elim, arith, slice_index, suc}
+use Rattle.std.proofs.Math.ListN.{get_or, get_or-append}
 use Rattle.std.proofs.Math.Seq.{drop-append_seam, drop-cons, get_or-append_right}
-use Rattle.std.proofs.lemmas.List.{append_assoc, append-nil, get_or-drop, get_or-take, length-take, length-take-le, length-drop, length-append, take_all, take-append-le, drop-append-le, drop_all}
+use Rattle.std.proofs.lemmas.List.{append_assoc, append-nil, get_or-take, length-take, length-take-le, length-drop, length-append, take_all, take-append-le, drop-append-le, drop_all}
 use Rattle.std.proofs.lemmas.Bool.{cases_lt}
 use Rattle.std.specs.Prelude.{IsTrue, Ok}
 use Rattle.cell_types.specs.Bytes.{AreBytes}
 use Rattle.cell_types.specs.Contents.{content_bytes, IsContentCell}
 use Rattle.cell_types.proofs.ContentCells.{contents_one}
-use Rattle.cell_types.specs.Image.{Image, Extends}
 use Rattle.cell_types.specs.declared.held_bytes.Content.{Content}
 use Rattle.stored_documents.specs.Documents.{content_at}
-use Rattle.stored_documents.specs.Slots.{cells_for}
 use Rattle.worm_device.specs.Views.{ViewState, Viewed}
 use Rattle.append_file.specs.Pieces.{IsPiece, PieceEnds, held_bytes}
 use Rattle.append_file.specs.Reading.{IsFront, IsPosition, HasRead, left_over, one_given, first_given}

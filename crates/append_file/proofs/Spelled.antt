@@ -1,12 +1,11 @@
 -- What the cells of a whole part spell.
-use Rattle.std.proofs.Common.{◌≡◌, ◌<◌, ◌≤◌, ◌+◌, ◌-◌, ◌*◌, min, ℕ, List, [], ◌∷◌, ◌++◌, length, take, drop, Some, refl, sym, ap, ◌∙◌, subst, arith}
-use Rattle.std.proofs.lemmas.List.{append_assoc, append-nil, get_or-drop, get_or-take, length-take, length-take-le, length-drop, length-append, take_all, take-append-drop, take-take, drop_all, drop-drop}
+use Rattle.std.proofs.Common.{◌≡◌, ◌<◌, ◌≤◌, ◌+◌, ◌*◌, min, ℕ, List, [], ◌∷◌, ◌++◌, length, take, drop, Some, refl, sym, ap, ◌∙◌, subst, arith}
+use Rattle.std.proofs.lemmas.List.{append-nil, get_or-drop, get_or-take, length-take, length-take-le, length-drop, length-append, take_all, take-append-drop, take-take, drop_all, drop-drop}
 use Rattle.std.proofs.Math.ListN.{get_or-eq_default}
 use Rattle.std.proofs.lemmas.Bool.{cases_lt}
 use Rattle.std.proofs.Common.{inl, inr, zero, suc}
 use Rattle.std.specs.Prelude.{IsTrue}
 use Rattle.cell_types.specs.Bytes.{AreBytes}
-use Rattle.cell_types.specs.Contents.{content_bytes, IsContentCell}
 use Rattle.cell_types.proofs.ContentCells.{contents_one}
 use Rattle.cell_types.specs.Image.{Image}
 use Rattle.stored_documents.specs.Documents.{content_at, Spells}

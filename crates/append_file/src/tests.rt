@@ -117,7 +117,7 @@ fn a_reader_ends_at_a_blank_cell(rt: HostRuntime) -> Result<(), Fail> {
     let cells = content_cells(rt.alloc(), b"the first cell,and the second:")?;
     let mut device = device_with(rt.alloc(), &cells)?;
     let (given, last, after) = read_stored(rt.alloc(), &mut device)?;
-    assert_eq!(rt; given.as_slice(), b"the first cell,and the second:");
+    assert_eq!(rt; given.as_slice(), &b"the first cell,and the second:"[..]);
     assert_eq!(rt; (last, after), (Some(Err(ContentFault::Broken)), None));
     Ok(())
 }
@@ -128,7 +128,7 @@ fn a_reader_ends_at_a_failed_read(rt: HostRuntime) -> Result<(), Fail> {
     let mut device = device_with(rt.alloc(), &cells)?;
     device.fail_at(Moment::Call(2))?;
     let (given, last, after) = read_stored(rt.alloc(), &mut device)?;
-    assert_eq!(rt; given.as_slice(), b"the first cell,");
+    assert_eq!(rt; given.as_slice(), &b"the first cell,"[..]);
     assert_eq!(rt; (last, after), (Some(Err(ContentFault::ReadFault)), None));
     Ok(())
 }

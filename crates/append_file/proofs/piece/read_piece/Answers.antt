@@ -1,6 +1,5 @@
 -- A cell whose count of bytes is not that of its place.
-use Rattle.std.proofs.Common.{rules, sym, ◌∙◌, arith}
-use Rattle.std.proofs.lemmas.List.{length-take-le}
+use Rattle.std.proofs.Common.{rules, sym, ◌∙◌}
 use Rattle.append_file.proofs.GoingOn.{other_length}
 use Rattle.append_file.proofs.piece.read_piece.Goals as goal
 
