@@ -57,10 +57,10 @@ module _ (v : ViewState) (start bytes : ℕ) (p : Position) (given : List ℕ) (
   give_on less new byte byte_is new_is =
       let held = held_bytes p.held in
       let split : left_over p ≡ byte ∷ left_over (one_given p) =
-          cons_at held p.given (omega (arith, less, length-take-le p.held.length p.held.bytes is.room))
-          ∙ ap (λ (b : ℕ). b ∷ drop (p.given + 1) held) (get_or-take p.held.length p.held.bytes p.given 0 less ∙ sym byte_is) in
+      cons_at held p.given (omega (arith, less, length-take-le p.held.length p.held.bytes is.room))
+      ∙ ap (λ (b : ℕ). b ∷ drop (p.given + 1) held) (get_or-take p.held.length p.held.bytes p.given 0 less ∙ sym byte_is) in
       let moved : given ++ left_over p ≡ (given ++ byte ∷ []) ++ left_over (one_given p) =
-          ap (λ (l : List ℕ). given ++ l) split ∙ sym (append_assoc given (byte ∷ []) (left_over (one_given p))) in
+      ap (λ (l : List ℕ). given ++ l) split ∙ sym (append_assoc given (byte ∷ []) (left_over (one_given p))) in
       subst (λ (q : Position). HasRead v start bytes q (given ++ byte ∷ [])) (sym new_is) (record {
         start_is = h.start_is;
         bytes_is = h.bytes_is;
@@ -79,18 +79,18 @@ module _ (v : ViewState) (start bytes : ℕ) (p : Position) (given : List ℕ) (
       let full : length given ≡ 15 * p.read = omega (arith, h.count, ap length empty, below) in
       let some : 0 < held.length = omega (arith, here.length_is, below, length-take held.length held.bytes) in
       let split : piece ≡ byte ∷ drop 1 piece =
-          cons_at piece 0 (omega (arith, here.length_is, below)) ∙ ap (λ (b : ℕ). b ∷ drop 1 piece) (get_or-take held.length held.bytes 0 0 some ∙ sym byte_is) in
+      cons_at piece 0 (omega (arith, here.length_is, below)) ∙ ap (λ (b : ℕ). b ∷ drop 1 piece) (get_or-take held.length held.bytes 0 0 some ∙ sym byte_is) in
       let moved : given ++ piece ≡ (given ++ byte ∷ []) ++ drop 1 piece = ap (λ (l : List ℕ). given ++ l) split ∙ sym (append_assoc given (byte ∷ []) (drop 1 piece)) in
       let rest : given ++ left_over p ≡ given = ap (λ (l : List ℕ). given ++ l) empty ∙ append-nil given in
       let front : IsTrue w.base.tells → IsFront w.image start (p.read + 1) (given ++ piece) = λ tells.
-          let told : IsTrue v.base.tells = subst IsTrue viewed.called.tells tells in
-          let before : IsFront v.image start p.read given = subst (IsFront v.image start p.read) rest (h.front told) in record {
-            fits = append_fits given piece before.fits here.fits;
-            spells = λ k less. ⊎_elim
-                (λ (earlier : k < p.read). viewed.image.keeps (start + k) _ (before.spells k earlier) ∙ ap Some (content_stays given piece k (omega (arith, full, earlier))))
-                (λ (now : k ≡ p.read). ap w.image (omega (arith, now, h.start_is)) ∙ ends.3 told ∙ ap Some (sym (content_last given piece p.read full (omega (arith, here.length_is))) ∙ ap (content_at (given ++ piece)) (sym now)))
-                (below_or_at k p.read less);
-          } in
+      let told : IsTrue v.base.tells = subst IsTrue viewed.called.tells tells in
+      let before : IsFront v.image start p.read given = subst (IsFront v.image start p.read) rest (h.front told) in record {
+        fits = append_fits given piece before.fits here.fits;
+        spells = λ k less. ⊎_elim
+            (λ (earlier : k < p.read). viewed.image.keeps (start + k) _ (before.spells k earlier) ∙ ap Some (content_stays given piece k (omega (arith, full, earlier))))
+            (λ (now : k ≡ p.read). ap w.image (omega (arith, now, h.start_is)) ∙ ends.3 told ∙ ap Some (sym (content_last given piece p.read full (omega (arith, here.length_is))) ∙ ap (content_at (given ++ piece)) (sym now)))
+            (below_or_at k p.read less);
+      } in
       subst (λ (q : Position). HasRead w start bytes q (given ++ byte ∷ [])) (sym new_is) (record {
         start_is = h.start_is;
         bytes_is = h.bytes_is;

@@ -85,7 +85,7 @@ abbrev pub NextEnds : ViewState → ViewState → Position → Position → Opti
 NextEnds v w old new (Some (Ok byte)) =
     (w.base.faults ≡ v.base.faults)
     × ((start bytes : ℕ) (given : List ℕ) → HasRead v start bytes old given
-        → HasRead w start bytes new (given ++ byte ∷ []))
+    → HasRead w start bytes new (given ++ byte ∷ []))
 NextEnds v w old new (Some (Err Broken)) =
     (w.base.faults ≡ v.base.faults)
     × (IsTrue v.base.tells → (k : ℕ) × (k < cells_for old.bytes) × IsBrokenAt w.image old.start old.bytes k)
@@ -93,7 +93,7 @@ NextEnds v w old new (Some (Err ReadFault)) = Rose v.base.faults w.base.faults
 NextEnds v w old new None =
     (w.base.faults ≡ v.base.faults)
     × ((start bytes : ℕ) (given : List ℕ) → HasRead v start bytes old given
-        → (length given ≡ bytes) × HasRead w start bytes new given)
+    → (length given ≡ bytes) × HasRead w start bytes new given)
 
 -- some cell of the part is broken
 abbrev pub HasBroken : Image → ℕ → ℕ → Type 0
@@ -104,9 +104,9 @@ abbrev pub ByteEnds : ViewState → ViewState → Position → Position → Resu
 ByteEnds v w old new (Ok byte) =
     (w.base.faults ≡ v.base.faults)
     × ((start bytes : ℕ) (given : List ℕ) → HasRead v start bytes old given
-        → HasRead w start bytes new (given ++ byte ∷ []))
+    → HasRead w start bytes new (given ++ byte ∷ []))
 ByteEnds v w old new (Err Broken) =
     (w.base.faults ≡ v.base.faults)
     × ((start bytes : ℕ) (given : List ℕ) → HasRead v start bytes old given → length given < bytes
-        → IsTrue v.base.tells → HasBroken w.image start bytes)
+    → IsTrue v.base.tells → HasBroken w.image start bytes)
 ByteEnds v w old new (Err ReadFault) = Rose v.base.faults w.base.faults

@@ -62,10 +62,7 @@ fn read_part<V: View>(
 }
 
 /// Reads the 31 bytes from cell 2 on.
-fn read_stored(
-    alloc: Global,
-    device: &mut MemoryDevice,
-) -> Result<(Vec<u8>, Last, Last), Fail> {
+fn read_stored(alloc: Global, device: &mut MemoryDevice) -> Result<(Vec<u8>, Last, Last), Fail> {
     let mut view = Direct::new(device);
     if view.cells() < 5 {
         return Err("a device of eight cells".into());
@@ -76,7 +73,9 @@ fn read_stored(
 #[test]
 fn a_document_of_thirteen_bytes_is_one_cell(rt: HostRuntime) -> Result<(), Fail> {
     let cells = content_cells(rt.alloc(), b"\x01ahello world")?;
-    let want = [0x1d, 0x01, b'a', b'h', b'e', b'l', b'l', b'o', b' ', b'w', b'o', b'r', b'l', b'd', 0, 0];
+    let want = [
+        0x1d, 0x01, b'a', b'h', b'e', b'l', b'l', b'o', b' ', b'w', b'o', b'r', b'l', b'd', 0, 0,
+    ];
     assert_eq!(rt; cells.len(), 1);
     assert_eq!(rt; cells[0].bytes(), want);
     assert_eq!(rt; content_cells(rt.alloc(), b"")?.len(), 0);
@@ -96,7 +95,9 @@ fn a_part_of_three_cells_is_read_to_its_end(rt: HostRuntime) -> Result<(), Fail>
 
 #[test]
 fn a_reader_ends_at_a_broken_cell(rt: HostRuntime) -> Result<(), Fail> {
-    let record = Cell::from_bytes([2, 0, 0, 2, 0x44, 0, 0, 0, 4, 0, 0, 0, 0, 0, 0, 4]).ok_or("a blank cell")?;
+    let record = Cell::from_bytes([2, 0, 0, 2, 0x44, 0, 0, 0, 4, 0, 0, 0, 0, 0, 0, 4]).ok_or(
+        "a blank cell",
+    )?;
     for (place, value, want) in [
         (0, content(b"the first cell"), &b""[..]),
         (1, content(b"and the second"), b"the first cell,"),

@@ -24,7 +24,9 @@ impl StoredDocument {
     {
         let bytes = 1 + id.len() + body.len();
         // The head ends where a cell does, so the rest of the body begins a cell of its own.
-        let head_length = (1 + id.len()).next_multiple_of(CONTENT_BYTES as usize).min(bytes);
+        let head_length = (1 + id.len())
+            .next_multiple_of(CONTENT_BYTES as usize)
+            .min(bytes);
         let (front, rest) = body.split_at(head_length - 1 - id.len());
         let mut head = Vec::with_capacity(alloc, head_length)?;
         head.push(id.len() as u8)?;

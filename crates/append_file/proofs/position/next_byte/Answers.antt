@@ -13,18 +13,24 @@ cells_left read here bytes cells e differs most is =
     (omega (arith, e, differs, most, is), omega (arith, e, differs, most, is))
 
 pub returns-then-position-2-clause-ends : goal.returns-then-position-2-clause-ends
-returns-then-position-2-clause-ends g c = (refl, λ start bytes given h.
-    give_on _ start bytes c.args.position.now given h c.requires.is c.if-position-2.true c.give.new.self c.give.result
-    c.give.ensures.byte c.give.ensures.one)
+returns-then-position-2-clause-ends g c = (
+  refl,
+  λ start bytes given h.
+      give_on _ start bytes c.args.position.now given h c.requires.is c.if-position-2.true c.give.new.self c.give.result
+      c.give.ensures.byte c.give.ensures.one,
+)
 
 pub returns-in-Ok-clause-ends : goal.returns-in-Ok-clause-ends
-returns-in-Ok-clause-ends g c = (c.in-Ok.ensures.ends.0, λ start bytes given h.
-    let p = c.args.position.now in
-    let left = cells_left p.read p.bytes bytes _ c.cells_for.ensures c.if-position-cells_for.false c.requires.is.read
-    h.bytes_is in
-    first_on _ start bytes p given h c.requires.is _ c.in-Ok.ensures.viewed (omega (arith, c.if-position-2.false)) left.0
-    c.in-Ok.held c.in-Ok.ensures.ends c.give_first.new.self c.give_first.result c.give_first.ensures.byte
-    c.give_first.ensures.one)
+returns-in-Ok-clause-ends g c = (
+  c.in-Ok.ensures.ends.0,
+  λ start bytes given h.
+      let p = c.args.position.now in
+      let left = cells_left p.read p.bytes bytes _ c.cells_for.ensures c.if-position-cells_for.false c.requires.is.read
+      h.bytes_is in
+      first_on _ start bytes p given h c.requires.is _ c.in-Ok.ensures.viewed (omega (arith, c.if-position-2.false)) left.0
+      c.in-Ok.held c.in-Ok.ensures.ends c.give_first.new.self c.give_first.result c.give_first.ensures.byte
+      c.give_first.ensures.one,
+)
 
 pub returns-in-Err-Broken-clause-ends : goal.returns-in-Err-Broken-clause-ends
 returns-in-Err-Broken-clause-ends g c =
@@ -32,7 +38,7 @@ returns-in-Err-Broken-clause-ends g c =
     let old = g.V.View.seen c.args.view.now in
     let new = g.V.View.seen c.read_piece.new.view in
     let ends = subst (λ (f : ContentFault). PieceEnds p.start p.bytes p.read old new (Err f)) c.in-Err-Broken.field-0-is
-        c.in-Err-Broken.ensures.ends in
+    c.in-Err-Broken.ensures.ends in
     let left = cells_left p.read p.bytes p.bytes _ c.cells_for.ensures c.if-position-cells_for.false c.requires.is.read
-        refl in
+    refl in
     (ends.0, λ tells. (p.read, left.1, ends.1 tells))
