@@ -2,10 +2,9 @@
 ghost use Rattle.std.specs.Prelude.{◌≤◌};
 ghost use Rattle.cell_types.specs.declared.geometry.TheConstants.{MAX_CELLS};
 
-use crate::decoder::{Document, State, document_of_slot, state_of_slot};
-use crate::volume::{outcome_of, sink, source_of, words_of};
 use cell_types::{Cell, Evidence, Refusal};
 use record_top::run;
+use row_volumes::{Document, State, document_of_slot, outcome_of, sink, source_of, state_of_slot, words_of};
 use std::alloc::Global;
 use std::test::Fail;
 use stored_documents::{MAX_BODY_BYTES, MAX_IDENTIFIER_BYTES};
@@ -259,7 +258,7 @@ fn words_that_are_no_command_are_usage(rt: HostRuntime) -> Result<(), Fail> {
     let alloc = rt.alloc();
     let mut device = formatted(alloc, 1_000, 64)?;
     for words in [
-        "find|a",
+        "audit",
         "ingest",
         "",
         "ingest|a|b",

@@ -1,7 +1,6 @@
 //! A slot whose journal was written by hand: settling carries it out, whatever stands already of it.
-use crate::decoder::{State, bytes_at, state_of_slot};
-use crate::volume::{begin, outcome_of};
 use cell_types::Cell;
+use row_volumes::{State, begin, bytes_at, outcome_of, state_of_slot};
 use std::test::Fail;
 use worm_device::Device;
 use worm_memory::MemoryDevice;

@@ -1,7 +1,7 @@
 //! Tests of commands: what each does, what a crash leaves of it, and what the next ones make of that.
 //!
-//! They run `record_top::run` over devices in memory. What stands afterwards is read by a decoder of their own (`decoder`),
-//! which shares nothing with the crates. `commands` has each command with its answers; `rows` a command that is stopped,
+//! They run `record_top::run` over devices in memory, by `row_volumes`, whose decoder reads what stands afterwards and
+//! shares nothing with the crates. `commands` has each command with its answers; `rows` a command that is stopped,
 //! cell by cell; `sweeps` all cuts of an ingest and of `recover`, with crashes that keep each subset of what was not sure;
 //! and `journals` a slot whose journal was written by hand.
 #![tactic(auto)]
@@ -9,12 +9,8 @@
 #[cfg(test)]
 mod commands;
 #[cfg(test)]
-mod decoder;
-#[cfg(test)]
 mod journals;
 #[cfg(test)]
 mod rows;
 #[cfg(test)]
 mod sweeps;
-#[cfg(test)]
-mod volume;

@@ -1,11 +1,9 @@
 //! Single cases, cell by cell. The device is formatted with 8 slots and 2 lists on 1,000 cells: slot 0 has cells 4 to 7,
 //! slot 1 cells 8 to 11, and the pool begins at cell 580.
-use crate::decoder::{State, bytes_at, state_of_slot};
-use crate::volume::{begin, outcome_of};
 use cell_types::{Cell, Evidence, Refusal};
+use row_volumes::{State, begin, bytes_at, outcome_of, small_volume, state_of_slot, write_foreign};
 use std::alloc::Global;
 use std::test::Fail;
-use worm_device::Device;
 use worm_memory::{Crash, MemoryDevice, Moment};
 
 /// The abandon cell of slot 0.
@@ -17,21 +15,10 @@ const STRAY: [u8; 16] = [4, 0, 0, 0, 0, 0, 0, 0, 0, 0, 0, 0, 0, 0, 0, 9];
 /// The done cell of slot 0.
 const DONE: [u8; 16] = [5, 0, 0, 0, 0, 0, 0, 0, 0, 0, 0, 0, 0, 0, 0, 6];
 
-/// A new volume.
-fn formatted(alloc: Global) -> Result<MemoryDevice, Fail> {
-    let mut device = MemoryDevice::new(alloc, 1_000)?;
-    begin(&mut device)?;
-    let (outcome, _) = outcome_of(alloc, "format|8|2", &mut device, b"")?;
-    if outcome.is_err() {
-        return Err(Fail::from("the volume was not formatted"));
-    }
-    Ok(device)
-}
-
 /// An ingest of `hello world` that was stopped once its commit cell was asked to be written, and a crash that keeps these
 /// cells.
 fn stopped_at_commit(alloc: Global, keep: &[u32]) -> Result<(MemoryDevice, Crash), Fail> {
-    let mut device = formatted(alloc)?;
+    let mut device = small_volume(alloc)?;
     begin(&mut device)?;
     // sync, cell 4, sync, cell 580, sync, cell 5
     device.stop_after(Moment::Step(6));
@@ -76,21 +63,18 @@ fn a_commit_cell_that_is_kept_completes_the_slot(rt: HostRuntime) -> Result<(), 
 #[test]
 fn a_stray_outcome_cell_is_named(rt: HostRuntime) -> Result<(), Fail> {
     let alloc = rt.alloc();
-    let mut device = formatted(alloc)?;
+    let mut device = small_volume(alloc)?;
     begin(&mut device)?;
     let (_, put) = outcome_of(alloc, "ingest|a", &mut device, b"hello world")?;
     assert_eq!(rt; put.as_slice(), b"acknowledged 0\n".as_slice());
     begin(&mut device)?;
-    let stray = Cell::from_bytes(STRAY).ok_or("a blank cell")?;
-    if 9 < device.cells() {
-        let _ = device.foreign(9, stray)?;
-    }
+    write_foreign(&mut device, 9, STRAY)?;
     begin(&mut device)?;
     let (outcome, _) = outcome_of(alloc, "ingest|b", &mut device, b"")?;
     let evidence = Evidence {
         rule: 2,
         cell: 9,
-        found: stray,
+        found: Cell::from_bytes(STRAY).ok_or("a blank cell")?,
     };
     assert_eq!(rt; outcome, Err(Refusal::Tampered(evidence)));
     Ok(())

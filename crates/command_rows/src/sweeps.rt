@@ -1,7 +1,6 @@
 //! Every cut of an ingest and of `recover`, with crashes that keep each subset of what was not sure.
-use crate::decoder::{State, state_of_slot};
-use crate::volume::{begin, holds, ingest, outcome_of, unsure, volume_with};
 use cell_types::Refusal;
+use row_volumes::{State, begin, holds, ingest, outcome_of, state_of_slot, unsure, volume_with};
 use std::alloc::Global;
 use std::test::Fail;
 use worm_memory::{MemoryDevice, Moment};

@@ -1,16 +1,23 @@
 //! A volume in memory, and the commands that are run over it.
+ghost use Rattle.std.specs.Prelude.{◌≤◌};
+ghost use Rattle.cell_types.specs.declared.geometry.TheConstants.{MAX_CELLS};
+
 use crate::decoder::{State, document_of_slot, state_of_slot};
+use cell_types::Cell;
 use host_ports::{MemorySink, MemorySource};
 use record_top::{Outcome, run};
 use std::alloc::Global;
 use std::test::Fail;
-use worm_device::Device;
+use worm_device::{Device, Written};
 use worm_memory::{Change, MemoryDevice};
 
 /// How many cells a volume has here, and room for how many changes its record gets before each command.
 const CELLS: u32 = 3_000;
 
 const CHANGES: u32 = 200;
+
+/// How many bytes may be put out.
+const SINK_BYTES: u32 = 1_024;
 
 /// The words of a command, between bars.
 pub fn words_of(alloc: Global, text: &str) -> Result<Vec<String>, Fail> {
@@ -28,10 +35,10 @@ pub fn source_of(alloc: Global, body: &[u8]) -> Result<MemorySource, Fail> {
     Ok(MemorySource::new(bytes))
 }
 
-/// A sink with room for an acknowledgement.
+/// A sink with room for some lines.
 pub fn sink(alloc: Global) -> Result<MemorySink, Fail> {
     let mut sink = MemorySink::new(alloc);
-    sink.reserve(64)?;
+    sink.reserve(SINK_BYTES)?;
     Ok(sink)
 }
 
@@ -58,16 +65,48 @@ pub fn begin(device: &mut MemoryDevice) -> Result<(), Fail> {
     Ok(())
 }
 
-/// A new volume of so many slots and one list.
-pub fn volume_of(alloc: Global, slots: u32) -> Result<MemoryDevice, Fail> {
-    let mut device = MemoryDevice::new(alloc, CELLS)?;
+/// A blank device that was made a volume by these words.
+fn formatted(alloc: Global, cells: u32, words: &str) -> Result<MemoryDevice, Fail>
+    requires some { 1 ≤ cells }
+    requires most { cells ≤ MAX_CELLS }
+{
+    let mut device = MemoryDevice::new(alloc, cells)?;
     begin(&mut device)?;
-    let words = format!(in alloc; "format|{slots}|1")?;
-    let (outcome, _) = outcome_of(alloc, words.as_str(), &mut device, b"")?;
+    let (outcome, _) = outcome_of(alloc, words, &mut device, b"")?;
     if outcome.is_err() {
         return Err(Fail::from("the volume was not formatted"));
     }
     Ok(device)
+}
+
+/// A new volume of 8 slots and 2 lists on 1,000 cells.
+pub fn small_volume(alloc: Global) -> Result<MemoryDevice, Fail> {
+    formatted(alloc, 1_000, "format|8|2")
+}
+
+/// The small volume with the document `a`, whose body is `hello world`, in slot 0.
+pub fn volume_with_a(alloc: Global) -> Result<MemoryDevice, Fail> {
+    let mut device = small_volume(alloc)?;
+    begin(&mut device)?;
+    let (outcome, _) = outcome_of(alloc, "ingest|a", &mut device, b"hello world")?;
+    if outcome.is_err() {
+        return Err(Fail::from("the document was not ingested"));
+    }
+    begin(&mut device)?;
+    Ok(device)
+}
+
+/// Somebody else writes a blank cell.
+pub fn write_foreign(device: &mut MemoryDevice, at: u32, bytes: [u8; 16]) -> Result<(), Fail> {
+    let value = Cell::from_bytes(bytes).ok_or("a blank cell")?;
+    if at >= device.cells() {
+        return Err(Fail::from("a cell behind the device"));
+    }
+    device.reserve(1)?;
+    let Written::Done = device.foreign(at, value)? else {
+        return Err(Fail::from("the cell is written"));
+    };
+    Ok(())
 }
 
 /// The body of document i: 0 to 400 letters.
@@ -92,7 +131,8 @@ pub fn ingest(
 
 /// A volume that holds the first so many documents.
 pub fn volume_with(alloc: Global, slots: u32, documents: u32) -> Result<MemoryDevice, Fail> {
-    let mut device = volume_of(alloc, slots)?;
+    let words = format!(in alloc; "format|{slots}|1")?;
+    let mut device = formatted(alloc, CELLS, words.as_str())?;
     for i in 0..documents {
         begin(&mut device)?;
         let (outcome, _) = ingest(alloc, &mut device, i)?;
