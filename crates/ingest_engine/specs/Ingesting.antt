@@ -1,9 +1,9 @@
 -- What it means that a document is ingested, or that this was ended.
 use Rattle.std.specs.Prelude.{◌≡◌, ◌≢◌, ◌<◌, ◌≤◌, ◌-◌, ◌⊎◌, ℕ, List, length, Result, Ok, Err, IsTrue}
-use Rattle.cell_types.specs.Image.{Image, Extends}
+use Rattle.cell_types.specs.Image.{Image, Extends, IsUnchanged}
 use Rattle.cell_types.specs.Layout.{Layout}
 use Rattle.cell_types.specs.declared.refusal.Refusal.{Refusal}
-use Rattle.cell_types.specs.declared.refusal.Refusal.TheVariants.{DeviceFault, Full, NoMemory, NotAVolume, NotFormatted, SlotsFull, Tampered, WrongSize}
+use Rattle.cell_types.specs.declared.refusal.Refusal.TheVariants.{DeviceFault, Duplicate, Full, NoMemory, NotAVolume, NotFormatted, SlotsFull, Tampered, WrongSize}
 use Rattle.stored_documents.specs.Documents.{IsDocument, stored_bytes}
 use Rattle.stored_documents.specs.Slots.{IsUnused, cells_for}
 use Rattle.stored_documents.specs.Volumes.{IsVolume}
@@ -11,8 +11,9 @@ use Rattle.tamper_rules.specs.declared.numbers.TheConstants.{STRAY_CELL}
 use Rattle.worm_device.specs.Calls.{Called}
 use Rattle.worm_device.specs.Counts.{Rose, IsStill}
 use Rattle.worm_device.specs.State.{DeviceState, LeftSince}
-use Rattle.recovery_engine.specs.Settling.{HasSettled, IsFound, IsSettlingRule, SettleEnds, Settles}
+use Rattle.recovery_engine.specs.Settling.{HasSettled, IsFound, SettleEnds, Settles}
 use Rattle.recovery_engine.specs.declared.settling.Ready.{Ready}
+use Rattle.slot_walk.specs.Walks.{HasNone, IsFirstSlot, IsQueryRule, OfAll}
 use Rattle.plan_writer.specs.CrashLaws.{IsWholeOrUncommitted}
 use Rattle.plan_writer.specs.Planned.{PlansDocument, Suits}
 use Rattle.plan_writer.specs.PuttingPlans.{PutsPlan}
@@ -26,49 +27,91 @@ pub data ComesTo (id body : List ℕ) (old new : DeviceState) : Type 0 where
   settling : (refusal : Refusal) → Settles old new (Err refusal) → ComesTo id body old new
   -- the volume was settled, and then looked at alone
   settled : (r : Ready) → HasSettled old new r → ComesTo id body old new
-  -- and then a plan of this document was put into its first free slot, from its edge on
-  put : (looked : DeviceState) (r : Ready) (p : Plan) → HasSettled old looked r → p.start ≡ r.edge
-      → Suits r.volume.geometry p → PlansDocument p id body → PutsPlan r.horizon p looked new
+  -- no document of it had the identifier, and then a plan of this document was put into its first free slot, from its
+  -- edge on
+  put : (looked : DeviceState) (r : Ready) (p : Plan) → HasSettled old looked r
+      → (IsTrue old.tells → HasNone OfAll id old looked) → p.start ≡ r.edge → Suits r.volume.geometry p → PlansDocument p id body → PutsPlan r.horizon p looked new
       → ComesTo id body old new
 
--- The document is one of the volume's now, in slot n, which was unused, and is sure; so is all that stood.
+-- The document is one of the volume's now, in slot n, which was unused, and is sure; so is all that stood. No document
+-- of the volume had its identifier.
 pub record IsIngested (id body : List ℕ) (n : ℕ) (old new : DeviceState) : Type 0 where
   pub layout : Layout
   pub volume : IsVolume new.cells new.image layout
   pub unused : IsUnused layout old.image n
   pub document : IsDocument new.cells new.sure n id body
+  pub fresh : (m : ℕ) (other : List ℕ) → IsDocument old.cells old.image m id other → ⊥
   pub synced : Extends old.image new.sure
 
--- Whether a settled volume has room for so many cells: each slot may be taken, or more cells be needed than the pool has
--- behind the edge.
+-- how a look for a free slot of a settled volume may end, and why
+abbrev pub SlotsEnd : Ready → Result Unit Refusal → Type 0
+SlotsEnd r (Ok u) = r.horizon ≢ r.volume.geometry.slots
+SlotsEnd r (Err SlotsFull) = r.horizon ≡ r.volume.geometry.slots
+SlotsEnd r (Err refusal) = ⊥
+
+-- how a look for room may end, and why: the cells behind the edge are free
 abbrev pub RoomEnds : Ready → ℕ → Result Unit Refusal → Type 0
-RoomEnds r need (Ok u) = (r.horizon ≢ r.volume.geometry.slots) × (need ≤ r.volume.geometry.cells - r.edge)
-RoomEnds r need (Err SlotsFull) = r.horizon ≡ r.volume.geometry.slots
+RoomEnds r need (Ok u) = need ≤ r.volume.geometry.cells - r.edge
 RoomEnds r need (Err (Full needed free)) =
-    (r.horizon ≢ r.volume.geometry.slots) × (needed ≡ need) × (free ≡ r.volume.geometry.cells - r.edge) × (free < need)
+    (needed ≡ need) × (free ≡ r.volume.geometry.cells - r.edge) × (free < need)
 RoomEnds r need (Err refusal) = ⊥
 
--- the volume was settled, and then had no room for the document: this is the refusal
-pub record HasNoRoom (id body : List ℕ) (old new : DeviceState) (refusal : Refusal) : Type 0 where
+-- how a look for a document with this identifier may end, and why, on a volume that was settled from old to entry
+abbrev pub IdentifierEnds : List ℕ → DeviceState → DeviceState → DeviceState → Result Unit Refusal → Type 0
+IdentifierEnds id old entry new (Ok u) =
+    (new.faults ≡ entry.faults) × (IsTrue old.tells → HasNone OfAll id old new)
+IdentifierEnds id old entry new (Err (Duplicate n)) = IsTrue old.tells → IsFirstSlot id n old new
+IdentifierEnds id old entry new (Err DeviceFault) = Rose entry.faults new.faults
+IdentifierEnds id old entry new (Err (Tampered e)) = IsTrue old.tells → IsFound IsQueryRule old new e
+IdentifierEnds id old entry new (Err refusal) = ⊥
+
+-- such a look changes nothing
+pub record IdentifierChecks (r : Ready) (id : List ℕ) (entry new : DeviceState) (result : Result Unit Refusal)
+    : Type 0 where
+  pub called : Called entry new
+  pub quiet : IsStill entry.foreign_writes new.foreign_writes → IsUnchanged entry.image new.image
+  pub ends : (old : DeviceState) → Settles old entry (Ok r) → IdentifierEnds id old entry new result
+
+-- the volume was settled, and then each of its slots was taken
+pub record HasNoSlot (old new : DeviceState) : Type 0 where
   pub ready : Ready
   pub settled : HasSettled old new ready
-  pub room : RoomEnds ready (cells_for (length (stored_bytes id body))) (Err refusal)
+  pub taken : ready.horizon ≡ ready.volume.geometry.slots
+
+-- The volume was settled and had a free slot, and its first document with this identifier is in slot n.
+pub record IsTaken (id : List ℕ) (n : ℕ) (old new : DeviceState) : Type 0 where
+  pub ready : Ready
+  pub settled : HasSettled old new ready
+  pub slot : ready.horizon ≢ ready.volume.geometry.slots
+  pub first : IsTrue old.tells → IsFirstSlot id n old new
+
+-- The volume was settled and had a free slot, and no document with this identifier; and the document needs more cells
+-- than are free behind the edge.
+pub record HasNoRoom (id body : List ℕ) (need free : ℕ) (old new : DeviceState) : Type 0 where
+  pub ready : Ready
+  pub settled : HasSettled old new ready
+  pub slot : ready.horizon ≢ ready.volume.geometry.slots
+  pub fresh : IsTrue old.tells → HasNone OfAll id old new
+  pub need_is : need ≡ cells_for (length (stored_bytes id body))
+  pub free_is : free ≡ ready.volume.geometry.cells - ready.edge
+  pub less : free < need
 
 -- no cell of the document was put
 abbrev pub IsUnput : DeviceState → DeviceState → Type 0
 IsUnput old new = (new ≡ old) ⊎ ((r : Ready) × HasSettled old new r)
 
--- the rules that an ingest looks at: those of settling, and that nothing stands where it is to write
+-- the rules that an ingest looks at: those of a query, and that nothing stands where it is to write
 abbrev pub IsIngestRule : ℕ → Type 0
-IsIngestRule number = IsSettlingRule number ⊎ (number ≡ STRAY_CELL)
+IsIngestRule number = IsQueryRule number ⊎ (number ≡ STRAY_CELL)
 
 -- how an ingest may end, and why
 abbrev pub IngestEnds : List ℕ → List ℕ → DeviceState → DeviceState → Result ℕ Refusal → Type 0
 IngestEnds id body old new (Ok n) = IsTrue old.tells → IsIngested id body n old new
 IngestEnds id body old new (Err DeviceFault) = Rose old.faults new.faults
 IngestEnds id body old new (Err (Tampered e)) = IsTrue old.tells → IsFound IsIngestRule old new e
-IngestEnds id body old new (Err SlotsFull) = HasNoRoom id body old new SlotsFull
-IngestEnds id body old new (Err (Full need free)) = HasNoRoom id body old new (Full need free)
+IngestEnds id body old new (Err SlotsFull) = HasNoSlot old new
+IngestEnds id body old new (Err (Duplicate n)) = IsTaken id n old new
+IngestEnds id body old new (Err (Full need free)) = HasNoRoom id body need free old new
 IngestEnds id body old new (Err NoMemory) = IsUnput old new
 IngestEnds id body old new (Err NotFormatted) = SettleEnds old new (Err NotFormatted)
 IngestEnds id body old new (Err (NotAVolume found)) = SettleEnds old new (Err (NotAVolume found))

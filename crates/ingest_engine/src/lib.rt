@@ -13,8 +13,12 @@
 //! All memory is taken before the first of them. Where a crash cuts an ingest short, the next command settles the volume:
 //! the slot is given up, or its document is done.
 //!
-//! Stands on `recovery_engine`, which settles, and on `plan_writer`, which puts the cells. Begin with `ingesting.rt`;
-//! specs/Ingesting.antt says how an ingest may end, why, and what a crash leaves of it.
+//! Between settling and the reserve cell it reads the documents that are there, and refuses an identifier that one of them
+//! has.
+//!
+//! Stands on `recovery_engine`, which settles, on `slot_walk`, which looks for the identifier, and on `plan_writer`, which
+//! puts the cells. Begin with `ingesting.rt`; specs/Ingesting.antt says how an ingest may end, why, and what a crash
+//! leaves of it.
 #![tactic(auto)]
 
 mod document;

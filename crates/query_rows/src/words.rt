@@ -12,7 +12,7 @@ fn volume_of(alloc: Global, bodies: &[&[u8]]) -> Result<MemoryDevice, Fail> {
     let mut device = MemoryDevice::new(alloc, 6_000)?;
     begin(&mut device)?;
     let (_, put) = outcome_of(alloc, "format|16|1", &mut device, b"")?;
-    if put.as_slice() != b"formatted\n" {
+    if put.as_slice() != b"formatted\n".as_slice() {
         return Err(Fail::from("the volume was not formatted"));
     }
     let mut slot: u32 = 0;

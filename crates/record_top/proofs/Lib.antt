@@ -2,5 +2,8 @@ pub mod Asking
 pub mod Completing
 pub mod Ending
 pub mod Listed
+pub mod MatchLines
+pub mod Options
 pub mod Pieces
 pub mod Taken
+pub mod Terms

@@ -1,5 +1,6 @@
 -- Lists of so many elements, by the elements that were read.
-use Rattle.std.proofs.Common.{◌≡◌, List, [], ◌∷◌, length, get_or, sym, arith}
+use Rattle.std.proofs.Common.{◌≡◌, List, [], ◌∷◌, Option, Some, None, length, get_or, sym, arith}
+use Rattle.std.specs.Prelude.{IfNone}
 
 -- a list of one is the one that was read
 pub one : {A : Type 0} (xs : List A) (x : A) → length xs ≡ 1 → x ≡ get_or xs 0 x → xs ≡ x ∷ []
@@ -22,3 +23,15 @@ three [] x y z n p q r = absurd (omega arith)
 three (a ∷ []) x y z n p q r = absurd (omega arith)
 three (a ∷ b ∷ []) x y z n p q r = absurd (omega arith)
 three (a ∷ b ∷ d ∷ e ∷ xs) x y z n p q r = absurd (omega arith)
+
+-- lists of three that are the same have the same second and third
+pub second_is : {A : Type 0} (a b c x y z : A) → a ∷ b ∷ c ∷ [] ≡ x ∷ y ∷ z ∷ [] → b ≡ y
+second_is a b c x y z e = cc
+
+pub third_is : {A : Type 0} (a b c x y z : A) → a ∷ b ∷ c ∷ [] ≡ x ∷ y ∷ z ∷ [] → c ≡ z
+third_is a b c x y z e = cc
+
+-- what holds anyway holds where there is none
+pub if_none : {A : Type 0} (o : Option A) {P : Type 0} → P → IfNone o P
+if_none None p = p
+if_none (Some a) p = tt

@@ -1,31 +1,40 @@
 -- Which commands there are: which words ask for each, what each does, and when nothing hinders it. A further command
 -- is one more case in each of these.
-use Rattle.std.specs.Prelude.{ℕ, List, Result}
+use Rattle.std.specs.Prelude.{ℕ, List, Result, map}
+use Rattle.std.specs.String.{string_bytes}
 use Rattle.cell_types.specs.Layout.{Layout}
 use Rattle.cell_types.specs.declared.refusal.Refusal.{Refusal}
+use Rattle.record_top.specs.Finding.{AsksToFind, DoesFind, IsReadyToFind}
 use Rattle.record_top.specs.Formatting.{AsksToFormat, DoesFormat, IsReadyToFormat}
 use Rattle.record_top.specs.Ingesting.{AsksToIngest, DoesIngest, IsReadyToIngest}
-use Rattle.record_top.specs.Ports.{Ports}
+use Rattle.record_top.specs.LookingUp.{AsksToLookUp, DoesLookUp, IsReadyToLookUp}
+use Rattle.record_top.specs.Ports.{IsOkAlone, IsOkOrAbsent, IsOkOrNoMemory, Ports}
 use Rattle.record_top.specs.Recovering.{AsksToRecover, DoesRecover, IsReadyToRecover}
 use Rattle.record_top.specs.declared.words.Command.{Command}
-use Rattle.record_top.specs.declared.words.Command.TheVariants.{Format, Ingest, Recover}
+use Rattle.record_top.specs.declared.words.Command.TheVariants.{Find, Format, Ingest, LookUp, Recover}
 
 -- what may be asked for, with what is given
 pub data Request : Type 0 where
   ToFormat : (slots lists : ℕ) → Request
   ToIngest : (id : List ℕ) → Request
+  ToFind : (asked : List (List ℕ)) → Request
+  ToLookUp : (id : List ℕ) → Request
   ToRecover : Request
 
 -- the request that a command stands for
 abbrev pub request_of : Command → Request
 request_of (Format slots lists) = ToFormat slots lists
 request_of (Ingest id) = ToIngest id.now
+request_of (Find asked) = ToFind (map string_bytes asked.now)
+request_of (LookUp id) = ToLookUp id.now
 request_of Recover = ToRecover
 
 -- the words ask for this
 abbrev pub Asks : List (List ℕ) → Request → Type 0
 Asks words (ToFormat slots lists) = AsksToFormat words slots lists
 Asks words (ToIngest id) = AsksToIngest words id
+Asks words (ToFind asked) = AsksToFind words asked
+Asks words (ToLookUp id) = AsksToLookUp words id
 Asks words ToRecover = AsksToRecover words
 
 -- the words ask for nothing
@@ -44,6 +53,8 @@ layout_on ports slots lists = record { slots = slots; lists = lists; cells = por
 abbrev pub Does : Request → Ports → Ports → Result Unit Refusal → Type 0
 Does (ToFormat slots lists) old new result = DoesFormat (layout_on old slots lists) old new result
 Does (ToIngest id) old new result = DoesIngest id old new result
+Does (ToFind asked) old new result = DoesFind asked old new result
+Does (ToLookUp id) old new result = DoesLookUp id old new result
 Does ToRecover old new result = DoesRecover old new result
 
 -- nothing hinders this
@@ -51,4 +62,15 @@ abbrev pub IsUnhindered : Request → Ports → Ports → Type 0
 IsUnhindered (ToFormat slots lists) old new = IsReadyToFormat (layout_on old slots lists) old new
 IsUnhindered (ToIngest id) old new =
     (body : List ℕ) × (g : Layout) × (slot : ℕ) × IsReadyToIngest id body g slot old new
+IsUnhindered (ToFind asked) old new = (g : Layout) × IsReadyToFind asked g old new
+IsUnhindered (ToLookUp id) old new = (g : Layout) × IsReadyToLookUp id g old new
 IsUnhindered ToRecover old new = (g : Layout) × IsReadyToRecover g old new
+
+-- What is answered where nothing hinders this: it is done; or, where memory is taken, none was to be had; or, where a
+-- document is looked up, none has the identifier.
+abbrev pub IsAnswered : Request → Result Unit Refusal → Type 0
+IsAnswered (ToFormat slots lists) result = IsOkAlone result
+IsAnswered (ToIngest id) result = IsOkOrNoMemory result
+IsAnswered (ToFind asked) result = IsOkOrNoMemory result
+IsAnswered (ToLookUp id) result = IsOkOrAbsent result
+IsAnswered ToRecover result = IsOkAlone result

@@ -1,9 +1,10 @@
 -- The command `ingest`: it stores the body that the source gives in the first free slot, and acknowledges it.
-use Rattle.std.specs.Prelude.{◌≡◌, ◌≢◌, ◌≤◌, ◌+◌, ℕ, List, [], ◌∷◌, codes, length, slice_index, Some, Result, Err}
+use Rattle.std.specs.Prelude.{◌≡◌, ◌≤◌, ◌+◌, ℕ, List, [], ◌∷◌, codes, length, Some, Result, Err}
 use Rattle.cell_types.specs.Layout.{Layout}
 use Rattle.cell_types.specs.declared.refusal.Refusal.{Refusal}
 use Rattle.cell_types.specs.declared.refusal.Refusal.TheVariants.{BadIdentifier}
 use Rattle.host_ports.specs.Sources.{Gives, IsAtEnd}
+use Rattle.slot_walk.specs.Walks.{IsStored}
 use Rattle.ingest_engine.specs.Ingesting.{IsIngestRule, Ingests}
 use Rattle.stored_documents.specs.Documents.{IsBody, IsIdentifier, stored_bytes}
 use Rattle.stored_documents.specs.Slots.{IsEdge, IsUnused, cells_for}
@@ -12,13 +13,13 @@ use Rattle.record_top.specs.Ports.{Ports, KeepsSink, Tells}
 use Rattle.record_top.specs.Recovering.{slot_line}
 use Rattle.record_top.specs.Taking.{BodyFails, refusal_of_body_fault}
 use Rattle.record_top.specs.WholeLogs.{HasWholeLog}
+use Rattle.record_top.specs.Words.{IsNoOption}
 use Rattle.record_top.specs.declared.body.BodyFault.{BodyFault}
 
--- The words are `ingest` and this one. No word is empty, and none begins with a hyphen.
+-- the words are `ingest` and this one
 pub record AsksToIngest (words : List (List ℕ)) (id : List ℕ) : Type 0 where
   pub asked : words ≡ codes "ingest" ∷ id ∷ []
-  pub some : 1 ≤ length id
-  pub no_hyphen : slice_index id 0 ≢ 45
+  pub word : IsNoOption id
 
 -- the text that acknowledges a document in this slot
 abbrev pub acknowledgement : ℕ → List ℕ
@@ -39,13 +40,14 @@ pub data DoesIngest (id : List ℕ) (old new : Ports) (result : Result Unit Refu
       → Ingests id body old.device new.device answer → Tells acknowledgement answer old new result
       → DoesIngest id old new result
 
--- All is as the command wants it: an identifier, a source that holds a body, a slot that is unused, and room for the
--- document behind each edge.
+-- All is as the command wants it: an identifier that no stored document has, a source that holds a body, a slot that is
+-- unused, and room for the document behind each edge.
 pub record IsReadyToIngest (id body : List ℕ) (g : Layout) (slot : ℕ) (old new : Ports) : Type 0 where
   pub identifier : IsIdentifier id
   pub is_body : IsBody body
   pub source : old.source.left ≡ Some body
   pub log : HasWholeLog IsIngestRule g old.device new.device
+  pub fresh : (n : ℕ) (other : List ℕ) → IsStored old.device.cells old.device.image n id other → ⊥
   pub unused : IsUnused g old.device.image slot
   pub room : (at : ℕ) → IsEdge g old.device.image old.device.image at
       → at + cells_for (length (stored_bytes id body)) ≤ g.cells

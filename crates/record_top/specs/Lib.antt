@@ -1,6 +1,8 @@
 pub mod Commands
+pub mod Finding
 pub mod Formatting
 pub mod Ingesting
+pub mod LookingUp
 pub mod Ports
 pub mod Recovering
 pub mod Taking

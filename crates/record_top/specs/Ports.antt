@@ -1,7 +1,7 @@
 -- What a command is given besides its words, and what it puts out.
 use Rattle.std.specs.Prelude.{◌≡◌, ℕ, List, Result, Ok, Err, ⊤}
 use Rattle.cell_types.specs.declared.refusal.Refusal.{Refusal}
-use Rattle.cell_types.specs.declared.refusal.Refusal.TheVariants.{NoMemory, SinkFault}
+use Rattle.cell_types.specs.declared.refusal.Refusal.TheVariants.{Absent, NoMemory, SinkFault}
 use Rattle.host_ports.specs.Sinks.{SinkState, Gets, PutsPart}
 use Rattle.host_ports.specs.Sources.{SourceState}
 use Rattle.worm_device.specs.State.{DeviceState}
@@ -36,6 +36,24 @@ Tells text (Ok a) old new (Err SinkFault) = PutsOutPart (text a) old new
 Tells text (Ok a) old new (Err refusal) = ⊥
 Tells text (Err refused) old new (Ok u) = ⊥
 Tells text (Err refused) old new (Err refusal) = (refusal ≡ refused) × KeepsSink old new
+
+-- The same where the text is made in memory before its first byte goes out: then no memory may be had for it, and
+-- nothing is put out.
+abbrev pub TellsFromMemory
+    : {A : Type 0} → (A → List ℕ) → Result A Refusal → Ports → Ports → Result Unit Refusal → Type 0
+TellsFromMemory text (Ok a) old new (Err NoMemory) = KeepsSink old new
+TellsFromMemory text answer old new result = Tells text answer old new result
+
+-- the answer is Ok
+abbrev pub IsOkAlone : Result Unit Refusal → Type 0
+IsOkAlone (Ok _) = ⊤
+IsOkAlone (Err refusal) = ⊥
+
+-- the answer is Ok, or no document has the identifier
+abbrev pub IsOkOrAbsent : Result Unit Refusal → Type 0
+IsOkOrAbsent (Ok _) = ⊤
+IsOkOrAbsent (Err Absent) = ⊤
+IsOkOrAbsent (Err refusal) = ⊥
 
 -- the answer is Ok, or want of memory
 abbrev pub IsOkOrNoMemory : Result Unit Refusal → Type 0

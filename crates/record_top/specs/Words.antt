@@ -1,5 +1,10 @@
--- Which words are numbers.
-use Rattle.std.specs.Prelude.{◌≡◌, ◌<◌, ◌≤◌, ◌+◌, ◌-◌, ◌*◌, ℕ, List, fold, length, slice_index}
+-- Which words are numbers, and which are no options.
+use Rattle.std.specs.Prelude.{◌≡◌, ◌≢◌, ◌<◌, ◌≤◌, ◌+◌, ◌-◌, ◌*◌, ℕ, List, fold, length, slice_index}
+
+-- the word is not empty, and begins with no hyphen
+pub record IsNoOption (word : List ℕ) : Type 0 where
+  pub some : 1 ≤ length word
+  pub no_hyphen : slice_index word 0 ≢ 45
 
 -- the number that ASCII digits stand for, the highest first
 abbrev pub digits_value : List ℕ → ℕ

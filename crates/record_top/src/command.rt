@@ -2,11 +2,13 @@
 ghost use Rattle.std.specs.Prelude.{◌≡◌, ◌↔◌, map};
 ghost use Rattle.std.specs.String.{string_bytes};
 ghost use Rattle.worm_device.specs.Calls.{Called};
-ghost use Rattle.record_top.specs.Commands.{Asks, AsksNothing, Does, IsAskedFor, IsUnhindered, Request, request_of};
-ghost use Rattle.record_top.specs.Ports.{IsOkOrNoMemory, ports_of};
+ghost use Rattle.record_top.specs.Commands.{Asks, AsksNothing, Does, IsAnswered, IsAskedFor, IsUnhindered, Request, request_of};
+ghost use Rattle.record_top.specs.Ports.{ports_of};
 
+use crate::find::find_documents;
 use crate::format::format_device;
 use crate::ingest::ingest_body;
+use crate::lookup::look_up_document;
 use crate::recover::recover_device;
 use crate::words::{Command, command_of};
 use cell_types::Refusal;
@@ -38,10 +40,10 @@ pub fn run<D: Device, S: Source, K: Sink>(
         (ports_of (D.state device.old) (S.state source.old) (K.state sink.old))
         (ports_of (D.state device.new) (S.state source.new) (K.state sink.new)) result }
 
-    // Where nothing hinders what they ask for, it is done, or no memory was to be had.
+    // Where nothing hinders what they ask for, it is done; or no memory was to be had, or no document has the identifier.
     ensures complete { (request : Request) → Asks (map string_bytes words.now) request → IsUnhindered request
         (ports_of (D.state device.old) (S.state source.old) (K.state sink.old))
-        (ports_of (D.state device.new) (S.state source.new) (K.state sink.new)) → IsOkOrNoMemory result }
+        (ports_of (D.state device.new) (S.state source.new) (K.state sink.new)) → IsAnswered request result }
 {
     let Some(command) = command_of(words) else {
         return Err(Refusal::Usage);
@@ -64,6 +66,8 @@ fn carry_out<D: Device, S: Source, K: Sink>(
     match command {
         Command::Format { slots, lists } => format_device(slots, lists, device, source, sink),
         Command::Ingest { id } => ingest_body(alloc, id, device, source, sink),
+        Command::Find { words } => find_documents(alloc, words, device, source, sink),
+        Command::LookUp { id } => look_up_document(id, device, source, sink),
         Command::Recover => recover_device(device, source, sink),
     }
 }

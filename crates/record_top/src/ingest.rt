@@ -1,16 +1,14 @@
 //! The command `ingest`.
-ghost use Rattle.std.specs.Prelude.{◌↔◌, IsTrue};
 ghost use Rattle.record_top.specs.Ingesting.{DoesIngest};
 ghost use Rattle.record_top.specs.Ports.{ports_of};
-ghost use Rattle.stored_documents.specs.Documents.{IsIdentifier};
 
 use crate::body::take_body;
 use crate::command::Outcome;
 use crate::text::put_slot_line;
 use cell_types::Refusal;
+use document_store::is_identifier;
 use host_ports::{Sink, Source};
 use std::alloc::Global;
-use stored_documents::MAX_IDENTIFIER_BYTES;
 use worm_device::Device;
 
 /// Stores the body that the source gives, in the first free slot, and acknowledges it.
@@ -32,13 +30,4 @@ pub fn ingest_body<D: Device, S: Source, K: Sink>(
     // No memory is taken any more: the document is sure.
     put_slot_line(sink, "acknowledged ", slot, "\n")?;
     Ok(())
-}
-
-/// Whether the bytes are an identifier: 1 to 200 of them, each a printing ASCII character and no space.
-fn is_identifier(bytes: &[u8]) -> bool
-    ensures { IsTrue result ↔ IsIdentifier bytes.now }
-{
-    !bytes.is_empty()
-        && bytes.len() <= MAX_IDENTIFIER_BYTES
-        && bytes.iter().all(|byte| byte.is_ascii_graphic())
 }

@@ -13,8 +13,10 @@
 
 mod body;
 mod command;
+mod find;
 mod format;
 mod ingest;
+mod lookup;
 mod recover;
 mod text;
 mod words;

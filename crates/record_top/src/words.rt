@@ -2,12 +2,17 @@
 ghost use Rattle.std.specs.Prelude.{◌≡◌, ◌≢◌, ◌<◌, ◌≤◌, ◌↔◌, ℕ, List, map, length, slice_index, IsTrue, IfSome, IfNone};
 ghost use Rattle.std.specs.String.{string_bytes};
 ghost use Rattle.record_top.specs.Commands.{Asks, AsksNothing, request_of};
+ghost use Rattle.record_top.specs.Finding.{AsksToFind};
 ghost use Rattle.record_top.specs.Formatting.{AsksToFormat};
 ghost use Rattle.record_top.specs.Ingesting.{AsksToIngest};
+ghost use Rattle.record_top.specs.LookingUp.{AsksToLookUp};
 ghost use Rattle.record_top.specs.Recovering.{AsksToRecover};
-ghost use Rattle.record_top.specs.Words.{IsNumberUpTo};
+ghost use Rattle.record_top.specs.Words.{IsNoOption, IsNumberUpTo};
 
 use cell_types::{MAX_LISTS, MAX_SLOTS};
+
+/// The greatest number of words that a `find` may have.
+pub const MAX_QUERY_WORDS: usize = 8;
 
 /// The greatest number of digits of a number.
 const MAX_DIGITS: usize = 10;
@@ -19,6 +24,10 @@ pub enum Command<'a> {
     Format { slots: u32, lists: u16 },
     /// Store a document by this name, which may be an identifier or not.
     Ingest { id: &'a [u8] },
+    /// Search the documents for 1 to 8 words, each of which may hold one term or not.
+    Find { words: &'a [String] },
+    /// Put out the document of this name, which may be an identifier or not.
+    LookUp { id: &'a [u8] },
     /// Settle the volume.
     Recover,
 }
@@ -32,6 +41,12 @@ pub fn command_of(words: &[String]) -> Option<Command<'_>>
         return Some(command);
     }
     if let Some(command) = ingest_of(words) {
+        return Some(command);
+    }
+    if let Some(command) = find_of(words) {
+        return Some(command);
+    }
+    if let Some(command) = look_up_of(words) {
         return Some(command);
     }
     recover_of(words)
@@ -65,10 +80,47 @@ fn ingest_of(words: &[String]) -> Option<Command<'_>>
         return None;
     };
     let id = id.as_bytes();
-    if command.as_str() != "ingest" || id.is_empty() || id[0] == b'-' {
+    if command.as_str() != "ingest" || is_option(id) {
         return None;
     }
     Some(Command::Ingest { id })
+}
+
+/// The command `find`, where the words are this and 1 to 8 others, none of which is empty or begins with a hyphen.
+fn find_of(words: &[String]) -> Option<Command<'_>>
+    ensures some { IfSome result (λ command. Asks (map string_bytes words.now) (request_of command)) }
+    ensures none { IfNone result ((asked : List (List ℕ)) → AsksToFind (map string_bytes words.now) asked → ⊥) }
+{
+    let (command, asked) = words.split_first()?;
+    if command.as_str() != "find" || asked.is_empty() || asked.len() > MAX_QUERY_WORDS {
+        return None;
+    }
+    if asked.iter().any(|word| is_option(word.as_bytes())) {
+        return None;
+    }
+    Some(Command::Find { words: asked })
+}
+
+/// The command `lookup`, where the words are this and one that is not empty and begins with no hyphen.
+fn look_up_of(words: &[String]) -> Option<Command<'_>>
+    ensures some { IfSome result (λ command. Asks (map string_bytes words.now) (request_of command)) }
+    ensures none { IfNone result ((id : List ℕ) → AsksToLookUp (map string_bytes words.now) id → ⊥) }
+{
+    let [command, id] = words else {
+        return None;
+    };
+    let id = id.as_bytes();
+    if command.as_str() != "lookup" || is_option(id) {
+        return None;
+    }
+    Some(Command::LookUp { id })
+}
+
+/// Whether the word is empty, or begins with a hyphen.
+fn is_option(word: &[u8]) -> bool
+    ensures { IsTrue result ↔ (IsNoOption word.now → ⊥) }
+{
+    word.is_empty() || word[0] == b'-'
 }
 
 /// The command `recover`, where the words are this alone.

@@ -3,6 +3,8 @@
 //!
 //!     worm volume.img format 8 2
 //!     worm volume.img ingest invoice-4711 < invoice.txt
+//!     worm volume.img find paid 4711
+//!     worm volume.img lookup invoice-4711 > invoice.txt
 //!     worm volume.img recover
 //!
 //! IMAGE is the path of a file that exists; a new device is a file of zeros. Where IMAGE is `-`, the device is one

@@ -1,0 +1,79 @@
+-- A document that was read in a slot that is done, from the look for its part on.
+use Rattle.std.proofs.Common.{◌≡◌, ◌<◌, ◌≤◌, ◌+◌, ◌*◌, ◌↔◌, ℕ, List, take, Some, Ok, Err, refl, sym, ap, ◌∙◌, subst, arith}
+use Rattle.std.specs.Prelude.{IsTrue, Bool}
+use Rattle.cell_types.specs.Layout.{Layout}
+use Rattle.cell_types.specs.Refusals.{refusal_of_fault}
+use Rattle.cell_types.specs.declared.refusal.Fault.{Fault}
+use Rattle.cell_types.specs.declared.refusal.Fault.TheVariants.{Tampered, ReadFault}
+use Rattle.stored_documents.specs.Slots.{cells_for}
+use Rattle.worm_device.specs.Views.{ViewState, Viewed}
+use Rattle.document_store.specs.Heads.{HasBody, id_of}
+use Rattle.document_store.specs.Looks.{HasStored, HoldsIdentifier, IdentifierEnds, IsPartOf, IsSame, LookFails, PartEnds, ReadEnds, ReadsOnce, ReadsTwice}
+use Rattle.document_store.specs.Standing.{HoldsDocument}
+use Rattle.document_store.specs.declared.head.Head.{Head}
+use Rattle.document_store.specs.declared.part.Part.{Part}
+use Rattle.document_store.proofs.Holding.{held_is_one, one_part, part_on, whole_is_held}
+use Rattle.document_store.proofs.Naming.{fails_from, told}
+
+-- a look that gave no answer, as a command refuses
+pub identifier_fails : (g : Layout) (n : ℕ) (old new : ViewState) (fault : Fault) → LookFails g n old new fault
+    → IdentifierEnds g n old new (Err (refusal_of_fault fault))
+identifier_fails g n old new (Tampered e) fails = fails
+identifier_fails g n old new ReadFault fails = fails
+
+module _ (g : Layout) (n : ℕ) (old mid new : ViewState) (part : Part) (before : Viewed old mid) (after : Viewed mid new)
+    (found : PartEnds g n old mid (Ok (Some part))) where
+  -- it is the part of the slot that it names
+  pub part_of_own : IsTrue mid.base.tells → IsPartOf g mid.image part.slot part
+  part_of_own tells = subst (λ (m : ℕ). IsPartOf g mid.image m part) (sym found.0)
+      (found.3 (subst IsTrue before.called.tells tells))
+
+  part_later : IsTrue old.base.tells → IsPartOf g new.image n part
+  part_later tells = part_on after.image (found.3 tells)
+
+  -- it has as many stored bytes as the slot states
+  pub bytes_are : IsTrue old.base.tells → (start reserved bytes journal : ℕ)
+      → Rattle.stored_documents.specs.Slots.IsDone g new.image n start reserved bytes journal → bytes ≡ part.bytes
+  bytes_are tells start reserved bytes journal done =
+      (one_part g new.image n part start reserved bytes journal (part_later tells) done).0
+
+  pub reads_once : mid.base.reads ≤ old.base.reads + 3
+      → new.base.reads ≤ mid.base.reads + cells_for part.bytes + 1 → ReadsOnce g n old new
+  reads_once first second tells start reserved bytes journal done =
+      let same = bytes_are tells start reserved bytes journal done in
+      omega (arith, first, second, ap cells_for same)
+
+  -- why its document was not read
+  pub read_fails : (fault : Fault) → LookFails g part.slot mid new fault → LookFails g n old new fault
+  read_fails fault fails =
+      fails_from g before after n found.2 fault (subst (λ (m : ℕ). LookFails g m mid new fault) found.0 fails)
+
+  module _ (h : Head) (has : HasBody new part.start part.bytes h) where
+    -- the slot holds the document that was read
+    pub read_holds : IsTrue old.base.tells → HoldsDocument g new.image n (id_of h) has.body
+    read_holds tells =
+        whole_is_held g new n part (id_of h) has.body (told after (told before tells)) (part_later tells) has.whole
+
+    pub has_stored : IsTrue old.base.tells
+        → HasStored g new.image n (record { identifier_length = h.id_length; body_length = h.body_length })
+    has_stored tells = record {
+      id = id_of h;
+      body = has.body;
+      holds = read_holds tells;
+      identifier_length = has.id_length;
+      body_length = sym has.is_length;
+    }
+
+    pub holds_identifier : (id : List ℕ) → id ≡ id_of h → IsTrue old.base.tells → HoldsIdentifier g new.image n id
+    holds_identifier id same tells = record {
+      body = has.body;
+      holds = subst (λ (i : List ℕ). HoldsDocument g new.image n i has.body) (sym same) (read_holds tells);
+    }
+
+    pub is_same : (id : List ℕ) (same : Bool) → (IsTrue same ↔ (id_of h ≡ id)) → IsTrue old.base.tells
+        → IsSame g new.image n id same
+    is_same id same says tells = record {
+      own = id_of h;
+      holds = holds_identifier (id_of h) refl tells;
+      says = says;
+    }

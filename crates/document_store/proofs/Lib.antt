@@ -1,0 +1,7 @@
+pub mod Checking
+pub mod Holding
+pub mod Naming
+pub mod Parsing
+pub mod PutSoFar
+pub mod SoFar
+pub mod Walking

@@ -1,0 +1,178 @@
+-- Looks at documents, seen from an earlier state on.
+use Rattle.std.proofs.Common.{◌≡◌, ◌<◌, ◌≤◌, ◌+◌, ◌*◌, ◌⊎◌, ℕ, List, Option, Some, None, Result, Ok, Err, refl, sym, ap, ◌∙◌, inl, inr, subst, ⊎_elim, arith}
+use Rattle.std.specs.Prelude.{IfSome, IsTrue}
+use Rattle.cell_types.specs.Image.{Image, Extends}
+use Rattle.cell_types.specs.Layout.{Layout, reserve_at, outcome_at, done_at}
+use Rattle.cell_types.specs.declared.refusal.Evidence.{Evidence}
+use Rattle.cell_types.specs.declared.refusal.Fault.{Fault}
+use Rattle.cell_types.specs.declared.refusal.Fault.TheVariants.{Tampered, ReadFault}
+use Rattle.stored_documents.specs.Slots.{IsDoneSlot, Reserves}
+use Rattle.stored_documents.proofs.Extending.{blank_before, unused_further, reserved_further, abandoned_further, committed_further, done_on, done_slot_on}
+use Rattle.tamper_rules.specs.Rules.{IsPlaceOf}
+use Rattle.tamper_rules.specs.Rules.{Documents}
+use Rattle.tamper_rules.specs.declared.numbers.TheConstants.{BROKEN_DOCUMENT}
+use Rattle.worm_device.specs.Counts.{Rose}
+use Rattle.worm_device.specs.Views.{ViewState, Viewed}
+use Rattle.worm_device.proofs.Counting.{still_second}
+use Rattle.worm_device.proofs.Images.{extends_self}
+use Rattle.commit_record.specs.States.{AsksBelow, IsNoState, IsOutOfPlace, IsState, Shows, done_abandoned, done_unended, done_unreserved, done_wrongly, ends_unreserved, ends_wrongly, reserves_none}
+use Rattle.commit_record.specs.declared.slot.SlotState.{SlotState}
+use Rattle.commit_record.specs.declared.slot.SlotState.TheVariants.{Unused, Reserved, Abandoned, Committed, Done}
+use Rattle.document_store.specs.Heads.{SpellsNone}
+use Rattle.document_store.specs.Looks.{AreRead, IsBrokenDocument, IsPartOf, IsRead, IsUndone, LookFails, Names, NoneBelow, PartEnds, held, of_document, of_state, undone}
+use Rattle.document_store.specs.Standing.{HoldsDocument}
+use Rattle.document_store.specs.declared.part.Part.{Part}
+use Rattle.document_store.proofs.Holding.{held_on, none_is_held, part_is_done, part_on}
+
+-- a state that was seen between two images was seen between any that lie further apart
+pub state_further : (g : Layout) {before before' after after' : Image} (n : ℕ) → Extends before' before
+    → Extends after after' → (state : SlotState) → IsState g before after n state → IsState g before' after' n state
+state_further g n e f Unused is = unused_further e f is
+state_further g n e f (Reserved start length) is = reserved_further e f is
+state_further g n e f (Abandoned start length) is = abandoned_further e f is
+state_further g n e f (Committed start length bytes journal) is = committed_further e f is
+state_further g n e f (Done start length bytes journal) is = done_on f is
+
+-- so is one that is not done
+pub undone_further : {g : Layout} {before before' after after' : Image} {n : ℕ} → Extends before' before
+    → Extends after after' → IsUndone g before after n → IsUndone g before' after' n
+undone_further {g} {before} {before'} {after} {after'} {n} e f u = record {
+  state = u.state;
+  is = state_further g n e f u.state u.is;
+  undone = λ d. u.undone (done_slot_on (extends_self before') e d);
+}
+
+-- and a slot that was read
+pub read_further : (g : Layout) (before before' after after' : Image) (n : ℕ) → Extends before' before
+    → Extends after after' → IsRead g before after n → IsRead g before' after' n
+read_further g before before' after after' n e f (undone u) = undone (undone_further e f u)
+read_further g before before' after after' n e f (held id body h) = held id body (held_on f h)
+
+-- cells that were no state were none from an earlier image on
+no_state_from : {g : Layout} {before before' after : Image} {n rule cell : ℕ} → Extends before' before
+    → IsNoState g before after n rule cell → IsNoState g before' after n rule cell
+no_state_from e (reserves_none r c never) = reserves_none r c never
+no_state_from e (ends_unreserved r c blank) = ends_unreserved r c (blank_before e blank)
+no_state_from e (ends_wrongly s l r c is never none) = ends_wrongly s l r c is never none
+no_state_from e (done_unreserved r c blank none) = done_unreserved r c (blank_before e blank) (blank_before e none)
+no_state_from e (done_unended s l r c is blank) = done_unended s l r c is (blank_before e blank)
+no_state_from e (done_abandoned s l r c is) = done_abandoned s l r c is
+no_state_from e (done_wrongly s l b j r c is never) = done_wrongly s l b j r c is never
+
+-- the device below goes on telling
+pub told : {old mid : ViewState} → Viewed old mid → IsTrue old.base.tells → IsTrue mid.base.tells
+told before tells = subst IsTrue (sym before.called.tells) tells
+
+-- cells that were asked for below go on being so
+asks_from : {old mid : ViewState} (n : ℕ) → Viewed old mid → AsksBelow n old → AsksBelow n mid
+asks_from n before a = record {
+  reserve = ap (λ (p : Image). p (reserve_at n)) before.planned ∙ a.reserve;
+  outcome = ap (λ (p : Image). p (outcome_at n)) before.planned ∙ a.outcome;
+  done = ap (λ (p : Image). p (done_at n)) before.planned ∙ a.done;
+  fresh = omega (arith, before.fresh, a.fresh);
+}
+
+module _ (g : Layout) {old mid new : ViewState} (before : Viewed old mid) (after : Viewed mid new) where
+  -- what evidence shows, from an earlier state on
+  shows_from : {image : Image} {e : Evidence} → Shows g mid new image e → Shows g old new image e
+  shows_from s = record {
+    stands = s.stands;
+    broken = λ still volume. s.broken (still_second before.called.foreign_writes after.called.foreign_writes still) volume;
+  }
+
+  -- what evidence of slot n says, from an earlier state on
+  pub names_from : (n : ℕ) {e : Evidence} → Names g n mid new e → Names g n old new e
+  names_from n (of_state out) = of_state (record {
+    seen = no_state_from before.image out.seen;
+    shown = shows_from out.shown;
+    below = λ asks. shows_from (out.below (asks_from n before asks));
+  })
+  names_from n (of_document broken) = of_document (record {
+    rule = broken.rule;
+    cell = broken.cell;
+    found = broken.found;
+    done = broken.done;
+    none = λ id body h. broken.none id body (held_on before.image h);
+  })
+
+  -- why a look at slot n gave no answer, from an earlier state on
+  pub fails_from : (n : ℕ) → mid.base.faults ≡ old.base.faults → (fault : Fault) → LookFails g n mid new fault
+      → LookFails g n old new fault
+  fails_from n same ReadFault fails = omega (arith, same, fails)
+  fails_from n same (Tampered e) fails =
+      (fails.0, fails.1 ∙ same, λ tells. names_from n (fails.2 (told before tells)))
+
+  -- how a look for slot n's part ended, from an earlier state on
+  pub part_from : (n : ℕ) → mid.base.faults ≡ old.base.faults → (result : Result (Option Part) Fault)
+      → PartEnds g n mid new result → PartEnds g n old new result
+  part_from n same (Ok (Some part)) ends = (ends.0, ends.1, ends.2 ∙ same, λ tells. ends.3 (told before tells))
+  part_from n same (Ok None) ends =
+      (ends.0 ∙ same, λ tells. undone_further before.image (extends_self new.image) (ends.1 (told before tells)))
+  part_from n same (Err fault) ends = fails_from n same fault ends
+
+-- the commit cell of a slot whose part holds no document
+pub names_commit : (g : Layout) (old new : ViewState) (part : Part) (e : Evidence) → Viewed old new
+    → IsPartOf g old.image part.slot part → SpellsNone old.image part.start part.bytes → e.rule ≡ BROKEN_DOCUMENT
+    → e.cell ≡ outcome_at part.slot → new.image e.cell ≡ Some e.found → Names g part.slot old new e
+names_commit g old new part e viewed is none rule cell found = of_document (record {
+  rule = rule;
+  cell = cell;
+  found = found;
+  done = part_is_done (part_on viewed.image is);
+  none = none_is_held g old.image part.slot part is none;
+})
+
+-- it is a place of its rule
+pub commit_is_place : (g : Layout) (n rule cell : ℕ) → n < g.slots → rule ≡ BROKEN_DOCUMENT → cell ≡ outcome_at n
+    → IsPlaceOf g rule cell
+commit_is_place g n rule cell less is at = (Documents, is, (n, less, at))
+
+-- a slot more
+pub are_read_more : (g : Layout) (before after : Image) (u : ℕ) → AreRead g before after u → IsRead g before after u
+    → AreRead g before after (u + 1)
+are_read_more g before after u are is n less = ⊎_elim
+    (λ (below : n < u). are n below)
+    (λ (here : n ≡ u). subst (λ (m : ℕ). IsRead g before after m) (sym here) is)
+    (below_or_at n u less)
+  where
+    below_or_at : (k n : ℕ) → k < n + 1 → (k < n) ⊎ (k ≡ n)
+    below_or_at k n h = grind arith
+
+-- slots that were read stay so
+pub are_read_further : (g : Layout) (before before' after after' : Image) (u : ℕ) → Extends before' before
+    → Extends after after' → AreRead g before after u → AreRead g before' after' u
+are_read_further g before before' after after' u e f are n less =
+    read_further g before before' after after' n e f (are n less)
+
+-- a slot more that holds no document with the identifier
+pub none_more : (g : Layout) (image : Image) (u : ℕ) (id : List ℕ) → NoneBelow g image u id
+    → ((body : List ℕ) → HoldsDocument g image u id body → ⊥) → NoneBelow g image (u + 1) id
+none_more g image u id none here n body less h = ⊎_elim
+    (λ (below : n < u). none n body below h)
+    (λ (at : n ≡ u). here body (subst (λ (m : ℕ). HoldsDocument g image m id body) at h))
+    (below_or_at n u less)
+  where
+    below_or_at : (k n : ℕ) → k < n + 1 → (k < n) ⊎ (k ≡ n)
+    below_or_at k n h = grind arith
+
+-- and what was read there stands there
+pub commit_stands : (g : Layout) (old new : ViewState) (part : Part) (e : Evidence) (at : ℕ)
+    (stands : Option (List ℕ)) → Viewed old new → IsPartOf g old.image part.slot part → at ≡ outcome_at part.slot
+    → e.cell ≡ outcome_at part.slot → stands ≡ new.image at → IfSome stands (λ found. e.found ≡ found)
+    → new.image e.cell ≡ Some e.found
+commit_stands g old new part e at (Some found) viewed is at_is cell_is read found_is =
+    ap new.image (cell_is ∙ sym at_is) ∙ sym read ∙ ap Some (sym found_is)
+commit_stands g old new part e at None viewed is at_is cell_is read found_is =
+    let outcome = is.done.commits.outcome in
+    absurd (none_some outcome.cell
+    (read ∙ ap new.image at_is ∙ viewed.image.keeps (outcome_at part.slot) outcome.cell outcome.stands))
+  where
+    none_some : (x : List ℕ) → None ≡ Some x → ⊥
+    none_some x e = cc
+
+-- a slot that was done is not seen undone
+pub not_undone : (g : Layout) (n : ℕ) (old new : ViewState) (e : Evidence) → n < g.slots
+    → (IsTrue old.base.tells → IsDoneSlot g old.image n) → PartEnds g n old new (Ok None) → e.rule ≡ BROKEN_DOCUMENT
+    → e.cell ≡ outcome_at n → LookFails g n old new (Tampered e)
+not_undone g n old new e less done ends rule cell =
+    (commit_is_place g n e.rule e.cell less rule cell, ends.0, λ tells. absurd ((ends.1 tells).undone (done tells)))

@@ -1,0 +1,17 @@
+-- A slot that was done is not seen undone, where the device below tells its image.
+use Rattle.std.proofs.Common.{◌≡◌, Option, Some, None, Ok, subst, sym}
+use Rattle.document_store.specs.Looks.{PartEnds}
+use Rattle.document_store.specs.declared.part.Part.{Part}
+use Rattle.document_store.proofs.Naming.{commit_is_place, not_undone}
+use Rattle.document_store.proofs.part.done_part.Goals as goal
+
+pub returns-in_default-clause-ends : goal.returns-in_default-clause-ends
+returns-in_default-clause-ends g c =
+    let layout = c.args.volume.now.geometry in
+    let old = g.V.View.seen c.args.view.now in
+    let new = g.V.View.seen c.slot_part.new.view in
+    let e = c.broken_document.result in
+    not_undone layout c.args.slot old new e c.requires.slot c.requires.done
+    (subst (λ (found : Option Part). PartEnds layout c.args.slot old new (Ok found)) c.in_default.is
+    c.in_ok-part.ensures.ends)
+    c.broken_document.ensures.rule c.broken_document.ensures.cell

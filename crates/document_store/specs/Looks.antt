@@ -1,0 +1,210 @@
+-- How looks at the documents of slots may end, and why. Slot n's cells are read one after another while somebody else
+-- may write: what a look found written stands in the later of two images, and what it found missing was so in the
+-- earlier one.
+use Rattle.std.specs.Prelude.{◌≡◌, ◌<◌, ◌≤◌, ◌+◌, ◌*◌, ◌⊎◌, ◌↔◌, ℕ, Bool, List, length, take, Option, Some, None, Result, Ok, Err, IsTrue}
+use Rattle.std.specs.Global.{Vec}
+use Rattle.cell_types.specs.Image.{Image}
+use Rattle.cell_types.specs.Layout.{Layout, outcome_at}
+use Rattle.cell_types.specs.declared.refusal.Evidence.{Evidence}
+use Rattle.cell_types.specs.declared.refusal.Fault.{Fault}
+use Rattle.cell_types.specs.declared.refusal.Fault.TheVariants as faults
+use Rattle.cell_types.specs.declared.refusal.Refusal.{Refusal}
+use Rattle.cell_types.specs.declared.refusal.Refusal.TheVariants as refusals
+use Rattle.stored_documents.specs.Documents.{document_at}
+use Rattle.stored_documents.specs.Slots.{IsDone, IsDoneSlot, cells_for}
+use Rattle.tamper_rules.specs.Rules.{IsPlaceOf}
+use Rattle.tamper_rules.specs.declared.numbers.TheConstants.{BROKEN_DOCUMENT}
+use Rattle.host_ports.specs.Sinks.{Gets, SinkState}
+use Rattle.worm_device.specs.Counts.{Rose}
+use Rattle.worm_device.specs.Views.{ViewState}
+use Rattle.commit_record.specs.States.{IsOutOfPlace, IsState}
+use Rattle.commit_record.specs.declared.slot.SlotState.{SlotState}
+use Rattle.document_store.specs.Heads.{HasBody}
+use Rattle.document_store.specs.Standing.{HoldsDocument}
+use Rattle.document_store.specs.declared.body.BodyFault.{BodyFault}
+use Rattle.document_store.specs.declared.body.BodyFault.TheVariants.{ReadFault, SinkFault, Tampered}
+use Rattle.document_store.specs.declared.checked.Stored.{Stored}
+use Rattle.document_store.specs.declared.head.Head.{Head}
+use Rattle.document_store.specs.declared.part.Part.{Part}
+
+-- Slot n is done in the later image, and in the earlier one it held no document: this is its commit cell.
+pub record IsBrokenDocument (g : Layout) (n : ℕ) (before after : Image) (e : Evidence) : Type 0 where
+  pub rule : e.rule ≡ BROKEN_DOCUMENT
+  pub cell : e.cell ≡ outcome_at n
+  pub found : after e.cell ≡ Some e.found
+  pub done : IsDoneSlot g after n
+  pub none : (id body : List ℕ) → HoldsDocument g before n id body → ⊥
+
+-- What evidence of a look at slot n says, where the device below tells its image.
+pub data Names (g : Layout) (n : ℕ) (old new : ViewState) (e : Evidence) : Type 0 where
+  -- the slot's cells were seen to be no state
+  of_state : IsOutOfPlace g n old new e → Names g n old new e
+  -- its document was seen to be broken
+  of_document : IsBrokenDocument g n old.image new.image e → Names g n old new e
+
+-- why a look at slot n gives no answer
+abbrev pub LookFails : Layout → ℕ → ViewState → ViewState → Fault → Type 0
+LookFails g n old new faults.ReadFault = Rose old.base.faults new.base.faults
+LookFails g n old new (faults.Tampered e) =
+    IsPlaceOf g e.rule e.cell × (new.base.faults ≡ old.base.faults) × (IsTrue old.base.tells → Names g n old new e)
+
+-- the same, as a command refuses
+abbrev pub LookRefuses : Layout → ℕ → ViewState → ViewState → Refusal → Type 0
+LookRefuses g n old new refusals.DeviceFault = LookFails g n old new faults.ReadFault
+LookRefuses g n old new (refusals.Tampered e) = LookFails g n old new (faults.Tampered e)
+LookRefuses g n old new refusal = ⊥
+
+-- slot n is done, and this is the part of its document
+pub record IsPartOf (g : Layout) (image : Image) (n : ℕ) (part : Part) : Type 0 where
+  pub first : ℕ
+  pub reserved : ℕ
+  pub journal : ℕ
+  pub done : IsDone g image n first reserved part.bytes journal
+  pub start_is : part.start ≡ document_at first reserved part.bytes journal
+
+-- slot n is in a state, as seen between two images, and it was not done
+pub record IsUndone (g : Layout) (before after : Image) (n : ℕ) : Type 0 where
+  pub state : SlotState
+  pub is : IsState g before after n state
+  pub undone : IsDoneSlot g before n → ⊥
+
+-- how a look for the document's part in slot n may end, and why: there is none exactly where the slot is not done
+abbrev pub PartEnds : Layout → ℕ → ViewState → ViewState → Result (Option Part) Fault → Type 0
+PartEnds g n old new (Ok (Some part)) =
+    (part.slot ≡ n) × (part.start + cells_for part.bytes ≤ g.cells) × (new.base.faults ≡ old.base.faults)
+    × (IsTrue old.base.tells → IsPartOf g new.image n part)
+PartEnds g n old new (Ok None) =
+    (new.base.faults ≡ old.base.faults) × (IsTrue old.base.tells → IsUndone g old.image new.image n)
+PartEnds g n old new (Err fault) = LookFails g n old new fault
+
+-- how a look for the document's part in a slot that is done may end, and why
+abbrev pub DonePartEnds : Layout → ℕ → ViewState → ViewState → Result Part Fault → Type 0
+DonePartEnds g n old new (Ok part) = PartEnds g n old new (Ok (Some part))
+DonePartEnds g n old new (Err fault) = LookFails g n old new fault
+
+-- how reading the document of a part may end, and why
+abbrev pub ReadEnds : Layout → Part → ViewState → ViewState → Result Head Fault → Type 0
+ReadEnds g part old new (Ok h) = (new.base.faults ≡ old.base.faults) × HasBody new part.start part.bytes h
+ReadEnds g part old new (Err fault) = LookFails g part.slot old new fault
+
+-- slot n holds a document, of whose identifier and body these are the numbers of bytes
+pub record HasStored (g : Layout) (image : Image) (n : ℕ) (stored : Stored) : Type 0 where
+  pub id : List ℕ
+  pub body : List ℕ
+  pub holds : HoldsDocument g image n id body
+  pub identifier_length : stored.identifier_length ≡ length id
+  pub body_length : stored.body_length ≡ length body
+
+-- how checking the document of slot n may end, and why
+abbrev pub CheckEnds : Layout → ℕ → ViewState → ViewState → Result Stored Fault → Type 0
+CheckEnds g n old new (Ok stored) =
+    (new.base.faults ≡ old.base.faults) × (IsTrue old.base.tells → HasStored g new.image n stored)
+CheckEnds g n old new (Err fault) = LookFails g n old new fault
+
+-- slot n holds a document with this identifier
+pub record HoldsIdentifier (g : Layout) (image : Image) (n : ℕ) (id : List ℕ) : Type 0 where
+  pub body : List ℕ
+  pub holds : HoldsDocument g image n id body
+
+-- how asking for the identifier of slot n's document may end, and why
+abbrev pub IdentifierEnds : Layout → ℕ → ViewState → ViewState → Result (Vec ℕ) Refusal → Type 0
+IdentifierEnds g n old new (Ok id) =
+    (new.base.faults ≡ old.base.faults) × (IsTrue old.base.tells → HoldsIdentifier g new.image n id.items)
+IdentifierEnds g n old new (Err refusals.NoMemory) = new.base.faults ≡ old.base.faults
+IdentifierEnds g n old new (Err refusal) = LookRefuses g n old new refusal
+
+-- the answer says whether this is the identifier of slot n's document
+pub record IsSame (g : Layout) (image : Image) (n : ℕ) (id : List ℕ) (same : Bool) : Type 0 where
+  pub own : List ℕ
+  pub holds : HoldsIdentifier g image n own
+  pub says : IsTrue same ↔ (own ≡ id)
+
+-- how asking whether slot n's document has an identifier may end, and why
+abbrev pub SameEnds : Layout → ℕ → List ℕ → ViewState → ViewState → Result Bool Fault → Type 0
+SameEnds g n id old new (Ok same) =
+    (new.base.faults ≡ old.base.faults) × (IsTrue old.base.tells → IsSame g new.image n id same)
+SameEnds g n id old new (Err fault) = LookFails g n old new fault
+
+-- slot n holds a document with this body
+pub record HoldsBody (g : Layout) (image : Image) (n : ℕ) (body : List ℕ) : Type 0 where
+  pub id : List ℕ
+  pub holds : HoldsDocument g image n id body
+
+-- The sink got a body of so many bytes behind what it held: that of slot n's document.
+pub record GotBody (g : Layout) (n bytes : ℕ) (new : ViewState) (from to : SinkState) : Type 0 where
+  pub body : List ℕ
+  pub length_is : bytes ≡ length body
+  pub gets : Gets from.held to.held body
+  pub holds : IsTrue new.base.tells → HoldsBody g new.image n body
+
+-- The sink got some first bytes of the body of slot n's document behind what it held.
+pub record GotPart (g : Layout) (n : ℕ) (new : ViewState) (from to : SinkState) : Type 0 where
+  pub body : List ℕ
+  pub count : ℕ
+  pub most : count ≤ length body
+  pub gets : Gets from.held to.held (take count body)
+  pub holds : IsTrue new.base.tells → HoldsBody g new.image n body
+
+-- How putting the body of slot n's document into a sink may end, and why. No byte goes out before the whole document was
+-- checked.
+abbrev pub BodyEnds : Layout → ℕ → ViewState → ViewState → SinkState → SinkState → Result ℕ BodyFault → Type 0
+BodyEnds g n old new from to (Ok bytes) =
+    (new.base.faults ≡ old.base.faults) × (to.faults ≡ from.faults) × GotBody g n bytes new from to
+BodyEnds g n old new from to (Err (Tampered e)) =
+    LookFails g n old new (faults.Tampered e) × (to.faults ≡ from.faults)
+    × ((to ≡ from) ⊎ GotPart g n new from to) × (IsTrue old.base.tells → to ≡ from)
+BodyEnds g n old new from to (Err ReadFault) =
+    Rose old.base.faults new.base.faults × (to.faults ≡ from.faults) × ((to ≡ from) ⊎ GotPart g n new from to)
+BodyEnds g n old new from to (Err SinkFault) =
+    (new.base.faults ≡ old.base.faults) × Rose from.faults to.faults × GotPart g n new from to
+
+-- a call read each cell of slot n's document once at most, and four cells besides
+abbrev pub ReadsOnce : Layout → ℕ → ViewState → ViewState → Type 0
+ReadsOnce g n old new =
+    IsTrue old.base.tells → (start reserved bytes journal : ℕ) → IsDone g new.image n start reserved bytes journal
+    → new.base.reads ≤ old.base.reads + cells_for bytes + 4
+
+-- or twice at most
+abbrev pub ReadsTwice : Layout → ℕ → ViewState → ViewState → Type 0
+ReadsTwice g n old new =
+    IsTrue old.base.tells → (start reserved bytes journal : ℕ) → IsDone g new.image n start reserved bytes journal
+    → new.base.reads ≤ old.base.reads + 2 * cells_for bytes + 4
+
+-- slot n was read between two images: it is in a state and not done, or it is done and holds a document
+pub data IsRead (g : Layout) (before after : Image) (n : ℕ) : Type 0 where
+  undone : IsUndone g before after n → IsRead g before after n
+  held : (id body : List ℕ) → HoldsDocument g after n id body → IsRead g before after n
+
+-- so was each slot below u
+abbrev pub AreRead : Layout → Image → Image → ℕ → Type 0
+AreRead g before after u = (n : ℕ) → n < u → IsRead g before after n
+
+-- no slot below u holds a document with this identifier
+abbrev pub NoneBelow : Layout → Image → ℕ → List ℕ → Type 0
+NoneBelow g image u id = (n : ℕ) (body : List ℕ) → n < u → HoldsDocument g image n id body → ⊥
+
+-- slot n is the first that holds a document with this identifier, and each slot before it was read
+pub record IsFirst (g : Layout) (before after : Image) (id : List ℕ) (n : ℕ) : Type 0 where
+  pub holds : HoldsIdentifier g after n id
+  pub none : NoneBelow g before n id
+  pub read : AreRead g before after n
+
+-- no slot below u holds such a document, and each was read
+pub record IsNoneBelow (g : Layout) (before after : Image) (u : ℕ) (id : List ℕ) : Type 0 where
+  pub none : NoneBelow g before u id
+  pub read : AreRead g before after u
+
+-- a look at one of the slots below u gives no answer
+pub record WalkFails (g : Layout) (u : ℕ) (old new : ViewState) (fault : Fault) : Type 0 where
+  pub n : ℕ
+  pub below : n < u
+  pub fails : LookFails g n old new fault
+
+-- How a walk along the slots below u, for the first document with an identifier, may end, and why.
+abbrev pub FirstEnds : Layout → ℕ → List ℕ → ViewState → ViewState → Result (Option ℕ) Fault → Type 0
+FirstEnds g u id old new (Ok (Some n)) =
+    (n < u) × (new.base.faults ≡ old.base.faults)
+    × (IsTrue old.base.tells → IsFirst g old.image new.image id n)
+FirstEnds g u id old new (Ok None) =
+    (new.base.faults ≡ old.base.faults) × (IsTrue old.base.tells → IsNoneBelow g old.image new.image u id)
+FirstEnds g u id old new (Err fault) = WalkFails g u old new fault

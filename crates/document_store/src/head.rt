@@ -1,0 +1,96 @@
+//! The stored bytes of a document: a length, the identifier, the body.
+ghost use Rattle.std.specs.Prelude.{◌≡◌, ◌≤◌, ◌+◌, []};
+ghost use Rattle.stored_documents.specs.Slots.{cells_for};
+ghost use Rattle.worm_device.specs.Views.{Viewed};
+ghost use Rattle.append_file.specs.Reading.{IsPosition, HasRead};
+ghost use Rattle.document_store.specs.Heads.{DocumentEnds, HeadEnds, IsHead, SkipEnds};
+
+use append_file::{ContentFault, Position, read_byte};
+use stored_documents::{MAX_BODY_BYTES, MAX_IDENTIFIER_BYTES};
+use worm_device::View;
+
+/// What stands before the body, and how many bytes the body has.
+#[derive(Clone, Copy, Debug, PartialEq, Eq)]
+pub struct Head {
+    /// The identifier, and zeros behind it.
+    pub id: [u8; MAX_IDENTIFIER_BYTES],
+    /// How many bytes it has, 1 to 200.
+    pub id_length: u8,
+    pub body_length: u32,
+}
+
+/// Reads what stands before the body, in a part of so many stored bytes from `start` on.
+pub fn read_head<V: View>(
+    view: &mut V,
+    start: u32,
+    bytes: u32,
+    position: &mut Position,
+) -> Result<Head, ContentFault>
+    requires begins { HasRead (V.seen view.old) start bytes position.old [] }
+    requires is { IsPosition position.old }
+    requires none { position.old.read ≡ 0 }
+    requires inside { start + cells_for bytes ≤ (V.seen view.old).cells }
+    ensures viewed { Viewed (V.seen view.old) (V.seen view.new) }
+    ensures is { IsPosition position.new }
+    ensures bytes { position.new.bytes ≡ bytes }
+    ensures reads { (V.seen view.new).base.reads ≤ (V.seen view.old).base.reads + position.new.read }
+    ensures ends { HeadEnds start bytes (V.seen view.old) (V.seen view.new) position.new result }
+{
+    let id_length = read_byte(view, position)?;
+    let before = 1 + u32::from(id_length);
+    if id_length == 0 || usize::from(id_length) > MAX_IDENTIFIER_BYTES || before > bytes {
+        return Err(ContentFault::Broken);
+    }
+    let body_length = bytes - before;
+    if body_length > MAX_BODY_BYTES as u32 {
+        return Err(ContentFault::Broken);
+    }
+    let mut id = [0; MAX_IDENTIFIER_BYTES];
+    for k in 0..usize::from(id_length) {
+        let byte = read_byte(view, position)?;
+        if !byte.is_ascii_graphic() {
+            return Err(ContentFault::Broken);
+        }
+        id[k] = byte;
+    }
+    Ok(Head {
+        id,
+        id_length,
+        body_length,
+    })
+}
+
+/// Reads the body behind a head.
+fn skip_body<V: View>(
+    view: &mut V,
+    start: u32,
+    bytes: u32,
+    position: &mut Position,
+    head: &Head,
+) -> Result<(), ContentFault>
+    requires head { IsHead (V.seen view.old) start bytes position.old head.now }
+    requires inside { start + cells_for bytes ≤ (V.seen view.old).cells }
+    ensures viewed { Viewed (V.seen view.old) (V.seen view.new) }
+    ensures is { IsPosition position.new }
+    ensures bytes { position.new.bytes ≡ bytes }
+    ensures reads { (V.seen view.new).base.reads + position.old.read ≤ (V.seen view.old).base.reads + position.new.read }
+    ensures ends { SkipEnds start bytes head.now (V.seen view.old) (V.seen view.new) result }
+{
+    for _ in 0..head.body_length {
+        read_byte(view, position)?;
+    }
+    Ok(())
+}
+
+/// Reads the whole document of a part of so many stored bytes from `start` on, each cell once.
+pub fn read_document<V: View>(view: &mut V, start: u32, bytes: u32) -> Result<Head, ContentFault>
+    requires { start + cells_for bytes ≤ (V.seen view.old).cells }
+    ensures viewed { Viewed (V.seen view.old) (V.seen view.new) }
+    ensures reads { (V.seen view.new).base.reads ≤ (V.seen view.old).base.reads + cells_for bytes }
+    ensures ends { DocumentEnds start bytes (V.seen view.old) (V.seen view.new) result }
+{
+    let mut position = Position::new(start, bytes);
+    let head = read_head(view, start, bytes, &mut position)?;
+    skip_body(view, start, bytes, &mut position, &head)?;
+    Ok(head)
+}

@@ -1,0 +1,65 @@
+//! Identifiers, and which one the document of a slot has.
+ghost use Rattle.std.specs.Prelude.{◌<◌, ◌≤◌, ◌↔◌, IsTrue};
+ghost use Rattle.stored_documents.specs.Documents.{IsIdentifier};
+ghost use Rattle.stored_documents.specs.Slots.{IsDoneSlot};
+ghost use Rattle.worm_device.specs.Views.{Viewed};
+ghost use Rattle.document_store.specs.Looks.{IdentifierEnds, ReadsOnce, SameEnds};
+
+use crate::part::{done_part, read_part};
+use cell_types::{Fault, Refusal, Volume};
+use std::alloc::Global;
+use stored_documents::MAX_IDENTIFIER_BYTES;
+use worm_device::View;
+
+/// Whether the bytes are an identifier: 1 to 200 of them, each a printing ASCII character and no space.
+pub fn is_identifier(bytes: &[u8]) -> bool
+    ensures { IsTrue result ↔ IsIdentifier bytes.now }
+{
+    !bytes.is_empty()
+        && bytes.len() <= MAX_IDENTIFIER_BYTES
+        && bytes.iter().all(|byte| byte.is_ascii_graphic())
+}
+
+/// The identifier of the document of a slot that is done. Reads each cell of the document once at most, and four cells
+/// besides.
+pub fn identifier_of<V: View>(
+    alloc: Global,
+    view: &mut V,
+    volume: &Volume,
+    slot: u32,
+) -> Result<Vec<u8>, Refusal>
+    requires slot { slot < volume.now.geometry.slots }
+    requires size { volume.now.geometry.cells ≤ (V.seen view.old).cells }
+    requires done { IsTrue (V.seen view.old).base.tells
+        → IsDoneSlot volume.now.geometry (V.seen view.old).image slot }
+    ensures viewed { Viewed (V.seen view.old) (V.seen view.new) }
+    ensures reads { ReadsOnce volume.now.geometry slot (V.seen view.old) (V.seen view.new) }
+    ensures ends { IdentifierEnds volume.now.geometry slot (V.seen view.old) (V.seen view.new) result }
+{
+    let part = done_part(view, volume, slot)?;
+    let head = read_part(view, &volume.geometry, &part)?;
+    let mut id = Vec::new(alloc);
+    id.extend_from_slice(&head.id[..usize::from(head.id_length)])?;
+    Ok(id)
+}
+
+/// Whether the document of a slot that is done has this identifier. Reads each cell of the document once at most, and
+/// four cells besides.
+pub fn same_identifier<V: View>(
+    view: &mut V,
+    volume: &Volume,
+    slot: u32,
+    id: &[u8],
+) -> Result<bool, Fault>
+    requires slot { slot < volume.now.geometry.slots }
+    requires size { volume.now.geometry.cells ≤ (V.seen view.old).cells }
+    requires done { IsTrue (V.seen view.old).base.tells
+        → IsDoneSlot volume.now.geometry (V.seen view.old).image slot }
+    ensures viewed { Viewed (V.seen view.old) (V.seen view.new) }
+    ensures reads { ReadsOnce volume.now.geometry slot (V.seen view.old) (V.seen view.new) }
+    ensures ends { SameEnds volume.now.geometry slot id.now (V.seen view.old) (V.seen view.new) result }
+{
+    let part = done_part(view, volume, slot)?;
+    let head = read_part(view, &volume.geometry, &part)?;
+    Ok(&head.id[..usize::from(head.id_length)] == id)
+}

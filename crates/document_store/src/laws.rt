@@ -1,0 +1,23 @@
+//! Laws: what the words of the contracts mean together, over all images.
+ghost use Rattle.document_store.specs.Laws.{ReadStays};
+ghost use Rattle.document_store.specs.Standing.{HeldIsOne, HeldIsStanding, HeldStays};
+
+/// A document that a slot holds stands, where cell 0 states the layout; and one that stands is held.
+pub fn held_is_standing()
+    ensures { HeldIsStanding }
+{}
+
+/// A document that is held goes on being held, whatever is written into blank cells.
+pub fn held_stays()
+    ensures { HeldStays }
+{}
+
+/// A slot holds one document.
+pub fn held_is_one()
+    ensures { HeldIsOne }
+{}
+
+/// A slot that was read between two images was read between any that lie further apart.
+pub fn read_stays()
+    ensures { ReadStays }
+{}

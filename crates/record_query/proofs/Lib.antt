@@ -1,0 +1,5 @@
+pub mod Bodies
+pub mod Borrowed
+pub mod Searched
+pub mod FoundSoFar
+pub mod Matched

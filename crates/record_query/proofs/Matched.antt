@@ -1,0 +1,103 @@
+-- A match in a slot, and none.
+use Rattle.std.proofs.Common.{◌≡◌, ◌<◌, ◌≤◌, ◌+◌, ℕ, List, length, Some, None, Option, Result, Ok, Err, refl, sym, ◌∙◌, subst, arith}
+use Rattle.std.specs.Prelude.{IsTrue}
+use Rattle.cell_types.specs.Image.{Image}
+use Rattle.cell_types.specs.Layout.{Layout}
+use Rattle.cell_types.specs.Refusals.{refusal_of_fault}
+use Rattle.cell_types.specs.declared.refusal.Fault.{Fault}
+use Rattle.cell_types.specs.declared.refusal.Fault.TheVariants as faults
+use Rattle.cell_types.specs.declared.refusal.Refusal.{Refusal}
+use Rattle.cell_types.specs.declared.refusal.Refusal.TheVariants.{DeviceFault, NoMemory, Tampered}
+use Rattle.stored_documents.specs.Documents.{stored_bytes}
+use Rattle.stored_documents.specs.Slots.{IsDoneSlot}
+use Rattle.stored_documents.specs.Words.{Matches}
+use Rattle.worm_device.specs.State.{DeviceState}
+use Rattle.worm_device.specs.Views.{ViewState, Viewed, seen_directly}
+use Rattle.worm_device.proofs.Images.{extends_self}
+use Rattle.word_reader.specs.declared.matcher.Matcher.{Matcher}
+use Rattle.document_store.specs.Heads.{id_of}
+use Rattle.document_store.specs.Looks.{IsPartOf, IsUndone, LookFails, LookRefuses, PartEnds, held, undone}
+use Rattle.document_store.specs.Standing.{HoldsDocument}
+use Rattle.document_store.specs.declared.head.Head.{Head}
+use Rattle.document_store.specs.declared.part.Part.{Part}
+use Rattle.record_query.specs.Matching.{HasNoMatch, IsMatchIn, IsMatcherOf, ReadMatch, ReadOther, SlotEnds}
+use Rattle.record_query.specs.declared.found.Match.{Match}
+use Rattle.record_query.proofs.Borrowed.{fails_from, held_is_one, held_on, part_on, read_further, whole_is_held}
+
+-- a slot that holds a document is done
+done_of_held : {g : Layout} {image : Image} {n : ℕ} {id body : List ℕ} → HoldsDocument g image n id body
+    → IsDoneSlot g image n
+done_of_held {g} {image} {n} {id} {body} h = record {
+  start = h.start;
+  length = h.reserved;
+  bytes = length (stored_bytes id body);
+  journal = h.journal;
+  done = h.done;
+}
+
+-- a slot that is not done has no match
+pub undone_matches_none : {g : Layout} {before after : Image} {n : ℕ} (terms : List (List ℕ))
+    → IsUndone g before after n → HasNoMatch g before after n terms
+undone_matches_none terms u = record { read = undone u; none = λ id body h matches. u.undone (done_of_held h) }
+
+-- a fault of a look, as a command refuses
+pub refused : (g : Layout) (n : ℕ) (terms : List (List ℕ)) (old new : ViewState) (fault : Fault)
+    → LookFails g n old new fault → SlotEnds g n terms old new (Err (refusal_of_fault fault))
+refused g n terms old new (faults.Tampered e) fails = fails
+refused g n terms old new faults.ReadFault fails = fails
+
+-- a look for a part that found none, or failed
+pub no_part : (g : Layout) (n : ℕ) (terms : List (List ℕ)) (old new : ViewState) → PartEnds g n old new (Ok None)
+    → SlotEnds g n terms old new (Ok None)
+no_part g n terms old new ends = (ends.0, λ tells. undone_matches_none terms (ends.1 tells))
+
+module _ (g : Layout) (n : ℕ) (terms : List (List ℕ)) {old mid new : ViewState} (before : Viewed old mid)
+    (after : Viewed mid new) (same : mid.base.faults ≡ old.base.faults) where
+  told : IsTrue old.base.tells → IsTrue mid.base.tells
+  told tells = subst IsTrue (sym before.called.tells) tells
+
+  -- what a look found, seen from an earlier state on
+  pub ends_from : (result : Result (Option Match) Refusal) → SlotEnds g n terms mid new result
+      → SlotEnds g n terms old new result
+  ends_from (Ok (Some found)) ends = (ends.0 ∙ same, λ tells. ends.1 (told tells))
+  ends_from (Ok None) ends = (ends.0 ∙ same, λ tells.
+      let h = ends.1 (told tells) in record {
+        read = read_further g mid.image old.image new.image new.image n before.image (extends_self new.image) h.read;
+        none = λ id body was. h.none id body (held_on before.image was);
+      })
+  ends_from (Err NoMemory) ends = ends ∙ same
+  ends_from (Err DeviceFault) ends = fails_from g before after n same faults.ReadFault ends
+  ends_from (Err (Tampered e)) ends = fails_from g before after n same (faults.Tampered e) ends
+  ends_from (Err refusal) ends = absurd ends
+
+-- what was read in a part, after it was found
+module _ (g : Layout) (part : Part) (terms : List (List ℕ)) (m : Matcher) (was : IsMatcherOf terms m)
+    {old new : ViewState} (viewed : Viewed old new) (same : new.base.faults ≡ old.base.faults)
+    (is : IsTrue old.base.tells → IsPartOf g old.image part.slot part) where
+  holds : IsTrue old.base.tells → IsPartOf g new.image part.slot part
+  holds tells = part_on viewed.image (is tells)
+
+  now_tells : IsTrue old.base.tells → IsTrue new.base.tells
+  now_tells tells = subst IsTrue (sym viewed.called.tells) tells
+
+  pub found_match : (h : Head) (found : Match) → ReadMatch new part.start part.bytes m h → found.slot ≡ part.slot
+      → found.identifier ≡ id_of h → found.bytes ≡ h.body_length
+      → SlotEnds g part.slot terms old new (Ok (Some found))
+  found_match h found read slot_is id_is bytes_is = (same, λ tells. record {
+    body = read.has.body;
+    slot_is = slot_is;
+    holds = subst (λ (id : List ℕ). HoldsDocument g new.image part.slot id read.has.body) (sym id_is)
+        (whole_is_held g new part.slot part (id_of h) read.has.body (now_tells tells) (holds tells) read.has.whole);
+    bytes_is = bytes_is ∙ sym read.has.is_length;
+    matches = read.matches terms was;
+  })
+
+  pub no_match : ReadOther new part.start part.bytes m → SlotEnds g part.slot terms old new (Ok None)
+  no_match read = (same, λ tells.
+      let here = whole_is_held g new part.slot part read.id read.body (now_tells tells) (holds tells) read.whole in
+      record {
+        read = held read.id read.body here;
+        none = λ id body before matches.
+            let one = held_is_one g new.image part.slot id body read.id read.body (held_on viewed.image before) here in
+            read.differs terms was (subst (λ (b : List ℕ). Matches b terms) one.1 matches);
+      })

@@ -1,0 +1,8 @@
+-- So many bytes of the body were read, and pushed.
+use Rattle.record_query.proofs.Bodies.{MatchSoFar}
+use Rattle.record_query.proofs.matching.match_body.Given as goal
+
+abbrev pub invariant-loop-count : goal.invariant-loop-count
+invariant-loop-count g l =
+    MatchSoFar (g.V.View.seen l.fn.view) (g.V.View.seen l.view) l.start l.bytes l.fn.position l.position l.head
+    l.fn.matcher l.matcher l._count

@@ -1,0 +1,44 @@
+-- The head, and then the body.
+use Rattle.std.proofs.Common.{◌≡◌, false, true, [], sym, ◌∙◌}
+use Rattle.worm_device.proofs.Resting.{viewed_then}
+use Rattle.document_store.specs.Heads.{id_of}
+use Rattle.record_query.proofs.matching.seek.Goals as goal
+
+-- a document with the terms
+pub returns-then-matched-clause-viewed : goal.returns-then-matched-clause-viewed
+returns-then-matched-clause-viewed g c =
+    viewed_then c.in_ok-head.ensures.viewed c.in_ok-matched.ensures.viewed
+
+pub returns-then-matched-clause-ends : goal.returns-then-matched-clause-ends
+returns-then-matched-clause-ends g c =
+    let ends = c.in_ok-matched.ensures.ends in
+    (ends.0 ∙ c.in_ok-head.ensures.ends.0, record {
+      has = ends.1.has;
+      matches = λ terms was. (ends.1.says terms (c.clear.ensures terms was.bytes was.pushed)).0 c.if-matched.true;
+    })
+
+true_or : false ≡ true → ⊥
+true_or e = cc
+
+-- a document without them
+pub returns-clause-viewed : goal.returns-clause-viewed
+returns-clause-viewed g c = viewed_then c.in_ok-head.ensures.viewed c.in_ok-matched.ensures.viewed
+
+pub returns-clause-matcher : goal.returns-clause-matcher
+returns-clause-matcher g c = λ terms was.
+    c.in_ok-matched.ensures.matcher terms (record { bytes = []; pushed = c.clear.ensures terms was.bytes was.pushed })
+
+pub returns-clause-ends : goal.returns-clause-ends
+returns-clause-ends g c =
+    let ends = c.in_ok-matched.ensures.ends in
+    (ends.0 ∙ c.in_ok-head.ensures.ends.0, record {
+      id = id_of c.in_ok-head.head;
+      body = ends.1.has.body;
+      whole = ends.1.has.whole;
+      differs = λ terms was matches. true_or (sym c.if-matched.false
+          ∙ (ends.1.says terms (c.clear.ensures terms was.bytes was.pushed)).1 matches);
+    })
+
+-- until document_store is proved
+pub read_head-requires-clause-hole : goal.read_head-requires-clause-hole
+read_head-requires-clause-hole g c = ?

@@ -1,0 +1,4 @@
+pub mod Below
+pub mod Finding
+pub mod LookingUp
+pub mod Matching

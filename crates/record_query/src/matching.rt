@@ -1,0 +1,124 @@
+//! The document of one slot, read once while words are sought in it.
+ghost use Rattle.std.specs.Prelude.{◌≡◌, ◌<◌, ◌≤◌, ◌+◌, [], ℕ, List, IfOk, IsTrue, take, length};
+ghost use Rattle.stored_documents.specs.Slots.{cells_for};
+ghost use Rattle.worm_device.specs.Views.{Viewed};
+ghost use Rattle.append_file.specs.Reading.{IsPosition};
+ghost use Rattle.document_store.specs.Heads.{IsHead, id_of};
+ghost use Rattle.document_store.specs.Looks.{IsPartOf};
+ghost use Rattle.record_query.specs.Matching.{IsMatcherOf, KeepsTerms, MatchEnds, SeekEnds, SlotEnds};
+
+use crate::found::{Match, Text};
+use cell_types::{Geometry, Refusal, Volume};
+use document_store::{ContentFault, Head, Part, Position, name_commit, read_byte, read_head, slot_part};
+use std::alloc::{AllocError, Global};
+use word_reader::Matcher;
+use worm_device::View;
+
+/// The match in a slot, if it is done and its document has each term of the matcher.
+pub(crate) fn match_in<V: View>(
+    alloc: Global,
+    view: &mut V,
+    volume: &Volume,
+    slot: u32,
+    matcher: &mut Matcher,
+) -> Result<Option<Match>, Refusal>
+    requires slot { slot < volume.now.geometry.slots }
+    requires size { volume.now.geometry.cells ≤ (V.seen view.old).cells }
+    ensures viewed { Viewed (V.seen view.old) (V.seen view.new) }
+    ensures matcher { KeepsTerms matcher.old matcher.new }
+    ensures ends { (terms : List (List ℕ)) → IsMatcherOf terms matcher.old
+        → SlotEnds volume.now.geometry slot terms (V.seen view.old) (V.seen view.new) result }
+{
+    let Some(part) = slot_part(view, volume, slot)? else {
+        return Ok(None);
+    };
+    match_part(alloc, view, &volume.geometry, &part, matcher)
+}
+
+/// The match in the part of a slot's document, if it has each term of the matcher.
+fn match_part<V: View>(
+    alloc: Global,
+    view: &mut V,
+    geometry: &Geometry,
+    part: &Part,
+    matcher: &mut Matcher,
+) -> Result<Option<Match>, Refusal>
+    requires slot { part.now.slot < geometry.now.slots }
+    requires size { geometry.now.cells ≤ (V.seen view.old).cells }
+    requires inside { part.now.start + cells_for part.now.bytes ≤ geometry.now.cells }
+    requires part { IsTrue (V.seen view.old).base.tells
+        → IsPartOf geometry.now (V.seen view.old).image part.now.slot part.now }
+    ensures viewed { Viewed (V.seen view.old) (V.seen view.new) }
+    ensures matcher { KeepsTerms matcher.old matcher.new }
+    ensures ends { (terms : List (List ℕ)) → IsMatcherOf terms matcher.old
+        → SlotEnds geometry.now part.now.slot terms (V.seen view.old) (V.seen view.new) result }
+{
+    let found = match seek(view, part.start, part.bytes, matcher) {
+        Ok(found) => found,
+        Err(ContentFault::ReadFault) => return Err(Refusal::DeviceFault),
+        Err(ContentFault::Broken) => return Err(Refusal::from(name_commit(view, geometry, part))),
+    };
+    let Some(head) = found else {
+        return Ok(None);
+    };
+    let identifier = identifier_of_head(alloc, &head)?;
+    Ok(Some(Match {
+        slot: part.slot,
+        identifier,
+        bytes: head.body_length,
+    }))
+}
+
+/// The identifier of a document, by its head.
+fn identifier_of_head(alloc: Global, head: &Head) -> Result<Text, AllocError>
+    requires { head.now.id_length ≤ length head.now.id }
+    ensures { IfOk result (λ text. text ≡ id_of head.now) }
+{
+    let mut bytes = Vec::new(alloc);
+    bytes.extend_from_slice(&head.id[..usize::from(head.id_length)])?;
+    Ok(Text::new(bytes))
+}
+
+/// Reads a document, each cell of it once, and answers its head where each term of the matcher is among its words.
+fn seek<V: View>(
+    view: &mut V,
+    start: u32,
+    bytes: u32,
+    matcher: &mut Matcher,
+) -> Result<Option<Head>, ContentFault>
+    requires { start + cells_for bytes ≤ (V.seen view.old).cells }
+    ensures viewed { Viewed (V.seen view.old) (V.seen view.new) }
+    ensures matcher { KeepsTerms matcher.old matcher.new }
+    ensures ends { SeekEnds start bytes (V.seen view.old) (V.seen view.new) matcher.old result }
+{
+    // It holds the words of the document before.
+    matcher.clear();
+    let mut position = Position::new(start, bytes);
+    let head = read_head(view, start, bytes, &mut position)?;
+    let matched = match_body(view, start, bytes, &mut position, &head, matcher)?;
+    if matched {
+        return Ok(Some(head));
+    }
+    Ok(None)
+}
+
+/// Reads the body behind a head, and answers whether each term of the matcher is among its words.
+fn match_body<V: View>(
+    view: &mut V,
+    start: u32,
+    bytes: u32,
+    position: &mut Position,
+    head: &Head,
+    matcher: &mut Matcher,
+) -> Result<bool, ContentFault>
+    requires head { IsHead (V.seen view.old) start bytes position.old head.now }
+    requires inside { start + cells_for bytes ≤ (V.seen view.old).cells }
+    ensures viewed { Viewed (V.seen view.old) (V.seen view.new) }
+    ensures matcher { KeepsTerms matcher.old matcher.new }
+    ensures ends { MatchEnds start bytes head.now (V.seen view.old) (V.seen view.new) matcher.old result }
+{
+    for _count in 0..head.body_length {
+        matcher.push(read_byte(view, position)?);
+    }
+    Ok(matcher.finish())
+}

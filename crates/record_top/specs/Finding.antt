@@ -1,0 +1,88 @@
+-- The command `find`: it searches the documents of the volume for words, and puts out which have them all.
+use Rattle.std.specs.Prelude.{◌≡◌, ◌<◌, ◌≤◌, ◌+◌, ◌-◌, ◌++◌, ℕ, List, [], ◌∷◌, codes, length, slice_get, Contains, Some, Result, Ok, Err, ⊤}
+use Rattle.std.specs.Fmt.{decimal}
+use Rattle.std.specs.Global.{Vec}
+use Rattle.cell_types.specs.Layout.{Layout}
+use Rattle.cell_types.specs.declared.refusal.Refusal.{Refusal}
+use Rattle.cell_types.specs.declared.refusal.Refusal.TheVariants.{BadWord, NoMemory}
+use Rattle.stored_documents.specs.Words.{AreWords}
+use Rattle.worm_device.specs.Counts.{IsStill}
+use Rattle.slot_walk.specs.Walks.{IsQueryRule}
+use Rattle.record_query.specs.Finding.{Searches}
+use Rattle.record_query.specs.declared.found.Match.{Match}
+use Rattle.record_top.specs.Ports.{Ports, TellsFromMemory}
+use Rattle.record_top.specs.WholeLogs.{HasWholeLog}
+use Rattle.record_top.specs.Words.{IsNoOption}
+use Rattle.record_top.specs.declared.words.TheConstants.{MAX_QUERY_WORDS}
+
+-- the words are `find` and 1 to 8 others
+pub record AsksToFind (words asked : List (List ℕ)) : Type 0 where
+  pub asked_is : words ≡ codes "find" ∷ asked
+  pub some : 1 ≤ length asked
+  pub most : length asked ≤ MAX_QUERY_WORDS
+  pub each : (word : List ℕ) → Contains asked word → IsNoOption word
+
+-- the word holds this term, and no other
+abbrev pub IsOneTerm : List ℕ → List ℕ → Type 0
+IsOneTerm word term = AreWords word (term ∷ [])
+
+-- the word holds exactly one term
+pub record HasOneTerm (word : List ℕ) : Type 0 where
+  pub term : List ℕ
+  pub is : IsOneTerm word term
+
+-- the word of number i, from 1, is the first that does not hold exactly one term
+pub record IsFirstBadWord (asked : List (List ℕ)) (i : ℕ) : Type 0 where
+  pub word : List ℕ
+  pub from : 1 ≤ i
+  pub at : slice_get asked (i - 1) ≡ Some word
+  pub bad : HasOneTerm word → ⊥
+  pub before : (j : ℕ) (other : List ℕ) → j + 1 < i → slice_get asked j ≡ Some other → HasOneTerm other
+
+-- the terms are those of the words
+pub record AreTermsOf (asked terms : List (List ℕ)) : Type 0 where
+  pub all : (word : List ℕ) → Contains asked word → (term : List ℕ) × IsOneTerm word term × Contains terms term
+  pub only : (term : List ℕ) → Contains terms term → (word : List ℕ) × Contains asked word × IsOneTerm word term
+
+-- how reading the terms of the words may end, and why
+abbrev pub TermsEnd : List (List ℕ) → Result (Vec (List ℕ)) Refusal → Type 0
+TermsEnd asked (Ok terms) = AreTermsOf asked terms.items
+TermsEnd asked (Err (BadWord i)) = IsFirstBadWord asked i
+TermsEnd asked (Err NoMemory) = ⊤
+TermsEnd asked (Err refusal) = ⊥
+
+-- the line that tells of a match: its slot, its identifier, and how many bytes its body has
+abbrev pub match_line : Match → List ℕ
+match_line m =
+    decimal m.slot ++ (codes " " ++ (m.identifier ++ (codes " " ++ (decimal m.bytes ++ codes "\n"))))
+
+-- the lines that tell of matches
+abbrev pub match_lines : List Match → List ℕ
+match_lines [] = []
+match_lines (m ∷ matches) = match_line m ++ match_lines matches
+
+-- the text that tells of what was found: a line a match, and how many they are
+abbrev pub find_text : List Match → List ℕ
+find_text matches = match_lines matches ++ (decimal (length matches) ++ codes " found\n")
+
+-- the same of the engine's answer
+abbrev pub found_text : Vec Match → List ℕ
+found_text matches = find_text matches.items
+
+-- What the command does, by how far it comes.
+pub data DoesFind (asked : List (List ℕ)) (old new : Ports) (result : Result Unit Refusal) : Type 0 where
+  -- a word does not hold exactly one term, and nothing is done
+  misworded : (i : ℕ) → IsFirstBadWord asked i → result ≡ Err (BadWord i) → new ≡ old → DoesFind asked old new result
+  -- no memory was to be had for the terms, and nothing is done
+  unread : result ≡ Err NoMemory → new ≡ old → DoesFind asked old new result
+  -- The documents are searched for the terms of the words, as the engine says, and its answer is told. The text is made
+  -- before its first byte goes out.
+  searched : (terms : List (List ℕ)) (answer : Result (Vec Match) Refusal) → AreTermsOf asked terms
+      → Searches terms old.device new.device answer → new.source ≡ old.source
+      → TellsFromMemory found_text answer old new result → DoesFind asked old new result
+
+-- all is as the command wants it: each word holds exactly one term
+pub record IsReadyToFind (asked : List (List ℕ)) (g : Layout) (old new : Ports) : Type 0 where
+  pub words : (word : List ℕ) → Contains asked word → HasOneTerm word
+  pub log : HasWholeLog IsQueryRule g old.device new.device
+  pub no_sink_fault : IsStill old.sink.faults new.sink.faults

@@ -1,0 +1,86 @@
+//! The command `find`.
+ghost use Rattle.std.specs.Prelude.{◌≡◌, ◌≤◌, ◌++◌, length, map, IfOk, OnOk};
+ghost use Rattle.std.specs.String.{string_bytes};
+ghost use Rattle.record_top.specs.Finding.{DoesFind, TermsEnd, find_text, match_line};
+ghost use Rattle.record_top.specs.Ports.{ports_of};
+ghost use Rattle.record_top.specs.declared.words.TheConstants.{MAX_QUERY_WORDS};
+
+use crate::command::Outcome;
+use crate::text::put_text;
+use cell_types::Refusal;
+use host_ports::{Sink, Source};
+use itoa::Buffer;
+use record_query::{Match, find};
+use std::alloc::{AllocError, Global};
+use word_reader::{Term, WordFault, single_term};
+use worm_device::Device;
+
+/// Searches the documents for the words, and puts out which have them all. The text is made before its first byte goes out.
+pub fn find_documents<D: Device, S: Source, K: Sink>(
+    alloc: Global,
+    words: &[String],
+    device: &mut D,
+    source: &mut S,
+    sink: &mut K,
+) -> Outcome
+    requires most { length words.now ≤ MAX_QUERY_WORDS }
+    ensures { DoesFind (map string_bytes words.now)
+        (ports_of (D.state device.old) (S.state source.old) (K.state sink.old))
+        (ports_of (D.state device.new) (S.state source.new) (K.state sink.new)) result }
+{
+    let terms = terms_of(alloc, words)?;
+    let matches = find(alloc, device, &terms)?;
+    let text = text_of(alloc, &matches)?;
+    put_text(sink, &text)?;
+    Ok(())
+}
+
+/// The terms of the words, each once. `BadWord` names the first word, from 1, that does not hold exactly one.
+fn terms_of(alloc: Global, words: &[String]) -> Result<Vec<Term>, Refusal>
+    requires { length words.now ≤ MAX_QUERY_WORDS }
+    ensures { TermsEnd (map string_bytes words.now) result }
+{
+    let mut terms: Vec<Term> = Vec::new(alloc);
+    let mut number = 0;
+    for word in words {
+        number += 1;
+        let term = match single_term(alloc, word.as_bytes()) {
+            Ok(term) => term,
+            Err(WordFault::BadWord) => return Err(Refusal::BadWord(number)),
+            Err(WordFault::NoMemory) => return Err(Refusal::NoMemory),
+        };
+        if terms.iter().all(|other| other.bytes() != term.bytes()) {
+            let Ok(()) = terms.push(term) else {
+                return Err(Refusal::NoMemory);
+            };
+        }
+    }
+    Ok(terms)
+}
+
+/// The text that tells of the matches.
+fn text_of(alloc: Global, matches: &[Match]) -> Result<Vec<u8>, AllocError>
+    ensures { IfOk result (λ text. text.items ≡ find_text matches.now) }
+{
+    let mut text = Vec::new(alloc);
+    for found in matches {
+        push_line(&mut text, found)?;
+    }
+    let mut digits = Buffer::new();
+    text.extend_from_slice(digits.format(matches.len()).as_bytes())?;
+    text.extend_from_slice(b" found\n")?;
+    Ok(text)
+}
+
+/// Puts the line that tells of a match behind the text.
+fn push_line(text: &mut Vec<u8>, found: &Match) -> Result<(), AllocError>
+    ensures { OnOk result (text.new.items ≡ text.old.items ++ match_line found.now) }
+{
+    let mut digits = Buffer::new();
+    text.extend_from_slice(digits.format(found.slot).as_bytes())?;
+    text.extend_from_slice(b" ")?;
+    text.extend_from_slice(found.identifier.bytes())?;
+    text.extend_from_slice(b" ")?;
+    text.extend_from_slice(digits.format(found.bytes).as_bytes())?;
+    text.extend_from_slice(b"\n")
+}
