@@ -4,7 +4,9 @@ ghost use Rattle.cell_types.specs.declared.geometry.TheConstants.{MAX_CELLS};
 
 use cell_types::{Cell, Evidence, Refusal};
 use record_top::run;
-use row_volumes::{Document, State, document_of_slot, outcome_of, sink, source_of, state_of_slot, words_of};
+use row_volumes::{
+    Document, State, document_of_slot, outcome_of, sink, source_of, state_of_slot, words_of,
+};
 use std::alloc::Global;
 use std::test::Fail;
 use stored_documents::{MAX_BODY_BYTES, MAX_IDENTIFIER_BYTES};
@@ -135,7 +137,7 @@ fn what_was_written_decodes_to_the_documents(rt: HostRuntime) -> Result<(), Fail
     let alloc = rt.alloc();
     let documents = [
         ("a", ""),
-        ("a", "hello world"),
+        ("b", "hello world"),
         ("ab", "hello there!"),
         (
             "2024-03-07/0001",
