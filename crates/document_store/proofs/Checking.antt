@@ -43,6 +43,11 @@ module _ (g : Layout) (n : ℕ) (old mid new : ViewState) (part : Part) (before 
       let same = bytes_are tells start reserved bytes journal done in
       omega (arith, first, second, ap cells_for same)
 
+  pub reads_twice : new.base.reads ≤ old.base.reads + 2 * cells_for part.bytes + 4 → ReadsTwice g n old new
+  reads_twice most tells start reserved bytes journal done =
+      let same = bytes_are tells start reserved bytes journal done in
+      omega (arith, most, ap cells_for same)
+
   -- why its document was not read
   pub read_fails : (fault : Fault) → LookFails g part.slot mid new fault → LookFails g n old new fault
   read_fails fault fails =

@@ -95,7 +95,7 @@ pub one_part : (g : Layout) (image : Image) (n : ℕ) (part : Part) (start reser
     → (bytes ≡ part.bytes) × (part.start ≡ document_at start reserved bytes journal)
 one_part g image n part start reserved bytes journal is done =
     let place = reserves _ _ _ _ (one_record_holds image (reserve_at n) _ _ done.commits.reserves.reserve
-        is.done.commits.reserves.reserve) in
+    is.done.commits.reserves.reserve) in
     let sizes = commits _ _ _ _ (one_record_holds image (outcome_at n) _ _ done.commits.outcome is.done.commits.outcome) in
     let at : document_at is.first is.reserved part.bytes is.journal ≡ document_at start reserved bytes journal = cc in
     (sizes.0, is.start_is ∙ at)
@@ -152,9 +152,9 @@ one_stored a b c d e =
     let count : length a ≡ length c = ap (λ (l : List ℕ). slice_index l 0) e in
     let rest : a ++ b ≡ c ++ d = ap (drop 1) e in (
       sym (take-append_seam a b) ∙ ap (take (length a)) rest ∙ ap (λ (n : ℕ). take n (c ++ d)) count
-      ∙ take-append_seam c d,
+          ∙ take-append_seam c d,
       sym (drop-append_seam a b) ∙ ap (drop (length a)) rest ∙ ap (λ (n : ℕ). drop n (c ++ d)) count
-      ∙ drop-append_seam c d,
+          ∙ drop-append_seam c d,
     )
 
 -- a part holds one document
@@ -171,10 +171,10 @@ pub held_is_one : (g : Layout) (image : Image) (n : ℕ) (a b c d : List ℕ) �
     → HoldsDocument g image n c d → (a ≡ c) × (b ≡ d)
 held_is_one g image n a b c d p q =
     let place = reserves _ _ _ _ (one_record_holds image (reserve_at n) _ _ p.done.commits.reserves.reserve
-        q.done.commits.reserves.reserve) in
+    q.done.commits.reserves.reserve) in
     let sizes = commits _ _ _ _ (one_record_holds image (outcome_at n) _ _ p.done.commits.outcome q.done.commits.outcome) in
     let at : document_at q.start q.reserved (length (stored_bytes c d)) q.journal
-        ≡ document_at p.start p.reserved (length (stored_bytes a b)) p.journal = cc in
+    ≡ document_at p.start p.reserved (length (stored_bytes a b)) p.journal = cc in
     one_stored a b c d
     (spelled_once image (document_at p.start p.reserved (length (stored_bytes a b)) p.journal) (stored_bytes a b)
     (stored_bytes c d) sizes.0 (stored_fits a b p.is_identifier p.is_body) (stored_fits c d q.is_identifier q.is_body)

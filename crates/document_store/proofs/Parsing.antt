@@ -86,7 +86,7 @@ module _ (v : ViewState) (start bytes : ℕ) (p : Position) (tells : IsTrue v.ba
       let e = first_is n (front ++ b ∷ []) h d in
       let i = length front in
       let at : slice_index (n ∷ (front ++ b ∷ [])) (suc i) ≡ slice_index (stored_bytes d.id d.body) (suc i) =
-          at_front (n ∷ (front ++ b ∷ [])) h d (suc i) (omega (arith, length-append front (b ∷ []))) in
+      at_front (n ∷ (front ++ b ∷ [])) h d (suc i) (omega (arith, length-append front (b ∷ []))) in
       let inside : i < length d.id = omega (arith, less, e) in
       let same : b ≡ slice_index d.id i = sym (get_or-append_seam front b [] 0) ∙ at ∙ get_or-append d.id d.body 0 i inside in
       let range = d.is_identifier.each i inside in

@@ -2,7 +2,7 @@
 use Rattle.std.proofs.Common.{◌≡◌, ◌<◌, ◌≤◌, ◌+◌, ◌-◌, min, ℕ, List, [], ◌∷◌, ◌++◌, length, take, drop, Ok, Err, refl, sym, ap, ◌∙◌, subst, arith}
 use Rattle.std.proofs.Math.ListN.{set}
 use Rattle.std.proofs.Math.Seq.{take-append_seam, drop-append_seam, take-append-add}
-use Rattle.std.proofs.lemmas.List.{append_assoc, append-nil, length-append, length-set, length-take, length-take-le, take_all, take_more_set, take-take}
+use Rattle.std.proofs.lemmas.List.{append_assoc, append-nil, length-append, length-drop, length-set, length-take, length-take-le, take_all, take_more_set, take-take}
 use Rattle.std.specs.Prelude.{IsTrue}
 use Rattle.stored_documents.specs.Documents.{stored_bytes}
 use Rattle.host_ports.specs.Sinks.{Gets, PutsPart, SinkState}
@@ -72,19 +72,25 @@ module _ (old now new : ViewState) (p q r : Position) (size k : ℕ) (piece : Li
   -- the next one was not read
   pub fill_fails : (fault : ContentFault) → k < size → ByteEnds now new q r (Err fault)
       → FillEnds old new p r piece (Err fault)
-  fill_fails contents.Broken less ends = (ends.0 ∙ so_far.faults, λ s b given h room tells.
-      let count : length (take k piece) ≡ k = length-take-le k piece (omega (arith, less, so_far.size_is)) in
-      ends.1 s b (given ++ take k piece) (so_far.read s b given h)
-      (omega (arith, count, less, room, so_far.size_is, length-append given (take k piece)))
-      (subst IsTrue (sym so_far.viewed.called.tells) tells))
+  fill_fails contents.Broken less ends = (
+    ends.0 ∙ so_far.faults,
+    λ s b given h room tells.
+        let count : length (take k piece) ≡ k = length-take-le k piece (omega (arith, less, so_far.size_is)) in
+        ends.1 s b (given ++ take k piece) (so_far.read s b given h)
+        (omega (arith, count, less, room, so_far.size_is, length-append given (take k piece)))
+        (subst IsTrue (sym so_far.viewed.called.tells) tells),
+  )
   fill_fails contents.ReadFault less ends = omega (arith, so_far.faults, ends)
 
 -- all of them were
 pub fill_whole : (old now : ViewState) (p q : Position) (size k : ℕ) (piece : List ℕ)
     → FillSoFar old now p q size k piece → size ≤ k → FillEnds old now p q piece (Ok tt)
-fill_whole old now p q size k piece so_far most = (so_far.faults, λ s b given h.
-    subst (λ (l : List ℕ). HasRead now s b q (given ++ l)) (take_all k piece (omega (arith, most, so_far.size_is)))
-    (so_far.read s b given h))
+fill_whole old now p q size k piece so_far most = (
+  so_far.faults,
+  λ s b given h.
+      subst (λ (l : List ℕ). HasRead now s b q (given ++ l)) (take_all k piece (omega (arith, most, so_far.size_is)))
+      (so_far.read s b given h),
+)
 
 -- what was read of a body is a front of that of each document that the part holds
 pub body_front : (v : ViewState) (start bytes : ℕ) (p : Position) (h : Head) (got id body : List ℕ)
@@ -95,15 +101,15 @@ body_front v start bytes p h got id body read tells w =
     let d = whole_document v start bytes id body tells w in
     let n : length mine ≡ length id = first_is v start bytes p tells (length mine) (mine ++ got) read d in
     let whole : stored_bytes mine got ≡ take (length (stored_bytes mine got)) (stored_bytes id body) =
-        front_of v start bytes p (stored_bytes mine got) read tells (stored_bytes id body) w.count
-        (stored_fits id body w.identifier (w.told tells).0) (w.told tells).1 in
+    front_of v start bytes p (stored_bytes mine got) read tells (stored_bytes id body) w.count
+    (stored_fits id body w.identifier (w.told tells).0) (w.told tells).1 in
     let rest : mine ++ got ≡ take (length (mine ++ got)) (id ++ body) = ap (drop 1) whole in
     let count : length (mine ++ got) ≡ length id + length got =
-        length-append mine got ∙ ap (λ (m : ℕ). m + length got) n in
+    length-append mine got ∙ ap (λ (m : ℕ). m + length got) n in
     let same : got ≡ take (length got) body =
-        sym (drop-append_seam mine got) ∙ ap (drop (length mine)) (rest ∙ ap (λ (m : ℕ). take m (id ++ body)) count)
-        ∙ ap (λ (m : ℕ). drop m (take (length id + length got) (id ++ body))) n
-        ∙ ap (drop (length id)) (take-append-add id body (length got)) ∙ drop-append_seam id (take (length got) body) in
+    sym (drop-append_seam mine got) ∙ ap (drop (length mine)) (rest ∙ ap (λ (m : ℕ). take m (id ++ body)) count)
+    ∙ ap (λ (m : ℕ). drop m (take (length id + length got) (id ++ body))) n
+    ∙ ap (drop (length id)) (take-append-add id body (length got)) ∙ drop-append_seam id (take (length got) body) in
     (same, omega (arith, ap length same, length-take (length got) body))
 
 -- so many bytes of a body were read and put
@@ -152,11 +158,16 @@ module _ (old now new : ViewState) (start bytes : ℕ) (p q r : Position) (h : H
   -- a piece was not read
   pub piece_fails : (fault : ContentFault) → k + length piece ≤ h.body_length → FillEnds now new q r piece (Err fault)
       → PutFails start bytes old new from mid (put_fault_of fault)
-  piece_fails contents.Broken room ends = (ends.0 ∙ so_far.read.faults, so_far.faults, got_before, λ tells.
-      none_broken new.image start bytes
-      (ends.1 start bytes (stored_bytes (id_of h) so_far.read.body) so_far.read.read
-      (omega (arith, room, head.count, so_far.read.is_length, length-append (id_of h) so_far.read.body))
-      (subst IsTrue (sym so_far.read.viewed.called.tells) tells)))
+  piece_fails contents.Broken room ends = (
+    ends.0 ∙ so_far.read.faults,
+    so_far.faults,
+    got_before,
+    λ tells.
+        none_broken new.image start bytes
+        (ends.1 start bytes (stored_bytes (id_of h) so_far.read.body) so_far.read.read
+        (omega (arith, room, head.count, so_far.read.is_length, length-append (id_of h) so_far.read.body))
+        (subst IsTrue (sym so_far.read.viewed.called.tells) tells)),
+  )
   piece_fails contents.ReadFault room ends = (omega (arith, so_far.read.faults, ends), so_far.faults, got_before)
 
   module _ (is : IsPosition r) (reads : new.base.reads + q.read ≤ now.base.reads + r.read)
@@ -182,17 +193,21 @@ module _ (old now new : ViewState) (start bytes : ℕ) (p q r : Position) (h : H
         let n = puts.gets.0 in
         let got = xs ++ take n piece in
         let count : length got ≡ length xs + n =
-            length-append xs (take n piece) ∙ ap (λ (m : ℕ). length xs + m) (length-take-le n piece puts.gets.1) in
-        let less : length got ≤ length (xs ++ piece) = omega (arith, count, puts.gets.1, length-append xs piece) in
-        (ends.0 ∙ so_far.read.faults, subst (λ (faults : ℕ). Rose faults to.faults) so_far.faults puts.faults, record {
-          got = got;
-          gets = gets_then from.held mid.held to.held xs (take n piece) so_far.gets puts.gets.2;
-          front = λ id body tells w.
-              let all = body_front new start bytes r h (xs ++ piece) id body more.read tells w in
-              (sym (take-append-add xs piece n) ∙ ap (λ (m : ℕ). take m (xs ++ piece)) (sym count)
-              ∙ ap (take (length got)) all.0 ∙ take-take (length got) (length (xs ++ piece)) body less,
-              omega (arith, less, all.1));
-        })
+        length-append xs (take n piece) ∙ ap (λ (m : ℕ). length xs + m) (length-take-le n piece puts.gets.1) in
+        let less : length got ≤ length (xs ++ piece) = omega (arith, count, puts.gets.1, length-append xs piece) in (
+          ends.0 ∙ so_far.read.faults,
+          subst (λ (faults : ℕ). Rose faults to.faults) so_far.faults puts.faults,
+          record {
+            got = got;
+            gets = gets_then from.held mid.held to.held xs (take n piece) so_far.gets puts.gets.2;
+            front = λ id body tells w.
+                let all = body_front new start bytes r h (xs ++ piece) id body more.read tells w in (
+                  sym (take-append-add xs piece n) ∙ ap (λ (m : ℕ). take m (xs ++ piece)) (sym count)
+                      ∙ ap (take (length got)) all.0 ∙ take-take (length got) (length (xs ++ piece)) body less,
+                  omega (arith, less, all.1),
+                );
+          },
+        )
 
 -- the whole body was put
 pub put_whole : (old now : ViewState) (start bytes : ℕ) (p q : Position) (h : Head) (from to : SinkState) (k : ℕ)
@@ -200,11 +215,14 @@ pub put_whole : (old now : ViewState) (start bytes : ℕ) (p q : Position) (h : 
     → PutRestEnds start bytes h old now from to (Ok tt)
 put_whole old now start bytes p q h from to k head so_far all =
     let at_end : k ≡ h.body_length = omega (arith, all, so_far.most) in
-    let whole = subst (PutSoFar old now start bytes p q h from to) at_end so_far in
-    (so_far.read.faults, so_far.faults, record {
-      has = body_whole old now start bytes p q h head whole.read;
-      gets = whole.gets;
-    })
+    let whole = subst (PutSoFar old now start bytes p q h from to) at_end so_far in (
+      so_far.read.faults,
+      so_far.faults,
+      record {
+        has = body_whole old now start bytes p q h head whole.read;
+        gets = whole.gets;
+      },
+    )
 
 -- why a body was not put, from an earlier state on
 pub put_fails_from : (start bytes : ℕ) (old mid new : ViewState) (from to : SinkState) (fault : PutFault)
@@ -221,10 +239,25 @@ put_fails_from start bytes old mid new from to SinkFault before same fails =
 pub put_ends : (start bytes : ℕ) (old mid new : ViewState) (h : Head) (from to : SinkState)
     → mid.base.faults ≡ old.base.faults → PutRestEnds start bytes h mid new from to (Ok tt)
     → PutEnds start bytes old new from to (Ok h.body_length)
-put_ends start bytes old mid new h from to same ends = (ends.0 ∙ same, ends.1, record {
-  id = id_of h;
-  body = ends.2.has.body;
-  whole = ends.2.has.whole;
-  count_is = sym ends.2.has.is_length;
-  gets = ends.2.gets;
-})
+put_ends start bytes old mid new h from to same ends = (
+  ends.0 ∙ same,
+  ends.1,
+  record {
+    id = id_of h;
+    body = ends.2.has.body;
+    whole = ends.2.has.whole;
+    count_is = sym ends.2.has.is_length;
+    gets = ends.2.gets;
+  },
+)
+
+-- a piece in the front of a buffer of so many bytes
+pub piece_size : (count size : ℕ) (buffer piece : List ℕ) → length buffer ≡ size → count ≤ size
+    → length piece ≡ length (take count buffer) → length piece ≡ count
+piece_size count size buffer piece room less same = same ∙ length-take-le count buffer (omega (arith, less, room))
+
+-- the buffer stays as long
+pub buffer_size : (count size : ℕ) (buffer piece : List ℕ) → length buffer ≡ size → count ≤ size
+    → length piece ≡ count → length (piece ++ drop count buffer) ≡ size
+buffer_size count size buffer piece room less same =
+    omega (arith, room, less, same, length-append piece (drop count buffer), length-drop count buffer)

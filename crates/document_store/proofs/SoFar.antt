@@ -34,10 +34,13 @@ fault_on start bytes old now new p q given ReadFault before same h less ends =
 -- the first read failed
 pub fault_first : (start bytes : ℕ) (old new : ViewState) (p q : Position) (fault : ContentFault)
     → HasRead old start bytes p [] → ByteEnds old new p q (Err fault) → FaultEnds start bytes old new fault
-fault_first start bytes old new p q Broken h ends = (ends.0, λ tells. elim (cases_lt 0 bytes) [
-  | inl some ↦ none_broken new.image start bytes (ends.1 start bytes [] h some tells)
-  | inr none ↦ λ d. absurd (omega (arith, none, d.count))
-])
+fault_first start bytes old new p q Broken h ends = (
+  ends.0,
+  λ tells. elim (cases_lt 0 bytes) [
+    | inl some ↦ none_broken new.image start bytes (ends.1 start bytes [] h some tells)
+    | inr none ↦ λ d. absurd (omega (arith, none, d.count))
+  ],
+)
 fault_first start bytes old new p q ReadFault h ends = ends
 
 -- a fault after a row of reads that did not fail
@@ -73,7 +76,7 @@ abbrev pub body_whole : (old now : ViewState) (start bytes : ℕ) (p q : Positio
 body_whole old now start bytes p q h head so_far =
     let id = id_of h in
     let count : bytes ≡ length (stored_bytes id so_far.body) =
-        omega (arith, head.count, so_far.is_length, length-append id so_far.body) in
+    omega (arith, head.count, so_far.is_length, length-append id so_far.body) in
     record {
       body = so_far.body;
       is_length = so_far.is_length;

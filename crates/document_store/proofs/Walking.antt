@@ -63,43 +63,47 @@ module _ (g : Layout) (k u : ℕ) (id : List ℕ) (old now mid : ViewState) (so_
       }
 
   module _ (new : ViewState) (part : Part) (ends : PartEnds g k now mid (Ok (Some part))) (after : Viewed mid new)
-      where
-    -- it is, and its part was found
-    found : PartEnds g k old mid (Ok (Some part))
-    found = part_from g so_far.viewed looked k so_far.faults (Ok (Some part)) ends
+    where
+      -- it is, and its part was found
+      found : PartEnds g k old mid (Ok (Some part))
+      found = part_from g so_far.viewed looked k so_far.faults (Ok (Some part)) ends
 
-    pub walk_breaks : k < u → (fault : Fault) → LookFails g part.slot mid new fault → WalkFails g u old new fault
-    walk_breaks less fault fails = record {
-      n = k;
-      below = less;
-      fails = read_fails g k old mid new part (viewed_then so_far.viewed looked) after found fault fails;
-    }
-
-    module _ (h : Head) (same : new.base.faults ≡ mid.base.faults) (has : HasBody new part.start part.bytes h) where
-      holds : IsTrue old.base.tells → HoldsDocument g new.image k (id_of h) has.body
-      holds = read_holds g k old mid new part (viewed_then so_far.viewed looked) after found h has
-
-      later : IsTrue old.base.tells → AreRead g old.image new.image k
-      later tells = are_read_further g old.image old.image now.image new.image k (extends_self old.image)
-          (extends_then looked.image after.image) (so_far.read tells)
-
-      -- its document has the identifier
-      pub walk_finds : k < u → id_of h ≡ id → FirstEnds g u id old new (Ok (Some k))
-      walk_finds less is = (less, same ∙ found.2, λ tells. record {
-        holds = holds_identifier g k old mid new part (viewed_then so_far.viewed looked) after found h has id (sym is)
-            tells;
-        none = so_far.none tells;
-        read = later tells;
-      })
-
-      -- or another one
-      pub walk_goes_on : (id_of h ≡ id → ⊥) → WalkSoFar g (k + 1) id old new
-      walk_goes_on differs = record {
-        viewed = viewed_then so_far.viewed (viewed_then looked after);
-        faults = same ∙ found.2;
-        none = λ tells. none_more g old.image k id (so_far.none tells)
-            (λ body there. differs
-            (held_is_one g new.image k (id_of h) has.body id body (holds tells)
-            (held_on (extends_then so_far.viewed.image (extends_then looked.image after.image)) there)).0);
-        read = λ tells. are_read_more g old.image new.image k (later tells) (held (id_of h) has.body (holds tells));
+      pub walk_breaks : k < u → (fault : Fault) → LookFails g part.slot mid new fault → WalkFails g u old new fault
+      walk_breaks less fault fails = record {
+        n = k;
+        below = less;
+        fails = read_fails g k old mid new part (viewed_then so_far.viewed looked) after found fault fails;
       }
+
+      module _ (h : Head) (same : new.base.faults ≡ mid.base.faults) (has : HasBody new part.start part.bytes h) where
+        holds : IsTrue old.base.tells → HoldsDocument g new.image k (id_of h) has.body
+        holds = read_holds g k old mid new part (viewed_then so_far.viewed looked) after found h has
+
+        later : IsTrue old.base.tells → AreRead g old.image new.image k
+        later tells = are_read_further g old.image old.image now.image new.image k (extends_self old.image)
+            (extends_then looked.image after.image) (so_far.read tells)
+
+        -- its document has the identifier
+        pub walk_finds : k < u → id_of h ≡ id → FirstEnds g u id old new (Ok (Some k))
+        walk_finds less is = (
+          less,
+          same ∙ found.2,
+          λ tells. record {
+            holds = holds_identifier g k old mid new part (viewed_then so_far.viewed looked) after found h has id (sym is)
+                tells;
+            none = so_far.none tells;
+            read = later tells;
+          },
+        )
+
+        -- or another one
+        pub walk_goes_on : (id_of h ≡ id → ⊥) → WalkSoFar g (k + 1) id old new
+        walk_goes_on differs = record {
+          viewed = viewed_then so_far.viewed (viewed_then looked after);
+          faults = same ∙ found.2;
+          none = λ tells. none_more g old.image k id (so_far.none tells)
+              (λ body there. differs
+              (held_is_one g new.image k (id_of h) has.body id body (holds tells)
+              (held_on (extends_then so_far.viewed.image (extends_then looked.image after.image)) there)).0);
+          read = λ tells. are_read_more g old.image new.image k (later tells) (held (id_of h) has.body (holds tells));
+        }

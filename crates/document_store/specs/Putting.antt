@@ -34,7 +34,7 @@ FillEnds old new p q piece (Ok u) =
 FillEnds old new p q piece (Err contents.Broken) =
     (new.base.faults ≡ old.base.faults)
     × ((start bytes : ℕ) (given : List ℕ) → HasRead old start bytes p given → length given + length piece ≤ bytes
-        → IsTrue old.base.tells → HasBroken new.image start bytes)
+    → IsTrue old.base.tells → HasBroken new.image start bytes)
 FillEnds old new p q piece (Err contents.ReadFault) = Rose old.base.faults new.base.faults
 
 -- The sink got some bytes behind what it held: the first of the body of each document that the part holds.

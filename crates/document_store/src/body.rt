@@ -53,7 +53,7 @@ pub fn body_into<V: View, K: Sink>(
 {
     let part = done_part(view, volume, slot)?;
     // Nothing goes out before the whole document was read.
-    let _head = read_part(view, &volume.geometry, &part)?;
+    let _checked = read_part(view, &volume.geometry, &part)?;
     match put_document(view, part.start, part.bytes, sink) {
         Ok(bytes) => Ok(bytes),
         Err(PutFault::Broken) => Err(BodyFault::from(name_commit(view, &volume.geometry, &part))),

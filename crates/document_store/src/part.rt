@@ -118,11 +118,7 @@ pub(crate) fn done_part<V: View>(view: &mut V, volume: &Volume, slot: u32) -> Re
 {
     let Some(part) = slot_part(view, volume, slot)? else {
         // A view that tells what it shows has the done cell that was seen before.
-        return Err(Fault::Tampered(broken_document(
-            &volume.geometry,
-            slot,
-            None,
-        )));
+        return Err(Fault::Tampered(broken_document(&volume.geometry, slot, None)));
     };
     Ok(part)
 }

@@ -88,11 +88,7 @@ fn put_body<V: View, K: Sink>(
 }
 
 /// Reads as many bytes of a part as the slice has.
-fn fill<V: View>(
-    view: &mut V,
-    position: &mut Position,
-    into: &mut [u8],
-) -> Result<(), ContentFault>
+fn fill<V: View>(view: &mut V, position: &mut Position, into: &mut [u8]) -> Result<(), ContentFault>
     requires is { IsPosition position.old }
     requires inside { position.old.start + cells_for position.old.bytes ≤ (V.seen view.old).cells }
     ensures is { IsPosition position.new }

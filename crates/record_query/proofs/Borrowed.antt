@@ -210,9 +210,9 @@ one_stored a b c d e =
     let count : length a ≡ length c = ap (λ (l : List ℕ). slice_index l 0) e in
     let rest : a ++ b ≡ c ++ d = ap (drop 1) e in (
       sym (take-append_seam a b) ∙ ap (take (length a)) rest ∙ ap (λ (n : ℕ). take n (c ++ d)) count
-      ∙ take-append_seam c d,
+          ∙ take-append_seam c d,
       sym (drop-append_seam a b) ∙ ap (drop (length a)) rest ∙ ap (λ (n : ℕ). drop n (c ++ d)) count
-      ∙ drop-append_seam c d,
+          ∙ drop-append_seam c d,
     )
 
 -- a slot holds one document
@@ -220,32 +220,16 @@ pub held_is_one : (g : Layout) (image : Image) (n : ℕ) (a b c d : List ℕ) �
     → HoldsDocument g image n c d → (a ≡ c) × (b ≡ d)
 held_is_one g image n a b c d p q =
     let place = reserves _ _ _ _ (one_record_holds image (reserve_at n) _ _ p.done.commits.reserves.reserve
-        q.done.commits.reserves.reserve) in
+    q.done.commits.reserves.reserve) in
     let sizes = commits _ _ _ _ (one_record_holds image (outcome_at n) _ _ p.done.commits.outcome q.done.commits.outcome) in
     let at : document_at q.start q.reserved (length (stored_bytes c d)) q.journal
-        ≡ document_at p.start p.reserved (length (stored_bytes a b)) p.journal = cc in
+    ≡ document_at p.start p.reserved (length (stored_bytes a b)) p.journal = cc in
     one_stored a b c d
     (spelled_once image (document_at p.start p.reserved (length (stored_bytes a b)) p.journal) (stored_bytes a b)
     (stored_bytes c d) sizes.0 (stored_fits a b p.is_identifier p.is_body) (stored_fits c d q.is_identifier q.is_body)
     p.spells (subst (λ (s : ℕ). Spells image s (stored_bytes c d)) at q.spells))
 
--- a document that is held stands, on a volume of this layout
-pub held_stands : (g : Layout) (cells : ℕ) (image : Image) (n : ℕ) (id body : List ℕ) → IsVolume cells image g
-    → HoldsDocument g image n id body → Stands cells image n id body
-held_stands g cells image n id body volume h = record {
-  layout = g;
-  start = h.start;
-  reserved = h.reserved;
-  journal = h.journal;
-  volume = volume;
-  slot = h.done.commits.reserves.slot;
-  done = h.done;
-  spells = h.spells;
-  is_identifier = h.is_identifier;
-  is_body = h.is_body;
-}
-
--- and one that stands is held
+-- a document that stands is held, on a volume of this layout
 pub stands_held : (g : Layout) (cells : ℕ) (image : Image) (n : ℕ) (id body : List ℕ) → IsVolume cells image g
     → Stands cells image n id body → HoldsDocument g image n id body
 stands_held g cells image n id body volume s = record {
@@ -294,7 +278,7 @@ abbrev pub body_whole : (old now : ViewState) (start bytes : ℕ) (p q : Positio
 body_whole old now start bytes p q h head so_far =
     let id = id_of h in
     let count : bytes ≡ length (stored_bytes id so_far.body) =
-        omega (arith, head.count, so_far.is_length, length-append id so_far.body) in
+    omega (arith, head.count, so_far.is_length, length-append id so_far.body) in
     record {
       body = so_far.body;
       is_length = so_far.is_length;

@@ -67,7 +67,7 @@ module _ (g : Layout) (k : ℕ) (terms : List (List ℕ)) (old now new : Image) 
     all = λ n id body less was has. ⊎_elim
         (λ (before : n < k). so_far.all n id body before was has)
         (λ (here : n ≡ k). absurd (h.none id body
-            (held_on grows (subst (λ (i : ℕ). HoldsDocument g old i id body) here was)) has))
+        (held_on grows (subst (λ (i : ℕ). HoldsDocument g old i id body) here was)) has))
         (below_or_at n k less);
     only = match_on;
     rise = so_far.rise;
@@ -80,24 +80,24 @@ module _ (g : Layout) (k : ℕ) (terms : List (List ℕ)) (old now new : Image) 
   found_one_more one is = record {
     all = λ n id body less was has. ⊎_elim
         (λ (before : n < k).
-            let h = so_far.all n id body before was has in
-            record {
-              found = h.found;
-              among = Contains-append_left matches (one ∷ []) h.found h.among;
-              slot_is = h.slot_is;
-              identifier_is = h.identifier_is;
-              bytes_is = h.bytes_is;
-            })
+        let h = so_far.all n id body before was has in
+        record {
+          found = h.found;
+          among = Contains-append_left matches (one ∷ []) h.found h.among;
+          slot_is = h.slot_is;
+          identifier_is = h.identifier_is;
+          bytes_is = h.bytes_is;
+        })
         (λ (here : n ≡ k).
-            let there = held_on (extends_then grows goes) (subst (λ (i : ℕ). HoldsDocument g old i id body) here was) in
-            let same = held_is_one g new k one.identifier is.body id body is.holds there in
-            record {
-              found = one;
-              among = Contains-push matches one;
-              slot_is = is.slot_is ∙ sym here;
-              identifier_is = same.0;
-              bytes_is = is.bytes_is ∙ ap length same.1;
-            })
+        let there = held_on (extends_then grows goes) (subst (λ (i : ℕ). HoldsDocument g old i id body) here was) in
+        let same = held_is_one g new k one.identifier is.body id body is.holds there in
+        record {
+          found = one;
+          among = Contains-push matches one;
+          slot_is = is.slot_is ∙ sym here;
+          identifier_is = same.0;
+          bytes_is = is.bytes_is ∙ ap length same.1;
+        })
         (below_or_at n k less);
     only = λ found among. ⊎_elim
         (λ (before : Contains matches found). match_on found before)

@@ -1,5 +1,7 @@
 pub mod Bodies
 pub mod Borrowed
-pub mod Searched
 pub mod FoundSoFar
+pub mod Loans
+pub mod LookedUp
 pub mod Matched
+pub mod Searched

@@ -60,11 +60,14 @@ module _ (g : Layout) (n : ℕ) (terms : List (List ℕ)) {old mid new : ViewSta
   pub ends_from : (result : Result (Option Match) Refusal) → SlotEnds g n terms mid new result
       → SlotEnds g n terms old new result
   ends_from (Ok (Some found)) ends = (ends.0 ∙ same, λ tells. ends.1 (told tells))
-  ends_from (Ok None) ends = (ends.0 ∙ same, λ tells.
-      let h = ends.1 (told tells) in record {
-        read = read_further g mid.image old.image new.image new.image n before.image (extends_self new.image) h.read;
-        none = λ id body was. h.none id body (held_on before.image was);
-      })
+  ends_from (Ok None) ends = (
+    ends.0 ∙ same,
+    λ tells.
+        let h = ends.1 (told tells) in record {
+          read = read_further g mid.image old.image new.image new.image n before.image (extends_self new.image) h.read;
+          none = λ id body was. h.none id body (held_on before.image was);
+        },
+  )
   ends_from (Err NoMemory) ends = ends ∙ same
   ends_from (Err DeviceFault) ends = fails_from g before after n same faults.ReadFault ends
   ends_from (Err (Tampered e)) ends = fails_from g before after n same (faults.Tampered e) ends
@@ -83,21 +86,27 @@ module _ (g : Layout) (part : Part) (terms : List (List ℕ)) (m : Matcher) (was
   pub found_match : (h : Head) (found : Match) → ReadMatch new part.start part.bytes m h → found.slot ≡ part.slot
       → found.identifier ≡ id_of h → found.bytes ≡ h.body_length
       → SlotEnds g part.slot terms old new (Ok (Some found))
-  found_match h found read slot_is id_is bytes_is = (same, λ tells. record {
-    body = read.has.body;
-    slot_is = slot_is;
-    holds = subst (λ (id : List ℕ). HoldsDocument g new.image part.slot id read.has.body) (sym id_is)
-        (whole_is_held g new part.slot part (id_of h) read.has.body (now_tells tells) (holds tells) read.has.whole);
-    bytes_is = bytes_is ∙ sym read.has.is_length;
-    matches = read.matches terms was;
-  })
+  found_match h found read slot_is id_is bytes_is = (
+    same,
+    λ tells. record {
+      body = read.has.body;
+      slot_is = slot_is;
+      holds = subst (λ (id : List ℕ). HoldsDocument g new.image part.slot id read.has.body) (sym id_is)
+          (whole_is_held g new part.slot part (id_of h) read.has.body (now_tells tells) (holds tells) read.has.whole);
+      bytes_is = bytes_is ∙ sym read.has.is_length;
+      matches = read.matches terms was;
+    },
+  )
 
   pub no_match : ReadOther new part.start part.bytes m → SlotEnds g part.slot terms old new (Ok None)
-  no_match read = (same, λ tells.
-      let here = whole_is_held g new part.slot part read.id read.body (now_tells tells) (holds tells) read.whole in
-      record {
-        read = held read.id read.body here;
-        none = λ id body before matches.
-            let one = held_is_one g new.image part.slot id body read.id read.body (held_on viewed.image before) here in
-            read.differs terms was (subst (λ (b : List ℕ). Matches b terms) one.1 matches);
-      })
+  no_match read = (
+    same,
+    λ tells.
+        let here = whole_is_held g new part.slot part read.id read.body (now_tells tells) (holds tells) read.whole in
+        record {
+          read = held read.id read.body here;
+          none = λ id body before matches.
+              let one = held_is_one g new.image part.slot id body read.id read.body (held_on viewed.image before) here in
+              read.differs terms was (subst (λ (b : List ℕ). Matches b terms) one.1 matches);
+        },
+  )

@@ -21,11 +21,7 @@ use worm_device::{Device, Direct};
 ///
 /// `NotFormatted`, `NotAVolume` and `WrongSize` by cell 0; `Tampered` where a cell breaks a rule of the log, or a document
 /// is broken (rules 1 to 6); `DeviceFault`; `NoMemory`.
-pub fn find<D: Device>(
-    alloc: Global,
-    device: &mut D,
-    terms: &[Term],
-) -> Result<Vec<Match>, Refusal>
+pub fn find<D: Device>(alloc: Global, device: &mut D, terms: &[Term]) -> Result<Vec<Match>, Refusal>
     ensures { Searches terms.now (D.state device.old) (D.state device.new) result }
 {
     documents_are_below();
@@ -72,7 +68,7 @@ fn match_on_device<D: Device>(
     ensures matcher { KeepsTerms matcher.old matcher.new }
     ensures ends { (terms : List (List ℕ)) → IsMatcherOf terms matcher.old
         → SlotEnds volume.now.geometry slot terms (seen_directly (D.state device.old) 0)
-            (seen_directly (D.state device.new) 0) result }
+        (seen_directly (D.state device.new) 0) result }
 {
     match_in(alloc, &mut Direct::new(device), volume, slot, matcher)
 }

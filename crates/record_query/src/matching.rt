@@ -9,7 +9,9 @@ ghost use Rattle.record_query.specs.Matching.{IsMatcherOf, KeepsTerms, MatchEnds
 
 use crate::found::{Match, Text};
 use cell_types::{Geometry, Refusal, Volume};
-use document_store::{ContentFault, Head, Part, Position, name_commit, read_byte, read_head, slot_part};
+use document_store::{
+    ContentFault, Head, Part, Position, name_commit, read_byte, read_head, slot_part,
+};
 use std::alloc::{AllocError, Global};
 use word_reader::Matcher;
 use worm_device::View;

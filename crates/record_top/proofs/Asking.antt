@@ -5,11 +5,14 @@ use Rattle.std.specs.Str.{bytes_eq}
 use Rattle.cell_types.specs.declared.refusal.Refusal.{Refusal}
 use Rattle.cell_types.specs.declared.refusal.Refusal.TheVariants.{Usage}
 use Rattle.worm_device.specs.Calls.{Called}
-use Rattle.record_top.specs.Commands.{Asks, Does, IsUnhindered, Request, ToFormat, ToIngest, ToRecover}
-use Rattle.record_top.specs.Ports.{Ports, IsOkOrNoMemory}
+use Rattle.slot_walk.specs.Laws.{DocumentsWereStored}
+use Rattle.record_top.specs.Commands.{Asks, Does, IsAnswered, IsUnhindered, Request, ToFind, ToFormat, ToIngest, ToLookUp, ToRecover}
+use Rattle.record_top.specs.Ports.{Ports}
 use Rattle.record_top.specs.Words.{digits_value}
 use Rattle.record_top.proofs.Completing.{format_completes, ingest_completes, recover_completes}
 use Rattle.record_top.proofs.Ending.{ingest_called, ingest_is_used, recover_is_used}
+use Rattle.record_top.proofs.Finds.{find_called, find_completes, find_is_used}
+use Rattle.record_top.proofs.LookUps.{look_up_called, look_up_completes, look_up_is_used}
 
 to_format : List (List ℕ) → Option Request
 to_format (slots ∷ lists ∷ []) = Some (ToFormat (digits_value slots) (digits_value lists))
@@ -18,6 +21,10 @@ to_format _ = None
 to_ingest : List (List ℕ) → Option Request
 to_ingest (id ∷ []) = Some (ToIngest id)
 to_ingest _ = None
+
+to_look_up : List (List ℕ) → Option Request
+to_look_up (id ∷ []) = Some (ToLookUp id)
+to_look_up _ = None
 
 to_recover : List (List ℕ) → Option Request
 to_recover [] = Some ToRecover
@@ -29,14 +36,18 @@ read [] = None
 read (command ∷ words) =
     cond (bytes_eq command (codes "format")) (to_format words)
     (cond (bytes_eq command (codes "ingest")) (to_ingest words)
-    (cond (bytes_eq command (codes "recover")) (to_recover words) None))
+    (cond (bytes_eq command (codes "find")) (Some (ToFind words))
+    (cond (bytes_eq command (codes "lookup")) (to_look_up words)
+    (cond (bytes_eq command (codes "recover")) (to_recover words) None))))
 
 asks_reads : (words : List (List ℕ)) (request : Request) → Asks words request → read words ≡ Some request
-unfolding read to_format to_ingest to_recover
+unfolding read to_format to_ingest to_look_up to_recover
 asks_reads words (ToFormat slots lists) asks =
     ap read asks.asked ∙ ap (λ (n : ℕ). Some (ToFormat n (digits_value asks.second))) (sym asks.slots_word.number.value)
     ∙ ap (λ (n : ℕ). Some (ToFormat slots n)) (sym asks.lists_word.number.value)
 asks_reads words (ToIngest id) asks = ap read asks.asked
+asks_reads words (ToFind asked) asks = ap read asks.asked_is
+asks_reads words (ToLookUp id) asks = ap read asks.asked
 asks_reads words ToRecover asks = ap read asks
 
 some_is : (a b : Request) → Some a ≡ Some b → a ≡ b
@@ -52,18 +63,25 @@ module _ (old new : Ports) where
       → Called old.device new.device
   called_of (ToFormat slots lists) result does = does.called
   called_of (ToIngest id) result does = ingest_called id old new result does
+  called_of (ToFind asked) result does = find_called asked old new result does
+  called_of (ToLookUp id) result does = look_up_called id old new result does
   called_of ToRecover result does = does.settles.called
 
   -- what is done never ends with `Usage`
   pub is_used : (request : Request) → Does request old new (Err Usage) → ⊥
   is_used (ToFormat slots lists) does = does.ends.0
   is_used (ToIngest id) does = ingest_is_used id old new does
+  is_used (ToFind asked) does = find_is_used asked old new does
+  is_used (ToLookUp id) does = look_up_is_used id old new does
   is_used ToRecover does = recover_is_used old new does.answer does.settles does.tells
 
-  -- where nothing keeps it from being done, it is
-  pub completes : (request : Request) (result : Result Unit Refusal) → Does request old new result
-      → IsUnhindered request old new → IsOkOrNoMemory result
-  completes (ToFormat slots lists) result does free = format_completes _ old new free result does
-  completes (ToIngest id) result does free = ingest_completes id free.0 free.1 free.2 old new free.3 result does
-  completes ToRecover result does free =
+  -- where nothing keeps it from being done, it is, or ends for the one cause that is left
+  pub completes : DocumentsWereStored → (request : Request) (result : Result Unit Refusal)
+      → Does request old new result → IsUnhindered request old new → IsAnswered request result
+  completes law (ToFormat slots lists) result does free = format_completes _ old new free result does
+  completes law (ToIngest id) result does free =
+      ingest_completes id free.0 free.1 free.2 old new free.3 law result does
+  completes law (ToFind asked) result does free = find_completes asked free.0 old new free.1 result does
+  completes law (ToLookUp id) result does free = look_up_completes id free.0 old new free.1 result does
+  completes law ToRecover result does free =
       recover_completes free.0 old new free.1 result does.answer does.settles does.tells

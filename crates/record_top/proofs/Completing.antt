@@ -1,35 +1,32 @@
--- Where all is as it is to be, no refusal but want of memory is left.
+-- Where all is as it is to be, a format and a settling are done, and an ingest ends with no refusal but want of memory.
 use Rattle.std.proofs.Common.{◌≡◌, ◌≢◌, ◌≤◌, ◌<◌, ◌+◌, ◌++◌, ℕ, List, length, Option, Some, None, Result, Ok, Err, refl, sym, ap, ◌∙◌, inl, subst, arith, length-append}
 use Rattle.std.proofs.lemmas.List.{append-nil}
 use Rattle.std.proofs.lemmas.Option.{none-some}
 use Rattle.cell_types.specs.Layout.{Layout}
-use Rattle.cell_types.specs.declared.refusal.Evidence.{Evidence}
 use Rattle.cell_types.specs.declared.refusal.Refusal.{Refusal}
 use Rattle.cell_types.specs.declared.refusal.Refusal.TheVariants as refusals
-use Rattle.cell_types.specs.Records.{IsRecordCell}
 use Rattle.host_ports.specs.Sources.{Gives, IsAtEnd}
 use Rattle.stored_documents.specs.Documents.{stored_bytes}
 use Rattle.stored_documents.specs.Slots.{IsEdge, cells_for}
-use Rattle.stored_documents.specs.Volumes.{Holds, IsVolume, volume_record}
-use Rattle.stored_documents.proofs.Extending.{volume_on}
-use Rattle.tamper_rules.proofs.GivenUp.{one_layout}
 use Rattle.worm_device.specs.Calls.{Called}
 use Rattle.worm_device.specs.State.{DeviceState}
 use Rattle.worm_device.proofs.Counting.{rose_or_still, still_first}
-use Rattle.commit_record.specs.Opening.{IsNoVolumeCell}
-use Rattle.recovery_engine.specs.Settling.{HasSettled, IsFound, IsSettlingRule, SettleEnds, Settles}
+use Rattle.recovery_engine.specs.Settling.{HasSettled, IsSettlingRule, Settles}
 use Rattle.recovery_engine.specs.declared.settling.Ready.{Ready}
+use Rattle.slot_walk.specs.Laws.{DocumentsWereStored}
+use Rattle.slot_walk.specs.Walks.{HasWalked}
 use Rattle.plan_writer.proofs.PutFrom.{ends_0, free_0}
-use Rattle.ingest_engine.specs.Ingesting.{HasNoRoom, IngestEnds}
+use Rattle.ingest_engine.specs.Ingesting.{HasNoRoom, HasNoSlot, IngestEnds, IsIngestRule, IsTaken}
 use Rattle.ingest_engine.proofs.CrashedIngests.{ready_layout, settled_unused}
 use Rattle.record_top.specs.Formatting.{DoesFormat, IsReadyToFormat}
 use Rattle.record_top.specs.Ingesting.{DoesIngest, IsReadyToIngest, acknowledgement, misnamed, untaken, taken}
-use Rattle.record_top.specs.Ports.{Ports, IsOkOrNoMemory, Tells}
+use Rattle.record_top.specs.Ports.{Ports, IsOkAlone, IsOkOrNoMemory, Tells}
 use Rattle.record_top.specs.Recovering.{IsReadyToRecover, recovered}
 use Rattle.record_top.specs.Taking.{BodyFails, refusal_of_body_fault}
-use Rattle.record_top.specs.WholeLogs.{HasWholeLog}
 use Rattle.record_top.specs.declared.body.BodyFault.{BodyFault}
 use Rattle.record_top.specs.declared.body.BodyFault.TheVariants as faults
+use Rattle.record_top.specs.WholeLogs.{HasWholeLog}
+use Rattle.record_top.proofs.WholeLogs.{settles_whole, settling_log, untampered}
 
 -- a source gives no more than it has
 gives_within : (left : Option (List ℕ)) (body given : List ℕ) (new : Option (List ℕ)) → left ≡ Some body
@@ -49,50 +46,10 @@ gives_all left body given new e gives end = all new (subst (λ (l : Option (List
     all None h at_end = absurd h
     all (Some rest) h at_end = sym (append-nil given) ∙ ap (λ (r : List ℕ). given ++ r) (sym at_end) ∙ sym h
 
-some_is : (a b : List ℕ) → Some a ≡ Some b → a ≡ b
-some_is a b e = cc
-
--- a whole log hinders nothing that looks at these rules
-module _ {IsLookedAt : ℕ → Type 0} {g : Layout} {old new : DeviceState} (whole : HasWholeLog IsLookedAt g old new)
-    (called : Called old new) where
-  volume_now : IsVolume new.cells new.image g
-  volume_now =
-      subst (λ (cells : ℕ). IsVolume cells new.image g) (sym called.cells) (volume_on called.image whole.volume)
-
-  -- cell 0 is no cell of another kind
-  no_other_cell : (found : List ℕ) → new.image 0 ≡ Some found → IsNoVolumeCell found → ⊥
-  no_other_cell found stands none = none g
-      (subst (λ (cell : List ℕ). IsRecordCell (volume_record g) 0 cell)
-      (some_is volume_now.volume.cell found (sym volume_now.volume.stands ∙ stands)) volume_now.volume.is)
-
-  -- and states the device's own size
-  no_other_size : (h : Layout) (stated : ℕ) → Holds new.image 0 (volume_record h) → h.cells ≡ stated
-      → stated ≡ new.cells
-  no_other_size h stated holds states =
-      let same : h ≡ g = one_layout {cells = h.cells} {more = new.cells} h g
-      (record { volume = holds; size = refl }) volume_now in
-      sym states ∙ ap (λ (l : Layout). l.cells) same ∙ volume_now.size
-
-  untampered : (e : Evidence) → IsFound IsLookedAt old new e → ⊥
-  untampered e found = whole.unbroken e.rule e.cell found.rule (found.before whole.alone)
-
--- settling ends with no refusal
-settles_whole : {g : Layout} {old new : DeviceState} (whole : HasWholeLog IsSettlingRule g old new)
-    (called : Called old new) (refusal : Refusal) → SettleEnds old new (Err refusal) → ⊥
-settles_whole whole called refusals.DeviceFault ends = rose_or_still _ _ ends whole.no_fault
-settles_whole whole called refusals.NotFormatted ends =
-    none-some whole.volume.volume.cell (sym (ends whole.tells) ∙ whole.volume.volume.stands)
-settles_whole whole called (refusals.NotAVolume found) ends =
-    let is = ends whole.tells in no_other_cell whole called found is.0 is.1
-settles_whole whole called (refusals.WrongSize stated real) ends =
-    let is = ends.2 whole.tells in ends.1 (no_other_size whole called is.0 stated is.1 is.2 ∙ sym ends.0)
-settles_whole whole called (refusals.Tampered e) ends = untampered whole called e (ends whole.tells)
-settles_whole whole called refusal ends = ends
-
 module _ (g : Layout) (old new : Ports) (ready : IsReadyToRecover g old new) where
   -- the answer is Ok, since no memory is taken
   pub recover_completes : (result : Result Unit Refusal) (answer : Result Ready Refusal)
-      → Settles old.device new.device answer → Tells recovered answer old new result → IsOkOrNoMemory result
+      → Settles old.device new.device answer → Tells recovered answer old new result → IsOkAlone result
   recover_completes (Ok u) answer settles tells = tt
   recover_completes (Err refusal) (Err refused) settles tells =
       absurd (settles_whole ready.log settles.called refused settles.ends)
@@ -133,22 +90,25 @@ module _ {id body : List ℕ} {g : Layout} {slot : ℕ} {old new : Ports} (ready
       subst (λ (l : Layout). r.edge + cells_for (length (stored_bytes id body)) ≤ l.cells) (sym layout) fits
 
 module _ {id body : List ℕ} {g : Layout} {slot : ℕ} {old new : Ports}
-    (ready : IsReadyToIngest id body g slot old new) where
-  no_room : (refusal : Refusal) → HasNoRoom id body old.device new.device refusal → ⊥
-  no_room refusals.SlotsFull h = a_slot ready h.ready h.settled h.room
-  no_room (refusals.Full need free) h =
-      let fits = cells_behind ready h.ready h.settled h.room.0 in
-      omega (arith, fits, h.room.1, h.room.2, h.room.3)
-  no_room refusal h = absurd h.room
+    (ready : IsReadyToIngest id body g slot old new) (law : DocumentsWereStored) where
+  not_full : HasNoSlot old.device new.device → ⊥
+  not_full h = a_slot ready h.ready h.settled h.taken
 
-  settling_log : HasWholeLog IsSettlingRule g old.device new.device
-  settling_log = record {
-    tells = ready.log.tells;
-    volume = ready.log.volume;
-    unbroken = λ number cell rule broken. ready.log.unbroken number cell (inl rule) broken;
-    alone = ready.log.alone;
-    no_fault = ready.log.no_fault;
-  }
+  -- no document has the identifier: one that is there now was stored before
+  not_taken : (n : ℕ) → IsTaken id n old.device new.device → ⊥
+  not_taken n h =
+      let found = h.first ready.log.tells in
+      let walked : HasWalked h.ready old.device h.settled.settled new.device = record { settles = h.settled.settles; looked = h.settled.looked; quiet = h.settled.quiet } in
+      ready.fresh n found.body
+      (law h.ready old.device h.settled.settled new.device n id found.body walked ready.log.tells ready.log.alone
+      found.first.document)
+
+  fits : (need free : ℕ) → HasNoRoom id body need free old.device new.device → ⊥
+  fits need free h =
+      omega (arith, cells_behind ready h.ready h.settled h.slot, h.need_is, h.free_is, h.less)
+
+  settling : HasWholeLog IsSettlingRule g old.device new.device
+  settling = settling_log ready.log (λ number rule. inl (inl rule))
 
   -- the engine ends with no refusal but want of memory
   ingests_whole : (called : Called old.device new.device) (refusal : Refusal)
@@ -156,13 +116,14 @@ module _ {id body : List ℕ} {g : Layout} {slot : ℕ} {old new : Ports}
   ingests_whole called refusals.NoMemory ends = tt
   ingests_whole called refusals.DeviceFault ends = rose_or_still _ _ ends ready.log.no_fault
   ingests_whole called (refusals.Tampered e) ends = untampered ready.log called e (ends ready.log.tells)
-  ingests_whole called refusals.SlotsFull ends = no_room refusals.SlotsFull ends
-  ingests_whole called (refusals.Full need free) ends = no_room (refusals.Full need free) ends
-  ingests_whole called refusals.NotFormatted ends = settles_whole settling_log called refusals.NotFormatted ends
+  ingests_whole called refusals.SlotsFull ends = absurd (not_full ends)
+  ingests_whole called (refusals.Duplicate n) ends = absurd (not_taken n ends)
+  ingests_whole called (refusals.Full need free) ends = absurd (fits need free ends)
+  ingests_whole called refusals.NotFormatted ends = absurd (settles_whole settling called refusals.NotFormatted ends)
   ingests_whole called (refusals.NotAVolume found) ends =
-      settles_whole settling_log called (refusals.NotAVolume found) ends
+      absurd (settles_whole settling called (refusals.NotAVolume found) ends)
   ingests_whole called (refusals.WrongSize stated real) ends =
-      settles_whole settling_log called (refusals.WrongSize stated real) ends
+      absurd (settles_whole settling called (refusals.WrongSize stated real) ends)
   ingests_whole called refusal ends = absurd ends
 
   ends_told : (result : Result Unit Refusal) (answer : Result ℕ Refusal) → Called old.device new.device
@@ -183,22 +144,21 @@ module _ {id body : List ℕ} {g : Layout} {slot : ℕ} {old new : Ports}
   body_taken given faults.NoMemory gives fails = tt
 
 module _ (id body : List ℕ) (g : Layout) (slot : ℕ) (old new : Ports)
-    (ready : IsReadyToIngest id body g slot old new) where
+    (ready : IsReadyToIngest id body g slot old new) (law : DocumentsWereStored) where
   -- the answer is Ok, or want of memory
   pub ingest_completes : (result : Result Unit Refusal) → DoesIngest id old new result → IsOkOrNoMemory result
   ingest_completes result (misnamed bad is same) = absurd (bad ready.identifier)
   ingest_completes result (untaken given fault name gives fails is same keeps) =
-      subst IsOkOrNoMemory (sym is) (body_taken ready given fault gives fails)
+      subst IsOkOrNoMemory (sym is) (body_taken ready law given fault gives fails)
   ingest_completes result (taken given answer name is gives end ingests tells) =
       let all = gives_all old.source.left body given new.source.left ready.source gives end in
-      ends_told ready result answer ingests.called
+      ends_told ready law result answer ingests.called
       (subst (λ (b : List ℕ). IngestEnds id b old.device new.device answer) all ingests.ends) tells
 
 module _ (g : Layout) (old new : Ports) (ready : IsReadyToFormat g old new) where
   -- the answer is Ok, since no memory is taken
-  pub format_completes : (result : Result Unit Refusal) → DoesFormat g old new result → IsOkOrNoMemory result
+  pub format_completes : (result : Result Unit Refusal) → DoesFormat g old new result → IsOkAlone result
   format_completes (Ok u) formats = tt
-  format_completes (Err refusals.NoMemory) formats = tt
   format_completes (Err refusals.DeviceFault) formats = rose_or_still _ _ formats.ends.0.1 ready.no_device_fault
   format_completes (Err refusals.SinkFault) formats = rose_or_still _ _ formats.ends.1.faults ready.no_sink_fault
   format_completes (Err refusals.TooSmall) formats = formats.ends.0.0 ready.layout

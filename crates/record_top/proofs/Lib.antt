@@ -1,9 +1,12 @@
 pub mod Asking
 pub mod Completing
 pub mod Ending
+pub mod Finds
 pub mod Listed
+pub mod LookUps
 pub mod MatchLines
 pub mod Options
 pub mod Pieces
 pub mod Taken
 pub mod Terms
+pub mod WholeLogs

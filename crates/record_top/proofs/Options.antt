@@ -26,5 +26,5 @@ no_search words rest command is k less option asked asks =
     let word = string_bytes (get_or rest k command) in
     let same = tail_is _ _ _ _ (sym (ap (map string_bytes) is) ∙ asks.asked_is) in
     let among : Contains (map string_bytes rest) word =
-        (k, omega (arith, less, length-map rest string_bytes), get_or-map string_bytes rest k command word less) in
+    (k, omega (arith, less, length-map rest string_bytes), get_or-map string_bytes rest k command word less) in
     option (asks.each word (subst (λ (list : List (List ℕ)). Contains list word) same among))

@@ -13,6 +13,7 @@ use crate::recover::recover_device;
 use crate::words::{Command, command_of};
 use cell_types::Refusal;
 use host_ports::{Sink, Source};
+use slot_walk::documents_were_stored;
 use std::alloc::Global;
 use worm_device::Device;
 
@@ -48,6 +49,8 @@ pub fn run<D: Device, S: Source, K: Sink>(
     let Some(command) = command_of(words) else {
         return Err(Refusal::Usage);
     };
+    // A law: so where no stored document has an identifier, an ingest finds none that has.
+    documents_were_stored();
     carry_out(alloc, command, device, source, sink)
 }
 

@@ -42,6 +42,7 @@ EndsState g n (Committed start length bytes journal) at value =
     ((list_at g 0 ≤ at) × IsCopy value) ⊎ ((at ≡ done_at n) × (value ≡ record_bytes (records.Done n) (done_at n)))
 EndsState g n state at value = ⊥
 
+-- what ends the state of a slot is one of these cells
 pub ends_by_cell : (g : Layout) (n : ℕ) (state : SlotState) (at : ℕ) (value : List ℕ) → EndsState g n state at value
     → IsEndCell g n at value
 ends_by_cell g n (Reserved start length) at value e = IsEndCell.abandon e.0 e.1

@@ -31,7 +31,7 @@ returns-in_err-head-clause-ends g c =
     let now = g.V.View.seen c.loop-slot.view in
     let mid = g.V.View.seen c.slot_part.new.view in
     let found = subst (λ (f : Option Part). PartEnds c.args.volume.now.geometry c.loop-slot.slot now mid (Ok f))
-        c.in-Some.is c.in_ok-part.ensures.ends in
+    c.in-Some.is c.in_ok-part.ensures.ends in
     rw (handed c.from_residual-in_err-head.result c.in_err-head.field-0.0 c.from_residual-in_err-head.ensures.1)
     (walk_breaks c.args.volume.now.geometry c.loop-slot.slot c.args.end c.args.id.now (g.V.View.seen c.args.view.now)
     now mid c.loop-slot.invariant c.slot_part.ensures.viewed (g.V.View.seen c.read_part.new.view) c.in-Some.part found
@@ -43,7 +43,7 @@ returns-then-eq-clause-ends g c =
     let now = g.V.View.seen c.loop-slot.view in
     let mid = g.V.View.seen c.slot_part.new.view in
     let found = subst (λ (f : Option Part). PartEnds c.args.volume.now.geometry c.loop-slot.slot now mid (Ok f))
-        c.in-Some.is c.in_ok-part.ensures.ends in
+    c.in-Some.is c.in_ok-part.ensures.ends in
     let same : id_of c.in_ok-head.head ≡ c.args.id.now = search rules in
     walk_finds c.args.volume.now.geometry c.loop-slot.slot c.args.end c.args.id.now (g.V.View.seen c.args.view.now)
     now mid c.loop-slot.invariant c.slot_part.ensures.viewed (g.V.View.seen c.read_part.new.view) c.in-Some.part found
@@ -56,7 +56,7 @@ loop-slot-preserved g c =
     let now = g.V.View.seen c.loop-slot.view in
     let mid = g.V.View.seen c.slot_part.new.view in
     let found = subst (λ (f : Option Part). PartEnds c.args.volume.now.geometry c.loop-slot.slot now mid (Ok f))
-        c.in-Some.is c.in_ok-part.ensures.ends in
+    c.in-Some.is c.in_ok-part.ensures.ends in
     let differs : id_of c.in_ok-head.head ≡ c.args.id.now → ⊥ = search rules in
     walk_goes_on c.args.volume.now.geometry c.loop-slot.slot c.args.end c.args.id.now (g.V.View.seen c.args.view.now)
     now mid c.loop-slot.invariant c.slot_part.ensures.viewed (g.V.View.seen c.read_part.new.view) c.in-Some.part found

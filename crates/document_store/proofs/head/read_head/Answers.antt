@@ -19,27 +19,33 @@ returns-in_err-id_length-clause-ends g c =
 
 -- it is the length of no identifier
 pub returns-then-id_length-eq0-clause-ends : goal.returns-then-id_length-eq0-clause-ends
-returns-then-id_length-eq0-clause-ends g c = (c.in_ok-id_length.ensures.ends.0, λ tells.
-    let n = c.in_ok-id_length.id_length in
-    let new = g.V.View.seen c.read_byte.new.view in
-    let out : (n ≡ 0) ⊎ ((MAX_IDENTIFIER_BYTES < n) ⊎ (c.args.bytes < 1 + n)) = elim c.then-id_length-eq0.branch [
-      | then-id_length-eq0-via-then-id_length-eq0 w ↦ inl w.if-id_length-eq0.true
-      | then-id_length-eq0-via-else-id_length-eq0+then-from-gt-MAX_IDENTIFIER_BYTES w ↦
-          inr (inl (omega (arith, w.if-from-gt-MAX_IDENTIFIER_BYTES.true, w.from.ensures)))
-      | then-id_length-eq0-via-else-id_length-eq0+else-from-gt-MAX_IDENTIFIER_BYTES+then-before-bytes w ↦
-          inr (inr (omega (arith, w.if-before-bytes.true, c.from-before.ensures)))
-    ] in
-    none_first new c.args.start c.args.bytes c.read_byte.new.position
-    (subst IsTrue (sym c.in_ok-id_length.ensures.viewed.called.tells) tells) n []
-    (c.in_ok-id_length.ensures.ends.1 c.args.start c.args.bytes [] c.requires.begins) out)
+returns-then-id_length-eq0-clause-ends g c = (
+  c.in_ok-id_length.ensures.ends.0,
+  λ tells.
+      let n = c.in_ok-id_length.id_length in
+      let new = g.V.View.seen c.read_byte.new.view in
+      let out : (n ≡ 0) ⊎ ((MAX_IDENTIFIER_BYTES < n) ⊎ (c.args.bytes < 1 + n)) = elim c.then-id_length-eq0.branch [
+        | then-id_length-eq0-via-then-id_length-eq0 w ↦ inl w.if-id_length-eq0.true
+        | then-id_length-eq0-via-else-id_length-eq0+then-from-gt-MAX_IDENTIFIER_BYTES w ↦
+            inr (inl (omega (arith, w.if-from-gt-MAX_IDENTIFIER_BYTES.true, w.from.ensures)))
+        | then-id_length-eq0-via-else-id_length-eq0+else-from-gt-MAX_IDENTIFIER_BYTES+then-before-bytes w ↦
+            inr (inr (omega (arith, w.if-before-bytes.true, c.from-before.ensures)))
+      ] in
+      none_first new c.args.start c.args.bytes c.read_byte.new.position
+      (subst IsTrue (sym c.in_ok-id_length.ensures.viewed.called.tells) tells) n []
+      (c.in_ok-id_length.ensures.ends.1 c.args.start c.args.bytes [] c.requires.begins) out,
+)
 
 -- it leaves more bytes than a body has
 pub returns-then-body_length-clause-ends : goal.returns-then-body_length-clause-ends
-returns-then-body_length-clause-ends g c = (c.in_ok-id_length.ensures.ends.0, λ tells.
-    none_long (g.V.View.seen c.read_byte.new.view) c.args.start c.args.bytes c.read_byte.new.position
-    (subst IsTrue (sym c.in_ok-id_length.ensures.viewed.called.tells) tells) c.in_ok-id_length.id_length []
-    (c.in_ok-id_length.ensures.ends.1 c.args.start c.args.bytes [] c.requires.begins)
-    (omega (arith, c.if-body_length.true, c.from-before.ensures)))
+returns-then-body_length-clause-ends g c = (
+  c.in_ok-id_length.ensures.ends.0,
+  λ tells.
+      none_long (g.V.View.seen c.read_byte.new.view) c.args.start c.args.bytes c.read_byte.new.position
+      (subst IsTrue (sym c.in_ok-id_length.ensures.viewed.called.tells) tells) c.in_ok-id_length.id_length []
+      (c.in_ok-id_length.ensures.ends.1 c.args.start c.args.bytes [] c.requires.begins)
+      (omega (arith, c.if-body_length.true, c.from-before.ensures)),
+)
 
 -- nothing of the identifier was read yet
 pub loop-k-init : goal.loop-k-init
@@ -55,11 +61,11 @@ returns-in_err-byte-clause-ends g c =
     let k = c.loop-k.k in
     let less : k < c.in_ok-id_length.id_length = omega (arith, c.loop-k-test.true, c.from-k-end.ensures) in
     let most : c.in_ok-id_length.id_length ≤ MAX_IDENTIFIER_BYTES =
-        omega (arith, c.if-from-gt-MAX_IDENTIFIER_BYTES.false, c.from.ensures) in
+    omega (arith, c.if-from-gt-MAX_IDENTIFIER_BYTES.false, c.from.ensures) in
     let count : length (take k c.loop-k.id) ≡ k =
-        length-take-le k c.loop-k.id (omega (arith, less, most, c.loop-k.invariant.room)) in
+    length-take-le k c.loop-k.id (omega (arith, less, most, c.loop-k.invariant.room)) in
     let inside : 1 + c.in_ok-id_length.id_length ≤ c.args.bytes =
-        omega (arith, c.if-before-bytes.false, c.from-before.ensures) in
+    omega (arith, c.if-before-bytes.false, c.from-before.ensures) in
     rw (handed c.from_residual-in_err-byte.result c.in_err-byte.field-0.0 c.from_residual-in_err-byte.ensures.1)
     (fault_on c.args.start c.args.bytes (g.V.View.seen c.args.view.now) (g.V.View.seen c.loop-k.view)
     (g.V.View.seen c.read_byte-in-loop-k.new.view) c.loop-k.position c.read_byte-in-loop-k.new.position
@@ -68,26 +74,28 @@ returns-in_err-byte-clause-ends g c =
 
 -- it is none of an identifier
 pub returns-then-not-is_ascii_graphic-clause-ends : goal.returns-then-not-is_ascii_graphic-clause-ends
-returns-then-not-is_ascii_graphic-clause-ends g c =
-    (c.in_ok-byte.ensures.ends.0 ∙ c.loop-k.invariant.faults, λ tells.
-    let k = c.loop-k.k in
-    let less : k < c.in_ok-id_length.id_length = omega (arith, c.loop-k-test.true, c.from-k-end.ensures) in
-    let most : c.in_ok-id_length.id_length ≤ MAX_IDENTIFIER_BYTES =
-        omega (arith, c.if-from-gt-MAX_IDENTIFIER_BYTES.false, c.from.ensures) in
-    let count : length (take k c.loop-k.id) ≡ k =
-        length-take-le k c.loop-k.id (omega (arith, less, most, c.loop-k.invariant.room)) in
-    let told = subst IsTrue (sym c.in_ok-byte.ensures.viewed.called.tells)
-        (subst IsTrue (sym c.loop-k.invariant.viewed.called.tells) tells) in
-    none_byte (g.V.View.seen c.read_byte-in-loop-k.new.view) c.args.start c.args.bytes
-    c.read_byte-in-loop-k.new.position told c.in_ok-id_length.id_length c.in_ok-byte.byte (take k c.loop-k.id)
-    (c.in_ok-byte.ensures.ends.1 c.args.start c.args.bytes _ c.loop-k.invariant.read) (omega (arith, count, less))
-    c.if-not-is_ascii_graphic.ensures.cases)
+returns-then-not-is_ascii_graphic-clause-ends g c = (
+  c.in_ok-byte.ensures.ends.0 ∙ c.loop-k.invariant.faults,
+  λ tells.
+      let k = c.loop-k.k in
+      let less : k < c.in_ok-id_length.id_length = omega (arith, c.loop-k-test.true, c.from-k-end.ensures) in
+      let most : c.in_ok-id_length.id_length ≤ MAX_IDENTIFIER_BYTES =
+      omega (arith, c.if-from-gt-MAX_IDENTIFIER_BYTES.false, c.from.ensures) in
+      let count : length (take k c.loop-k.id) ≡ k =
+      length-take-le k c.loop-k.id (omega (arith, less, most, c.loop-k.invariant.room)) in
+      let told = subst IsTrue (sym c.in_ok-byte.ensures.viewed.called.tells)
+      (subst IsTrue (sym c.loop-k.invariant.viewed.called.tells) tells) in
+      none_byte (g.V.View.seen c.read_byte-in-loop-k.new.view) c.args.start c.args.bytes
+      c.read_byte-in-loop-k.new.position told c.in_ok-id_length.id_length c.in_ok-byte.byte (take k c.loop-k.id)
+      (c.in_ok-byte.ensures.ends.1 c.args.start c.args.bytes _ c.loop-k.invariant.read) (omega (arith, count, less))
+      c.if-not-is_ascii_graphic.ensures.cases,
+)
 
 -- one character more
 pub loop-k-preserved : goal.loop-k-preserved
 loop-k-preserved g c =
     let less : c.loop-k.k < MAX_IDENTIFIER_BYTES =
-        omega (arith, c.loop-k-test.true, c.from-k-end.ensures, c.if-from-gt-MAX_IDENTIFIER_BYTES.false, c.from.ensures) in
+    omega (arith, c.loop-k-test.true, c.from-k-end.ensures, c.if-from-gt-MAX_IDENTIFIER_BYTES.false, c.from.ensures) in
     head_more (g.V.View.seen c.args.view.now) (g.V.View.seen c.loop-k.view)
     (g.V.View.seen c.read_byte-in-loop-k.new.view) c.args.start c.args.bytes c.loop-k.position
     c.read_byte-in-loop-k.new.position c.in_ok-id_length.id_length c.loop-k.k c.in_ok-byte.byte c.loop-k.id
@@ -102,8 +110,10 @@ returns-clause-ends g c =
     let now = g.V.View.seen c.loop-k.view in
     let at_end : c.loop-k.k ≡ n = omega (arith, c.loop-k-test.false, c.loop-k.auto.k-end, c.from-k-end.ensures) in
     let so_far = subst (λ (k : ℕ). HeadSoFar old now c.args.start c.args.bytes c.loop-k.position n k c.loop-k.id) at_end
-        c.loop-k.invariant in
-    (c.loop-k.invariant.faults, head_whole old now c.args.start c.args.bytes c.loop-k.position n _ c.loop-k.id so_far
-    (omega (arith, c.if-id_length-eq0.false)) (omega (arith, c.if-from-gt-MAX_IDENTIFIER_BYTES.false, c.from.ensures))
-    (omega (arith, c.if-before-bytes.false, c.from-before.ensures)) (omega (arith, c.from-before.ensures))
-    (omega (arith, c.if-body_length.false)))
+    c.loop-k.invariant in (
+      c.loop-k.invariant.faults,
+      head_whole old now c.args.start c.args.bytes c.loop-k.position n _ c.loop-k.id so_far
+          (omega (arith, c.if-id_length-eq0.false)) (omega (arith, c.if-from-gt-MAX_IDENTIFIER_BYTES.false, c.from.ensures))
+          (omega (arith, c.if-before-bytes.false, c.from-before.ensures)) (omega (arith, c.from-before.ensures))
+          (omega (arith, c.if-body_length.false)),
+    )

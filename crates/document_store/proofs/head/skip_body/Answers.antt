@@ -32,8 +32,10 @@ returns-clause-ends g c =
     let old = g.V.View.seen c.args.view.now in
     let now = g.V.View.seen c.loop.view in
     let at_end : c.loop.counter ≡ c.args.head.now.body_length =
-        omega (arith, c.loop-test.false, c.loop.auto.counter-end) in
-    (c.loop.invariant.faults, body_whole old now c.args.start c.args.bytes c.args.position.now c.loop.position
-    c.args.head.now c.requires.head
-    (subst (λ (k : ℕ). BodySoFar old now c.args.start c.args.bytes c.args.position.now c.loop.position c.args.head.now k)
-    at_end c.loop.invariant))
+    omega (arith, c.loop-test.false, c.loop.auto.counter-end) in (
+      c.loop.invariant.faults,
+      body_whole old now c.args.start c.args.bytes c.args.position.now c.loop.position
+          c.args.head.now c.requires.head
+          (subst (λ (k : ℕ). BodySoFar old now c.args.start c.args.bytes c.args.position.now c.loop.position c.args.head.now k)
+          at_end c.loop.invariant),
+    )

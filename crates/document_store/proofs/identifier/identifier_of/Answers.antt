@@ -70,6 +70,8 @@ returns-clause-ends g c =
     let part = c.in_ok-part.part in
     let before = c.done_part.ensures.viewed in
     let after = c.read_part.ensures.viewed in
-    let found = c.in_ok-part.ensures.ends in
-    (c.in_ok-head.ensures.ends.0 ∙ found.2, holds_identifier layout c.args.slot old mid new part before after found
-    c.in_ok-head.head c.in_ok-head.ensures.ends.1 _ (search rules))
+    let found = c.in_ok-part.ensures.ends in (
+      c.in_ok-head.ensures.ends.0 ∙ found.2,
+      holds_identifier layout c.args.slot old mid new part before after found
+          c.in_ok-head.head c.in_ok-head.ensures.ends.1 _ (search rules),
+    )

@@ -18,6 +18,6 @@ returns-in-Err-Broken-clause-ends g c =
     let old = g.V.View.seen c.args.view.now in
     let mid = g.V.View.seen c.read_document.new.view in
     let broken = subst (λ (f : ContentFault). FaultEnds part.start part.bytes old mid f) c.in-Err-Broken.field-0-is
-        c.in-Err-Broken.ensures.ends in
+    c.in-Err-Broken.ensures.ends in
     fails_from c.args.geometry.now c.read_document.ensures.viewed c.name_commit.ensures.viewed part.slot broken.0
     c.name_commit.result c.name_commit.ensures.ends

@@ -16,6 +16,3 @@ returns-in-Some g c =
           ((subst (λ (found : Option ℕ). WalkEnds r c.args.id.now old entry new (Ok found)) c.in-Some.is
           (walks.ends old settles)).2 tells).1;
     }
-
-pub first_with_identifier-requires-clause-hole : goal.first_with_identifier-requires-clause-hole
-first_with_identifier-requires-clause-hole g c = ?

@@ -37,10 +37,12 @@ loop-count-preserved g c =
 pub returns-clause-ends : goal.returns-clause-ends
 returns-clause-ends g c =
     let at_end : c.loop-count._count ≡ c.args.head.now.body_length =
-        omega (arith, c.loop-count-test.false, c.loop-count.auto._count-end) in
+    omega (arith, c.loop-count-test.false, c.loop-count.auto._count-end) in
     let so_far = subst (λ (k : ℕ). MatchSoFar (g.V.View.seen c.args.view.now) (g.V.View.seen c.loop-count.view) c.args.start
-        c.args.bytes c.args.position.now c.loop-count.position c.args.head.now c.args.matcher.now c.loop-count.matcher k)
-        at_end c.loop-count.invariant in
-    (so_far.read.faults, match_whole (g.V.View.seen c.args.view.now) (g.V.View.seen c.loop-count.view) c.args.start
-    c.args.bytes c.args.position.now c.loop-count.position c.args.head.now c.args.matcher.now c.loop-count.matcher
-    c.finish.result c.requires.head so_far c.finish.ensures.matches)
+    c.args.bytes c.args.position.now c.loop-count.position c.args.head.now c.args.matcher.now c.loop-count.matcher k)
+    at_end c.loop-count.invariant in (
+      so_far.read.faults,
+      match_whole (g.V.View.seen c.args.view.now) (g.V.View.seen c.loop-count.view) c.args.start
+          c.args.bytes c.args.position.now c.loop-count.position c.args.head.now c.args.matcher.now c.loop-count.matcher
+          c.finish.result c.requires.head so_far c.finish.ensures.matches,
+    )

@@ -11,11 +11,13 @@ returns-then-matched-clause-viewed g c =
 
 pub returns-then-matched-clause-ends : goal.returns-then-matched-clause-ends
 returns-then-matched-clause-ends g c =
-    let ends = c.in_ok-matched.ensures.ends in
-    (ends.0 ∙ c.in_ok-head.ensures.ends.0, record {
-      has = ends.1.has;
-      matches = λ terms was. (ends.1.says terms (c.clear.ensures terms was.bytes was.pushed)).0 c.if-matched.true;
-    })
+    let ends = c.in_ok-matched.ensures.ends in (
+      ends.0 ∙ c.in_ok-head.ensures.ends.0,
+      record {
+        has = ends.1.has;
+        matches = λ terms was. (ends.1.says terms (c.clear.ensures terms was.bytes was.pushed)).0 c.if-matched.true;
+      },
+    )
 
 true_or : false ≡ true → ⊥
 true_or e = cc
@@ -30,15 +32,13 @@ returns-clause-matcher g c = λ terms was.
 
 pub returns-clause-ends : goal.returns-clause-ends
 returns-clause-ends g c =
-    let ends = c.in_ok-matched.ensures.ends in
-    (ends.0 ∙ c.in_ok-head.ensures.ends.0, record {
-      id = id_of c.in_ok-head.head;
-      body = ends.1.has.body;
-      whole = ends.1.has.whole;
-      differs = λ terms was matches. true_or (sym c.if-matched.false
-          ∙ (ends.1.says terms (c.clear.ensures terms was.bytes was.pushed)).1 matches);
-    })
-
--- until document_store is proved
-pub read_head-requires-clause-hole : goal.read_head-requires-clause-hole
-read_head-requires-clause-hole g c = ?
+    let ends = c.in_ok-matched.ensures.ends in (
+      ends.0 ∙ c.in_ok-head.ensures.ends.0,
+      record {
+        id = id_of c.in_ok-head.head;
+        body = ends.1.has.body;
+        whole = ends.1.has.whole;
+        differs = λ terms was matches. true_or (sym c.if-matched.false
+            ∙ (ends.1.says terms (c.clear.ensures terms was.bytes was.pushed)).1 matches);
+      },
+    )

@@ -3,3 +3,9 @@ use Rattle.record_top.proofs.command.carry_out.Goals as goal
 
 pub returns-in-Ingest : goal.returns-in-Ingest
 returns-in-Ingest g c = rw c.in-Ingest.is c.ingest_body.ensures
+
+pub returns-in-Find : goal.returns-in-Find
+returns-in-Find g c = rw c.in-Find.is c.find_documents.ensures
+
+pub returns-in-LookUp : goal.returns-in-LookUp
+returns-in-LookUp g c = rw c.in-LookUp.is c.look_up_document.ensures

@@ -13,6 +13,12 @@ use Rattle.record_top.proofs.Terms.{TermsSoFar, are_terms, first_bad, term_again
 use Rattle.record_top.proofs.find.terms_of.Goals.{then-all+in-Ok-push, else-all}
 use Rattle.record_top.proofs.find.terms_of.Goals as goal
 
+-- whether the term is none of these
+abbrev IsNew : Bool → List ℕ → List (List ℕ) → Type 0
+IsNew new term terms =
+    MatchBool new (AllWithin (λ (t : List ℕ). ⊤) terms 0 (length terms))
+    ((k : ℕ) × (k < length terms) × HoldsAt (λ (t : List ℕ). t ≡ term) terms k)
+
 -- a word that does not hold exactly one term
 pub returns-in-Err-BadWord : goal.returns-in-Err-BadWord
 returns-in-Err-BadWord c =
@@ -20,7 +26,7 @@ returns-in-Err-BadWord c =
     let word = c.word-item.result in
     let at = word_at c.args.words.now c.loop-word.word-index word (omega arith) c.word-item.is in
     let ends = subst (λ (w : List ℕ). SingleEnds w (Err c.in-Err-BadWord.field-0)) c.as_bytes.ensures.value
-        c.in-Err-BadWord.ensures in
+    c.in-Err-BadWord.ensures in
     let bad = subst (λ (fault : WordFault). SingleEnds (string_bytes word) (Err fault)) c.in-Err-BadWord.field-0-is ends in
     subst (λ (i : ℕ). IsFirstBadWord asked (i + 1)) (sym c.loop-word.invariant.0)
     (first_bad c.loop-word.invariant.1 (string_bytes word) at bad)
@@ -37,19 +43,20 @@ loop-word-preserved c =
     let so_far = c.loop-word.invariant.1 in
     let more = λ (ts : List (List ℕ)). TermsSoFar asked ts (c.loop-word.word-index + 1) in
     elim c.if-all.branch [
-    then-all+in-Ok-push w ↦
-        let items = ap (λ v. v.items) w.terms-is ∙ w.in-Ok-push.ensures.items in
-        (omega (arith, c.loop-word.invariant.0), subst more (sym items) (term_new so_far (string_bytes word) term at is))
-    | else-all w ↦
-        let seen : MatchBool c.all.result (AllWithin (λ (t : List ℕ). ⊤) terms 0 (length terms))
-            ((k : ℕ) × (k < length terms) × HoldsAt (λ (t : List ℕ). t ≡ term) terms k) =
-            cases_from_all _ _ c.all.result (λ (t : List ℕ). ⊤) (λ (t : List ℕ). t ≡ term) c.all.ensures.ran
-            (YieldsList-from_slice terms (c.iter.ensures.rest ∙ c.deref.ensures.value)) (λ x q k. search (rules, tests))
-            (λ x q k. search (rules, tests)) in
-        let there = subst (λ (b : Bool). MatchBool b (AllWithin (λ (t : List ℕ). ⊤) terms 0 (length terms))
-            ((k : ℕ) × (k < length terms) × HoldsAt (λ (t : List ℕ). t ≡ term) terms k)) w.if-all.false seen in
-        (omega (arith, c.loop-word.invariant.0), subst more (sym (ap (λ v. v.items) w.terms-is))
-        (term_again so_far (string_bytes word) term at is (Contains-from_at terms term there))) ]
+      | then-all+in-Ok-push w ↦
+          let items = ap (λ v. v.items) w.terms-is ∙ w.in-Ok-push.ensures.items in
+          (omega (arith, c.loop-word.invariant.0), subst more (sym items) (term_new so_far (string_bytes word) term at is))
+      | else-all w ↦
+          let new : IsNew c.all.result term terms =
+          cases_from_all _ _ c.all.result (λ (t : List ℕ). ⊤) (λ (t : List ℕ). t ≡ term) c.all.ensures.ran
+          (YieldsList-from_slice terms (c.iter.ensures.rest ∙ c.deref.ensures.value)) (λ x q k. search (rules, tests))
+          (λ x q k. search (rules, tests)) in
+          let there = subst (λ (b : Bool). IsNew b term terms) w.if-all.false new in (
+            omega (arith, c.loop-word.invariant.0),
+            subst more (sym (ap (λ v. v.items) w.terms-is))
+                (term_again so_far (string_bytes word) term at is (Contains-from_at terms term there)),
+          )
+    ]
 
 -- no word more
 pub returns : goal.returns

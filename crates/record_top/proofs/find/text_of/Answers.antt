@@ -1,5 +1,5 @@
 -- The text of the matches so far has got the line of one match more.
-use Rattle.std.proofs.Common.{◌++◌, List, ℕ, sym, ap, ◌∙◌, arith, rules}
+use Rattle.std.proofs.Common.{◌++◌, List, ℕ, sym, ap, ◌∙◌, arith}
 use Rattle.record_top.specs.Finding.{match_line}
 use Rattle.record_top.proofs.MatchLines.{lines_more}
 use Rattle.record_top.proofs.find.text_of.Goals as goal

@@ -34,20 +34,20 @@ returns-clause-some c =
 pub returns-in_err-slots-clause-none : goal.returns-in_err-slots-clause-none
 returns-in_err-slots-clause-none c =
     let words = three c.args.words.now c.command-item.result c.slots-item.result c.lists-item.result (omega arith)
-        c.command-item.is c.slots-item.is c.lists-item.is in
+    c.command-item.is c.slots-item.is c.lists-item.is in
     if_none c.from_residual.result (λ slots lists asks.
-        let second = second_is _ _ _ _ _ _ (sym asks.asked ∙ ap (map string_bytes) words) in
-        c.in_err-slots.ensures.none slots
-        (subst (λ (w : List ℕ). IsNumberUpTo MAX_SLOTS w slots) (second ∙ sym c.as_bytes.ensures.value) asks.slots_word))
+    let second = second_is _ _ _ _ _ _ (sym asks.asked ∙ ap (map string_bytes) words) in
+    c.in_err-slots.ensures.none slots
+    (subst (λ (w : List ℕ). IsNumberUpTo MAX_SLOTS w slots) (second ∙ sym c.as_bytes.ensures.value) asks.slots_word))
 
 -- a word that stands for no number of lists
 pub returns-in_err-lists-clause-none : goal.returns-in_err-lists-clause-none
 returns-in_err-lists-clause-none c =
     let words = three c.args.words.now c.command-item.result c.slots-item.result c.lists-item.result (omega arith)
-        c.command-item.is c.slots-item.is c.lists-item.is in
+    c.command-item.is c.slots-item.is c.lists-item.is in
     if_none c.from_residual-in_err-lists.result (λ slots lists asks.
-        let third = third_is _ _ _ _ _ _ (sym asks.asked ∙ ap (map string_bytes) words) in
-        c.in_err-lists.ensures.none lists
-        (subst (λ (most : ℕ). IsNumberUpTo most c.as_bytes-2.result.now lists) (sym c.from.ensures)
-        (subst (λ (w : List ℕ). IsNumberUpTo MAX_LISTS w lists) (third ∙ sym c.as_bytes-2.ensures.value)
-        asks.lists_word)))
+    let third = third_is _ _ _ _ _ _ (sym asks.asked ∙ ap (map string_bytes) words) in
+    c.in_err-lists.ensures.none lists
+    (subst (λ (most : ℕ). IsNumberUpTo most c.as_bytes-2.result.now lists) (sym c.from.ensures)
+    (subst (λ (w : List ℕ). IsNumberUpTo MAX_LISTS w lists) (third ∙ sym c.as_bytes-2.ensures.value)
+    asks.lists_word)))

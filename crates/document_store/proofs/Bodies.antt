@@ -1,0 +1,143 @@
+-- The body of a slot's document, put into a sink after the whole document was read.
+use Rattle.std.proofs.Common.{◌≡◌, ◌<◌, ◌≤◌, ◌+◌, ◌*◌, ◌⊎◌, ℕ, Bool, true, false, List, length, take, Option, Some, Ok, Err, refl, sym, ap, ◌∙◌, inl, inr, subst, arith}
+use Rattle.std.proofs.lemmas.Bool.{cases_Bool}
+use Rattle.std.proofs.lemmas.List.{take_all}
+use Rattle.std.specs.Prelude.{IsTrue}
+use Rattle.cell_types.specs.Layout.{Layout}
+use Rattle.cell_types.specs.declared.refusal.Evidence.{Evidence}
+use Rattle.cell_types.specs.declared.refusal.Fault.{Fault}
+use Rattle.cell_types.specs.declared.refusal.Fault.TheVariants.{Tampered, ReadFault}
+use Rattle.stored_documents.specs.Slots.{cells_for}
+use Rattle.host_ports.specs.Sinks.{Gets, SinkState}
+use Rattle.worm_device.specs.Counts.{Rose}
+use Rattle.worm_device.specs.Views.{ViewState, Viewed}
+use Rattle.worm_device.proofs.Images.{extends_then}
+use Rattle.worm_device.proofs.Resting.{viewed_then}
+use Rattle.document_store.specs.Heads.{HasBody, SpellsNone, id_of}
+use Rattle.document_store.specs.Looks.{BodyEnds, GotBody, GotPart, HoldsBody, IsPartOf, LookFails, PartEnds}
+use Rattle.document_store.specs.Putting.{GotFront, GotWhole, PutFails, body_fault_of}
+use Rattle.document_store.specs.declared.body.BodyFault.TheVariants as bodies
+use Rattle.document_store.specs.declared.head.Head.{Head}
+use Rattle.document_store.specs.declared.part.Part.{Part}
+use Rattle.document_store.specs.declared.putting.PutFault.TheVariants as puts
+use Rattle.document_store.proofs.Checking.{read_holds}
+use Rattle.document_store.proofs.Holding.{held_on, part_on, whole_document, whole_is_held, whole_on}
+use Rattle.document_store.proofs.Naming.{fails_from, told}
+
+-- why no byte was put
+pub nothing_put : (g : Layout) (n : ℕ) (old new : ViewState) (sink : SinkState) (fault : Fault)
+    → LookFails g n old new fault → BodyEnds g n old new sink sink (Err (body_fault_of fault))
+nothing_put g n old new sink (Tampered e) fails = (fails, refl, inl refl, λ tells. refl)
+nothing_put g n old new sink ReadFault fails = (fails, refl, inl refl)
+
+-- not true
+not_true : (b : Bool) → b ≡ false → IsTrue b → ⊥
+not_true true e t = absurd (let clash : true ≡ false = e in cc)
+not_true false e t = absurd (let clash : false ≡ true = t in cc)
+
+-- a part that was put is one of the body later on
+part_got_on : (g : Layout) (n : ℕ) (mid new : ViewState) (from to : SinkState) → Viewed mid new
+    → GotPart g n mid from to → GotPart g n new from to
+part_got_on g n mid new from to viewed got = record {
+  body = got.body;
+  count = got.count;
+  most = got.most;
+  gets = got.gets;
+  holds = λ tells.
+      let h = got.holds (subst IsTrue viewed.called.tells tells) in
+      record { id = h.id; holds = held_on viewed.image h.holds };
+}
+
+-- the looks one after another: for the part, at the whole document, and at the body that was put
+module _ (g : Layout) (n : ℕ) (old mid read new : ViewState) (part : Part) (h : Head) (from to : SinkState)
+    (before : Viewed old mid) (second : Viewed mid read) (after : Viewed read new)
+    (found : PartEnds g n old mid (Ok (Some part))) (same : read.base.faults ≡ mid.base.faults)
+    (has : HasBody read part.start part.bytes h) where
+  -- no fault was counted before the second pass
+  faults : read.base.faults ≡ old.base.faults
+  faults = same ∙ found.2
+
+  told_new : IsTrue old.base.tells → IsTrue new.base.tells
+  told_new tells = told after (told second (told before tells))
+
+  untold : IsTrue new.base.tells → IsTrue old.base.tells
+  untold tells = subst IsTrue before.called.tells
+      (subst IsTrue second.called.tells (subst IsTrue after.called.tells tells))
+
+  part_new : IsTrue old.base.tells → IsPartOf g new.image n part
+  part_new tells = part_on (extends_then second.image after.image) (found.3 tells)
+
+  -- the slot holds the document that was checked
+  holds_body : IsTrue new.base.tells → HoldsBody g new.image n has.body
+  holds_body tells = record {
+    id = id_of h;
+    holds = held_on after.image (read_holds g n old mid read part before second found h has (untold tells));
+  }
+
+  -- what went out is the front of its body
+  pub got_part : GotFront new part.start part.bytes from to → GotPart g n new from to
+  got_part front = elim (cases_Bool new.base.tells) [
+    | inl telling ↦
+        let w = front.front (id_of h) has.body telling (whole_on after has.whole) in
+        record {
+          body = has.body;
+          count = length front.got;
+          most = w.1;
+          gets = subst (Gets from.held to.held) w.0 front.gets;
+          holds = holds_body;
+        }
+    | inr silent ↦ record {
+      body = front.got;
+      count = length front.got;
+      most = omega arith;
+      gets = subst (Gets from.held to.held) (sym (take_all (length front.got) front.got (omega arith))) front.gets;
+      holds = λ tells. absurd (not_true new.base.tells silent tells);
+    }
+  ]
+
+  -- the whole body went out
+  pub got_body : (count : ℕ) → GotWhole new part.start part.bytes count from to → GotBody g n count new from to
+  got_body count w = record {
+    body = w.body;
+    length_is = w.count_is;
+    gets = w.gets;
+    holds = λ tells. record {
+      id = w.id;
+      holds = whole_is_held g new n part w.id w.body tells (part_new (untold tells)) w.whole;
+    };
+  }
+
+  -- a document that was read whole is not found broken, where the device below tells its image
+  not_broken : IsTrue old.base.tells → SpellsNone new.image part.start part.bytes → ⊥
+  not_broken tells none = none (whole_document new part.start part.bytes (id_of h) has.body (told_new tells)
+      (whole_on after has.whole))
+
+  pub part_named : IsTrue new.base.tells → IsPartOf g new.image part.slot part
+  part_named tells = subst (λ (m : ℕ). IsPartOf g new.image m part) (sym found.0) (part_new (untold tells))
+
+  -- a read failed in the second pass
+  pub second_fails : PutFails part.start part.bytes read new from to puts.ReadFault
+      → BodyEnds g n old new from to (Err bodies.ReadFault)
+  second_fails fails = (omega (arith, faults, fails.0), fails.1, inr (got_part fails.2))
+
+  -- the sink failed
+  pub sink_fails : PutFails part.start part.bytes read new from to puts.SinkFault
+      → BodyEnds g n old new from to (Err bodies.SinkFault)
+  sink_fails fails = (fails.0 ∙ faults, fails.1, got_part fails.2)
+
+  -- over a view that does not tell, the second pass may meet a broken cell
+  pub second_breaks : (end : ViewState) → Viewed new end
+      → PutFails part.start part.bytes read new from to puts.Broken → (fault : Fault)
+      → LookFails g part.slot new end fault → BodyEnds g n old end from to (Err (body_fault_of fault))
+  second_breaks end last fails fault named = ends fault
+      (fails_from g (viewed_then before (viewed_then second after)) last n (fails.0 ∙ faults) fault
+      (subst (λ (m : ℕ). LookFails g m new end fault) found.0 named))
+    where
+      ends : (f : Fault) → LookFails g n old end f → BodyEnds g n old end from to (Err (body_fault_of f))
+      ends (Tampered e) look = (
+        look,
+        fails.1,
+        inr (part_got_on g n new end from to last (got_part fails.2)),
+        λ tells. absurd (not_broken tells (fails.3 (told second (told before tells)))),
+      )
+      ends ReadFault look = (look, fails.1, inr (part_got_on g n new end from to last (got_part fails.2)))

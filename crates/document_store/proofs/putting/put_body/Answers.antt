@@ -1,0 +1,115 @@
+-- Piece by piece.
+use Rattle.std.proofs.Common.{◌≡◌, ◌<◌, ◌≤◌, ◌+◌, ℕ, Err, length, refl, sym, subst, arith}
+use Rattle.append_file.specs.declared.piece.ContentFault.{ContentFault}
+use Rattle.append_file.specs.declared.piece.ContentFault.TheVariants as contents
+use Rattle.document_store.specs.Putting.{FillEnds}
+use Rattle.document_store.specs.declared.putting.TheConstants.{PIECE_BYTES}
+use Rattle.document_store.proofs.PutSoFar.{buffer_size, piece_fails, piece_size, put_begins, put_fails, put_more, put_whole}
+use Rattle.document_store.proofs.putting.put_body.Goals as goal
+
+-- nothing was put yet
+pub loop-put-init : goal.loop-put-init
+loop-put-init g c = (
+  put_begins (g.V.View.seen c.args.view.now) c.args.start c.args.bytes c.args.position.now c.args.head.now
+      (g.K.Sink.state c.args.sink.now) c.requires.head,
+  refl,
+)
+
+-- a piece was not read
+pub returns-in-Err-Broken-clause-ends : goal.returns-in-Err-Broken-clause-ends
+returns-in-Err-Broken-clause-ends g c =
+    let old = g.V.View.seen c.args.view.now in
+    let now = g.V.View.seen c.loop-put.view in
+    let new = g.V.View.seen c.fill.new.view in
+    let piece = c.fill.new.into in
+    let k = c.loop-put.put in
+    let h = c.args.head.now in
+    let p = c.args.position.now in
+    let q = c.loop-put.position in
+    let r = c.fill.new.position in
+    let from = g.K.Sink.state c.args.sink.now in
+    let mid = g.K.Sink.state c.loop-put.sink in
+    let so_far = c.loop-put.invariant.0 in
+    let count : length piece ≡ c.min-count.result = piece_size c.min-count.result PIECE_BYTES c.loop-put.buffer piece
+    c.loop-put.invariant.1 (omega (arith, c.min-count.ensures)) c.fill.ensures.length in
+    let room : k + c.min-count.result ≤ h.body_length = omega (arith, c.min-count.ensures, so_far.most) in
+    piece_fails old now new c.args.start c.args.bytes p q r h from mid mid k piece c.requires.head so_far
+    c.fill.ensures.viewed contents.Broken (omega (arith, room, count))
+    (subst (λ (f : ContentFault). FillEnds now new q r piece (Err f)) c.in-Err-Broken.field-0-is c.in-Err-Broken.ensures.ends)
+
+-- a piece was not read
+pub returns-in-Err-ReadFault-clause-ends : goal.returns-in-Err-ReadFault-clause-ends
+returns-in-Err-ReadFault-clause-ends g c =
+    let old = g.V.View.seen c.args.view.now in
+    let now = g.V.View.seen c.loop-put.view in
+    let new = g.V.View.seen c.fill.new.view in
+    let piece = c.fill.new.into in
+    let k = c.loop-put.put in
+    let h = c.args.head.now in
+    let p = c.args.position.now in
+    let q = c.loop-put.position in
+    let r = c.fill.new.position in
+    let from = g.K.Sink.state c.args.sink.now in
+    let mid = g.K.Sink.state c.loop-put.sink in
+    let so_far = c.loop-put.invariant.0 in
+    let count : length piece ≡ c.min-count.result = piece_size c.min-count.result PIECE_BYTES c.loop-put.buffer piece
+    c.loop-put.invariant.1 (omega (arith, c.min-count.ensures)) c.fill.ensures.length in
+    let room : k + c.min-count.result ≤ h.body_length = omega (arith, c.min-count.ensures, so_far.most) in
+    piece_fails old now new c.args.start c.args.bytes p q r h from mid mid k piece c.requires.head so_far
+    c.fill.ensures.viewed contents.ReadFault (omega (arith, room, count))
+    (subst (λ (f : ContentFault). FillEnds now new q r piece (Err f)) c.in-Err-ReadFault.field-0-is c.in-Err-ReadFault.ensures.ends)
+
+-- it was not put
+pub returns-in_default-clause-ends : goal.returns-in_default-clause-ends
+returns-in_default-clause-ends g c =
+    let old = g.V.View.seen c.args.view.now in
+    let now = g.V.View.seen c.loop-put.view in
+    let new = g.V.View.seen c.fill.new.view in
+    let piece = c.fill.new.into in
+    let k = c.loop-put.put in
+    let h = c.args.head.now in
+    let p = c.args.position.now in
+    let q = c.loop-put.position in
+    let r = c.fill.new.position in
+    let from = g.K.Sink.state c.args.sink.now in
+    let mid = g.K.Sink.state c.loop-put.sink in
+    let so_far = c.loop-put.invariant.0 in
+    let count : length piece ≡ c.min-count.result = piece_size c.min-count.result PIECE_BYTES c.loop-put.buffer piece
+    c.loop-put.invariant.1 (omega (arith, c.min-count.ensures)) c.fill.ensures.length in
+    let room : k + c.min-count.result ≤ h.body_length = omega (arith, c.min-count.ensures, so_far.most) in
+    put_fails old now new c.args.start c.args.bytes p q r h from mid (g.K.Sink.state c.put_all.new.sink) k piece
+    c.requires.head so_far c.fill.ensures.viewed c.fill.ensures.is c.fill.ensures.reads c.in-Ok.ensures.ends
+    c.in_default.ensures.part
+
+-- it was
+pub loop-put-preserved : goal.loop-put-preserved
+loop-put-preserved g c =
+    let old = g.V.View.seen c.args.view.now in
+    let now = g.V.View.seen c.loop-put.view in
+    let new = g.V.View.seen c.fill.new.view in
+    let piece = c.fill.new.into in
+    let k = c.loop-put.put in
+    let h = c.args.head.now in
+    let p = c.args.position.now in
+    let q = c.loop-put.position in
+    let r = c.fill.new.position in
+    let from = g.K.Sink.state c.args.sink.now in
+    let mid = g.K.Sink.state c.loop-put.sink in
+    let so_far = c.loop-put.invariant.0 in
+    let count : length piece ≡ c.min-count.result = piece_size c.min-count.result PIECE_BYTES c.loop-put.buffer piece
+    c.loop-put.invariant.1 (omega (arith, c.min-count.ensures)) c.fill.ensures.length in
+    let room : k + c.min-count.result ≤ h.body_length = omega (arith, c.min-count.ensures, so_far.most) in (
+      put_more old now new c.args.start c.args.bytes p q r h from mid (g.K.Sink.state c.put_all.new.sink) k piece
+          c.requires.head so_far c.fill.ensures.viewed c.fill.ensures.is c.fill.ensures.reads c.in-Ok.ensures.ends
+          c.min-count.result count room c.in-Ok-put_all.ensures.whole c.in-Ok-put_all.ensures.faults,
+      buffer_size c.min-count.result PIECE_BYTES c.loop-put.buffer piece c.loop-put.invariant.1
+          (omega (arith, c.min-count.ensures)) count,
+    )
+
+-- all of them were
+pub returns-clause-ends : goal.returns-clause-ends
+returns-clause-ends g c =
+    put_whole (g.V.View.seen c.args.view.now) (g.V.View.seen c.loop-put.view) c.args.start c.args.bytes
+    c.args.position.now c.loop-put.position c.args.head.now (g.K.Sink.state c.args.sink.now)
+    (g.K.Sink.state c.loop-put.sink) c.loop-put.put c.requires.head c.loop-put.invariant.0
+    (omega (arith, c.loop-put-test.false))

@@ -1,0 +1,97 @@
+-- How a find ends: over what every call of the device keeps, never with `Usage`, and where nothing hinders it with no
+-- refusal but want of memory.
+use Rattle.std.proofs.Common.{◌≡◌, ◌-◌, ℕ, List, Result, Ok, Err, refl, subst, sym, inl}
+use Rattle.std.proofs.lemmas.Option.{get_or_from_slice_get, slice_get_within}
+use Rattle.std.specs.Global.{Vec}
+use Rattle.std.specs.Prelude.{Contains}
+use Rattle.cell_types.specs.Layout.{Layout}
+use Rattle.cell_types.specs.declared.refusal.Refusal.{Refusal}
+use Rattle.cell_types.specs.declared.refusal.Refusal.TheVariants as refusals
+use Rattle.worm_device.specs.Calls.{Called}
+use Rattle.worm_device.proofs.Counting.{rose_or_still}
+use Rattle.worm_device.proofs.Elapsing.{called_self}
+use Rattle.recovery_engine.specs.Settling.{IsSettlingRule}
+use Rattle.record_query.specs.Finding.{FindEnds}
+use Rattle.record_query.specs.declared.found.Match.{Match}
+use Rattle.record_top.specs.Finding.{DoesFind, IsFirstBadWord, IsReadyToFind, TermsEnd, found_text, misworded, searched, unread}
+use Rattle.record_top.specs.Ports.{Ports, IsOkOrNoMemory, TellsFromMemory}
+use Rattle.record_top.specs.WholeLogs.{HasWholeLog}
+use Rattle.record_top.proofs.WholeLogs.{settles_whole, settling_log, untampered}
+
+-- where the terms can't be read, nothing is done
+pub not_searched : (asked : List (List ℕ)) (ports : Ports) (refusal : Refusal) → TermsEnd asked (Err refusal)
+    → DoesFind asked ports ports (Err refusal)
+not_searched asked ports (refusals.BadWord i) ends = misworded i ends refl refl
+not_searched asked ports refusals.NoMemory ends = unread refl refl
+not_searched asked ports refusal ends = absurd ends
+
+no_word : (result : Result Unit Refusal) (i : ℕ) → result ≡ Err refusals.Usage → result ≡ Err (refusals.BadWord i) → ⊥
+no_word result i e f = absurd cc
+
+no_lack : (result : Result Unit Refusal) → result ≡ Err refusals.Usage → result ≡ Err refusals.NoMemory → ⊥
+no_lack result e f = absurd cc
+
+module _ (asked : List (List ℕ)) (old new : Ports) where
+  -- a find keeps what every call of the device keeps
+  pub find_called : (result : Result Unit Refusal) → DoesFind asked old new result → Called old.device new.device
+  find_called result (misworded i bad is same) =
+      subst (λ (p : Ports). Called old.device p.device) (sym same) (called_self old.device)
+  find_called result (unread is same) =
+      subst (λ (p : Ports). Called old.device p.device) (sym same) (called_self old.device)
+  find_called result (searched terms answer are searches source tells) = searches.called
+
+  told_is_used : (terms : List (List ℕ)) (answer : Result (Vec Match) Refusal)
+      → FindEnds terms old.device new.device answer → TellsFromMemory found_text answer old new (Err refusals.Usage) → ⊥
+  told_is_used terms (Ok matches) ends tells = tells
+  told_is_used terms (Err refused) ends tells =
+      subst (λ (r : Refusal). FindEnds terms old.device new.device (Err r)) (sym tells.0) ends
+
+  -- and never ends with `Usage`
+  pub find_is_used : DoesFind asked old new (Err refusals.Usage) → ⊥
+  find_is_used (misworded i bad is same) = no_word (Err refusals.Usage) i refl is
+  find_is_used (unread is same) = no_lack (Err refusals.Usage) refl is
+  find_is_used (searched terms answer are searches source tells) = told_is_used terms answer searches.ends tells
+
+module _ (asked : List (List ℕ)) (g : Layout) (old new : Ports) (ready : IsReadyToFind asked g old new) where
+  settling : HasWholeLog IsSettlingRule g old.device new.device
+  settling = settling_log ready.log (λ number rule. inl rule)
+
+  searches_whole : (terms : List (List ℕ)) (called : Called old.device new.device) (refusal : Refusal)
+      → FindEnds terms old.device new.device (Err refusal) → IsOkOrNoMemory (Err refusal)
+  searches_whole terms called refusals.NoMemory ends = tt
+  searches_whole terms called refusals.DeviceFault ends = rose_or_still _ _ ends ready.log.no_fault
+  searches_whole terms called (refusals.Tampered e) ends = untampered ready.log called e (ends ready.log.tells)
+  searches_whole terms called refusals.NotFormatted ends =
+      absurd (settles_whole settling called refusals.NotFormatted ends)
+  searches_whole terms called (refusals.NotAVolume found) ends =
+      absurd (settles_whole settling called (refusals.NotAVolume found) ends)
+  searches_whole terms called (refusals.WrongSize stated real) ends =
+      absurd (settles_whole settling called (refusals.WrongSize stated real) ends)
+  searches_whole terms called refusal ends = absurd ends
+
+  find_told : (terms : List (List ℕ)) (result : Result Unit Refusal) (answer : Result (Vec Match) Refusal)
+      → Called old.device new.device → FindEnds terms old.device new.device answer
+      → TellsFromMemory found_text answer old new result → IsOkOrNoMemory result
+  find_told terms (Ok u) answer called ends tells = tt
+  find_told terms (Err refusal) (Err refused) called ends tells =
+      subst (λ (r : Refusal). IsOkOrNoMemory (Err r)) (sym tells.0) (searches_whole terms called refused ends)
+  find_told terms (Err refusals.NoMemory) (Ok matches) called ends tells = tt
+  find_told terms (Err refusals.SinkFault) (Ok matches) called ends tells =
+      rose_or_still _ _ tells.faults ready.no_sink_fault
+  find_told terms (Err refusal) (Ok matches) called ends tells = absurd tells
+
+  no_bad_word : (i : ℕ) → IsFirstBadWord asked i → ⊥
+  no_bad_word i first =
+      let among : Contains asked first.word = (
+        i - 1,
+        slice_get_within asked (i - 1) first.word first.at,
+        get_or_from_slice_get asked (i - 1) first.word first.word first.at,
+      ) in
+      first.bad (ready.words first.word among)
+
+  -- the answer is Ok, or want of memory
+  pub find_completes : (result : Result Unit Refusal) → DoesFind asked old new result → IsOkOrNoMemory result
+  find_completes result (misworded i bad is same) = absurd (no_bad_word i bad)
+  find_completes result (unread is same) = subst IsOkOrNoMemory (sym is) tt
+  find_completes result (searched terms answer are searches source tells) =
+      find_told terms result answer searches.called searches.ends tells

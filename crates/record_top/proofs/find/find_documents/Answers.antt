@@ -1,0 +1,74 @@
+-- Each exit, by how far the command came.
+use Rattle.std.proofs.Common.{◌≡◌, ℕ, List, Ok, Err, map, refl, sym, ap, ◌∙◌, subst}
+use Rattle.std.specs.String.{string_bytes}
+use Rattle.cell_types.specs.declared.refusal.Refusal.TheVariants.{NoMemory, SinkFault}
+use Rattle.cell_types.proofs.Passed.{handed}
+use Rattle.host_ports.specs.Sinks.{Gets, PutsPart}
+use Rattle.record_query.specs.Finding.{Searches}
+use Rattle.record_top.specs.Finding.{DoesFind, find_text, searched}
+use Rattle.record_top.specs.Ports.{ports_of}
+use Rattle.record_top.proofs.Finds.{not_searched}
+use Rattle.record_top.proofs.find.find_documents.Goals as goal
+
+-- the terms were not read
+pub returns-in_err-terms : goal.returns-in_err-terms
+returns-in_err-terms g c =
+    let ports = ports_of (g.D.Device.state c.args.device.now) (g.S.Source.state c.args.source.now)
+    (g.K.Sink.state c.args.sink.now) in
+    let refusal = c.in_err-terms.field-0.0 in
+    rw (handed c.from_residual.result refusal c.from_residual.ensures.1)
+    (not_searched (map string_bytes c.args.words.now) ports refusal c.in_err-terms.ensures)
+
+-- the search was ended
+pub returns-in_err-matches : goal.returns-in_err-matches
+returns-in_err-matches g c =
+    let device = g.D.Device.state c.args.device.now in
+    let later = g.D.Device.state c.find.new.device in
+    let refusal = c.in_err-matches.field-0.0 in
+    rw (handed c.from_residual-in_err-matches.result refusal c.from_residual-in_err-matches.ensures.1)
+    (searched c.in_ok-terms.terms.items (Err refusal) c.in_ok-terms.ensures
+    (subst (λ (terms : List (List ℕ)). Searches terms device later (Err refusal)) c.deref.ensures.value
+    c.in_err-matches.ensures.search)
+    refl (refl, refl))
+
+-- no memory was to be had for the text
+pub returns-in_err-text : goal.returns-in_err-text
+returns-in_err-text g c =
+    let device = g.D.Device.state c.args.device.now in
+    let later = g.D.Device.state c.find.new.device in
+    let matches = c.in_ok-matches.matches in
+    rw (handed c.from_residual-in_err-text.result NoMemory c.from_residual-in_err-text.ensures.1)
+    (searched c.in_ok-terms.terms.items (Ok matches) c.in_ok-terms.ensures
+    (subst (λ (terms : List (List ℕ)). Searches terms device later (Ok matches)) c.deref.ensures.value
+    c.in_ok-matches.ensures.search)
+    refl refl)
+
+-- the sink failed
+pub returns-in_err-put_text : goal.returns-in_err-put_text
+returns-in_err-put_text g c =
+    let device = g.D.Device.state c.args.device.now in
+    let later = g.D.Device.state c.find.new.device in
+    let matches = c.in_ok-matches.matches in
+    let failed = c.from_residual-in_err-put_text in
+    let text = c.deref-3.ensures.value ∙ c.in_ok-text.ensures ∙ ap find_text c.deref-2.ensures.value in
+    rw (handed failed.result SinkFault failed.ensures.1)
+    (searched c.in_ok-terms.terms.items (Ok matches) c.in_ok-terms.ensures
+    (subst (λ (terms : List (List ℕ)). Searches terms device later (Ok matches)) c.deref.ensures.value
+    c.in_ok-matches.ensures.search)
+    refl
+    (subst (λ (t : List ℕ). PutsPart t (g.K.Sink.state c.args.sink.now) (g.K.Sink.state c.put_text.new.sink)) text
+    c.in_err-put_text.ensures.part))
+
+-- the text was put out
+pub returns : goal.returns
+returns g c =
+    let device = g.D.Device.state c.args.device.now in
+    let later = g.D.Device.state c.find.new.device in
+    let matches = c.in_ok-matches.matches in
+    let text = c.deref-3.ensures.value ∙ c.in_ok-text.ensures ∙ ap find_text c.deref-2.ensures.value in
+    searched c.in_ok-terms.terms.items (Ok matches) c.in_ok-terms.ensures
+    (subst (λ (terms : List (List ℕ)). Searches terms device later (Ok matches)) c.deref.ensures.value
+    c.in_ok-matches.ensures.search)
+    refl
+    (subst (λ (t : List ℕ). Gets (g.K.Sink.state c.args.sink.now).held (g.K.Sink.state c.put_text.new.sink).held t) text
+    c.in_ok-put_text.ensures.whole)
