@@ -28,7 +28,7 @@ returns-in_err-matches g c =
     rw (handed c.from_residual-in_err-matches.result refusal c.from_residual-in_err-matches.ensures.1)
     (searched c.in_ok-terms.terms.items (Err refusal) c.in_ok-terms.ensures
     (subst (λ (terms : List (List ℕ)). Searches terms device later (Err refusal)) c.deref.ensures.value
-    c.in_err-matches.ensures.search)
+    c.in_err-matches.ensures)
     refl (refl, refl))
 
 -- no memory was to be had for the text
@@ -40,7 +40,7 @@ returns-in_err-text g c =
     rw (handed c.from_residual-in_err-text.result NoMemory c.from_residual-in_err-text.ensures.1)
     (searched c.in_ok-terms.terms.items (Ok matches) c.in_ok-terms.ensures
     (subst (λ (terms : List (List ℕ)). Searches terms device later (Ok matches)) c.deref.ensures.value
-    c.in_ok-matches.ensures.search)
+    c.in_ok-matches.ensures)
     refl refl)
 
 -- the sink failed
@@ -54,7 +54,7 @@ returns-in_err-put_text g c =
     rw (handed failed.result SinkFault failed.ensures.1)
     (searched c.in_ok-terms.terms.items (Ok matches) c.in_ok-terms.ensures
     (subst (λ (terms : List (List ℕ)). Searches terms device later (Ok matches)) c.deref.ensures.value
-    c.in_ok-matches.ensures.search)
+    c.in_ok-matches.ensures)
     refl
     (subst (λ (t : List ℕ). PutsPart t (g.K.Sink.state c.args.sink.now) (g.K.Sink.state c.put_text.new.sink)) text
     c.in_err-put_text.ensures.part))
@@ -68,7 +68,7 @@ returns g c =
     let text = c.deref-3.ensures.value ∙ c.in_ok-text.ensures ∙ ap find_text c.deref-2.ensures.value in
     searched c.in_ok-terms.terms.items (Ok matches) c.in_ok-terms.ensures
     (subst (λ (terms : List (List ℕ)). Searches terms device later (Ok matches)) c.deref.ensures.value
-    c.in_ok-matches.ensures.search)
+    c.in_ok-matches.ensures)
     refl
     (subst (λ (t : List ℕ). Gets (g.K.Sink.state c.args.sink.now).held (g.K.Sink.state c.put_text.new.sink).held t) text
     c.in_ok-put_text.ensures.whole)
