@@ -56,6 +56,9 @@ module _ (g : Layout) (old new : Ports) (ready : IsReadyToRecover g old new) whe
   recover_completes (Err refusals.SinkFault) (Ok r) settles tells = rose_or_still _ _ tells.faults ready.no_sink_fault
   recover_completes (Err refusal) (Ok r) settles tells = absurd tells
 
+walked : {r : Ready} {old new : DeviceState} (has : HasSettled old new r) → HasWalked r old has.settled new
+walked has = record { settles = has.settles; looked = has.looked; quiet = has.quiet }
+
 -- where a slot is unused, and there is room, a settled volume has room
 module _ {id body : List ℕ} {g : Layout} {slot : ℕ} {old new : Ports} (ready : IsReadyToIngest id body g slot old new)
     (r : Ready) (has : HasSettled old.device new.device r) where
@@ -98,10 +101,9 @@ module _ {id body : List ℕ} {g : Layout} {slot : ℕ} {old new : Ports}
   not_taken : (n : ℕ) → IsTaken id n old.device new.device → ⊥
   not_taken n h =
       let found = h.first ready.log.tells in
-      let walked : HasWalked h.ready old.device h.settled.settled new.device = record { settles = h.settled.settles; looked = h.settled.looked; quiet = h.settled.quiet } in
       ready.fresh n found.body
-      (law h.ready old.device h.settled.settled new.device n id found.body walked ready.log.tells ready.log.alone
-      found.first.document)
+      (law h.ready old.device h.settled.settled new.device n id found.body (walked h.settled) ready.log.tells
+      ready.log.alone found.first.document)
 
   fits : (need free : ℕ) → HasNoRoom id body need free old.device new.device → ⊥
   fits need free h =

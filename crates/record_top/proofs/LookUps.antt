@@ -1,5 +1,5 @@
--- How a look-up ends: over what every call of the device keeps, never with `Usage`, and where nothing hinders it with no
--- refusal but that no document has the identifier.
+-- How a look-up ends: over what every call of the device keeps, never with `Usage`, and where nothing hinders it with
+-- no refusal but that no document has the identifier.
 use Rattle.std.proofs.Common.{◌≡◌, ℕ, List, Result, Ok, Err, refl, subst, sym, inl}
 use Rattle.cell_types.specs.Layout.{Layout}
 use Rattle.cell_types.specs.declared.refusal.Refusal.{Refusal}

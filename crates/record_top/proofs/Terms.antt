@@ -53,7 +53,12 @@ module _ {asked terms : List (List ℕ)} {n : ℕ} (so_far : TermsSoFar asked te
         (slice_get_read asked (length asked) among.0 word refl among.1 (sym among.2));
     only = λ term among.
         let from = so_far.only term among in
-        (from.1, (from.0, slice_get_within asked from.0 from.1 from.3, get_or_from_slice_get asked from.0 from.1 from.1 from.3), from.4);
+        let at : Contains asked from.1 = (
+          from.0,
+          slice_get_within asked from.0 from.1 from.3,
+          get_or_from_slice_get asked from.0 from.1 from.1 from.3,
+        ) in
+        (from.1, at, from.4);
   }
 
   -- one word more: its term is among those that more are

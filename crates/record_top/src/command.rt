@@ -41,7 +41,8 @@ pub fn run<D: Device, S: Source, K: Sink>(
         (ports_of (D.state device.old) (S.state source.old) (K.state sink.old))
         (ports_of (D.state device.new) (S.state source.new) (K.state sink.new)) result }
 
-    // Where nothing hinders what they ask for, it is done; or no memory was to be had, or no document has the identifier.
+    // Where nothing hinders what they ask for, it is done; or no memory was to be had, or no document has the
+    // identifier.
     ensures complete { (request : Request) → Asks (map string_bytes words.now) request → IsUnhindered request
         (ports_of (D.state device.old) (S.state source.old) (K.state sink.old))
         (ports_of (D.state device.new) (S.state source.new) (K.state sink.new)) → IsAnswered request result }
@@ -49,7 +50,7 @@ pub fn run<D: Device, S: Source, K: Sink>(
     let Some(command) = command_of(words) else {
         return Err(Refusal::Usage);
     };
-    // A law: so where no stored document has an identifier, an ingest finds none that has.
+    // What `complete` rests on: an ingest finds no document that was not stored before.
     documents_were_stored();
     carry_out(alloc, command, device, source, sink)
 }

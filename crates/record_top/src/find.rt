@@ -15,7 +15,8 @@ use std::alloc::{AllocError, Global};
 use word_reader::{Term, WordFault, single_term};
 use worm_device::Device;
 
-/// Searches the documents for the words, and puts out which have them all. The text is made before its first byte goes out.
+/// Searches the documents for the words, 8 at most, and puts out which have them all. The text is made before its first
+/// byte goes out.
 pub fn find_documents<D: Device, S: Source, K: Sink>(
     alloc: Global,
     words: &[String],

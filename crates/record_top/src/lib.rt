@@ -9,14 +9,15 @@
 //!     lookup a        looks for the document, and puts out its body                hello world
 //!     recover         settles the volume                                           nothing to settle
 //!
-//! A `find` makes its text before the first byte goes out, and a `lookup` checks the document whole before that. Whatever
-//! keeps a command from being done is a refusal that names its cause.
+//! A `find` makes its text before the first byte goes out, and a `lookup` checks the document whole before that.
+//! Whatever keeps a command from being done is a refusal that names its cause.
 //!
 //! A further command is one case in each relation of specs/Commands.antt, a file of its own there and here, and one arm
 //! in `command.rt`.
 //!
 //! Stands on `ingest_engine` and `recovery_engine`, which write, on `record_query`, which searches and looks up, and on
-//! `host_ports`. Begin with `command.rt`; specs/Commands.antt says which commands there are, and leads to what each does.
+//! `host_ports`. Begin with `command.rt`; specs/Commands.antt says which commands there are, and leads to what each
+//! does.
 #![tactic(auto)]
 
 mod body;

@@ -28,4 +28,5 @@ returns-clause-complete g c = λ request asks free.
     let ran = c.carry_out in
     let new = ports_of (device ran.new.device) (source ran.new.source) (sink ran.new.sink) in
     let one = asks_once _ _ request c.in-Some.ensures.some asks in
-    completes old new c.documents_were_stored.ensures request ran.result (subst (λ (r : Request). Does r old new ran.result) one ran.ensures) free
+    let done = subst (λ (r : Request). Does r old new ran.result) one ran.ensures in
+    completes old new c.documents_were_stored.ensures request ran.result done free

@@ -27,7 +27,8 @@ returns-in-Err-BadWord c =
     let at = word_at c.args.words.now c.loop-word.word-index word (omega arith) c.word-item.is in
     let ends = subst (λ (w : List ℕ). SingleEnds w (Err c.in-Err-BadWord.field-0)) c.as_bytes.ensures.value
     c.in-Err-BadWord.ensures in
-    let bad = subst (λ (fault : WordFault). SingleEnds (string_bytes word) (Err fault)) c.in-Err-BadWord.field-0-is ends in
+    let bad = subst (λ (fault : WordFault). SingleEnds (string_bytes word) (Err fault))
+    c.in-Err-BadWord.field-0-is ends in
     subst (λ (i : ℕ). IsFirstBadWord asked (i + 1)) (sym c.loop-word.invariant.0)
     (first_bad c.loop-word.invariant.1 (string_bytes word) at bad)
 
@@ -44,8 +45,11 @@ loop-word-preserved c =
     let more = λ (ts : List (List ℕ)). TermsSoFar asked ts (c.loop-word.word-index + 1) in
     elim c.if-all.branch [
       | then-all+in-Ok-push w ↦
-          let items = ap (λ v. v.items) w.terms-is ∙ w.in-Ok-push.ensures.items in
-          (omega (arith, c.loop-word.invariant.0), subst more (sym items) (term_new so_far (string_bytes word) term at is))
+          let items = ap (λ v. v.items) w.terms-is ∙ w.in-Ok-push.ensures.items in (
+            omega (arith, c.loop-word.invariant.0),
+            subst more (sym items)
+                (term_new so_far (string_bytes word) term at is),
+          )
       | else-all w ↦
           let new : IsNew c.all.result term terms =
           cases_from_all _ _ c.all.result (λ (t : List ℕ). ⊤) (λ (t : List ℕ). t ≡ term) c.all.ensures.ran

@@ -13,37 +13,38 @@ use Rattle.record_top.specs.Words.{IsNoOption}
 use Rattle.record_top.proofs.Options.{no_option, no_search}
 use Rattle.record_top.proofs.words.find_of.Goals as goal
 
--- the word is an option, or can't be one
+-- the word is an option
 abbrev IsOption : String Global → Type 0
 IsOption word = IsNoOption (string_bytes word) → ⊥
 
-abbrev IsNone : String Global → Type 0
-IsNone word = IsOption word → ⊥
+-- and this one is none
+abbrev IsPlain : String Global → Type 0
+IsPlain word = IsOption word → ⊥
 
 -- whether one of the words is an option
-abbrev Answers : Bool → List (String Global) → Type 0
-Answers any words =
-    MatchBool any ((k : ℕ) × (k < length words) × HoldsAt IsOption words k) (AllWithin IsNone words 0 (length words))
+abbrev AnyAnswers : Bool → List (String Global) → Type 0
+AnyAnswers any words =
+    MatchBool any ((k : ℕ) × (k < length words) × HoldsAt IsOption words k) (AllWithin IsPlain words 0 (length words))
 
 -- one is
 pub returns-then-any-clause-none : goal.returns-then-any-clause-none
 returns-then-any-clause-none c =
     let command = c.in_ok-command.command.now in
     let rest = c.in_ok-command.asked.now in
-    let answers : Answers c.any.result rest = cases_from_any _ _ c.any.result IsOption IsNone c.any.ensures.ran
+    let answers : AnyAnswers c.any.result rest = cases_from_any _ _ c.any.result IsOption IsPlain c.any.ensures.ran
     (YieldsList-from_slice rest c.iter.ensures.rest) (λ x q k. search (rules, tests))
     (λ x q k. search (rules, tests)) in
-    let one = subst (λ (any : Bool). Answers any rest) c.if-any.true answers in
+    let one = subst (λ (any : Bool). AnyAnswers any rest) c.if-any.true answers in
     no_search c.args.words.now rest command c.in_ok-command.ensures.cases.0 one.0 one.1 (one.2 command)
 
 -- none is
 pub returns-clause-some : goal.returns-clause-some
 returns-clause-some c =
     let rest = c.in_ok-command.asked.now in
-    let answers : Answers c.any.result rest = cases_from_any _ _ c.any.result IsOption IsNone c.any.ensures.ran
+    let answers : AnyAnswers c.any.result rest = cases_from_any _ _ c.any.result IsOption IsPlain c.any.ensures.ran
     (YieldsList-from_slice rest c.iter.ensures.rest) (λ x q k. search (rules, tests))
     (λ x q k. search (rules, tests)) in
-    let none = subst (λ (any : Bool). Answers any rest) c.if-any.false answers in
+    let none = subst (λ (any : Bool). AnyAnswers any rest) c.if-any.false answers in
     let some : 1 ≤ length rest = search rules in
     let same = alike c.as_str.result.now (codes "find") c.ne.result c.ne.ensures c.if-ne.false in
     let command : string_bytes c.in_ok-command.command.now ≡ codes "find" = sym c.as_str.ensures.value ∙ same in
