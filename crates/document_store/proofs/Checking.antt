@@ -1,5 +1,5 @@
 -- A document that was read in a slot that is done, from the look for its part on.
-use Rattle.std.proofs.Common.{◌≡◌, ◌<◌, ◌≤◌, ◌+◌, ◌*◌, ◌↔◌, ℕ, List, take, Some, Ok, Err, refl, sym, ap, ◌∙◌, subst, arith}
+use Rattle.std.proofs.Common.{◌≡◌, ◌≤◌, ◌+◌, ◌*◌, ◌↔◌, ℕ, List, Some, Ok, Err, refl, sym, ap, subst, arith}
 use Rattle.std.specs.Prelude.{IsTrue, Bool}
 use Rattle.cell_types.specs.Layout.{Layout}
 use Rattle.cell_types.specs.Refusals.{refusal_of_fault}
@@ -8,11 +8,11 @@ use Rattle.cell_types.specs.declared.refusal.Fault.TheVariants.{Tampered, ReadFa
 use Rattle.stored_documents.specs.Slots.{cells_for}
 use Rattle.worm_device.specs.Views.{ViewState, Viewed}
 use Rattle.document_store.specs.Heads.{HasBody, id_of}
-use Rattle.document_store.specs.Looks.{HasStored, HoldsIdentifier, IdentifierEnds, IsPartOf, IsSame, LookFails, PartEnds, ReadEnds, ReadsOnce, ReadsTwice}
+use Rattle.document_store.specs.Looks.{HasStored, HoldsIdentifier, IdentifierEnds, IsPartOf, IsSame, LookFails, PartEnds, ReadsOnce, ReadsTwice}
 use Rattle.document_store.specs.Standing.{HoldsDocument}
 use Rattle.document_store.specs.declared.head.Head.{Head}
 use Rattle.document_store.specs.declared.part.Part.{Part}
-use Rattle.document_store.proofs.Holding.{held_is_one, one_part, part_on, whole_is_held}
+use Rattle.document_store.proofs.Holding.{one_part, part_on, whole_is_held}
 use Rattle.document_store.proofs.Naming.{fails_from, told}
 
 -- a look that gave no answer, as a command refuses

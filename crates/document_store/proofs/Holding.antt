@@ -1,5 +1,5 @@
 -- What a slot holds: one document, which stands on a volume of its layout, and goes on being held.
-use Rattle.std.proofs.Common.{◌≡◌, ◌<◌, ◌≤◌, ◌+◌, ◌↔◌, ℕ, List, [], ◌∷◌, ◌++◌, length, take, drop, refl, sym, ap, ◌∙◌, subst, arith, slice_index}
+use Rattle.std.proofs.Common.{◌≡◌, ℕ, List, ◌++◌, length, take, drop, sym, ap, ◌∙◌, subst, slice_index}
 use Rattle.std.proofs.Math.Seq.{take-append_seam, drop-append_seam}
 use Rattle.std.specs.Prelude.{IsTrue}
 use Rattle.cell_types.specs.Image.{Image, Extends}
@@ -96,7 +96,8 @@ pub one_part : (g : Layout) (image : Image) (n : ℕ) (part : Part) (start reser
 one_part g image n part start reserved bytes journal is done =
     let place = reserves _ _ _ _ (one_record_holds image (reserve_at n) _ _ done.commits.reserves.reserve
     is.done.commits.reserves.reserve) in
-    let sizes = commits _ _ _ _ (one_record_holds image (outcome_at n) _ _ done.commits.outcome is.done.commits.outcome) in
+    let sizes = commits _ _ _ _ (one_record_holds image (outcome_at n) _ _ done.commits.outcome
+    is.done.commits.outcome) in
     let at : document_at is.first is.reserved part.bytes is.journal ≡ document_at start reserved bytes journal = cc in
     (sizes.0, is.start_is ∙ at)
 
@@ -172,7 +173,8 @@ pub held_is_one : (g : Layout) (image : Image) (n : ℕ) (a b c d : List ℕ) �
 held_is_one g image n a b c d p q =
     let place = reserves _ _ _ _ (one_record_holds image (reserve_at n) _ _ p.done.commits.reserves.reserve
     q.done.commits.reserves.reserve) in
-    let sizes = commits _ _ _ _ (one_record_holds image (outcome_at n) _ _ p.done.commits.outcome q.done.commits.outcome) in
+    let sizes = commits _ _ _ _ (one_record_holds image (outcome_at n) _ _ p.done.commits.outcome
+    q.done.commits.outcome) in
     let at : document_at q.start q.reserved (length (stored_bytes c d)) q.journal
     ≡ document_at p.start p.reserved (length (stored_bytes a b)) p.journal = cc in
     one_stored a b c d

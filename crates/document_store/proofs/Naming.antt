@@ -1,25 +1,24 @@
 -- Looks at documents, seen from an earlier state on.
-use Rattle.std.proofs.Common.{◌≡◌, ◌<◌, ◌≤◌, ◌+◌, ◌*◌, ◌⊎◌, ℕ, List, Option, Some, None, Result, Ok, Err, refl, sym, ap, ◌∙◌, inl, inr, subst, ⊎_elim, arith}
+use Rattle.std.proofs.Common.{◌≡◌, ◌<◌, ◌+◌, ◌⊎◌, ℕ, List, Option, Some, None, Result, Ok, Err, sym, ap, ◌∙◌, subst, ⊎_elim, arith}
 use Rattle.std.specs.Prelude.{IfSome, IsTrue}
 use Rattle.cell_types.specs.Image.{Image, Extends}
 use Rattle.cell_types.specs.Layout.{Layout, reserve_at, outcome_at, done_at}
 use Rattle.cell_types.specs.declared.refusal.Evidence.{Evidence}
 use Rattle.cell_types.specs.declared.refusal.Fault.{Fault}
 use Rattle.cell_types.specs.declared.refusal.Fault.TheVariants.{Tampered, ReadFault}
-use Rattle.stored_documents.specs.Slots.{IsDoneSlot, Reserves}
+use Rattle.stored_documents.specs.Slots.{IsDoneSlot}
 use Rattle.stored_documents.proofs.Extending.{blank_before, unused_further, reserved_further, abandoned_further, committed_further, done_on, done_slot_on}
 use Rattle.tamper_rules.specs.Rules.{IsPlaceOf}
 use Rattle.tamper_rules.specs.Rules.{Documents}
 use Rattle.tamper_rules.specs.declared.numbers.TheConstants.{BROKEN_DOCUMENT}
-use Rattle.worm_device.specs.Counts.{Rose}
 use Rattle.worm_device.specs.Views.{ViewState, Viewed}
 use Rattle.worm_device.proofs.Counting.{still_second}
 use Rattle.worm_device.proofs.Images.{extends_self}
-use Rattle.commit_record.specs.States.{AsksBelow, IsNoState, IsOutOfPlace, IsState, Shows, done_abandoned, done_unended, done_unreserved, done_wrongly, ends_unreserved, ends_wrongly, reserves_none}
+use Rattle.commit_record.specs.States.{AsksBelow, IsNoState, IsState, Shows, done_abandoned, done_unended, done_unreserved, done_wrongly, ends_unreserved, ends_wrongly, reserves_none}
 use Rattle.commit_record.specs.declared.slot.SlotState.{SlotState}
 use Rattle.commit_record.specs.declared.slot.SlotState.TheVariants.{Unused, Reserved, Abandoned, Committed, Done}
 use Rattle.document_store.specs.Heads.{SpellsNone}
-use Rattle.document_store.specs.Looks.{AreRead, IsBrokenDocument, IsPartOf, IsRead, IsUndone, LookFails, Names, NoneBelow, PartEnds, held, of_document, of_state, undone}
+use Rattle.document_store.specs.Looks.{AreRead, IsPartOf, IsRead, IsUndone, LookFails, Names, NoneBelow, PartEnds, held, of_document, of_state, undone}
 use Rattle.document_store.specs.Standing.{HoldsDocument}
 use Rattle.document_store.specs.declared.part.Part.{Part}
 use Rattle.document_store.proofs.Holding.{held_on, none_is_held, part_is_done, part_on}
@@ -77,7 +76,8 @@ module _ (g : Layout) {old mid new : ViewState} (before : Viewed old mid) (after
   shows_from : {image : Image} {e : Evidence} → Shows g mid new image e → Shows g old new image e
   shows_from s = record {
     stands = s.stands;
-    broken = λ still volume. s.broken (still_second before.called.foreign_writes after.called.foreign_writes still) volume;
+    broken = λ still volume. s.broken (still_second before.called.foreign_writes after.called.foreign_writes still)
+        volume;
   }
 
   -- what evidence of slot n says, from an earlier state on

@@ -1,5 +1,5 @@
 -- What bytes that were read tell of a document that a part holds.
-use Rattle.std.proofs.Common.{◌≡◌, ◌<◌, ◌≤◌, ◌+◌, ◌-◌, ◌⊎◌, ℕ, zero, suc, List, [], ◌∷◌, ◌++◌, length, take, drop, refl, sym, ap, ◌∙◌, inl, inr, subst, ⊎_elim, arith, slice_index}
+use Rattle.std.proofs.Common.{◌≡◌, ◌<◌, ◌+◌, ◌-◌, ◌⊎◌, ℕ, zero, suc, List, [], ◌∷◌, ◌++◌, length, sym, ap, ◌∙◌, inl, inr, subst, ⊎_elim, arith, slice_index}
 use Rattle.std.proofs.Math.ListN.{get_or-eq_default, get_or-append}
 use Rattle.std.proofs.Math.Seq.{get_or-append_seam}
 use Rattle.std.proofs.lemmas.List.{get_or-take, length-append, get_or-append-add}
@@ -53,7 +53,8 @@ module _ (v : ViewState) (start bytes : ℕ) (p : Position) (tells : IsTrue v.ba
   at_front given h d i less =
       let stored = stored_bytes d.id d.body in
       ap (λ (l : List ℕ). slice_index l i)
-      (front_of v start bytes p given h tells stored d.count (stored_fits d.id d.body d.is_identifier d.is_body) d.spells)
+      (front_of v start bytes p given h tells stored d.count (stored_fits d.id d.body d.is_identifier d.is_body)
+      d.spells)
       ∙ get_or-take (length given) stored i 0 less
 
   -- the first is the length of the identifier
@@ -88,7 +89,8 @@ module _ (v : ViewState) (start bytes : ℕ) (p : Position) (tells : IsTrue v.ba
       let at : slice_index (n ∷ (front ++ b ∷ [])) (suc i) ≡ slice_index (stored_bytes d.id d.body) (suc i) =
       at_front (n ∷ (front ++ b ∷ [])) h d (suc i) (omega (arith, length-append front (b ∷ []))) in
       let inside : i < length d.id = omega (arith, less, e) in
-      let same : b ≡ slice_index d.id i = sym (get_or-append_seam front b [] 0) ∙ at ∙ get_or-append d.id d.body 0 i inside in
+      let same : b ≡ slice_index d.id i = sym (get_or-append_seam front b [] 0) ∙ at ∙ get_or-append d.id d.body 0 i
+      inside in
       let range = d.is_identifier.each i inside in
       ⊎_elim (λ (z : b < 0x21). omega (arith, z, same, range.0)) (λ (z : 0x7E < b). omega (arith, z, same, range.1)) out
 

@@ -1,7 +1,7 @@
 -- A body, so far as it was put, and a piece of it, so far as it was read.
-use Rattle.std.proofs.Common.{◌≡◌, ◌<◌, ◌≤◌, ◌+◌, ◌-◌, min, ℕ, List, [], ◌∷◌, ◌++◌, length, take, drop, Ok, Err, refl, sym, ap, ◌∙◌, subst, arith}
+use Rattle.std.proofs.Common.{◌≡◌, ◌<◌, ◌≤◌, ◌+◌, ℕ, List, [], ◌∷◌, ◌++◌, length, take, drop, Ok, Err, refl, sym, ap, ◌∙◌, subst, arith}
 use Rattle.std.proofs.Math.ListN.{set}
-use Rattle.std.proofs.Math.Seq.{take-append_seam, drop-append_seam, take-append-add}
+use Rattle.std.proofs.Math.Seq.{drop-append_seam, take-append-add}
 use Rattle.std.proofs.lemmas.List.{append_assoc, append-nil, length-append, length-drop, length-set, length-take, length-take-le, take_all, take_more_set, take-take}
 use Rattle.std.specs.Prelude.{IsTrue}
 use Rattle.stored_documents.specs.Documents.{stored_bytes}
@@ -15,11 +15,10 @@ use Rattle.append_file.specs.declared.piece.ContentFault.{ContentFault}
 use Rattle.append_file.specs.declared.piece.ContentFault.TheVariants as contents
 use Rattle.append_file.specs.declared.position.Position.{Position}
 use Rattle.append_file.proofs.Spelled.{front_of, has_read_on}
-use Rattle.document_store.specs.Heads.{FaultEnds, IsHead, IsWhole, SpellsNone, id_of}
-use Rattle.document_store.specs.Putting.{FillEnds, GotFront, PutFails, PutEnds, PutRestEnds, put_fault_of}
+use Rattle.document_store.specs.Heads.{IsHead, IsWhole, id_of}
+use Rattle.document_store.specs.Putting.{FillEnds, GotFront, PutFails, PutRestEnds, put_fault_of}
 use Rattle.document_store.specs.declared.head.Head.{Head}
-use Rattle.document_store.specs.declared.putting.PutFault.{PutFault}
-use Rattle.document_store.specs.declared.putting.PutFault.TheVariants.{Broken, ReadFault, SinkFault}
+use Rattle.document_store.specs.declared.putting.PutFault.TheVariants.{SinkFault}
 use Rattle.document_store.proofs.Holding.{whole_document}
 use Rattle.document_store.proofs.Parsing.{first_is, none_broken, stored_fits}
 use Rattle.document_store.proofs.SoFar.{BodySoFar, body_add, body_none, body_whole}
@@ -113,7 +112,8 @@ body_front v start bytes p h got id body read tells w =
     (same, omega (arith, ap length same, length-take (length got) body))
 
 -- so many bytes of a body were read and put
-pub record PutSoFar (old now : ViewState) (start bytes : ℕ) (p q : Position) (h : Head) (from to : SinkState) (k : ℕ) : Type 0 where
+pub record PutSoFar (old now : ViewState) (start bytes : ℕ) (p q : Position) (h : Head) (from to : SinkState) (k : ℕ)
+    : Type 0 where
   pub read : BodySoFar old now start bytes p q h k
   pub gets : Gets from.held to.held read.body
   pub faults : to.faults ≡ from.faults
@@ -127,21 +127,6 @@ put_begins old start bytes p h sink head = record {
   faults = refl;
   most = omega arith;
 }
-
--- nothing was put
-pub put_nothing : (v : ViewState) (start bytes : ℕ) (sink : SinkState) → GotFront v start bytes sink sink
-put_nothing v start bytes sink = record {
-  got = [];
-  gets = gets_nothing sink.held;
-  front = λ id body tells w. (refl, omega arith);
-}
-
--- the head was not read
-pub head_fails : (start bytes : ℕ) (old new : ViewState) (sink : SinkState) (fault : ContentFault)
-    → FaultEnds start bytes old new fault → PutFails start bytes old new sink sink (put_fault_of fault)
-head_fails start bytes old new sink contents.Broken ends =
-    (ends.0, refl, put_nothing new start bytes sink, ends.1)
-head_fails start bytes old new sink contents.ReadFault ends = (ends, refl, put_nothing new start bytes sink)
 
 module _ (old now new : ViewState) (start bytes : ℕ) (p q r : Position) (h : Head) (from mid to : SinkState) (k : ℕ)
     (piece : List ℕ) (head : IsHead old start bytes p h) (so_far : PutSoFar old now start bytes p q h from mid k)
@@ -174,7 +159,8 @@ module _ (old now new : ViewState) (start bytes : ℕ) (p q r : Position) (h : H
       (ends : FillEnds now new q r piece (Ok tt)) where
     -- it was read
     abbrev more : BodySoFar old new start bytes p r h (k + length piece)
-    more = body_add old now new start bytes p q r h k (length piece) piece so_far.read viewed ends.0 is reads refl ends.1
+    more = body_add old now new start bytes p q r h k (length piece) piece so_far.read viewed ends.0 is reads refl
+        ends.1
 
     -- a piece was put
     pub put_more : (n : ℕ) → length piece ≡ n → k + n ≤ h.body_length → Gets mid.held to.held piece
@@ -223,33 +209,6 @@ put_whole old now start bytes p q h from to k head so_far all =
         gets = whole.gets;
       },
     )
-
--- why a body was not put, from an earlier state on
-pub put_fails_from : (start bytes : ℕ) (old mid new : ViewState) (from to : SinkState) (fault : PutFault)
-    → Viewed old mid → mid.base.faults ≡ old.base.faults → PutFails start bytes mid new from to fault
-    → PutFails start bytes old new from to fault
-put_fails_from start bytes old mid new from to Broken before same fails =
-    (fails.0 ∙ same, fails.1, fails.2, λ tells. fails.3 (subst IsTrue (sym before.called.tells) tells))
-put_fails_from start bytes old mid new from to ReadFault before same fails =
-    (omega (arith, same, fails.0), fails.1, fails.2)
-put_fails_from start bytes old mid new from to SinkFault before same fails =
-    (fails.0 ∙ same, fails.1, fails.2)
-
--- a body behind a head, as that of the part
-pub put_ends : (start bytes : ℕ) (old mid new : ViewState) (h : Head) (from to : SinkState)
-    → mid.base.faults ≡ old.base.faults → PutRestEnds start bytes h mid new from to (Ok tt)
-    → PutEnds start bytes old new from to (Ok h.body_length)
-put_ends start bytes old mid new h from to same ends = (
-  ends.0 ∙ same,
-  ends.1,
-  record {
-    id = id_of h;
-    body = ends.2.has.body;
-    whole = ends.2.has.whole;
-    count_is = sym ends.2.has.is_length;
-    gets = ends.2.gets;
-  },
-)
 
 -- a piece in the front of a buffer of so many bytes
 pub piece_size : (count size : ℕ) (buffer piece : List ℕ) → length buffer ≡ size → count ≤ size

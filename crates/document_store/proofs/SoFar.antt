@@ -1,5 +1,5 @@
 -- What was read in the middle of a head, and in the middle of a body.
-use Rattle.std.proofs.Common.{◌≢◌, ◌≡◌, ◌<◌, ◌≤◌, ◌+◌, ◌-◌, ◌⊎◌, ℕ, List, [], ◌∷◌, ◌++◌, length, take, refl, sym, ap, ◌∙◌, inl, inr, subst, arith, slice_index, Ok, Err}
+use Rattle.std.proofs.Common.{◌≢◌, ◌≡◌, ◌<◌, ◌≤◌, ◌+◌, ◌-◌, ℕ, List, [], ◌∷◌, ◌++◌, length, take, refl, sym, ap, ◌∙◌, inl, inr, subst, arith, slice_index, Ok, Err}
 use Rattle.std.proofs.Math.ListN.{set}
 use Rattle.std.proofs.Common.{get_or-set_other, get_or-set_same, below_more}
 use Rattle.std.proofs.lemmas.List.{take_more_set, length-append, append_assoc, append-nil, length-take-le, get_or-take, length-set}
@@ -7,7 +7,6 @@ use Rattle.std.proofs.lemmas.Bool.{cases_lt}
 use Rattle.std.specs.Prelude.{IsTrue}
 use Rattle.stored_documents.specs.Documents.{stored_bytes}
 use Rattle.stored_documents.specs.declared.limits.TheConstants.{MAX_IDENTIFIER_BYTES, MAX_BODY_BYTES}
-use Rattle.worm_device.specs.Counts.{Rose}
 use Rattle.worm_device.specs.Views.{ViewState, Viewed}
 use Rattle.worm_device.proofs.Resting.{viewed_then}
 use Rattle.append_file.specs.Reading.{IsPosition, HasRead, ByteEnds}
@@ -87,8 +86,10 @@ body_whole old now start bytes p q h head so_far =
         identifier = head.identifier;
         most = omega (arith, head.most, so_far.is_length);
         told = λ tells.
-            let all = whole now start bytes q (stored_bytes id so_far.body) so_far.read (sym count) tells in
-            (record { bytes = body_fits id so_far.body all.0; most = omega (arith, head.most, so_far.is_length) }, all.1);
+            let all = whole now start bytes q (stored_bytes id so_far.body) so_far.read (sym count) tells in (
+              record { bytes = body_fits id so_far.body all.0; most = omega (arith, head.most, so_far.is_length) },
+              all.1,
+            );
       };
     }
 
@@ -97,7 +98,8 @@ abbrev pub body_add : (old now new : ViewState) (start bytes : ℕ) (p q r : Pos
     (piece : List ℕ) → BodySoFar old now start bytes p q h k → Viewed now new
     → new.base.faults ≡ now.base.faults → IsPosition r → new.base.reads + q.read ≤ now.base.reads + r.read
     → length piece ≡ n
-    → ((start bytes : ℕ) (given : List ℕ) → HasRead now start bytes q given → HasRead new start bytes r (given ++ piece))
+    → ((start bytes : ℕ) (given : List ℕ) → HasRead now start bytes q given → HasRead new start bytes r (given ++
+    piece))
     → BodySoFar old new start bytes p r h (k + n)
 body_add old now new start bytes p q r h k n piece so_far viewed same is reads count ends = record {
   viewed = viewed_then so_far.viewed viewed;
@@ -129,7 +131,8 @@ body_none old start bytes p h head viewed = record {
   reads = omega arith;
   body = [];
   is_length = refl;
-  read = subst (λ (l : List ℕ). HasRead old start bytes p (length (id_of h) ∷ l)) (sym (append-nil (id_of h))) head.read;
+  read = subst (λ (l : List ℕ). HasRead old start bytes p (length (id_of h) ∷ l)) (sym (append-nil (id_of h)))
+      head.read;
 }
 
 -- a byte of the body is left

@@ -1,14 +1,13 @@
 -- The walk along the slots for the first document with an identifier.
-use Rattle.std.proofs.Common.{◌≡◌, ◌<◌, ◌≤◌, ◌+◌, ℕ, List, Option, Some, None, Ok, Err, refl, sym, ◌∙◌, subst, arith}
+use Rattle.std.proofs.Common.{◌≡◌, ◌<◌, ◌+◌, ℕ, List, Some, None, Ok, refl, sym, ◌∙◌, arith}
 use Rattle.std.specs.Prelude.{IsTrue}
-use Rattle.cell_types.specs.Image.{Image}
 use Rattle.cell_types.specs.Layout.{Layout}
 use Rattle.cell_types.specs.declared.refusal.Fault.{Fault}
 use Rattle.worm_device.specs.Views.{ViewState, Viewed}
 use Rattle.worm_device.proofs.Images.{extends_self, extends_then}
 use Rattle.worm_device.proofs.Resting.{viewed_self, viewed_then}
 use Rattle.document_store.specs.Heads.{HasBody, id_of}
-use Rattle.document_store.specs.Looks.{AreRead, FirstEnds, IsFirst, IsNoneBelow, LookFails, NoneBelow, PartEnds, WalkFails, held, undone}
+use Rattle.document_store.specs.Looks.{AreRead, FirstEnds, LookFails, NoneBelow, PartEnds, WalkFails, held, undone}
 use Rattle.document_store.specs.Standing.{HoldsDocument}
 use Rattle.document_store.specs.declared.head.Head.{Head}
 use Rattle.document_store.specs.declared.part.Part.{Part}
@@ -89,7 +88,8 @@ module _ (g : Layout) (k u : ℕ) (id : List ℕ) (old now mid : ViewState) (so_
           less,
           same ∙ found.2,
           λ tells. record {
-            holds = holds_identifier g k old mid new part (viewed_then so_far.viewed looked) after found h has id (sym is)
+            holds = holds_identifier g k old mid new part (viewed_then so_far.viewed looked) after found h has id (sym
+                is)
                 tells;
             none = so_far.none tells;
             read = later tells;

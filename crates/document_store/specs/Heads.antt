@@ -1,5 +1,5 @@
 -- The stored bytes of a document, as they are read: a length, the identifier, the body.
-use Rattle.std.specs.Prelude.{◌≡◌, ◌<◌, ◌≤◌, ◌+◌, ℕ, List, [], ◌∷◌, ◌++◌, length, take, Result, Ok, Err, IsTrue}
+use Rattle.std.specs.Prelude.{◌≡◌, ◌≤◌, ◌+◌, ℕ, List, ◌∷◌, length, take, Result, Ok, Err, IsTrue}
 use Rattle.cell_types.specs.Image.{Image}
 use Rattle.stored_documents.specs.Documents.{IsBody, IsIdentifier, Spells, stored_bytes}
 use Rattle.stored_documents.specs.declared.limits.TheConstants.{MAX_BODY_BYTES, MAX_IDENTIFIER_BYTES}

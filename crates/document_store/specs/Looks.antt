@@ -145,8 +145,8 @@ pub record GotPart (g : Layout) (n : ℕ) (new : ViewState) (from to : SinkState
   pub gets : Gets from.held to.held (take count body)
   pub holds : IsTrue new.base.tells → HoldsBody g new.image n body
 
--- How putting the body of slot n's document into a sink may end, and why. No byte goes out before the whole document was
--- checked.
+-- How putting the body of slot n's document into a sink may end, and why. No byte goes out before the whole document
+-- was checked.
 abbrev pub BodyEnds : Layout → ℕ → ViewState → ViewState → SinkState → SinkState → Result ℕ BodyFault → Type 0
 BodyEnds g n old new from to (Ok bytes) =
     (new.base.faults ≡ old.base.faults) × (to.faults ≡ from.faults) × GotBody g n bytes new from to

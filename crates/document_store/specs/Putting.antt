@@ -30,7 +30,8 @@ put_fault_of contents.ReadFault = ReadFault
 abbrev pub FillEnds : ViewState → ViewState → Position → Position → List ℕ → Result Unit ContentFault → Type 0
 FillEnds old new p q piece (Ok u) =
     (new.base.faults ≡ old.base.faults)
-    × ((start bytes : ℕ) (given : List ℕ) → HasRead old start bytes p given → HasRead new start bytes q (given ++ piece))
+    × ((start bytes : ℕ) (given : List ℕ) → HasRead old start bytes p given → HasRead new start bytes q (given ++
+    piece))
 FillEnds old new p q piece (Err contents.Broken) =
     (new.base.faults ≡ old.base.faults)
     × ((start bytes : ℕ) (given : List ℕ) → HasRead old start bytes p given → length given + length piece ≤ bytes

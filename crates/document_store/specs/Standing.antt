@@ -1,5 +1,5 @@
 -- What it means that a slot of a volume holds a document, whatever the device's cell 0 states.
-use Rattle.std.specs.Prelude.{◌≡◌, ◌<◌, ◌↔◌, ℕ, List, length}
+use Rattle.std.specs.Prelude.{◌≡◌, ◌↔◌, ℕ, List, length}
 use Rattle.cell_types.specs.Image.{Image, Extends}
 use Rattle.cell_types.specs.Layout.{Layout}
 use Rattle.stored_documents.specs.Documents.{IsBody, IsIdentifier, Spells, Stands, document_at, stored_bytes}

@@ -7,8 +7,8 @@ use crate::part::{read_part, slot_part};
 use cell_types::{Fault, Volume};
 use worm_device::View;
 
-/// The first slot below `end` that holds a document with this identifier. Each done slot before it is read, and each that
-/// is not done is passed. Takes no memory.
+/// The first slot below `end` that holds a document with this identifier. Each done slot before it is read, and each
+/// that is not done is passed. Takes no memory.
 pub fn first_with_identifier<V: View>(
     view: &mut V,
     volume: &Volume,

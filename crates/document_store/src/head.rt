@@ -73,7 +73,8 @@ fn skip_body<V: View>(
     ensures viewed { Viewed (V.seen view.old) (V.seen view.new) }
     ensures is { IsPosition position.new }
     ensures bytes { position.new.bytes ≡ bytes }
-    ensures reads { (V.seen view.new).base.reads + position.old.read ≤ (V.seen view.old).base.reads + position.new.read }
+    ensures reads { (V.seen view.new).base.reads + position.old.read
+        ≤ (V.seen view.old).base.reads + position.new.read }
     ensures ends { SkipEnds start bytes head.now (V.seen view.old) (V.seen view.new) result }
 {
     for _ in 0..head.body_length {

@@ -7,14 +7,14 @@
 //!     cell 5      commit cell      13 stored bytes, 0 journal cells
 //!     cell 580    content cell     01 61 68 65 6c 6c 6f 20 77 6f 72 6c 64
 //!
-//! A slot that is done **holds** a document where each of these cells is the content cell of its place, and they spell an
-//! identifier of 1 to 200 printing characters and a body of at most 1,048,576 bytes, in as many bytes as the commit cell
-//! states. Where it holds none, the evidence is its commit cell, by rule 4. No cell is trusted: what a look found is said
-//! of the image at its exit, and what it found missing was so at its entry.
+//! A slot that is done **holds** a document where each of these cells is the content cell of its place, and they spell
+//! an identifier of 1 to 200 printing characters and a body of at most 1,048,576 bytes, in as many bytes as the commit
+//! cell states. Where it holds none, the evidence is its commit cell, by rule 4. No cell is trusted: what a look found
+//! is said of the image at its exit, and what it found missing was so at its entry.
 //!
 //! The calls on a slot ask that it is done. Whoever walks along slots asks `slot_part` first, which says where the
-//! document of a done slot lies, and then reads it by `read_head` and `read_byte`; `name_commit` names the commit cell of
-//! one that is broken. `first_with_identifier` is such a walk.
+//! document of a done slot lies, and then reads it by `read_head` and `read_byte`; `name_commit` names the commit cell
+//! of one that is broken. `first_with_identifier` is such a walk.
 //!
 //! Stands on `append_file` (bytes of cells), `commit_record` (states of slots) and `host_ports` (a sink for a body).
 //! Begin with `part.rt`; specs/Standing.antt says what it means to hold a document, and specs/Looks.antt how each call

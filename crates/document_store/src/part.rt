@@ -96,7 +96,8 @@ pub(crate) fn read_part<V: View>(
         → IsPartOf geometry.now (V.seen view.old).image part.now.slot part.now }
     ensures viewed { Viewed (V.seen view.old) (V.seen view.new) }
     ensures reads { (V.seen view.new).base.reads ≤ (V.seen view.old).base.reads + cells_for part.now.bytes + 1 }
-    ensures once { OnOk result ((V.seen view.new).base.reads ≤ (V.seen view.old).base.reads + cells_for part.now.bytes) }
+    ensures once { OnOk result ((V.seen view.new).base.reads
+        ≤ (V.seen view.old).base.reads + cells_for part.now.bytes) }
     ensures ends { ReadEnds geometry.now part.now (V.seen view.old) (V.seen view.new) result }
 {
     match read_document(view, part.start, part.bytes) {

@@ -65,7 +65,8 @@ fn put_body<V: View, K: Sink>(
     ensures viewed { Viewed (V.seen view.old) (V.seen view.new) }
     ensures is { IsPosition position.new }
     ensures bytes { position.new.bytes ≡ bytes }
-    ensures reads { (V.seen view.new).base.reads + position.old.read ≤ (V.seen view.old).base.reads + position.new.read }
+    ensures reads { (V.seen view.new).base.reads + position.old.read
+        ≤ (V.seen view.old).base.reads + position.new.read }
     ensures ends { PutRestEnds start bytes head.now (V.seen view.old) (V.seen view.new) (K.state sink.old)
         (K.state sink.new) result }
 {
@@ -96,7 +97,8 @@ fn fill<V: View>(view: &mut V, position: &mut Position, into: &mut [u8]) -> Resu
     ensures bytes { position.new.bytes ≡ position.old.bytes }
     ensures length { length into.new ≡ length into.old }
     ensures viewed { Viewed (V.seen view.old) (V.seen view.new) }
-    ensures reads { (V.seen view.new).base.reads + position.old.read ≤ (V.seen view.old).base.reads + position.new.read }
+    ensures reads { (V.seen view.new).base.reads + position.old.read
+        ≤ (V.seen view.old).base.reads + position.new.read }
     ensures ends { FillEnds (V.seen view.old) (V.seen view.new) position.old position.new into.new result }
 {
     for k in 0..into.len() {

@@ -83,40 +83,46 @@ fn check_slot_0(device: &mut MemoryDevice) -> Result<Stored, Refusal> {
     }
 }
 
+/// Each call asks that the slot is done, and so it is looked at before each.
 #[test]
 fn a_document_is_read_in_each_way(rt: HostRuntime) -> Result<(), Fail> {
     let stored: &[u8] = b"\x01ahello world";
     let mut device = volume_with(rt.alloc(), 13, &[(581, stored)])?;
     let mut view = Direct::new(&mut device);
-    let volume = volume_with_done(&mut view, 0)?;
     let lengths = Stored {
         identifier_length: 1,
         body_length: 11,
     };
+    let volume = volume_with_done(&mut view, 0)?;
     assert_eq!(rt; check(&mut view, &volume, 0), Ok(lengths));
+    let volume = volume_with_done(&mut view, 0)?;
     assert_eq!(rt;
         identifier_of(rt.alloc(), &mut view, &volume, 0)?.as_slice(),
         b"a".as_slice()
     );
-    assert_eq!(rt; same_identifier(&mut view, &volume, 0, b"a"), Ok(true));
-    assert_eq!(rt; same_identifier(&mut view, &volume, 0, b"aa"), Ok(false));
-    assert_eq!(rt;
-        first_with_identifier(&mut view, &volume, 8, b"a"),
-        Ok(Some(0))
-    );
-    assert_eq!(rt;
-        first_with_identifier(&mut view, &volume, 8, b"b"),
-        Ok(None)
-    );
+    for (id, same, first) in [
+        (b"a".as_slice(), true, Some(0)),
+        (b"aa".as_slice(), false, None),
+        (b"b".as_slice(), false, None),
+    ] {
+        let volume = volume_with_done(&mut view, 0)?;
+        assert_eq!(rt; same_identifier(&mut view, &volume, 0, id), Ok(same));
+        let end = volume.geometry.slots();
+        assert_eq!(rt;
+            first_with_identifier(&mut view, &volume, end, id),
+            Ok(first)
+        );
+    }
     let mut sink = MemorySink::new(rt.alloc());
     sink.reserve(11)?;
+    let volume = volume_with_done(&mut view, 0)?;
     assert_eq!(rt; body_into(&mut view, &volume, 0, &mut sink), Ok(11));
     assert_eq!(rt; sink.bytes(), b"hello world".as_slice());
     Ok(())
 }
 
-/// The whole document is `a`, `hello world, hi`: 17 stored bytes, in cells 580 and 581. Each row is what its commit cell
-/// states and what stands in its cells.
+/// The whole document is `a`, `hello world, hi`: 17 stored bytes, in cells 580 and 581. Each row is what its commit
+/// cell states and what stands in its cells.
 #[test]
 fn a_broken_document_is_named_by_its_commit_cell(rt: HostRuntime) -> Result<(), Fail> {
     let first: &[u8] = b"\x01ahello world, ";

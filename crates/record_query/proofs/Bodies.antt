@@ -1,5 +1,5 @@
 -- A body, read while its words are sought.
-use Rattle.std.proofs.Common.{◌≡◌, ◌<◌, ◌≤◌, ◌+◌, ◌↔◌, ℕ, Bool, List, [], ◌∷◌, ◌++◌, Ok}
+use Rattle.std.proofs.Common.{◌≤◌, ◌+◌, ◌↔◌, ℕ, Bool, List, [], ◌∷◌, ◌++◌, Ok}
 use Rattle.std.specs.Prelude.{IsTrue}
 use Rattle.stored_documents.specs.Words.{Matches}
 use Rattle.worm_device.specs.Views.{ViewState, Viewed}
@@ -10,7 +10,7 @@ use Rattle.word_reader.specs.declared.matcher.Matcher.{Matcher}
 use Rattle.document_store.specs.Heads.{IsHead}
 use Rattle.document_store.specs.declared.head.Head.{Head}
 use Rattle.record_query.specs.Matching.{HasSought, KeepsTerms}
-use Rattle.record_query.proofs.Borrowed.{BodySoFar, body_none, body_more, body_whole}
+use Rattle.record_query.proofs.Borrowed.{body_more, body_none, body_whole, BodySoFar}
 
 -- one byte more is pushed
 abbrev pub Pushes : Matcher → Matcher → ℕ → Type 0
@@ -24,8 +24,8 @@ pub record MatchSoFar (old now : ViewState) (start bytes : ℕ) (p q : Position)
   pub pushed : (terms : List (List ℕ)) → HasPushed m terms [] → HasPushed n terms read.body
   pub keeps : KeepsTerms m n
 
-pub match_none : (old : ViewState) (start bytes : ℕ) (p : Position) (h : Head) (m : Matcher) → IsHead old start bytes p h
-    → Viewed old old → MatchSoFar old old start bytes p p h m m 0
+pub match_none : (old : ViewState) (start bytes : ℕ) (p : Position) (h : Head) (m : Matcher)
+    → IsHead old start bytes p h → Viewed old old → MatchSoFar old old start bytes p p h m m 0
 match_none old start bytes p h m head viewed = record {
   read = body_none old start bytes p h head viewed;
   pushed = λ terms has. has;

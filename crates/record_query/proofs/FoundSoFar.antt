@@ -1,5 +1,5 @@
 -- The slots below one were searched.
-use Rattle.std.proofs.Common.{◌≡◌, ◌<◌, ◌≤◌, ◌+◌, ◌⊎◌, ℕ, List, [], ◌∷◌, ◌++◌, length, Some, None, Option, Result, Ok, Err, refl, sym, ap, ◌∙◌, inl, inr, subst, ⊎_elim, arith}
+use Rattle.std.proofs.Common.{◌≡◌, ◌<◌, ◌≤◌, ◌+◌, ◌⊎◌, ℕ, List, [], ◌∷◌, ◌++◌, length, Some, None, Option, Ok, Err, refl, sym, ap, ◌∙◌, subst, ⊎_elim, arith}
 use Rattle.std.proofs.lemmas.List.Elements.{Contains-append_left, Contains-append_right, Contains-push, Contains-push_cases}
 use Rattle.std.specs.Prelude.{Contains, IsTrue}
 use Rattle.cell_types.specs.Image.{Image, Extends}
@@ -7,7 +7,6 @@ use Rattle.cell_types.specs.Layout.{Layout}
 use Rattle.cell_types.specs.declared.refusal.Fault.TheVariants as faults
 use Rattle.cell_types.specs.declared.refusal.Refusal.{Refusal}
 use Rattle.cell_types.specs.declared.refusal.Refusal.TheVariants.{DeviceFault, NoMemory, Tampered}
-use Rattle.stored_documents.specs.Words.{Matches}
 use Rattle.worm_device.specs.State.{DeviceState}
 use Rattle.worm_device.specs.Views.{Viewed, seen_directly}
 use Rattle.worm_device.proofs.Images.{extends_self, extends_then}
@@ -15,8 +14,8 @@ use Rattle.worm_device.proofs.Resting.{viewed_self, viewed_then}
 use Rattle.word_reader.specs.declared.matcher.Matcher.{Matcher}
 use Rattle.document_store.specs.Looks.{held}
 use Rattle.document_store.specs.Standing.{HoldsDocument}
-use Rattle.record_query.specs.Below.{BelowEnds, FoundBelow, IsMatchBelow, RefusesBelow, added}
-use Rattle.record_query.specs.Finding.{HasMatch, Rises}
+use Rattle.record_query.specs.Below.{BelowEnds, FoundBelow, IsMatchBelow, added}
+use Rattle.record_query.specs.Finding.{Rises}
 use Rattle.record_query.specs.Matching.{HasNoMatch, IsMatchIn, IsMatcherOf, KeepsTerms, SlotEnds}
 use Rattle.record_query.specs.declared.found.Match.{Match}
 use Rattle.record_query.proofs.Borrowed.{are_read_further, are_read_more, fails_from, held_is_one, held_on, read_further}
@@ -45,8 +44,8 @@ found_none g terms image = record {
   read = λ n less. absurd (omega (arith, less));
 }
 
-module _ (g : Layout) (k : ℕ) (terms : List (List ℕ)) (old now new : Image) (grows : Extends old now) (goes : Extends now new)
-    (matches : List Match) (so_far : FoundBelow g k terms old now matches) where
+module _ (g : Layout) (k : ℕ) (terms : List (List ℕ)) (old now new : Image) (grows : Extends old now)
+    (goes : Extends now new) (matches : List Match) (so_far : FoundBelow g k terms old now matches) where
   match_on : (found : Match) → Contains matches found → IsMatchBelow g new (k + 1) terms found
   match_on found among =
       let was = so_far.only found among in
@@ -76,7 +75,8 @@ module _ (g : Layout) (k : ℕ) (terms : List (List ℕ)) (old now new : Image) 
   }
 
   -- one more had a match
-  found_one_more : (one : Match) → IsMatchIn g new k terms one → FoundBelow g (k + 1) terms old new (matches ++ one ∷ [])
+  found_one_more : (one : Match) → IsMatchIn g new k terms one
+      → FoundBelow g (k + 1) terms old new (matches ++ one ∷ [])
   found_one_more one is = record {
     all = λ n id body less was has. ⊎_elim
         (λ (before : n < k).
@@ -143,8 +143,8 @@ module _ (g : Layout) (k : ℕ) (old now new : DeviceState) (m n : Matcher) (mat
   more : (terms : List (List ℕ)) → IsMatcherOf terms m → (found : Option Match)
       → SlotEnds g k terms (seen_directly now 0) (seen_directly new 0) (Ok found) → IsTrue old.tells
       → FoundBelow g (k + 1) terms old.image new.image (added found matches)
-  more terms was None ends tells = found_no_more g k terms old.image now.image new.image so_far.viewed.image viewed.image
-      matches (so_far.found terms was tells) (ends.1 (told tells))
+  more terms was None ends tells = found_no_more g k terms old.image now.image new.image so_far.viewed.image
+      viewed.image matches (so_far.found terms was tells) (ends.1 (told tells))
   more terms was (Some one) ends tells = found_one_more g k terms old.image now.image new.image so_far.viewed.image
       viewed.image matches (so_far.found terms was tells) one (ends.1 (told tells))
 

@@ -1,5 +1,5 @@
 -- A look at a device does not speak of the loan by which it was made.
-use Rattle.std.proofs.Common.{◌⊎◌, ◌≡◌, ℕ, List, Some, None, Option, Result, Ok, Err, inl, inr, refl, ⊎_elim}
+use Rattle.std.proofs.Common.{◌≡◌, ℕ, List, Some, None, Option, Result, Ok, Err, inl, inr, refl, ⊎_elim}
 use Rattle.cell_types.specs.Image.{Image}
 use Rattle.cell_types.specs.Layout.{Layout}
 use Rattle.cell_types.specs.declared.refusal.Evidence.{Evidence}
@@ -19,7 +19,8 @@ use Rattle.record_query.specs.declared.found.Match.{Match}
 
 module _ (old new : DeviceState) (a b : ℕ) where
   -- what every call keeps
-  pub viewed_by_any : Viewed (seen_directly old a) (seen_directly new b) → Viewed (seen_directly old 0) (seen_directly new 0)
+  pub viewed_by_any : Viewed (seen_directly old a) (seen_directly new b)
+      → Viewed (seen_directly old 0) (seen_directly new 0)
   viewed_by_any v =
       let rests = rests_of v in
       record {
@@ -31,7 +32,12 @@ module _ (old new : DeviceState) (a b : ℕ) where
         lower = v.lower;
         fresh = v.fresh;
         loans = refl;
-        quiet = rested_since (record { later = rests.later; shown = rests.shown; lower = rests.lower; below = rests.below });
+        quiet = rested_since (record {
+          later = rests.later;
+          shown = rests.shown;
+          lower = rests.lower;
+          below = rests.below;
+        });
       }
 
   module _ (g : Layout) (n : ℕ) where
@@ -64,7 +70,8 @@ module _ (old new : DeviceState) (a b : ℕ) where
     slot_by_any terms (Err (refusals.Tampered e)) ends = fails ends
     slot_by_any terms (Err refusal) ends = absurd ends
 
-    got_part : {from to : SinkState} → GotPart g n (seen_directly new b) from to → GotPart g n (seen_directly new 0) from to
+    got_part : {from to : SinkState} → GotPart g n (seen_directly new b) from to
+        → GotPart g n (seen_directly new 0) from to
     got_part q = record { body = q.body; count = q.count; most = q.most; gets = q.gets; holds = q.holds }
 
     -- how a body was put

@@ -1,7 +1,7 @@
 -- What a look-up answers, over settling, the walk for the identifier and the body.
-use Rattle.std.proofs.Common.{◌≡◌, ◌<◌, ◌≤◌, ◌+◌, ◌⊎◌, ℕ, List, Some, None, Option, Result, Ok, Err, refl, sym, ◌∙◌, inl, inr, subst, ⊎_elim, arith}
+use Rattle.std.proofs.Common.{◌≡◌, ◌+◌, ◌⊎◌, ℕ, List, Some, None, Option, Result, Ok, Err, refl, sym, inl, inr, subst, ⊎_elim, arith}
 use Rattle.std.specs.Prelude.{IsTrue}
-use Rattle.cell_types.specs.Image.{Image, Extends, IsUnchanged}
+use Rattle.cell_types.specs.Image.{Image, IsUnchanged}
 use Rattle.cell_types.specs.Layout.{Layout}
 use Rattle.cell_types.specs.Refusals.{refusal_of_fault}
 use Rattle.cell_types.specs.declared.refusal.Fault.{Fault}
@@ -22,7 +22,7 @@ use Rattle.worm_device.specs.Views.{Viewed, seen_directly}
 use Rattle.worm_device.proofs.Counting.{still_first, still_second}
 use Rattle.worm_device.proofs.Elapsing.{called_then}
 use Rattle.worm_device.proofs.Images.{extends_self, unchanged_then}
-use Rattle.worm_device.proofs.Resting.{rested_since, rests_of, viewed_then}
+use Rattle.worm_device.proofs.Resting.{rested_since, rests_of}
 use Rattle.recovery_engine.specs.Settling.{SettleEnds, Settles}
 use Rattle.recovery_engine.specs.declared.settling.Ready.{Ready}
 use Rattle.document_store.specs.Looks.{BodyEnds, GotPart, HoldsBody, IsRead}
@@ -31,10 +31,10 @@ use Rattle.document_store.specs.declared.body.BodyFault.TheVariants as bodies
 use Rattle.slot_walk.specs.Laws.{NamedIsFound}
 use Rattle.slot_walk.specs.Walks.{Below, HasNone, HasWalked, IsFirst, Reach, WalkEnds, Walks, WereRead}
 use Rattle.record_query.specs.Finding.{ComesTo}
-use Rattle.record_query.specs.LookingUp.{LookUpEnds, LooksUp, PutsBody, PutsFront, refusal_of_body}
+use Rattle.record_query.specs.LookingUp.{LookUpEnds, LooksUp, PutsFront, refusal_of_body}
 use Rattle.record_query.specs.declared.found.Found.{Found}
 use Rattle.record_query.proofs.Borrowed.{fails_from, held_is_one, read_further, stands_held}
-use Rattle.record_query.proofs.Searched.{comes_to_settled, walked}
+use Rattle.record_query.proofs.Searched.{comes_to_settled}
 
 -- a row of calls on a device, as a view of it sees them
 viewed_directly : {old new : DeviceState} → Called old new
@@ -67,7 +67,8 @@ module _ (id : List ℕ) (old new : DeviceState) (sink : SinkState) where
   refused (WrongSize stated real) ends = (refl, ends)
   refused refusal ends = absurd ends
 
-  pub look_up_unsettled : (refusal : Refusal) → Settles old new (Err refusal) → LooksUp id old new sink sink (Err refusal)
+  pub look_up_unsettled : (refusal : Refusal) → Settles old new (Err refusal)
+      → LooksUp id old new sink sink (Err refusal)
   look_up_unsettled refusal s = record {
     called = s.called;
     comes = ComesTo.settling refusal s;
@@ -100,8 +101,8 @@ module _ (id : List ℕ) (r : Ready) (old settled mid : DeviceState) (sink : Sin
   look_up_absent ends = come (Err Absent) (refl, ends.1)
 
 -- Slot n is the first with the identifier, and its body was put.
-module _ (named : NamedIsFound) (id : List ℕ) (r : Ready) (old settled mid new : DeviceState) (from to : SinkState) (n : ℕ)
-    (w : HasWalked r old settled mid) (ends : WalkEnds r id old settled mid (Ok (Some n)))
+module _ (named : NamedIsFound) (id : List ℕ) (r : Ready) (old settled mid new : DeviceState) (from to : SinkState)
+    (n : ℕ) (w : HasWalked r old settled mid) (ends : WalkEnds r id old settled mid (Ok (Some n)))
     (viewed : Viewed (seen_directly mid 0) (seen_directly new 0)) where
   abbrev g : Layout
   g = r.volume.geometry

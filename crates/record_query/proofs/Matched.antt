@@ -1,5 +1,5 @@
 -- A match in a slot, and none.
-use Rattle.std.proofs.Common.{◌≡◌, ◌<◌, ◌≤◌, ◌+◌, ℕ, List, length, Some, None, Option, Result, Ok, Err, refl, sym, ◌∙◌, subst, arith}
+use Rattle.std.proofs.Common.{◌≡◌, ℕ, List, length, Some, None, Option, Result, Ok, Err, sym, ◌∙◌, subst}
 use Rattle.std.specs.Prelude.{IsTrue}
 use Rattle.cell_types.specs.Image.{Image}
 use Rattle.cell_types.specs.Layout.{Layout}
@@ -11,16 +11,15 @@ use Rattle.cell_types.specs.declared.refusal.Refusal.TheVariants.{DeviceFault, N
 use Rattle.stored_documents.specs.Documents.{stored_bytes}
 use Rattle.stored_documents.specs.Slots.{IsDoneSlot}
 use Rattle.stored_documents.specs.Words.{Matches}
-use Rattle.worm_device.specs.State.{DeviceState}
-use Rattle.worm_device.specs.Views.{ViewState, Viewed, seen_directly}
+use Rattle.worm_device.specs.Views.{ViewState, Viewed}
 use Rattle.worm_device.proofs.Images.{extends_self}
 use Rattle.word_reader.specs.declared.matcher.Matcher.{Matcher}
 use Rattle.document_store.specs.Heads.{id_of}
-use Rattle.document_store.specs.Looks.{IsPartOf, IsUndone, LookFails, LookRefuses, PartEnds, held, undone}
+use Rattle.document_store.specs.Looks.{IsPartOf, IsUndone, LookFails, PartEnds, held, undone}
 use Rattle.document_store.specs.Standing.{HoldsDocument}
 use Rattle.document_store.specs.declared.head.Head.{Head}
 use Rattle.document_store.specs.declared.part.Part.{Part}
-use Rattle.record_query.specs.Matching.{HasNoMatch, IsMatchIn, IsMatcherOf, ReadMatch, ReadOther, SlotEnds}
+use Rattle.record_query.specs.Matching.{HasNoMatch, IsMatcherOf, ReadMatch, ReadOther, SlotEnds}
 use Rattle.record_query.specs.declared.found.Match.{Match}
 use Rattle.record_query.proofs.Borrowed.{fails_from, held_is_one, held_on, part_on, read_further, whole_is_held}
 
@@ -106,7 +105,8 @@ module _ (g : Layout) (part : Part) (terms : List (List ℕ)) (m : Matcher) (was
         record {
           read = held read.id read.body here;
           none = λ id body before matches.
-              let one = held_is_one g new.image part.slot id body read.id read.body (held_on viewed.image before) here in
+              let same = held_on viewed.image before in
+              let one = held_is_one g new.image part.slot id body read.id read.body same here in
               read.differs terms was (subst (λ (b : List ℕ). Matches b terms) one.1 matches);
         },
   )

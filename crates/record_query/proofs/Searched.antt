@@ -1,5 +1,5 @@
 -- What a search answers, over settling and the slots below the horizon.
-use Rattle.std.proofs.Common.{◌≡◌, ◌<◌, ◌≤◌, ℕ, List, Result, Ok, Err, refl, sym, ◌∙◌, inl, inr, subst, arith}
+use Rattle.std.proofs.Common.{ℕ, List, Result, Ok, Err, refl, sym, inl, subst, arith}
 use Rattle.std.specs.Prelude.{IsTrue}
 use Rattle.std.specs.Global.{Vec}
 use Rattle.cell_types.specs.declared.refusal.Refusal.{Refusal}
@@ -8,7 +8,7 @@ use Rattle.worm_device.specs.State.{DeviceState}
 use Rattle.worm_device.specs.Views.{Viewed, seen_directly}
 use Rattle.worm_device.proofs.Elapsing.{called_self, called_then}
 use Rattle.worm_device.proofs.Resting.{rests_of}
-use Rattle.recovery_engine.specs.Settling.{HasSettled, SettleEnds, Settles}
+use Rattle.recovery_engine.specs.Settling.{SettleEnds, Settles}
 use Rattle.recovery_engine.specs.declared.settling.Ready.{Ready}
 use Rattle.slot_walk.specs.Laws.{DocumentsAreBelow, NamedIsFound, ReadIsRead}
 use Rattle.slot_walk.specs.Walks.{HasWalked}

@@ -1,5 +1,5 @@
 -- What is found in the slots below a horizon, between two images of a settled volume.
-use Rattle.std.specs.Prelude.{◌≡◌, ◌<◌, ℕ, List, [], ◌∷◌, ◌++◌, Contains, Option, Some, None, Result, Ok, Err, IsTrue, ⊤}
+use Rattle.std.specs.Prelude.{◌<◌, ℕ, List, [], ◌∷◌, ◌++◌, Contains, Option, Some, None, Result, Ok, Err, IsTrue, ⊤}
 use Rattle.std.specs.Global.{Vec}
 use Rattle.cell_types.specs.Image.{Image}
 use Rattle.cell_types.specs.Layout.{Layout}
@@ -24,8 +24,8 @@ pub record IsMatchBelow (g : Layout) (image : Image) (u : ℕ) (terms : List (Li
   pub below : found.slot < u
   pub is : IsMatchIn g image found.slot terms found
 
--- Each document that a slot below u held, and that has the terms, has its match, and each match tells of one that is held;
--- slots rise. Each slot was read.
+-- Each document that a slot below u held, and that has the terms, has its match, and each match tells of one that is
+-- held; slots rise. Each slot was read.
 pub record FoundBelow (g : Layout) (u : ℕ) (terms : List (List ℕ)) (before after : Image) (matches : List Match)
     : Type 0 where
   pub all : (n : ℕ) (id body : List ℕ) → n < u → HoldsDocument g before n id body → Matches body terms

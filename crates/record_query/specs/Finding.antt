@@ -14,7 +14,8 @@ use Rattle.recovery_engine.specs.declared.settling.Ready.{Ready}
 use Rattle.slot_walk.specs.Walks.{IsQueryRule, OfAll, WereRead}
 use Rattle.record_query.specs.declared.found.Match.{Match}
 
--- How far a query has come, whatever it answers: settling was ended, or the volume was settled and then looked at alone.
+-- How far a query has come, whatever it answers: settling was ended, or the volume was settled and then looked at
+-- alone.
 pub data ComesTo (old new : DeviceState) : Type 0 where
   settling : (refusal : Refusal) → Settles old new (Err refusal) → ComesTo old new
   settled : (r : Ready) → HasSettled old new r → ComesTo old new
@@ -39,8 +40,8 @@ abbrev pub Rises : ℕ → List Match → Type 0
 Rises from [] = ⊤
 Rises from (found ∷ matches) = (from ≤ found.slot) × Rises (found.slot + 1) matches
 
--- What was found: each document of the volume, as it was at entry, that has the terms; and where nobody else wrote, each
--- as it is at exit. Each match tells of one that is there at exit; and slots rise. Each slot was read.
+-- What was found: each document of the volume, as it was at entry, that has the terms; and where nobody else wrote,
+-- each as it is at exit. Each match tells of one that is there at exit; and slots rise. Each slot was read.
 pub record Finds (terms : List (List ℕ)) (old new : DeviceState) (matches : List Match) : Type 0 where
   pub all : (n : ℕ) (id body : List ℕ) → IsDocument old.cells old.image n id body → Matches body terms
       → HasMatch matches n id body

@@ -13,8 +13,8 @@ use Rattle.slot_walk.specs.Walks.{HasNone, IsFirst, IsQueryRule, OfAll}
 use Rattle.record_query.specs.Finding.{ComesTo}
 use Rattle.record_query.specs.declared.found.Found.{Found}
 
--- The sink got the body of the volume's first document with this identifier, whole, and the answer names its slot and how
--- many bytes the body has.
+-- The sink got the body of the volume's first document with this identifier, whole, and the answer names its slot and
+-- how many bytes the body has.
 pub record PutsBody (id : List ℕ) (old new : DeviceState) (from to : SinkState) (found : Found) : Type 0 where
   pub body : List ℕ
   pub first : IsTrue old.tells → IsFirst id body found.slot old new

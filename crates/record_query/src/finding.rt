@@ -19,8 +19,8 @@ use worm_device::{Device, Direct};
 ///
 /// # Errors
 ///
-/// `NotFormatted`, `NotAVolume` and `WrongSize` by cell 0; `Tampered` where a cell breaks a rule of the log, or a document
-/// is broken (rules 1 to 6); `DeviceFault`; `NoMemory`.
+/// `NotFormatted`, `NotAVolume` and `WrongSize` by cell 0; `Tampered` where a cell breaks a rule of the log, or a
+/// document is broken (rules 1 to 6); `DeviceFault`; `NoMemory`.
 pub fn find<D: Device>(alloc: Global, device: &mut D, terms: &[Term]) -> Result<Vec<Match>, Refusal>
     ensures { Searches terms.now (D.state device.old) (D.state device.new) result }
 {

@@ -17,8 +17,8 @@
 //! before the first byte goes out, and takes no memory.
 //!
 //! Stands on `slot_walk` (what reading the slots tells of the volume), `document_store` (reading one) and `word_reader`
-//! (words). Begin with `finding.rt` and `looking_up.rt`; specs/Finding.antt and specs/LookingUp.antt say how each may end,
-//! and why.
+//! (words). Begin with `finding.rt` and `looking_up.rt`; specs/Finding.antt and specs/LookingUp.antt say how each may
+//! end, and why.
 #![tactic(auto)]
 
 mod finding;

@@ -13,14 +13,14 @@ use recovery_engine::settle;
 use slot_walk::{first_with_identifier, named_is_found};
 use worm_device::{Device, Direct};
 
-/// Settles the volume, and puts the body of its first document with this identifier into the sink. The whole document is
-/// checked before the first byte goes out. Takes no memory.
+/// Settles the volume, and puts the body of its first document with this identifier into the sink. The whole document
+/// is checked before the first byte goes out. Takes no memory.
 ///
 /// # Errors
 ///
-/// `NotFormatted`, `NotAVolume` and `WrongSize` by cell 0; `Tampered` where a cell breaks a rule of the log, or a document
-/// that was read is broken (rules 1 to 6); `Absent` where no document of the volume has the identifier; `DeviceFault`,
-/// `SinkFault`.
+/// `NotFormatted`, `NotAVolume` and `WrongSize` by cell 0; `Tampered` where a cell breaks a rule of the log, or a
+/// document that was read is broken (rules 1 to 6); `Absent` where no document of the volume has the identifier;
+/// `DeviceFault`, `SinkFault`.
 pub fn lookup_into<D: Device, K: Sink>(
     device: &mut D,
     id: &[u8],

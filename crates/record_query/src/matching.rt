@@ -3,6 +3,7 @@ ghost use Rattle.std.specs.Prelude.{◌≡◌, ◌<◌, ◌≤◌, ◌+◌, [], 
 ghost use Rattle.stored_documents.specs.Slots.{cells_for};
 ghost use Rattle.worm_device.specs.Views.{Viewed};
 ghost use Rattle.append_file.specs.Reading.{IsPosition};
+ghost use Rattle.word_reader.specs.Matching.{HasPushed};
 ghost use Rattle.document_store.specs.Heads.{IsHead, id_of};
 ghost use Rattle.document_store.specs.Looks.{IsPartOf};
 ghost use Rattle.record_query.specs.Matching.{IsMatcherOf, KeepsTerms, MatchEnds, SeekEnds, SlotEnds};
@@ -93,8 +94,7 @@ fn seek<V: View>(
     ensures matcher { KeepsTerms matcher.old matcher.new }
     ensures ends { SeekEnds start bytes (V.seen view.old) (V.seen view.new) matcher.old result }
 {
-    // It holds the words of the document before.
-    matcher.clear();
+    forget_document(matcher);
     let mut position = Position::new(start, bytes);
     let head = read_head(view, start, bytes, &mut position)?;
     let matched = match_body(view, start, bytes, &mut position, &head, matcher)?;
@@ -102,6 +102,13 @@ fn seek<V: View>(
         return Ok(Some(head));
     }
     Ok(None)
+}
+
+/// Makes the matcher ready for a document: it holds the words of the one before.
+fn forget_document(matcher: &mut Matcher)
+    ensures { (terms : List (List ℕ)) → IsMatcherOf terms matcher.old → HasPushed matcher.new terms [] }
+{
+    matcher.clear();
 }
 
 /// Reads the body behind a head, and answers whether each term of the matcher is among its words.

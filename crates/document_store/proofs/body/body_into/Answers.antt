@@ -1,11 +1,9 @@
 -- The look for the part, the whole document, and its body once more.
-use Rattle.std.proofs.Common.{◌≡◌, ◌≤◌, ◌+◌, ◌*◌, ◌∙◌, Err, subst, arith}
+use Rattle.std.proofs.Common.{◌∙◌, subst, arith}
 use Rattle.std.specs.Prelude.{IsTrue}
 use Rattle.cell_types.proofs.Passed.{handed}
 use Rattle.worm_device.proofs.Resting.{viewed_then}
-use Rattle.document_store.specs.Looks.{BodyEnds}
-use Rattle.document_store.specs.Putting.{PutEnds, PutFails, body_fault_of}
-use Rattle.document_store.specs.declared.body.BodyFault.{BodyFault}
+use Rattle.document_store.specs.Putting.{PutFails, body_fault_of}
 use Rattle.document_store.specs.declared.putting.PutFault.{PutFault}
 use Rattle.document_store.proofs.Bodies.{got_body, nothing_put, part_named, second_breaks, second_fails, sink_fails}
 use Rattle.document_store.proofs.Checking.{read_fails, reads_twice}
@@ -40,7 +38,8 @@ returns-in_err-_checked-clause-ends g c =
     rw (handed c.from_residual-in_err-_checked.result (body_fault_of c.in_err-_checked.field-0.0)
     c.from_residual-in_err-_checked.ensures.1)
     (nothing_put layout n old read (g.K.Sink.state c.args.sink.now) c.in_err-_checked.field-0.0
-    (read_fails layout n old mid read part before second found c.in_err-_checked.field-0.0 c.in_err-_checked.ensures.ends))
+    (read_fails layout n old mid read part before second found c.in_err-_checked.field-0.0
+    c.in_err-_checked.ensures.ends))
 
 -- it was found broken in the second pass
 pub name_commit-requires-clause-part : goal.name_commit-requires-clause-part
@@ -121,8 +120,12 @@ returns-in-Ok-clause-ends g c =
     let to = g.K.Sink.state c.put_document.new.sink in
     let after = c.put_document.ensures.viewed in
     let checked = c.in_ok-_checked.ensures.ends in
-    let ends = c.in-Ok.ensures.ends in
-    (ends.0 ∙ checked.0 ∙ found.2, ends.1, got_body layout n old mid read new part h from to before second after found checked.0 checked.1 c.in-Ok.bytes ends.2)
+    let ends = c.in-Ok.ensures.ends in (
+      ends.0 ∙ checked.0 ∙ found.2,
+      ends.1,
+      got_body layout n old mid read new part h from to before second after found
+          checked.0 checked.1 c.in-Ok.bytes ends.2,
+    )
 
 -- a view that does not tell showed another document the second time
 pub returns-in-Err-Broken-clause-viewed : goal.returns-in-Err-Broken-clause-viewed
@@ -148,8 +151,15 @@ returns-in-Err-Broken-clause-reads g c =
     let after = c.put_document.ensures.viewed in
     let checked = c.in_ok-_checked.ensures.ends in
     let end = g.V.View.seen c.name_commit.new.view in
-    reads_twice layout n old mid end part before (viewed_then second (viewed_then after c.name_commit.ensures.viewed)) found
-    (omega (arith, c.done_part.ensures.reads, c.in_ok-_checked.ensures.once, c.put_document.ensures.reads, c.name_commit.ensures.reads))
+    reads_twice layout n old mid end part before (viewed_then second (viewed_then after c.name_commit.ensures.viewed))
+    found
+    (omega (
+      arith,
+      c.done_part.ensures.reads,
+      c.in_ok-_checked.ensures.once,
+      c.put_document.ensures.reads,
+      c.name_commit.ensures.reads,
+    ))
 
 pub returns-in-Err-Broken-clause-ends : goal.returns-in-Err-Broken-clause-ends
 returns-in-Err-Broken-clause-ends g c =
@@ -213,7 +223,8 @@ returns-in-Err-ReadFault-clause-ends g c =
     let to = g.K.Sink.state c.put_document.new.sink in
     let after = c.put_document.ensures.viewed in
     let checked = c.in_ok-_checked.ensures.ends in
-    let fails = subst (λ (f : PutFault). PutFails part.start part.bytes read new from to f) c.in-Err-ReadFault.field-0-is
+    let fails = subst (λ (f : PutFault). PutFails part.start part.bytes read new from to f)
+    c.in-Err-ReadFault.field-0-is
     c.in-Err-ReadFault.ensures.ends in
     second_fails layout n old mid read new part h from to before second after found checked.0 checked.1 fails
 
@@ -255,6 +266,7 @@ returns-in-Err-SinkFault-clause-ends g c =
     let to = g.K.Sink.state c.put_document.new.sink in
     let after = c.put_document.ensures.viewed in
     let checked = c.in_ok-_checked.ensures.ends in
-    let fails = subst (λ (f : PutFault). PutFails part.start part.bytes read new from to f) c.in-Err-SinkFault.field-0-is
+    let fails = subst (λ (f : PutFault). PutFails part.start part.bytes read new from to f)
+    c.in-Err-SinkFault.field-0-is
     c.in-Err-SinkFault.ensures.ends in
     sink_fails layout n old mid read new part h from to before second after found checked.0 checked.1 fails

@@ -15,7 +15,8 @@ returns-in_err-head-clause-reads g c =
     let before = c.done_part.ensures.viewed in
     let after = c.read_part.ensures.viewed in
     let found = c.in_ok-part.ensures.ends in
-    reads_once layout c.args.slot old mid new part before after found c.done_part.ensures.reads c.read_part.ensures.reads
+    reads_once layout c.args.slot old mid new part before after found c.done_part.ensures.reads
+    c.read_part.ensures.reads
 
 -- the document was not read
 pub returns-in_err-head-clause-ends : goal.returns-in_err-head-clause-ends
@@ -43,7 +44,8 @@ returns-clause-reads g c =
     let before = c.done_part.ensures.viewed in
     let after = c.read_part.ensures.viewed in
     let found = c.in_ok-part.ensures.ends in
-    reads_once layout c.args.slot old mid new part before after found c.done_part.ensures.reads c.read_part.ensures.reads
+    reads_once layout c.args.slot old mid new part before after found c.done_part.ensures.reads
+    c.read_part.ensures.reads
 
 -- the slot holds it
 pub returns-clause-ends : goal.returns-clause-ends

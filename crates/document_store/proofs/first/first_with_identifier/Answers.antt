@@ -1,5 +1,5 @@
 -- A slot that is not done, one with another identifier, and the first that has it.
-use Rattle.std.proofs.Common.{rules, ◌≡◌, ◌<◌, ℕ, Option, Some, None, Ok, subst, arith}
+use Rattle.std.proofs.Common.{rules, ◌≡◌, ℕ, Option, Ok, subst, arith}
 use Rattle.cell_types.proofs.Passed.{handed}
 use Rattle.document_store.specs.Heads.{id_of}
 use Rattle.document_store.specs.Looks.{PartEnds}

@@ -1,5 +1,5 @@
 -- What a head that is no document's shows, and how the identifier is read.
-use Rattle.std.proofs.Common.{◌≡◌, ◌<◌, ◌≤◌, ◌+◌, ◌-◌, ◌⊎◌, ◌∙◌, ℕ, List, [], ◌∷◌, length, take, inl, inr, refl, sym, subst, arith}
+use Rattle.std.proofs.Common.{◌≡◌, ◌<◌, ◌≤◌, ◌+◌, ◌⊎◌, ◌∙◌, ℕ, [], ◌∷◌, length, take, inl, inr, refl, sym, subst, arith}
 use Rattle.std.proofs.lemmas.List.{length-take-le}
 use Rattle.std.specs.Prelude.{IsTrue}
 use Rattle.cell_types.proofs.Passed.{handed}
@@ -113,7 +113,11 @@ returns-clause-ends g c =
     c.loop-k.invariant in (
       c.loop-k.invariant.faults,
       head_whole old now c.args.start c.args.bytes c.loop-k.position n _ c.loop-k.id so_far
-          (omega (arith, c.if-id_length-eq0.false)) (omega (arith, c.if-from-gt-MAX_IDENTIFIER_BYTES.false, c.from.ensures))
+          (omega (arith, c.if-id_length-eq0.false)) (omega (
+            arith,
+            c.if-from-gt-MAX_IDENTIFIER_BYTES.false,
+            c.from.ensures,
+          ))
           (omega (arith, c.if-before-bytes.false, c.from-before.ensures)) (omega (arith, c.from-before.ensures))
           (omega (arith, c.if-body_length.false)),
     )

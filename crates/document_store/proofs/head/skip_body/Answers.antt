@@ -1,8 +1,7 @@
 -- The body, byte by byte.
-use Rattle.std.proofs.Common.{◌≡◌, ◌<◌, ◌≤◌, ◌+◌, ℕ, sym, subst, arith}
+use Rattle.std.proofs.Common.{◌≡◌, ℕ, subst, arith}
 use Rattle.cell_types.proofs.Passed.{handed}
-use Rattle.worm_device.proofs.Resting.{viewed_self}
-use Rattle.document_store.proofs.SoFar.{BodySoFar, fault_on, body_none, body_more, body_whole, body_left}
+use Rattle.document_store.proofs.SoFar.{BodySoFar, fault_on, body_more, body_whole, body_left}
 use Rattle.document_store.proofs.head.skip_body.Goals as goal
 
 -- a byte was not read
@@ -36,6 +35,7 @@ returns-clause-ends g c =
       c.loop.invariant.faults,
       body_whole old now c.args.start c.args.bytes c.args.position.now c.loop.position
           c.args.head.now c.requires.head
-          (subst (λ (k : ℕ). BodySoFar old now c.args.start c.args.bytes c.args.position.now c.loop.position c.args.head.now k)
+          (subst (λ (k : ℕ). BodySoFar old now c.args.start c.args.bytes c.args.position.now c.loop.position
+          c.args.head.now k)
           at_end c.loop.invariant),
     )

@@ -16,7 +16,8 @@ returns-in_err-head-clause-reads g c =
     let before = c.done_part.ensures.viewed in
     let after = c.read_part.ensures.viewed in
     let found = c.in_ok-part.ensures.ends in
-    reads_once layout c.args.slot old mid new part before after found c.done_part.ensures.reads c.read_part.ensures.reads
+    reads_once layout c.args.slot old mid new part before after found c.done_part.ensures.reads
+    c.read_part.ensures.reads
 
 -- the document was not read
 pub returns-in_err-head-clause-ends : goal.returns-in_err-head-clause-ends
@@ -29,7 +30,8 @@ returns-in_err-head-clause-ends g c =
     let before = c.done_part.ensures.viewed in
     let after = c.read_part.ensures.viewed in
     let found = c.in_ok-part.ensures.ends in
-    rw (handed c.from_residual-in_err-head.result (refusal_of_fault c.in_err-head.field-0.0) c.from_residual-in_err-head.ensures.1)
+    rw (handed c.from_residual-in_err-head.result (refusal_of_fault c.in_err-head.field-0.0)
+    c.from_residual-in_err-head.ensures.1)
     (identifier_fails layout c.args.slot old new c.in_err-head.field-0.0
     (read_fails layout c.args.slot old mid new part before after found c.in_err-head.field-0.0
     c.in_err-head.ensures.ends))
@@ -45,7 +47,8 @@ returns-in_err-extend_from_slice-clause-reads g c =
     let before = c.done_part.ensures.viewed in
     let after = c.read_part.ensures.viewed in
     let found = c.in_ok-part.ensures.ends in
-    reads_once layout c.args.slot old mid new part before after found c.done_part.ensures.reads c.read_part.ensures.reads
+    reads_once layout c.args.slot old mid new part before after found c.done_part.ensures.reads
+    c.read_part.ensures.reads
 
 -- the reads of both looks
 pub returns-clause-reads : goal.returns-clause-reads
@@ -58,7 +61,8 @@ returns-clause-reads g c =
     let before = c.done_part.ensures.viewed in
     let after = c.read_part.ensures.viewed in
     let found = c.in_ok-part.ensures.ends in
-    reads_once layout c.args.slot old mid new part before after found c.done_part.ensures.reads c.read_part.ensures.reads
+    reads_once layout c.args.slot old mid new part before after found c.done_part.ensures.reads
+    c.read_part.ensures.reads
 
 -- the slot holds a document with it
 pub returns-clause-ends : goal.returns-clause-ends

@@ -1,8 +1,8 @@
 -- A slot that was done is not seen undone, where the device below tells its image.
-use Rattle.std.proofs.Common.{◌≡◌, Option, Some, None, Ok, subst, sym}
+use Rattle.std.proofs.Common.{Option, Ok, subst}
 use Rattle.document_store.specs.Looks.{PartEnds}
 use Rattle.document_store.specs.declared.part.Part.{Part}
-use Rattle.document_store.proofs.Naming.{commit_is_place, not_undone}
+use Rattle.document_store.proofs.Naming.{not_undone}
 use Rattle.document_store.proofs.part.done_part.Goals as goal
 
 pub returns-in_default-clause-ends : goal.returns-in_default-clause-ends

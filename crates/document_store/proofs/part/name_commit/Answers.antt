@@ -1,6 +1,4 @@
 -- The commit cell stands there, where the device below tells its image.
-use Rattle.std.proofs.Common.{◌≡◌, Option, List, ℕ, Some, sym, ◌∙◌, subst}
-use Rattle.std.specs.Prelude.{IsTrue}
 use Rattle.document_store.proofs.Naming.{commit_is_place, commit_stands, names_commit}
 use Rattle.document_store.proofs.part.name_commit.Goals as goal
 

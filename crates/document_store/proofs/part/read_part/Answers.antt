@@ -1,5 +1,5 @@
 -- The part goes on being one, and the evidence is that of the whole call.
-use Rattle.std.proofs.Common.{◌≡◌, subst}
+use Rattle.std.proofs.Common.{subst}
 use Rattle.std.specs.Prelude.{IsTrue}
 use Rattle.append_file.specs.declared.piece.ContentFault.{ContentFault}
 use Rattle.document_store.specs.Heads.{FaultEnds}

@@ -1,5 +1,5 @@
 -- A piece, byte by byte.
-use Rattle.std.proofs.Common.{◌<◌, ◌≤◌, length, arith}
+use Rattle.std.proofs.Common.{length, arith}
 use Rattle.document_store.proofs.PutSoFar.{fill_fails, fill_more, fill_whole}
 use Rattle.document_store.proofs.putting.fill.Goals as goal
 

@@ -1,5 +1,5 @@
 -- Piece by piece.
-use Rattle.std.proofs.Common.{◌≡◌, ◌<◌, ◌≤◌, ◌+◌, ℕ, Err, length, refl, sym, subst, arith}
+use Rattle.std.proofs.Common.{◌≡◌, ◌≤◌, ◌+◌, Err, length, refl, subst, arith}
 use Rattle.append_file.specs.declared.piece.ContentFault.{ContentFault}
 use Rattle.append_file.specs.declared.piece.ContentFault.TheVariants as contents
 use Rattle.document_store.specs.Putting.{FillEnds}
@@ -35,7 +35,8 @@ returns-in-Err-Broken-clause-ends g c =
     let room : k + c.min-count.result ≤ h.body_length = omega (arith, c.min-count.ensures, so_far.most) in
     piece_fails old now new c.args.start c.args.bytes p q r h from mid mid k piece c.requires.head so_far
     c.fill.ensures.viewed contents.Broken (omega (arith, room, count))
-    (subst (λ (f : ContentFault). FillEnds now new q r piece (Err f)) c.in-Err-Broken.field-0-is c.in-Err-Broken.ensures.ends)
+    (subst (λ (f : ContentFault). FillEnds now new q r piece (Err f)) c.in-Err-Broken.field-0-is
+    c.in-Err-Broken.ensures.ends)
 
 -- a piece was not read
 pub returns-in-Err-ReadFault-clause-ends : goal.returns-in-Err-ReadFault-clause-ends
@@ -57,7 +58,8 @@ returns-in-Err-ReadFault-clause-ends g c =
     let room : k + c.min-count.result ≤ h.body_length = omega (arith, c.min-count.ensures, so_far.most) in
     piece_fails old now new c.args.start c.args.bytes p q r h from mid mid k piece c.requires.head so_far
     c.fill.ensures.viewed contents.ReadFault (omega (arith, room, count))
-    (subst (λ (f : ContentFault). FillEnds now new q r piece (Err f)) c.in-Err-ReadFault.field-0-is c.in-Err-ReadFault.ensures.ends)
+    (subst (λ (f : ContentFault). FillEnds now new q r piece (Err f)) c.in-Err-ReadFault.field-0-is
+    c.in-Err-ReadFault.ensures.ends)
 
 -- it was not put
 pub returns-in_default-clause-ends : goal.returns-in_default-clause-ends

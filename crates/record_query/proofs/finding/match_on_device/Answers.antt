@@ -5,8 +5,9 @@ use Rattle.record_query.proofs.finding.match_on_device.Goals as goal
 
 pub returns-clause-viewed : goal.returns-clause-viewed
 returns-clause-viewed g c =
-    let viewed = viewed_by_any (g.D.Device.state c.new.result.device.now) (g.D.Device.state c.match_in.new.view.device.now)
-    c.new.result.device.ghost_name c.match_in.new.view.device.ghost_name c.match_in.ensures.viewed in
+    let viewed = viewed_by_any (g.D.Device.state c.new.result.device.now)
+    (g.D.Device.state c.match_in.new.view.device.now) c.new.result.device.ghost_name
+    c.match_in.new.view.device.ghost_name c.match_in.ensures.viewed in
     search (rules, viewed)
 
 pub returns-clause-ends : goal.returns-clause-ends

@@ -1,5 +1,5 @@
 -- Settling, the walk, and the body.
-use Rattle.std.proofs.Common.{◌≡◌, Err, Ok, Option, ℕ, subst, sym}
+use Rattle.std.proofs.Common.{Err, Ok, Option, ℕ, subst, sym}
 use Rattle.std.specs.Prelude.{IsTrue}
 use Rattle.cell_types.proofs.Passed.{handed}
 use Rattle.cell_types.specs.Refusals.{refusal_of_fault}
@@ -24,8 +24,8 @@ returns-in_err-slot g c =
     let old = g.D.Device.state c.args.device.now in
     rw (handed c.from_residual-in_err-slot.result (refusal_of_fault fault) c.from_residual-in_err-slot.ensures.1)
     (look_up_unwalked c.args.id.now c.in_ok-ready.ready old (g.D.Device.state c.settle.new.device)
-    (g.D.Device.state c.first_with_identifier.new.device) (g.K.Sink.state c.args.sink.now) c.in_ok-ready.ensures (Err fault)
-    c.in_err-slot.ensures fault (c.in_err-slot.ensures.ends old c.in_ok-ready.ensures))
+    (g.D.Device.state c.first_with_identifier.new.device) (g.K.Sink.state c.args.sink.now) c.in_ok-ready.ensures
+    (Err fault) c.in_err-slot.ensures fault (c.in_err-slot.ensures.ends old c.in_ok-ready.ensures))
 
 -- no slot has the identifier
 pub returns-in_default : goal.returns-in_default
@@ -42,8 +42,8 @@ returns-in_default g c =
 pub put_body-requires-clause-done : goal.put_body-requires-clause-done
 put_body-requires-clause-done g c = λ tells.
     let old = g.D.Device.state c.args.device.now in
-    let ends = subst (λ (f : Option ℕ). WalkEnds c.in_ok-ready.ready c.args.id.now old (g.D.Device.state c.settle.new.device)
-    (g.D.Device.state c.first_with_identifier.new.device) (Ok f)) c.in-Some.is
+    let ends = subst (λ (f : Option ℕ). WalkEnds c.in_ok-ready.ready c.args.id.now old
+    (g.D.Device.state c.settle.new.device) (g.D.Device.state c.first_with_identifier.new.device) (Ok f)) c.in-Some.is
     (c.in_ok-slot.ensures.ends old c.in_ok-ready.ensures) in
     (ends.2 (subst IsTrue (called_then c.in_ok-ready.ensures.called c.in_ok-slot.ensures.called).tells tells)).0
 
@@ -58,8 +58,8 @@ returns-in-Ok g c =
     looked_up c.named_is_found.ensures c.args.id.now c.in_ok-ready.ready old settled mid
     (g.D.Device.state c.put_body.new.device) (g.K.Sink.state c.args.sink.now) (g.K.Sink.state c.put_body.new.sink)
     c.in-Some.slot
-    (walked_along c.args.id.now c.in_ok-ready.ready old settled mid (g.K.Sink.state c.args.sink.now) c.in_ok-ready.ensures
-    (Ok c.in_ok-slot.field-0) c.in_ok-slot.ensures)
+    (walked_along c.args.id.now c.in_ok-ready.ready old settled mid (g.K.Sink.state c.args.sink.now)
+    c.in_ok-ready.ensures (Ok c.in_ok-slot.field-0) c.in_ok-slot.ensures)
     ends c.in-Ok.ensures.viewed c.in-Ok.bytes c.in-Ok.ensures.ends
 
 -- or not
@@ -75,6 +75,6 @@ returns-in-Err g c =
     (look_up_unput c.named_is_found.ensures c.args.id.now c.in_ok-ready.ready old settled mid
     (g.D.Device.state c.put_body.new.device) (g.K.Sink.state c.args.sink.now) (g.K.Sink.state c.put_body.new.sink)
     c.in-Some.slot
-    (walked_along c.args.id.now c.in_ok-ready.ready old settled mid (g.K.Sink.state c.args.sink.now) c.in_ok-ready.ensures
-    (Ok c.in_ok-slot.field-0) c.in_ok-slot.ensures)
+    (walked_along c.args.id.now c.in_ok-ready.ready old settled mid (g.K.Sink.state c.args.sink.now)
+    c.in_ok-ready.ensures (Ok c.in_ok-slot.field-0) c.in_ok-slot.ensures)
     ends c.in-Err.ensures.viewed c.in-Err.fault c.in-Err.ensures.ends)

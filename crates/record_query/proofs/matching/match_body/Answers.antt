@@ -19,10 +19,12 @@ returns-in_err-read_byte-clause-ends g c =
     let so_far = c.loop-count.invariant.read in
     rw (handed c.from_residual.result fault c.from_residual.ensures.1)
     (fault_on c.args.start c.args.bytes (g.V.View.seen c.args.view.now) (g.V.View.seen c.loop-count.view)
-    (g.V.View.seen c.read_byte.new.view) c.loop-count.position c.read_byte.new.position _ fault so_far.viewed so_far.faults
-    so_far.read
-    (body_left (g.V.View.seen c.args.view.now) (g.V.View.seen c.loop-count.view) c.args.start c.args.bytes c.args.position.now
-    c.loop-count.position c.args.head.now c.loop-count._count c.requires.head so_far c.loop-count-test.true) c.in_err-read_byte.ensures.ends)
+    (g.V.View.seen c.read_byte.new.view) c.loop-count.position c.read_byte.new.position _ fault so_far.viewed
+    so_far.faults so_far.read
+    (body_left (g.V.View.seen c.args.view.now) (g.V.View.seen c.loop-count.view) c.args.start c.args.bytes
+    c.args.position.now c.loop-count.position c.args.head.now c.loop-count._count c.requires.head so_far
+    c.loop-count-test.true)
+    c.in_err-read_byte.ensures.ends)
 
 -- one byte more
 pub loop-count-preserved : goal.loop-count-preserved
@@ -38,9 +40,9 @@ pub returns-clause-ends : goal.returns-clause-ends
 returns-clause-ends g c =
     let at_end : c.loop-count._count ≡ c.args.head.now.body_length =
     omega (arith, c.loop-count-test.false, c.loop-count.auto._count-end) in
-    let so_far = subst (λ (k : ℕ). MatchSoFar (g.V.View.seen c.args.view.now) (g.V.View.seen c.loop-count.view) c.args.start
-    c.args.bytes c.args.position.now c.loop-count.position c.args.head.now c.args.matcher.now c.loop-count.matcher k)
-    at_end c.loop-count.invariant in (
+    let so_far = subst (λ (k : ℕ). MatchSoFar (g.V.View.seen c.args.view.now) (g.V.View.seen c.loop-count.view)
+    c.args.start c.args.bytes c.args.position.now c.loop-count.position c.args.head.now
+    c.args.matcher.now c.loop-count.matcher k) at_end c.loop-count.invariant in (
       so_far.read.faults,
       match_whole (g.V.View.seen c.args.view.now) (g.V.View.seen c.loop-count.view) c.args.start
           c.args.bytes c.args.position.now c.loop-count.position c.args.head.now c.args.matcher.now c.loop-count.matcher

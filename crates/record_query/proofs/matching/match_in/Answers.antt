@@ -9,9 +9,10 @@ use Rattle.record_query.proofs.matching.match_in.Goals as goal
 -- it is done, and its document was read
 pub returns-clause-ends : goal.returns-clause-ends
 returns-clause-ends g c = λ terms was.
-    let part = subst (λ (f : Option Part). PartEnds c.args.volume.now.geometry c.args.slot (g.V.View.seen c.args.view.now)
-    (g.V.View.seen c.slot_part.new.view) (Ok f)) c.in-Some.is c.in_ok-part.ensures.ends in
-    ends_from c.args.volume.now.geometry c.args.slot terms c.in_ok-part.ensures.viewed c.match_part.ensures.viewed part.2
-    c.match_part.result
+    let part = subst (λ (f : Option Part). PartEnds c.args.volume.now.geometry c.args.slot
+    (g.V.View.seen c.args.view.now) (g.V.View.seen c.slot_part.new.view) (Ok f)) c.in-Some.is
+    c.in_ok-part.ensures.ends in
+    ends_from c.args.volume.now.geometry c.args.slot terms c.in_ok-part.ensures.viewed c.match_part.ensures.viewed
+    part.2 c.match_part.result
     (subst (λ (n : ℕ). SlotEnds c.args.volume.now.geometry n terms (g.V.View.seen c.slot_part.new.view)
     (g.V.View.seen c.match_part.new.view) c.match_part.result) part.0 (c.match_part.ensures.ends terms was))

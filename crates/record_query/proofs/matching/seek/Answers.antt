@@ -15,7 +15,7 @@ returns-then-matched-clause-ends g c =
       ends.0 ∙ c.in_ok-head.ensures.ends.0,
       record {
         has = ends.1.has;
-        matches = λ terms was. (ends.1.says terms (c.clear.ensures terms was.bytes was.pushed)).0 c.if-matched.true;
+        matches = λ terms was. (ends.1.says terms (c.forget_document.ensures terms was)).0 c.if-matched.true;
       },
     )
 
@@ -28,7 +28,7 @@ returns-clause-viewed g c = viewed_then c.in_ok-head.ensures.viewed c.in_ok-matc
 
 pub returns-clause-matcher : goal.returns-clause-matcher
 returns-clause-matcher g c = λ terms was.
-    c.in_ok-matched.ensures.matcher terms (record { bytes = []; pushed = c.clear.ensures terms was.bytes was.pushed })
+    c.in_ok-matched.ensures.matcher terms (record { bytes = []; pushed = c.forget_document.ensures terms was })
 
 pub returns-clause-ends : goal.returns-clause-ends
 returns-clause-ends g c =
@@ -39,6 +39,6 @@ returns-clause-ends g c =
         body = ends.1.has.body;
         whole = ends.1.has.whole;
         differs = λ terms was matches. true_or (sym c.if-matched.false
-            ∙ (ends.1.says terms (c.clear.ensures terms was.bytes was.pushed)).1 matches);
+            ∙ (ends.1.says terms (c.forget_document.ensures terms was)).1 matches);
       },
     )
