@@ -10,7 +10,7 @@ use Rattle.word_reader.specs.declared.matcher.Matcher.{Matcher}
 use Rattle.document_store.specs.Heads.{IsHead}
 use Rattle.document_store.specs.declared.head.Head.{Head}
 use Rattle.record_query.specs.Matching.{HasSought, KeepsTerms}
-use Rattle.record_query.proofs.Borrowed.{body_more, body_none, body_whole, BodySoFar}
+use Rattle.document_store.proofs.SoFar.{body_more, body_none, body_whole, BodySoFar}
 
 -- one byte more is pushed
 abbrev pub Pushes : Matcher → Matcher → ℕ → Type 0

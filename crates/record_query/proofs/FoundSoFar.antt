@@ -18,7 +18,8 @@ use Rattle.record_query.specs.Below.{BelowEnds, FoundBelow, IsMatchBelow, added}
 use Rattle.record_query.specs.Finding.{Rises}
 use Rattle.record_query.specs.Matching.{HasNoMatch, IsMatchIn, IsMatcherOf, KeepsTerms, SlotEnds}
 use Rattle.record_query.specs.declared.found.Match.{Match}
-use Rattle.record_query.proofs.Borrowed.{are_read_further, are_read_more, fails_from, held_is_one, held_on, read_further}
+use Rattle.document_store.proofs.Holding.{held_is_one, held_on}
+use Rattle.document_store.proofs.Naming.{are_read_further, are_read_more, fails_from, read_further}
 
 -- slots rise on, where the last one is behind the others
 rises_on : (matches : List Match) (last : Match) (from u : ℕ) → Rises from matches

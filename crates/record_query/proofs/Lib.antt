@@ -1,5 +1,4 @@
 pub mod Bodies
-pub mod Borrowed
 pub mod FoundSoFar
 pub mod Loans
 pub mod LookedUp

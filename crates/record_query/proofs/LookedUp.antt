@@ -33,7 +33,8 @@ use Rattle.slot_walk.specs.Walks.{Below, HasNone, HasWalked, IsFirst, Reach, Wal
 use Rattle.record_query.specs.Finding.{ComesTo}
 use Rattle.record_query.specs.LookingUp.{LookUpEnds, LooksUp, PutsFront, refusal_of_body}
 use Rattle.record_query.specs.declared.found.Found.{Found}
-use Rattle.record_query.proofs.Borrowed.{fails_from, held_is_one, read_further, stands_held}
+use Rattle.document_store.proofs.Holding.{held_is_one, stands_held}
+use Rattle.document_store.proofs.Naming.{fails_from, read_further}
 use Rattle.record_query.proofs.Searched.{comes_to_settled}
 
 -- a row of calls on a device, as a view of it sees them

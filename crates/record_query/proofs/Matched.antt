@@ -21,7 +21,8 @@ use Rattle.document_store.specs.declared.head.Head.{Head}
 use Rattle.document_store.specs.declared.part.Part.{Part}
 use Rattle.record_query.specs.Matching.{HasNoMatch, IsMatcherOf, ReadMatch, ReadOther, SlotEnds}
 use Rattle.record_query.specs.declared.found.Match.{Match}
-use Rattle.record_query.proofs.Borrowed.{fails_from, held_is_one, held_on, part_on, read_further, whole_is_held}
+use Rattle.document_store.proofs.Holding.{held_is_one, held_on, part_on, whole_is_held}
+use Rattle.document_store.proofs.Naming.{fails_from, read_further}
 
 -- a slot that holds a document is done
 done_of_held : {g : Layout} {image : Image} {n : ℕ} {id body : List ℕ} → HoldsDocument g image n id body

@@ -3,7 +3,7 @@ use Rattle.std.proofs.Common.{◌≡◌, ℕ, arith, subst}
 use Rattle.cell_types.proofs.Passed.{handed}
 use Rattle.worm_device.proofs.Resting.{viewed_self}
 use Rattle.record_query.proofs.Bodies.{MatchSoFar, match_none, match_more, match_whole}
-use Rattle.record_query.proofs.Borrowed.{body_left, fault_on}
+use Rattle.document_store.proofs.SoFar.{body_left, fault_on}
 use Rattle.record_query.proofs.matching.match_body.Goals as goal
 
 -- nothing was read yet

@@ -9,7 +9,7 @@ use Rattle.cell_types.specs.declared.refusal.Refusal.TheVariants.{NoMemory}
 use Rattle.document_store.specs.Heads.{FaultEnds}
 use Rattle.document_store.specs.declared.head.Head.{Head}
 use Rattle.record_query.specs.Matching.{SeekEnds, SlotEnds}
-use Rattle.record_query.proofs.Borrowed.{part_on}
+use Rattle.document_store.proofs.Holding.{part_on}
 use Rattle.record_query.proofs.Matched.{ends_from, found_match, no_match, refused}
 use Rattle.record_query.proofs.matching.match_part.Goals as goal
 

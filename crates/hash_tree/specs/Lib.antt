@@ -1,0 +1,5 @@
+pub mod Laws
+pub mod Levels
+pub mod Licences
+pub mod Looking
+pub mod Steps
