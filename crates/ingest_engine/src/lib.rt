@@ -10,15 +10,15 @@
 //!     apply      sync                        there is no index yet, so the journal has no cells
 //!     finish     write cell 6, sync          slot 0 is done: the document stands, and no crash takes it
 //!
-//! All memory is taken before the first of them. Where a crash cuts an ingest short, the next command settles the volume:
-//! the slot is given up, or its document is done.
+//! All memory is taken before the first of them. Where a crash cuts an ingest short, the next command settles the
+//! volume: the slot is given up, or its document is done.
 //!
-//! Between settling and the reserve cell it reads the documents that are there, and refuses an identifier that one of them
-//! has.
+//! Between settling and the reserve cell it reads the documents that are there, and refuses an identifier that one of
+//! them has.
 //!
-//! Stands on `recovery_engine`, which settles, on `slot_walk`, which looks for the identifier, and on `plan_writer`, which
-//! puts the cells. Begin with `ingesting.rt`; specs/Ingesting.antt says how an ingest may end, why, and what a crash
-//! leaves of it.
+//! Stands on `recovery_engine`, which settles, on `slot_walk`, which looks for the identifier, on `append_file`, which
+//! makes content cells, and on `plan_writer`, which puts them. Begin with `ingesting.rt`; specs/Ingesting.antt says how
+//! an ingest may end, why, and what a crash leaves of it.
 #![tactic(auto)]
 
 mod document;
