@@ -1,6 +1,7 @@
 -- A document that was read in a slot that is done, from the look for its part on.
-use Rattle.std.proofs.Common.{◌≡◌, ◌≤◌, ◌+◌, ◌*◌, ◌↔◌, ℕ, List, Some, Ok, Err, refl, sym, ap, subst, arith}
+use Rattle.std.proofs.Common.{◌≡◌, ◌≤◌, ◌+◌, ◌*◌, ◌↔◌, ℕ, List, length, Some, Ok, Err, refl, sym, ap, subst, arith}
 use Rattle.std.specs.Prelude.{IsTrue, Bool}
+use Rattle.cell_types.specs.Image.{Image}
 use Rattle.cell_types.specs.Layout.{Layout}
 use Rattle.cell_types.specs.Refusals.{refusal_of_fault}
 use Rattle.cell_types.specs.declared.refusal.Fault.{Fault}
@@ -8,7 +9,7 @@ use Rattle.cell_types.specs.declared.refusal.Fault.TheVariants.{Tampered, ReadFa
 use Rattle.stored_documents.specs.Slots.{cells_for}
 use Rattle.worm_device.specs.Views.{ViewState, Viewed}
 use Rattle.document_store.specs.Heads.{HasBody, id_of}
-use Rattle.document_store.specs.Looks.{HasStored, HoldsIdentifier, IdentifierEnds, IsPartOf, IsSame, LookFails, PartEnds, ReadsOnce, ReadsTwice}
+use Rattle.document_store.specs.Looks.{HasStored, HoldsHead, HoldsIdentifier, IdentifierEnds, IsPartOf, IsSame, LookFails, PartEnds, ReadsOnce, ReadsTwice}
 use Rattle.document_store.specs.Standing.{HoldsDocument}
 use Rattle.document_store.specs.declared.head.Head.{Head}
 use Rattle.document_store.specs.declared.part.Part.{Part}
@@ -59,26 +60,25 @@ module _ (g : Layout) (n : ℕ) (old mid new : ViewState) (part : Part) (before 
     read_holds tells =
         whole_is_held g new n part (id_of h) has.body (told after (told before tells)) (part_later tells) has.whole
 
-    pub has_stored : IsTrue old.base.tells
-        → HasStored g new.image n (record { identifier_length = h.id_length; body_length = h.body_length })
-    has_stored tells = record {
-      id = id_of h;
-      body = has.body;
-      holds = read_holds tells;
-      identifier_length = has.id_length;
-      body_length = sym has.is_length;
-    }
+    pub holds_head : IsTrue old.base.tells → HoldsHead g new.image n h
+    holds_head tells = record { body = has.body; holds = read_holds tells; body_length = sym has.is_length }
 
-    pub holds_identifier : (id : List ℕ) → id ≡ id_of h → IsTrue old.base.tells → HoldsIdentifier g new.image n id
-    holds_identifier id same tells = record {
-      body = has.body;
-      holds = subst (λ (i : List ℕ). HoldsDocument g new.image n i has.body) (sym same) (read_holds tells);
-    }
+module _ (g : Layout) (n : ℕ) (image : Image) (h : Head) (head : HoldsHead g image n h) where
+  pub has_stored : h.id_length ≡ length (id_of h)
+      → HasStored g image n (record { identifier_length = h.id_length; body_length = h.body_length })
+  has_stored same = record {
+    id = id_of h;
+    body = head.body;
+    holds = head.holds;
+    identifier_length = same;
+    body_length = head.body_length;
+  }
 
-    pub is_same : (id : List ℕ) (same : Bool) → (IsTrue same ↔ (id_of h ≡ id)) → IsTrue old.base.tells
-        → IsSame g new.image n id same
-    is_same id same says tells = record {
-      own = id_of h;
-      holds = holds_identifier (id_of h) refl tells;
-      says = says;
-    }
+  pub holds_identifier : (id : List ℕ) → id ≡ id_of h → HoldsIdentifier g image n id
+  holds_identifier id same = record {
+    body = head.body;
+    holds = subst (λ (i : List ℕ). HoldsDocument g image n i head.body) (sym same) head.holds;
+  }
+
+  pub is_same : (id : List ℕ) (same : Bool) → (IsTrue same ↔ (id_of h ≡ id)) → IsSame g image n id same
+  is_same id same says = record { own = id_of h; holds = holds_identifier (id_of h) refl; says = says }

@@ -11,7 +11,7 @@ use Rattle.document_store.specs.Looks.{AreRead, FirstEnds, LookFails, NoneBelow,
 use Rattle.document_store.specs.Standing.{HoldsDocument}
 use Rattle.document_store.specs.declared.head.Head.{Head}
 use Rattle.document_store.specs.declared.part.Part.{Part}
-use Rattle.document_store.proofs.Checking.{holds_identifier, read_fails, read_holds}
+use Rattle.document_store.proofs.Checking.{holds_head, holds_identifier, read_fails, read_holds}
 use Rattle.document_store.proofs.Holding.{held_is_done, held_is_one, held_on}
 use Rattle.document_store.proofs.Naming.{are_read_further, are_read_more, fails_from, none_more, part_from}
 
@@ -88,9 +88,8 @@ module _ (g : Layout) (k u : ℕ) (id : List ℕ) (old now mid : ViewState) (so_
           less,
           same ∙ found.2,
           λ tells. record {
-            holds = holds_identifier g k old mid new part (viewed_then so_far.viewed looked) after found h has id (sym
-                is)
-                tells;
+            holds = holds_identifier g k new.image h
+                (holds_head g k old mid new part (viewed_then so_far.viewed looked) after found h has tells) id (sym is);
             none = so_far.none tells;
             read = later tells;
           },

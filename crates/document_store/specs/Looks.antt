@@ -11,6 +11,7 @@ use Rattle.cell_types.specs.declared.refusal.Fault.TheVariants as faults
 use Rattle.cell_types.specs.declared.refusal.Refusal.{Refusal}
 use Rattle.cell_types.specs.declared.refusal.Refusal.TheVariants as refusals
 use Rattle.stored_documents.specs.Documents.{document_at}
+use Rattle.stored_documents.specs.declared.limits.TheConstants.{MAX_IDENTIFIER_BYTES}
 use Rattle.stored_documents.specs.Slots.{IsDone, IsDoneSlot, cells_for}
 use Rattle.tamper_rules.specs.Rules.{IsPlaceOf}
 use Rattle.tamper_rules.specs.declared.numbers.TheConstants.{BROKEN_DOCUMENT}
@@ -19,7 +20,7 @@ use Rattle.worm_device.specs.Counts.{Rose}
 use Rattle.worm_device.specs.Views.{ViewState}
 use Rattle.commit_record.specs.States.{IsOutOfPlace, IsState}
 use Rattle.commit_record.specs.declared.slot.SlotState.{SlotState}
-use Rattle.document_store.specs.Heads.{HasBody}
+use Rattle.document_store.specs.Heads.{HasBody, id_of}
 use Rattle.document_store.specs.Standing.{HoldsDocument}
 use Rattle.document_store.specs.declared.body.BodyFault.{BodyFault}
 use Rattle.document_store.specs.declared.body.BodyFault.TheVariants.{ReadFault, SinkFault, Tampered}
@@ -86,6 +87,19 @@ DonePartEnds g n old new (Err fault) = LookFails g n old new fault
 abbrev pub ReadEnds : Layout → Part → ViewState → ViewState → Result Head Fault → Type 0
 ReadEnds g part old new (Ok h) = (new.base.faults ≡ old.base.faults) × HasBody new part.start part.bytes h
 ReadEnds g part old new (Err fault) = LookFails g part.slot old new fault
+
+-- slot n holds a document with this head
+pub record HoldsHead (g : Layout) (image : Image) (n : ℕ) (h : Head) : Type 0 where
+  pub body : List ℕ
+  pub holds : HoldsDocument g image n (id_of h) body
+  pub body_length : h.body_length ≡ length body
+
+-- how reading the document of a slot that is done may end, and why
+abbrev pub DoneHeadEnds : Layout → ℕ → ViewState → ViewState → Result Head Fault → Type 0
+DoneHeadEnds g n old new (Ok h) =
+    (h.id_length ≤ MAX_IDENTIFIER_BYTES) × (h.id_length ≡ length (id_of h)) × (new.base.faults ≡ old.base.faults)
+    × (IsTrue old.base.tells → HoldsHead g new.image n h)
+DoneHeadEnds g n old new (Err fault) = LookFails g n old new fault
 
 -- slot n holds a document, of whose identifier and body these are the numbers of bytes
 pub record HasStored (g : Layout) (image : Image) (n : ℕ) (stored : Stored) : Type 0 where

@@ -4,7 +4,7 @@ ghost use Rattle.stored_documents.specs.Slots.{IsDoneSlot};
 ghost use Rattle.worm_device.specs.Views.{Viewed};
 ghost use Rattle.document_store.specs.Looks.{CheckEnds, ReadsOnce};
 
-use crate::part::{done_part, read_part};
+use crate::part::done_head;
 use cell_types::{Fault, Volume};
 use worm_device::View;
 
@@ -28,8 +28,7 @@ pub fn check<V: View>(view: &mut V, volume: &Volume, slot: u32) -> Result<Stored
     ensures reads { ReadsOnce volume.now.geometry slot (V.seen view.old) (V.seen view.new) }
     ensures ends { CheckEnds volume.now.geometry slot (V.seen view.old) (V.seen view.new) result }
 {
-    let part = done_part(view, volume, slot)?;
-    let head = read_part(view, &volume.geometry, &part)?;
+    let head = done_head(view, volume, slot)?;
     Ok(Stored {
         identifier_length: head.id_length,
         body_length: head.body_length,

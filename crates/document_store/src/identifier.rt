@@ -5,7 +5,7 @@ ghost use Rattle.stored_documents.specs.Slots.{IsDoneSlot};
 ghost use Rattle.worm_device.specs.Views.{Viewed};
 ghost use Rattle.document_store.specs.Looks.{IdentifierEnds, ReadsOnce, SameEnds};
 
-use crate::part::{done_part, read_part};
+use crate::part::done_head;
 use cell_types::{Fault, Refusal, Volume};
 use std::alloc::Global;
 use stored_documents::MAX_IDENTIFIER_BYTES;
@@ -36,8 +36,7 @@ pub fn identifier_of<V: View>(
     ensures reads { ReadsOnce volume.now.geometry slot (V.seen view.old) (V.seen view.new) }
     ensures ends { IdentifierEnds volume.now.geometry slot (V.seen view.old) (V.seen view.new) result }
 {
-    let part = done_part(view, volume, slot)?;
-    let head = read_part(view, &volume.geometry, &part)?;
+    let head = done_head(view, volume, slot)?;
     let mut id = Vec::new(alloc);
     id.extend_from_slice(&head.id[..usize::from(head.id_length)])?;
     Ok(id)
@@ -59,7 +58,6 @@ pub fn same_identifier<V: View>(
     ensures reads { ReadsOnce volume.now.geometry slot (V.seen view.old) (V.seen view.new) }
     ensures ends { SameEnds volume.now.geometry slot id.now (V.seen view.old) (V.seen view.new) result }
 {
-    let part = done_part(view, volume, slot)?;
-    let head = read_part(view, &volume.geometry, &part)?;
+    let head = done_head(view, volume, slot)?;
     Ok(&head.id[..usize::from(head.id_length)] == id)
 }

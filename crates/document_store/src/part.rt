@@ -5,7 +5,7 @@ ghost use Rattle.stored_documents.specs.Slots.{IsDoneSlot, cells_for};
 ghost use Rattle.tamper_rules.specs.declared.numbers.TheConstants.{BROKEN_DOCUMENT};
 ghost use Rattle.worm_device.specs.Views.{Viewed};
 ghost use Rattle.document_store.specs.Heads.{SpellsNone};
-ghost use Rattle.document_store.specs.Looks.{DonePartEnds, IsPartOf, LookFails, PartEnds, ReadEnds};
+ghost use Rattle.document_store.specs.Looks.{DoneHeadEnds, DonePartEnds, IsPartOf, LookFails, PartEnds, ReadEnds, ReadsOnce};
 
 use crate::head::{Head, read_document};
 use append_file::ContentFault;
@@ -122,4 +122,19 @@ pub(crate) fn done_part<V: View>(view: &mut V, volume: &Volume, slot: u32) -> Re
         return Err(Fault::Tampered(broken_document(&volume.geometry, slot, None)));
     };
     Ok(part)
+}
+
+/// Reads the document of a slot that is done, each cell of it once at most, and four cells besides.
+pub(crate) fn done_head<V: View>(view: &mut V, volume: &Volume, slot: u32) -> Result<Head, Fault>
+    requires slot { slot < volume.now.geometry.slots }
+    requires size { volume.now.geometry.cells ≤ (V.seen view.old).cells }
+    requires done { IsTrue (V.seen view.old).base.tells
+        → IsDoneSlot volume.now.geometry (V.seen view.old).image slot }
+    ensures viewed { Viewed (V.seen view.old) (V.seen view.new) }
+    ensures reads { ReadsOnce volume.now.geometry slot (V.seen view.old) (V.seen view.new) }
+    ensures ends { DoneHeadEnds volume.now.geometry slot (V.seen view.old) (V.seen view.new) result }
+{
+    let part = done_part(view, volume, slot)?;
+    let head = read_part(view, &volume.geometry, &part)?;
+    Ok(head)
 }

@@ -1,81 +1,24 @@
--- The look for the part, and the identifier of the document in it.
-use Rattle.std.proofs.Common.{◌∙◌, rules}
+-- The identifier in the head.
+use Rattle.std.proofs.Common.{rules}
 use Rattle.cell_types.specs.Refusals.{refusal_of_fault}
 use Rattle.cell_types.proofs.Passed.{handed}
-use Rattle.document_store.proofs.Checking.{holds_identifier, identifier_fails, read_fails, reads_once}
+use Rattle.document_store.proofs.Checking.{holds_identifier, identifier_fails}
 use Rattle.document_store.proofs.identifier.identifier_of.Goals as goal
-
--- the reads of both looks
-pub returns-in_err-head-clause-reads : goal.returns-in_err-head-clause-reads
-returns-in_err-head-clause-reads g c =
-    let layout = c.args.volume.now.geometry in
-    let old = g.V.View.seen c.args.view.now in
-    let mid = g.V.View.seen c.done_part.new.view in
-    let new = g.V.View.seen c.read_part.new.view in
-    let part = c.in_ok-part.part in
-    let before = c.done_part.ensures.viewed in
-    let after = c.read_part.ensures.viewed in
-    let found = c.in_ok-part.ensures.ends in
-    reads_once layout c.args.slot old mid new part before after found c.done_part.ensures.reads
-    c.read_part.ensures.reads
 
 -- the document was not read
 pub returns-in_err-head-clause-ends : goal.returns-in_err-head-clause-ends
 returns-in_err-head-clause-ends g c =
-    let layout = c.args.volume.now.geometry in
     let old = g.V.View.seen c.args.view.now in
-    let mid = g.V.View.seen c.done_part.new.view in
-    let new = g.V.View.seen c.read_part.new.view in
-    let part = c.in_ok-part.part in
-    let before = c.done_part.ensures.viewed in
-    let after = c.read_part.ensures.viewed in
-    let found = c.in_ok-part.ensures.ends in
-    rw (handed c.from_residual-in_err-head.result (refusal_of_fault c.in_err-head.field-0.0)
-    c.from_residual-in_err-head.ensures.1)
-    (identifier_fails layout c.args.slot old new c.in_err-head.field-0.0
-    (read_fails layout c.args.slot old mid new part before after found c.in_err-head.field-0.0
-    c.in_err-head.ensures.ends))
-
--- there is no memory for it
-pub returns-in_err-extend_from_slice-clause-reads : goal.returns-in_err-extend_from_slice-clause-reads
-returns-in_err-extend_from_slice-clause-reads g c =
-    let layout = c.args.volume.now.geometry in
-    let old = g.V.View.seen c.args.view.now in
-    let mid = g.V.View.seen c.done_part.new.view in
-    let new = g.V.View.seen c.read_part.new.view in
-    let part = c.in_ok-part.part in
-    let before = c.done_part.ensures.viewed in
-    let after = c.read_part.ensures.viewed in
-    let found = c.in_ok-part.ensures.ends in
-    reads_once layout c.args.slot old mid new part before after found c.done_part.ensures.reads
-    c.read_part.ensures.reads
-
--- the reads of both looks
-pub returns-clause-reads : goal.returns-clause-reads
-returns-clause-reads g c =
-    let layout = c.args.volume.now.geometry in
-    let old = g.V.View.seen c.args.view.now in
-    let mid = g.V.View.seen c.done_part.new.view in
-    let new = g.V.View.seen c.read_part.new.view in
-    let part = c.in_ok-part.part in
-    let before = c.done_part.ensures.viewed in
-    let after = c.read_part.ensures.viewed in
-    let found = c.in_ok-part.ensures.ends in
-    reads_once layout c.args.slot old mid new part before after found c.done_part.ensures.reads
-    c.read_part.ensures.reads
+    let new = g.V.View.seen c.done_head.new.view in
+    rw (handed c.from_residual.result (refusal_of_fault c.in_err-head.field-0.0)
+    c.from_residual.ensures.1)
+    (identifier_fails c.args.volume.now.geometry c.args.slot old new c.in_err-head.field-0.0 c.in_err-head.ensures.ends)
 
 -- the slot holds a document with it
 pub returns-clause-ends : goal.returns-clause-ends
 returns-clause-ends g c =
-    let layout = c.args.volume.now.geometry in
-    let old = g.V.View.seen c.args.view.now in
-    let mid = g.V.View.seen c.done_part.new.view in
-    let new = g.V.View.seen c.read_part.new.view in
-    let part = c.in_ok-part.part in
-    let before = c.done_part.ensures.viewed in
-    let after = c.read_part.ensures.viewed in
-    let found = c.in_ok-part.ensures.ends in (
-      c.in_ok-head.ensures.ends.0 ∙ found.2,
-      holds_identifier layout c.args.slot old mid new part before after found
-          c.in_ok-head.head c.in_ok-head.ensures.ends.1 _ (search rules),
+    let head = c.in_ok-head.ensures.ends in (
+      head.2,
+      λ tells. holds_identifier c.args.volume.now.geometry c.args.slot (g.V.View.seen c.done_head.new.view).image
+          c.in_ok-head.head (head.3 tells) _ (search rules),
     )
