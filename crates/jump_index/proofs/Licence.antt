@@ -21,7 +21,7 @@ use Rattle.jump_index.specs.declared.bounds.Bounds.{Bounds}
 use Rattle.jump_index.proofs.Behind.{jump_target}
 
 -- blocks within narrower bounds are blocks within wider ones
-leads_wider : {image : Image} {from to last : ℕ} (from' to' : ℕ) {block : ℕ} → from' ≤ from → to ≤ to'
+pub leads_wider : {image : Image} {from to last : ℕ} (from' to' : ℕ) {block : ℕ} → from' ≤ from → to ≤ to'
     → Leads image from to last block → Leads image from' to' last block
 leads_wider from' to' p q (arrived block is) = arrived block is
 leads_wider from' to' p q (onwards block level digit target levels some digits jump inside_from inside_to rest) =
@@ -36,7 +36,7 @@ leads_within (onwards block level digit target levels some digits jump inside_fr
     ⊎_elim (λ same. inr (omega arith, omega arith)) (λ within. inr within) (leads_within rest)
 
 -- so its cells are cells of a first block or of the pool
-in_place : (g : Layout) (image : Image) (l from to head at off cell : ℕ) → l < g.lists → head ≡ list_at g l
+pub in_place : (g : Layout) (image : Image) (l from to head at off cell : ℕ) → l < g.lists → head ≡ list_at g l
     → from ≡ pool_at g → to ≤ g.cells
     → Leads image from to at head → off < 256 → cell ≡ at + off
     → ((k : ℕ) × LiesIn g (FirstBlock k) cell) ⊎ IsOfPool g cell

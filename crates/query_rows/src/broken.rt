@@ -34,15 +34,16 @@ fn content(held: u8, first: u8) -> [u8; 16] {
     cell
 }
 
-/// Writes slot 0: the document of so many stored bytes, in these content cells, the last of which is cell 593. `None`
-/// leaves a cell blank.
+/// Writes slot 0: the document of so many stored bytes, in content cells from this one up to cell 593. `None` leaves a
+/// cell blank.
 fn write_slot(
     device: &mut MemoryDevice,
     bytes: u8,
+    from: u32,
     cells: &[Option<[u8; 16]>],
 ) -> Result<(), Fail> {
     write_foreign(device, 4, RESERVE)?;
-    let mut at = 594u32.saturating_sub(cells.len() as u32);
+    let mut at = from;
     for cell in cells {
         if let Some(bytes) = cell {
             write_foreign(device, at, *bytes)?;
@@ -55,9 +56,9 @@ fn write_slot(
 }
 
 /// Whether each command that reads the document names its commit cell.
-fn is_named(alloc: Global, bytes: u8, cells: &[Option<[u8; 16]>]) -> Result<bool, Fail> {
+fn is_named(alloc: Global, bytes: u8, from: u32, cells: &[Option<[u8; 16]>]) -> Result<bool, Fail> {
     let mut device = small_volume(alloc)?;
-    write_slot(&mut device, bytes, cells)?;
+    write_slot(&mut device, bytes, from, cells)?;
     let evidence = Evidence {
         rule: BROKEN_DOCUMENT,
         cell: 5,
@@ -78,7 +79,12 @@ fn is_named(alloc: Global, bytes: u8, cells: &[Option<[u8; 16]>]) -> Result<bool
 fn what_is_changed_of_the_cells_below_was_whole(rt: HostRuntime) -> Result<(), Fail> {
     let alloc = rt.alloc();
     let mut device = small_volume(alloc)?;
-    write_slot(&mut device, 22, &[Some(content(15, 1)), Some(content(7, b'e'))])?;
+    write_slot(
+        &mut device,
+        22,
+        592,
+        &[Some(content(15, 1)), Some(content(7, b'e'))],
+    )?;
     let (outcome, put) = outcome_of(alloc, "lookup|e", &mut device, b"")?;
     assert_eq!(rt; outcome, Ok(()));
     assert_eq!(rt; put.as_slice(), b"eeeeeeeeeeeeeeeeeeee".as_slice());
@@ -100,10 +106,18 @@ fn a_broken_document_is_named_at_its_commit_cell(rt: HostRuntime) -> Result<(), 
         (21, [first, last], "one stored byte too few is stated"),
         (23, [first, last], "one stored byte too many is stated"),
         (22, [Some(content(15, 0)), last], "the identifier is empty"),
-        (22, [Some(content(15, 22)), last], "the identifier ends behind the bytes"),
-        (22, [Some(content(15, 201)), last], "the identifier is too long"),
+        (
+            22,
+            [Some(content(15, 22)), last],
+            "the identifier ends behind the bytes",
+        ),
+        (
+            22,
+            [Some(content(15, 201)), last],
+            "the identifier is too long",
+        ),
     ] {
-        assert!(rt; is_named(alloc, bytes, &cells)?, "{what}");
+        assert!(rt; is_named(alloc, bytes, 592, &cells)?, "{what}");
     }
     Ok(())
 }
@@ -115,8 +129,8 @@ fn an_identifier_has_200_bytes_at_most(rt: HostRuntime) -> Result<(), Fail> {
     cells[13] = Some(content(8, b'e'));
     // 203 stored bytes: 200 of an identifier and 2 of a body, or 201 and 1.
     cells[0] = Some(content(15, 201));
-    assert!(rt; is_named(alloc, 203, &cells)?);
+    assert!(rt; is_named(alloc, 203, 580, &cells)?);
     cells[0] = Some(content(15, 200));
-    assert!(rt; !is_named(alloc, 203, &cells)?);
+    assert!(rt; !is_named(alloc, 203, 580, &cells)?);
     Ok(())
 }

@@ -59,10 +59,7 @@ fn words_past_ascii_are_found_by_their_bytes(rt: HostRuntime) -> Result<(), Fail
     let (_, put) = outcome_of(alloc, words, &mut device, body.as_bytes())?;
     assert_eq!(rt; put.as_slice(), b"acknowledged 0\n".as_slice());
     for (words, text) in [
-        (
-            "find|4711|m\u{fc}ller",
-            "0 2024-03-07/0001 34\n1 found\n",
-        ),
+        ("find|4711|m\u{fc}ller", "0 2024-03-07/0001 34\n1 found\n"),
         ("find|M\u{dc}LLER", "0 found\n"),
         ("lookup|2024-03-07/0001", body),
     ] {
@@ -237,7 +234,9 @@ fn an_outcome_that_somebody_else_writes_is_named(rt: HostRuntime) -> Result<(), 
     let mut device = small_volume(alloc)?;
     begin(&mut device)?;
     let abandon = Cell::from_bytes(ABANDON).ok_or("a blank cell")?;
-    device.foreign_before(Moment::Step(6), 5, abandon)?;
+    if 5 < device.cells() {
+        device.foreign_before(Moment::Step(6), 5, abandon)?;
+    }
     let (outcome, _) = outcome_of(alloc, "ingest|a", &mut device, b"hello world")?;
     let evidence = Evidence {
         rule: 2,

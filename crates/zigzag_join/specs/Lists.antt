@@ -1,19 +1,21 @@
 -- Lists of slots: what they are for contracts, and what their calls answer.
-use Rattle.std.specs.Prelude.{◌≡◌, ◌<◌, ◌≤◌, ℕ, Bool, Option, Some, None, Result, Ok, Err, IsTrue}
+use Rattle.std.specs.Prelude.{◌≡◌, ◌<◌, ◌≤◌, ℕ, Bool, List, Option, Some, None, Result, Ok, Err, IsTrue}
 use Rattle.cell_types.specs.declared.geometry.TheConstants.{MAX_SLOTS}
 use Rattle.cell_types.specs.declared.refusal.Evidence.{Evidence}
 use Rattle.cell_types.specs.declared.refusal.Fault.{Fault}
 use Rattle.cell_types.specs.declared.refusal.Fault.TheVariants.{Tampered, ReadFault}
 use Rattle.worm_device.specs.Counts.{Rose, IsStill}
+use Rattle.worm_device.specs.Views.{ViewState, Viewed}
 
 -- The state of some lists.
 pub record ListsState : Type 1 where
   -- how many lists there are
   pub lists : ℕ
-  -- how many calls below have failed
-  pub faults : ℕ
-  -- how many cells somebody else has written
-  pub foreign_writes : ℕ
+  -- the view that they are read through
+  pub view : ViewState
+  -- what they are besides, in rows of numbers of their own: the names of the loans that they hold, so that whoever
+  -- lent a view knows what comes back, and of what they were made. No call changes it.
+  pub made_of : List (List ℕ)
   -- the list must not pass the slot
   pub owes : ℕ → ℕ → Type 0
   -- the list vouches for the slot
@@ -23,12 +25,12 @@ pub record ListsState : Type 1 where
   -- the lists show this evidence
   pub shows : Evidence → Type 0
 
--- What every call keeps, and so every row of calls: the lists stay as many, no count falls, and what a list must not
--- pass, vouches for or may name once it does ever after.
+-- What every call keeps, and so every row of calls: the lists stay as many and what they are, the view is read alone,
+-- and what a list must not pass, vouches for or may name once it does ever after.
 pub record Keeps (old new : ListsState) : Type 0 where
   pub lists : new.lists ≡ old.lists
-  pub faults : old.faults ≤ new.faults
-  pub foreign_writes : old.foreign_writes ≤ new.foreign_writes
+  pub made_of : new.made_of ≡ old.made_of
+  pub viewed : Viewed old.view new.view
   pub owing : (which slot : ℕ) → old.owes which slot → new.owes which slot
   pub vouching : (which slot : ℕ) → old.vouches which slot → new.vouches which slot
   pub naming : (e : Evidence) → old.may_name e → new.may_name e
@@ -36,8 +38,9 @@ pub record Keeps (old new : ListsState) : Type 0 where
 -- Why there is no answer: a call below failed, or this is evidence that the lists may name, and that they show
 -- where nobody else wrote.
 abbrev pub FaultEnds : ListsState → ListsState → Fault → Type 0
-FaultEnds old new ReadFault = Rose old.faults new.faults
-FaultEnds old new (Tampered e) = new.may_name e × (IsStill old.foreign_writes new.foreign_writes → new.shows e)
+FaultEnds old new ReadFault = Rose old.view.base.faults new.view.base.faults
+FaultEnds old new (Tampered e) =
+    new.may_name e × (IsStill old.view.base.foreign_writes new.view.base.foreign_writes → new.shows e)
 
 -- what a list answers that is asked for a slot at or past one
 abbrev pub NextEnds : ℕ → ℕ → ListsState → ListsState → Result (Option ℕ) Fault → Type 0

@@ -13,7 +13,8 @@
 //! which it **vouches**. The join passes no slot that no list may pass, and each list vouches for its answer. Where
 //! `next` lands is never taken for such a slot: `has` decides, and where it says no, the join goes on by one.
 //!
-//! Stands on `cell_types` and on the counts of `worm_device`. Begin with `lists.rt`; `specs/Joins.antt` says what an
+//! The lists are read through a view, and a join only reads it. Stands on `cell_types` and on the views of
+//! `worm_device`. Begin with `lists.rt`; `specs/Joins.antt` says what an
 //! answer means.
 #![tactic(auto)]
 

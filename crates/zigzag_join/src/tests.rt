@@ -1,5 +1,5 @@
 //! Two lists in memory, joined.
-ghost use Rattle.std.specs.Prelude.{◌≡◌, ◌<◌, ⊤};
+ghost use Rattle.std.specs.Prelude.{◌≡◌, ◌<◌, [], ⊤};
 ghost use Rattle.cell_types.specs.declared.geometry.TheConstants.{MAX_SLOTS};
 
 use crate::{Lists, next_common};
@@ -28,11 +28,13 @@ impl TwoLists {
 
 impl Lists for TwoLists {
     ghost use Rattle.zigzag_join.specs.Lists.{ListsState};
+    ghost use Rattle.worm_device.specs.Views.{seen_directly};
+    ghost use Rattle.zigzag_join.specs.NoDevice.{no_device};
 
     ghost state = { λ lists. record {
       lists = 2;
-      faults = 0;
-      foreign_writes = 0;
+      view = seen_directly no_device 0;
+      made_of = [];
       owes = λ which slot. ⊥;
       vouches = λ which slot. ⊤;
       may_name = λ e. ⊥;

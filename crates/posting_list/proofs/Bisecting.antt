@@ -1,0 +1,200 @@
+-- Bisection finds the tag of a slot that must not be passed.
+use Rattle.std.proofs.Common.{◌≡◌, ◌≢◌, ◌<◌, ◌≤◌, ◌+◌, ◌-◌, ◌*◌, ⊎_elim, ℕ, true, false, List, length, Some, None, Ok, Err, refl, ap, sym, arith, ◌∙◌}
+use Rattle.std.specs.Prelude.{IsTrue, slice_get}
+use Rattle.std.proofs.lemmas.Bool.{cases_eq, cases_lt}
+use Rattle.byteorder.specs.Endian.{big_number}
+use Rattle.cell_types.specs.declared.refusal.Fault.{Fault}
+use Rattle.index_paths.specs.Blocks.{PostingFields}
+use Rattle.index_paths.proofs.Fronts.{front_holds}
+use Rattle.worm_device.specs.Views.{ViewState, Viewed}
+use Rattle.worm_device.proofs.Resting.{viewed_self, viewed_then}
+use Rattle.jump_block.specs.Entries.{posting_of}
+use Rattle.jump_block.specs.declared.held_entry.Entry.{Entry}
+use Rattle.jump_index.specs.Searches.{FindsGeq}
+use Rattle.jump_index.proofs.Licence.{leads_wider}
+use Rattle.jump_index.proofs.Telling.{told}
+use Rattle.posting_list.specs.Owing.{IsOwed}
+use Rattle.posting_list.specs.Searches.{HasSlot, Probes, head_of, within}
+use Rattle.posting_list.specs.declared.reach.Reach.{Reach}
+use Rattle.posting_list.specs.declared.sought_term.SoughtTerm.{SoughtTerm}
+use Rattle.posting_list.proofs.Evidence.{false_never, find_fault, says_later}
+use Rattle.posting_list.proofs.Owed.{OwedTags, ordinal_of, owed_tags, posting_at, posting_key, posting_last, posting_tag}
+
+some_one : (a b : List ℕ) → Some a ≡ Some b → a ≡ b
+some_one a b e = cc
+
+-- a search's fault is the probe's
+pub probe_fault : (r : Reach) (list key : ℕ) (old new : ViewState) (fault : Fault) → list < r.volume.geometry.lists
+    → FindsGeq (within r) (head_of r list) key old new (Err fault) → Probes r list key old new (Err fault)
+probe_fault r list key old new fault less found =
+    record { viewed = found.viewed; ends = find_fault r list key old new fault less found }
+
+-- The ordinals from low up to high are left: where the slot must not be passed, the term's is one of them.
+pub record HasSoFar (r : Reach) (term : SoughtTerm) (slot : ℕ) (old new : ViewState) (low high : ℕ) : Type 0 where
+  pub viewed : Viewed old new
+  pub most : high ≤ 256
+  pub left : (o : IsOwed r term old slot)
+      → (t : OwedTags r term o.body) × (low ≤ t.i) × (t.i < high) × (high ≤ length t.tags)
+
+module _ (r : Reach) (term : SoughtTerm) (slot : ℕ) (old mid new : ViewState) (viewed : Viewed old mid) where
+  pub has_fault : (key : ℕ) (fault : Fault) → Probes r term.list key mid new (Err fault)
+      → HasSlot r term slot old new (Err fault)
+  has_fault key fault probed = record {
+    viewed = viewed_then viewed probed.viewed;
+    ends = says_later r old mid new viewed probed.viewed fault probed.ends;
+  }
+
+  now_tells : IsTrue old.base.tells → IsTrue mid.base.tells
+  now_tells tells = told viewed tells
+
+  module _ (key k : ℕ) (is_key : key ≡ 256 * slot + k) where
+    -- nothing stands under the key of this ordinal
+    pub none_there : ((o : IsOwed r term old slot) → (t : OwedTags r term o.body) × (k < length t.tags))
+        → Probes r term.list key mid new (Ok None) → HasSlot r term slot old new (Ok false)
+    none_there t_of probed = record {
+      viewed = viewed_then viewed probed.viewed;
+      ends = (
+        λ o.
+            let t = t_of o in
+            let h = ordinal_of r term slot old mid viewed o t.0 k t.1 in
+            absurd (probed.ends (now_tells o.tells) h.at (posting_at slot t.0.tags k h.tag) h.trail
+            (posting_key slot t.0.tags k h.tag ∙ sym is_key)),
+        λ f. absurd (false_never f),
+      );
+    }
+
+    -- what stands there is the posting of this ordinal
+    pub one_there : (e : Entry) → Probes r term.list key mid new (Ok (Some e)) → (o : IsOwed r term old slot)
+        → (t : OwedTags r term o.body) → k < length t.tags
+        → (e.last ≡ length t.tags - 1) × (slice_get t.tags k ≡ Some e.tag)
+    one_there e probed o t less =
+        let h = ordinal_of r term slot old mid viewed o t k less in
+        let p = posting_at slot t.tags k h.tag in
+        let same : p ≡ posting_of e = (probed.ends.1 (now_tells o.tells)).1 h.at p h.trail
+        (posting_key slot t.tags k h.tag ∙ sym is_key) in (
+          sym (ap (λ (q : PostingFields). q.last) same) ∙ posting_last slot t.tags k h.tag,
+          h.there ∙ ap (λ (x : List ℕ). Some x)
+              (sym (posting_tag slot t.tags k h.tag) ∙ ap (λ (q : PostingFields). q.tag) same),
+        )
+
+    -- the tag stands there
+    pub found_there : (e : Entry) → k < 256 → Probes r term.list key mid new (Ok (Some e)) → e.tag ≡ term.tag
+        → HasSlot r term slot old new (Ok true)
+    found_there e small probed same = record {
+      viewed = viewed_then viewed probed.viewed;
+      ends = (
+        λ owed. refl,
+        λ yes tells.
+            let behind = (probed.ends.1 (now_tells tells)).0 in
+            record {
+              block = e.block;
+              place = e.place;
+              p = posting_of e;
+              leads = leads_wider r.bounds.pool r.bounds.edge (omega arith) (omega arith) behind.leads;
+              in_places = behind.place;
+              holds = front_holds behind.in_front;
+              same_tag = same;
+              same_slot = omega (arith, probed.ends.0, is_key, small);
+            },
+      );
+    }
+
+-- the posting of ordinal 0 tells the last one
+pub has_first : (r : Reach) (term : SoughtTerm) (slot : ℕ) (old new : ViewState) (e : Entry) → e.last < 256
+    → Probes r term.list (256 * slot) old new (Ok (Some e)) → HasSoFar r term slot old new 0 (e.last + 1)
+has_first r term slot old new e small probed = record {
+  viewed = probed.viewed;
+  most = omega (arith, small);
+  left = λ o.
+      let t = owed_tags r term old slot o in
+      let one = one_there r term slot old old new (viewed_self old) (256 * slot) 0 (omega arith) e probed o t
+      (omega (arith, t.within)) in
+      (t, omega arith, omega (arith, t.within, one.0), omega (arith, t.within, one.0));
+}
+
+pub first_missing : (r : Reach) (term : SoughtTerm) (slot : ℕ) (old new : ViewState)
+    → Probes r term.list (256 * slot) old new (Ok None) → HasSlot r term slot old new (Ok false)
+first_missing r term slot old new probed =
+    none_there r term slot old old new (viewed_self old) (256 * slot) 0 (omega arith)
+    (λ o. let t = owed_tags r term old slot o in (t, omega (arith, t.within))) probed
+
+module _ (r : Reach) (term : SoughtTerm) (slot : ℕ) (old mid new : ViewState) (low high middle : ℕ)
+    (so_far : HasSoFar r term slot old mid low high) (from : low ≤ middle) (to : middle < high) where
+  pub middle_missing : Probes r term.list (256 * slot + middle) mid new (Ok None)
+      → HasSlot r term slot old new (Ok false)
+  middle_missing probed = none_there r term slot old mid new so_far.viewed (256 * slot + middle) middle refl
+      (λ o. let t = so_far.left o in (t.0, omega (arith, t.3, to))) probed
+
+  pub middle_found : (e : Entry) → Probes r term.list (256 * slot + middle) mid new (Ok (Some e)) → e.tag ≡ term.tag
+      → HasSlot r term slot old new (Ok true)
+  middle_found e probed same = found_there r term slot old mid new so_far.viewed (256 * slot + middle) middle refl e
+      (omega (arith, to, so_far.most)) probed same
+
+  module _ (e : Entry) (probed : Probes r term.list (256 * slot + middle) mid new (Ok (Some e)))
+      (differ : e.tag ≢ term.tag) where
+    -- the term's ordinal is not this one
+    not_here : (tags : List (List ℕ)) (i : ℕ) → slice_get tags i ≡ Some term.tag → slice_get tags middle ≡ Some e.tag
+        → i ≡ middle → ⊥
+    not_here tags i there here same =
+        differ (some_one e.tag term.tag (sym here ∙ ap (λ n. slice_get tags n) (sym same) ∙ there))
+
+    -- a smaller tag: the term's is behind it
+    pub go_up : big_number 6 e.tag < big_number 6 term.tag → HasSoFar r term slot old new (middle + 1) high
+    go_up less = record {
+      viewed = viewed_then so_far.viewed probed.viewed;
+      most = so_far.most;
+      left = λ o.
+          let t = so_far.left o in
+          let one = one_there r term slot old mid new so_far.viewed (256 * slot + middle) middle refl e probed o t.0
+          (omega (arith, t.3, to)) in (
+            t.0,
+            ⊎_elim
+                (λ (below : t.0.i < middle).
+                let h : big_number 6 term.tag < big_number 6 e.tag = t.0.are.rise t.0.i middle term.tag e.tag below
+                t.0.there one.1 in
+                absurd (omega (arith, h, less)))
+                (λ (le : middle ≤ t.0.i). ⊎_elim
+                (λ (same : t.0.i ≡ middle). absurd (not_here t.0.tags t.0.i t.0.there one.1 same))
+                (λ other. omega (arith, le, other))
+                (cases_eq t.0.i middle))
+                (cases_lt t.0.i middle),
+            t.2,
+            t.3,
+          );
+    }
+
+    -- a greater tag: the term's is before it
+    pub go_down : big_number 6 term.tag ≤ big_number 6 e.tag → HasSoFar r term slot old new low middle
+    go_down less = record {
+      viewed = viewed_then so_far.viewed probed.viewed;
+      most = omega (arith, so_far.most, to);
+      left = λ o.
+          let t = so_far.left o in
+          let one = one_there r term slot old mid new so_far.viewed (256 * slot + middle) middle refl e probed o t.0
+          (omega (arith, t.3, to)) in (
+            t.0,
+            t.1,
+            ⊎_elim
+                (λ (below : t.0.i < middle). below)
+                (λ (le : middle ≤ t.0.i). ⊎_elim
+                (λ (same : t.0.i ≡ middle). absurd (not_here t.0.tags t.0.i t.0.there one.1 same))
+                (λ other.
+                let h : big_number 6 e.tag < big_number 6 term.tag = t.0.are.rise middle t.0.i e.tag term.tag
+                (omega (arith, le, other)) one.1 t.0.there in
+                absurd (omega (arith, h, less)))
+                (cases_eq t.0.i middle))
+                (cases_lt t.0.i middle),
+            omega (arith, t.3, to),
+          );
+    }
+
+-- no ordinal is left
+pub none_left : (r : Reach) (term : SoughtTerm) (slot : ℕ) (old new : ViewState) (low high : ℕ)
+    → HasSoFar r term slot old new low high → high ≤ low → HasSlot r term slot old new (Ok false)
+none_left r term slot old new low high so_far past = record {
+  viewed = so_far.viewed;
+  ends = (
+    λ o. let t = so_far.left o in absurd (omega (arith, t.1, t.2, past)),
+    λ f. absurd (false_never f),
+  );
+}

@@ -1,0 +1,71 @@
+-- What the searches say, of the lists as the join sees them.
+use Rattle.std.proofs.Common.{◌≡◌, ℕ, Bool, List, Option, Some, None, Result, Ok, Err, ◌∷◌, map, ap, refl, sym, subst, ◌∙◌}
+use Rattle.std.specs.Prelude.{slice_get}
+use Rattle.cell_types.specs.declared.refusal.Fault.{Fault}
+use Rattle.cell_types.specs.declared.refusal.Fault.TheVariants.{Tampered, ReadFault}
+use Rattle.worm_device.specs.Views.{ViewState, Viewed}
+use Rattle.zigzag_join.specs.Lists.{FaultEnds, HasEnds, Keeps, NextEnds}
+use Rattle.jump_index.proofs.Telling.{told_before}
+use Rattle.posting_list.specs.Naming.{FaultSays}
+use Rattle.posting_list.specs.Owing.{IsOwed, Owes}
+use Rattle.posting_list.specs.Searches.{HasSlot, NextSlot}
+use Rattle.posting_list.specs.States.{lists_over, row_of, term_row}
+use Rattle.posting_list.specs.Terms.{TermEnds}
+use Rattle.posting_list.specs.declared.reach.Reach.{Reach}
+use Rattle.posting_list.specs.declared.sought_term.SoughtTerm.{SoughtTerm}
+use Rattle.posting_list.proofs.Owed.{owed_on, vouched_on}
+
+one_term : (terms : List SoughtTerm) (which : ℕ) (a b : SoughtTerm) → slice_get terms which ≡ Some a
+    → slice_get terms which ≡ Some b → a ≡ b
+one_term terms which a b h k = some_term a b (sym h ∙ k) where
+  some_term : (a b : SoughtTerm) → Some a ≡ Some b → a ≡ b
+  some_term a b e = cc
+
+-- where the volume can't stand here, or has no such list, there is nothing to pass
+pub none_owed : (r : Reach) (terms : List SoughtTerm) (which : ℕ) (s : ViewState) → TermEnds r terms which s None
+    → (slot : ℕ) → Owes r terms s which slot → ⊥
+none_owed r terms which s never slot o =
+    never o.term (record { size = o.owed.volume.size; there = o.there; list = o.owed.list })
+
+module _ (r : Reach) (terms : List SoughtTerm) (loan : ℕ) (s t : ViewState) where
+  -- what every row of reads keeps
+  pub keeps_all : Viewed s t → Keeps (lists_over r terms loan s) (lists_over r terms loan t)
+  keeps_all viewed = record {
+    lists = refl;
+    made_of = ap (λ (loans : List ℕ). (loan ∷ loans) ∷ row_of r ∷ map term_row terms) viewed.loans;
+    viewed = viewed;
+    owing = λ which slot o.
+        record { term = o.term; there = o.there; owed = owed_on r o.term slot s t viewed o.owed };
+    vouching = λ which slot v tells.
+        let h = v (told_before viewed tells) in
+        (h.0, h.1, vouched_on r h.0 slot s.image t.image viewed.image h.2);
+    naming = λ e may tells.
+        let h = may (told_before viewed tells) in
+        record { stands = viewed.image.keeps e.cell e.found h.stands; place = h.place };
+  }
+
+  fault_ends : (fault : Fault) → FaultSays r s t fault
+      → FaultEnds (lists_over r terms loan s) (lists_over r terms loan t) fault
+  fault_ends ReadFault says = says
+  fault_ends (Tampered e) says = says
+
+  module _ (which : ℕ) (term : SoughtTerm) (there : slice_get terms which ≡ Some term) where
+    -- the term of this number is the one that was asked for
+    owed_here : (slot : ℕ) → Owes r terms s which slot → IsOwed r term s slot
+    owed_here slot o =
+        subst (λ (x : SoughtTerm). IsOwed r x s slot) (one_term terms which o.term term o.there there) o.owed
+
+    pub next_ends : (from : ℕ) (result : Result (Option ℕ) Fault) → NextSlot r term from s t result
+        → NextEnds which from (lists_over r terms loan s) (lists_over r terms loan t) result
+    next_ends from (Ok (Some n)) next =
+        (next.ends.0, next.ends.1, λ slot o past. next.ends.4 slot (owed_here slot o) past)
+    next_ends from (Ok None) next = λ slot o past. next.ends slot (owed_here slot o) past
+    next_ends from (Err fault) next = fault_ends fault next.ends
+
+    pub has_ends : (slot : ℕ) (result : Result Bool Fault) → HasSlot r term slot s t result
+        → HasEnds which slot (lists_over r terms loan s) (lists_over r terms loan t) result
+    has_ends slot (Ok is) has = (
+      λ o. has.ends.0 (owed_here slot o),
+      λ yes tells. (term, there, has.ends.1 yes (told_before has.viewed tells)),
+    )
+    has_ends slot (Err fault) has = fault_ends fault has.ends

@@ -1,0 +1,69 @@
+-- Where a search for the next slot lands.
+use Rattle.std.proofs.Common.{◌<◌, ◌*◌, ◌/◌, ◌^◌, ℕ, false, true, Some, None, Ok, Err, arith}
+use Rattle.cell_types.specs.declared.refusal.Fault.{Fault}
+use Rattle.worm_device.specs.Views.{ViewState, Viewed}
+use Rattle.worm_device.proofs.Resting.{viewed_then}
+use Rattle.jump_block.specs.declared.held_entry.Entry.{Entry}
+use Rattle.jump_block.specs.declared.kept_fronts.KeptFronts.{KeptFronts}
+use Rattle.jump_index.specs.Searches.{FindsGeq}
+use Rattle.jump_index.proofs.Telling.{kept_then, told, told_before}
+use Rattle.posting_list.specs.Keeping.{KeepsFronts}
+use Rattle.posting_list.specs.Searches.{IsFalsePosting, LooksLive, NextSlot, head_of, within}
+use Rattle.posting_list.specs.declared.reach.Reach.{Reach}
+use Rattle.posting_list.specs.declared.sought_term.SoughtTerm.{SoughtTerm}
+use Rattle.posting_list.proofs.Evidence.{false_posting, find_fault, says_later}
+use Rattle.posting_list.proofs.Owed.{owed_trail}
+
+-- what is kept of fronts stays known
+pub keeps_on : (fronts : KeptFronts) (s t : ViewState) → Viewed s t → KeepsFronts s fronts → KeepsFronts t fronts
+keeps_on fronts s t viewed kept = λ tells. kept_then viewed kept (told_before viewed tells)
+
+module _ (r : Reach) (term : SoughtTerm) (from : ℕ) (old mid new : ViewState)
+    (less : term.list < r.volume.geometry.lists) where
+  pub next_fault : (fault : Fault) → FindsGeq (within r) (head_of r term.list) (256 * from) old new (Err fault)
+      → NextSlot r term from old new (Err fault)
+  next_fault fault found = record {
+    viewed = found.viewed;
+    ends = find_fault r term.list (256 * from) old new fault less found;
+  }
+
+  pub next_none : FindsGeq (within r) (head_of r term.list) (256 * from) old new (Ok None)
+      → NextSlot r term from old new (Ok None)
+  next_none found = record {
+    viewed = found.viewed;
+    ends = λ slot owed past.
+        let t = owed_trail r term old slot owed in
+        found.ends owed.tells t.at t.p t.trail (omega (arith, t.from, past));
+  }
+
+  module _ (e : Entry) (found : FindsGeq (within r) (head_of r term.list) (256 * from) old mid (Ok (Some e))) where
+    pub next_some : e.key < 2 ^ 32 → LooksLive r (e.key / 256) mid new (Ok true)
+        → NextSlot r term from old new (Ok (Some (e.key / 256)))
+    next_some fits live = record {
+      viewed = viewed_then found.viewed live.viewed;
+      ends = (
+        omega (arith, found.ends.0),
+        omega (arith, fits),
+        live.ends.0,
+        λ tells. live.ends.2 (told found.viewed tells),
+        λ slot owed past.
+            let t = owed_trail r term old slot owed in
+            let first = ((found.ends.2 owed.tells).1 t.at t.p t.trail (omega (arith, t.from, past))).0 in
+            omega (arith, first, t.below),
+      );
+    }
+
+    pub next_false : (fault : Fault) → LooksLive r (e.key / 256) mid new (Ok false) → IsFalsePosting e fault
+        → NextSlot r term from old new (Err fault)
+    next_false fault dead names = record {
+      viewed = viewed_then found.viewed dead.viewed;
+      ends = false_posting r term.list e old mid new fault less found.viewed (λ tells. (found.ends.2 tells).0) dead
+          names;
+    }
+
+    pub next_live_fault : (fault : Fault) → LooksLive r (e.key / 256) mid new (Err fault)
+        → NextSlot r term from old new (Err fault)
+    next_live_fault fault live = record {
+      viewed = viewed_then found.viewed live.viewed;
+      ends = says_later r old mid new found.viewed live.viewed fault live.ends;
+    }

@@ -1,0 +1,6 @@
+pub mod Bisecting
+pub mod Evidence
+pub mod Joining
+pub mod Landing
+pub mod Owed
+pub mod Rows

@@ -1,0 +1,100 @@
+-- The rows that lists of terms are made of tell what is read, and the terms.
+use Rattle.std.proofs.Common.{◌≡◌, ℕ, List, [], ◌∷◌, map, Option, Some, None, Result, Ok, Err, refl, ap, sym, subst, ◌∙◌}
+use Rattle.cell_types.specs.declared.refusal.Fault.{Fault}
+use Rattle.cell_types.specs.declared.refusal.Fault.TheVariants.{Tampered, ReadFault}
+use Rattle.worm_device.specs.Views.{ViewState}
+use Rattle.zigzag_join.specs.Joins.{JoinEnds}
+use Rattle.posting_list.specs.Joins.{TermsJoin}
+use Rattle.posting_list.specs.States.{lists_over, row_of, term_row}
+use Rattle.posting_list.specs.declared.reach.Reach.{Reach}
+use Rattle.posting_list.specs.declared.sought_term.SoughtTerm.{SoughtTerm}
+
+-- what is read, by its row
+reach_of : List ℕ → Option Reach
+reach_of (version ∷ slots ∷ lists ∷ cells ∷ horizon ∷ pool ∷ edge ∷ []) = Some (record {
+  volume = record { version = version; geometry = record { slots = slots; lists = lists; cells = cells } };
+  horizon = horizon;
+  bounds = record { pool = pool; edge = edge };
+})
+reach_of other = None
+
+-- a term, by its row
+terms_of : List (List ℕ) → List SoughtTerm
+terms_of [] = []
+terms_of ([] ∷ rows) = terms_of rows
+terms_of ((list ∷ tag) ∷ rows) = record { list = list; tag = tag } ∷ terms_of rows
+
+reach_back : (r : Reach) → reach_of (row_of r) ≡ Some r
+unfolding reach_of
+reach_back r = refl
+
+terms_back : (terms : List SoughtTerm) → terms_of (map term_row terms) ≡ terms
+unfolding terms_of
+terms_back [] = refl
+terms_back (t ∷ terms) = ap (λ (ts : List SoughtTerm). t ∷ ts) (terms_back terms)
+
+some_reach : (a b : Reach) → Some a ≡ Some b → a ≡ b
+some_reach a b e = cc
+
+-- the first number of the first row
+first : List (List ℕ) → ℕ
+first ((n ∷ row) ∷ rows) = n
+first other = 0
+
+first_of : (n : ℕ) (row : List ℕ) (rows : List (List ℕ)) → first ((n ∷ row) ∷ rows) ≡ n
+unfolding first
+first_of n row rows = refl
+
+-- the second row
+second : List (List ℕ) → List ℕ
+second (a ∷ b ∷ rows) = b
+second other = []
+
+-- those behind it
+behind : List (List ℕ) → List (List ℕ)
+behind (a ∷ b ∷ rows) = rows
+behind other = []
+
+second_of : (a b : List ℕ) (rows : List (List ℕ)) → second (a ∷ b ∷ rows) ≡ b
+unfolding second
+second_of a b rows = refl
+
+behind_of : (a b : List ℕ) (rows : List (List ℕ)) → behind (a ∷ b ∷ rows) ≡ rows
+unfolding behind
+behind_of a b rows = refl
+
+module _ (r q : Reach) (terms others : List SoughtTerm) (loan name : ℕ) (s t : ViewState)
+    (same : (lists_over q others name t).made_of ≡ (lists_over r terms loan s).made_of) where
+  pub same_reach : q ≡ r
+  same_reach = some_reach q r (sym (reach_back q)
+      ∙ ap reach_of (sym (second_of (name ∷ t.loans) (row_of q) (map term_row others)) ∙ ap second same
+      ∙ second_of (loan ∷ s.loans) (row_of r) (map term_row terms)) ∙ reach_back r)
+
+  pub same_terms : others ≡ terms
+  same_terms = sym (terms_back others)
+      ∙ ap terms_of (sym (behind_of (name ∷ t.loans) (row_of q) (map term_row others)) ∙ ap behind same
+      ∙ behind_of (loan ∷ s.loans) (row_of r) (map term_row terms)) ∙ terms_back terms
+
+  -- and the name of the loan
+  pub same_loan : name ≡ loan
+  same_loan = sym (first_of name t.loans (row_of q ∷ map term_row others)) ∙ ap first same
+      ∙ first_of loan s.loans (row_of r ∷ map term_row terms)
+
+-- What a join answers of lists is the same whatever the loan is called. So where the lists are made of the same at the
+-- end, it answers of the terms that it was asked for.
+pub joins_these : (r q : Reach) (terms others : List SoughtTerm) (loan name from : ℕ) (s t : ViewState)
+    (result : Result (Option ℕ) Fault) → (lists_over q others name t).made_of ≡ (lists_over r terms loan s).made_of
+    → JoinEnds from (lists_over r terms loan s) (lists_over q others name t) result → TermsJoin r terms from s t result
+joins_these r q terms others loan name from s t result same ends =
+    unnamed result
+    (subst (λ (k : Reach). JoinEnds from (lists_over r terms loan s) (lists_over k terms name t) result)
+    (same_reach r q terms others loan name s t same)
+    (subst (λ (ts : List SoughtTerm). JoinEnds from (lists_over r terms loan s) (lists_over q ts name t) result)
+    (same_terms r q terms others loan name s t same) ends)) where
+      unnamed : (result : Result (Option ℕ) Fault)
+          → JoinEnds from (lists_over r terms loan s) (lists_over r terms name t) result
+          → TermsJoin r terms from s t result
+      unnamed (Ok (Some n)) ends = record { ends = ends }
+      unnamed (Ok None) ends = record { ends = ends }
+      unnamed (Err ReadFault) ends = record { ends = ends }
+      unnamed (Err (Tampered e)) ends = record { ends = ends }

@@ -1,0 +1,22 @@
+-- What the search for the next slot says, of the lists.
+use Rattle.posting_list.proofs.Joining.{keeps_all, next_ends, none_owed}
+use Rattle.posting_list.proofs.joined.TermListsLists.next.Goals as goal
+
+-- the list can't be asked
+pub returns-in_default-clause-ends : goal.returns-in_default-clause-ends
+returns-in_default-clause-ends g c = λ slot owed past.
+    none_owed c.args.self.now.reach c.args.self.now.sought.now.terms.items c.args.which
+    (g.V.View.seen c.args.self.now.view.now) c.in_default.ensures slot owed
+
+pub returns-clause-kept : goal.returns-clause-kept
+returns-clause-kept g c =
+    keeps_all c.args.self.now.reach c.args.self.now.sought.now.terms.items c.args.self.now.view.ghost_name
+    (g.V.View.seen c.args.self.now.view.now)
+    (g.V.View.seen c.next_slot.new.view) c.next_slot.ensures.next.viewed
+
+pub returns-clause-ends : goal.returns-clause-ends
+returns-clause-ends g c =
+    next_ends c.args.self.now.reach c.args.self.now.sought.now.terms.items c.args.self.now.view.ghost_name
+    (g.V.View.seen c.args.self.now.view.now)
+    (g.V.View.seen c.next_slot.new.view) c.args.which c.in-Some.term c.in-Some.ensures.there c.args.from
+    c.next_slot.result c.next_slot.ensures.next

@@ -1,0 +1,50 @@
+-- Which slots the list of a term must not pass, and for which it vouches.
+use Rattle.std.specs.Prelude.{◌≡◌, ◌<◌, ◌+◌, ◌/◌, ℕ, List, Some, IsTrue, slice_get}
+use Rattle.cell_types.specs.Image.{Image}
+use Rattle.cell_types.specs.Layout.{list_at}
+use Rattle.stored_documents.specs.Documents.{Stands}
+use Rattle.stored_documents.specs.Volumes.{Holds, IsVolume}
+use Rattle.index_paths.specs.Blocks.{PostingFields, posting_record, Leads, Trail}
+use Rattle.index_paths.specs.Postings.{HasPostings, HasTag, IsPostingOf}
+use Rattle.worm_device.specs.Views.{ViewState}
+use Rattle.posting_list.specs.declared.reach.Reach.{Reach}
+use Rattle.posting_list.specs.declared.sought_term.SoughtTerm.{SoughtTerm}
+
+-- The term's list must not pass the slot: its document stands and has the term's tag, its postings exist, and those in
+-- the term's list all have trails from the list's first block. Where a view does not tell its image nothing is known
+-- to stand.
+pub record IsOwed (r : Reach) (term : SoughtTerm) (s : ViewState) (slot : ℕ) : Type 0 where
+  pub tells : IsTrue s.base.tells
+  pub volume : IsVolume s.cells s.image r.volume.geometry
+  pub list : term.list < r.volume.geometry.lists
+  pub id : List ℕ
+  pub body : List ℕ
+  pub stands : Stands s.cells s.image slot id body
+  pub postings : HasPostings r.volume.geometry.lists body
+  pub tagged : HasTag r.volume.geometry.lists body term.list term.tag
+  pub trails : (p : PostingFields) → IsPostingOf r.volume.geometry.lists body slot term.list p
+      → (at : ℕ) × Trail s.image r.bounds.pool s.cells at p (list_at r.volume.geometry term.list)
+
+-- The term's list vouches for the slot: a posting with the term's tag and a key of the slot stands in a block of the
+-- list, which lies within the bounds or is the first.
+pub record IsVouched (r : Reach) (term : SoughtTerm) (image : Image) (slot : ℕ) : Type 0 where
+  pub block : ℕ
+  pub place : ℕ
+  pub p : PostingFields
+  pub leads : Leads image r.bounds.pool r.bounds.edge block (list_at r.volume.geometry term.list)
+  pub in_places : place < 128
+  pub holds : Holds image (block + place) (posting_record p)
+  pub same_tag : p.tag ≡ term.tag
+  pub same_slot : p.key / 256 ≡ slot
+
+-- the term of this number must not be passed at the slot
+pub record Owes (r : Reach) (terms : List SoughtTerm) (s : ViewState) (which slot : ℕ) : Type 0 where
+  pub term : SoughtTerm
+  pub there : slice_get terms which ≡ Some term
+  pub owed : IsOwed r term s slot
+
+-- where the view tells its image, the list of the term of this number vouches for the slot
+abbrev pub Vouches : Reach → List SoughtTerm → ViewState → ℕ → ℕ → Type 0
+Vouches r terms s which slot =
+    IsTrue s.base.tells
+    → (term : SoughtTerm) × (slice_get terms which ≡ Some term) × IsVouched r term s.image slot

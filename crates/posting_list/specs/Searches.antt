@@ -1,0 +1,99 @@
+-- What the searches of a term's list answer.
+use Rattle.std.specs.Prelude.{◌≡◌, ◌<◌, ◌≤◌, min, ℕ, Bool, true, false, Option, Some, None, Result, Ok, Err, IsTrue}
+use Rattle.cell_types.specs.Layout.{list_at}
+use Rattle.cell_types.specs.Records.{record_bytes}
+use Rattle.cell_types.specs.declared.geometry.TheConstants.{MAX_SLOTS}
+use Rattle.cell_types.specs.declared.refusal.Fault.{Fault}
+use Rattle.cell_types.specs.declared.refusal.Fault.TheVariants.{Tampered, ReadFault}
+use Rattle.stored_documents.specs.Slots.{IsDoneSlot, IsHorizon, IsLive}
+use Rattle.index_paths.specs.Blocks.{PostingFields, posting_record}
+use Rattle.tamper_rules.specs.declared.numbers.TheConstants.{FAKE_POSTING}
+use Rattle.worm_device.specs.Counts.{IsStill}
+use Rattle.worm_device.specs.Views.{ViewState, Viewed}
+use Rattle.commit_record.specs.declared.slot.SlotState.{SlotState}
+use Rattle.commit_record.specs.declared.slot.SlotState.TheVariants.{Unused, Reserved, Abandoned, Committed, Done}
+use Rattle.jump_block.specs.Entries.{cell_of, posting_of}
+use Rattle.jump_block.specs.declared.held_entry.Entry.{Entry}
+use Rattle.jump_index.specs.Searches.{HasTrail, IsEntryBehind}
+use Rattle.jump_index.specs.declared.bounds.Bounds.{Bounds}
+use Rattle.posting_list.specs.Naming.{FaultSays}
+use Rattle.posting_list.specs.Owing.{IsOwed, IsVouched}
+use Rattle.posting_list.specs.declared.reach.Reach.{Reach}
+use Rattle.posting_list.specs.declared.sought_term.SoughtTerm.{SoughtTerm}
+
+-- the bounds, as far as the volume's cells go
+abbrev pub within : Reach → Bounds
+within r = record { pool = r.bounds.pool; edge = min r.bounds.edge r.volume.geometry.cells }
+
+-- where the list's first block begins
+abbrev pub head_of : Reach → ℕ → ℕ
+head_of r list = list_at r.volume.geometry list
+
+-- the state is that of a slot that is done
+abbrev pub says_done : SlotState → Bool
+says_done Unused = false
+says_done (Reserved start length) = false
+says_done (Abandoned start length) = false
+says_done (Committed start length bytes journal) = false
+says_done (Done start length bytes journal) = true
+
+-- Whether a slot is live. It is done where it is said to be; where it is not, it isn't live by this horizon.
+abbrev pub LiveEnds : Reach → ℕ → ViewState → ViewState → Result Bool Fault → Type 0
+LiveEnds r slot old new (Ok true) =
+    (slot < r.horizon) × (slot < r.volume.geometry.slots)
+    × (IsTrue old.base.tells → IsDoneSlot r.volume.geometry new.image slot)
+LiveEnds r slot old new (Ok false) =
+    IsTrue old.base.tells → IsStill old.base.foreign_writes new.base.foreign_writes
+    → IsHorizon r.volume.geometry new.image new.image r.horizon → IsLive r.volume.geometry new.image slot → ⊥
+LiveEnds r slot old new (Err fault) = FaultSays r old new fault
+
+pub record LooksLive (r : Reach) (slot : ℕ) (old new : ViewState) (result : Result Bool Fault) : Type 0 where
+  pub viewed : Viewed old new
+  pub ends : LiveEnds r slot old new result
+
+-- the fault names this posting as a false one
+abbrev pub IsFalsePosting : Entry → Fault → Type 0
+IsFalsePosting entry ReadFault = ⊥
+IsFalsePosting entry (Tampered e) =
+    (e.rule ≡ FAKE_POSTING) × (e.cell ≡ cell_of entry)
+    × (e.found ≡ record_bytes (posting_record (posting_of entry)) (cell_of entry))
+
+-- The next slot of a term's list at or past one. It lies before the horizon and is done.
+abbrev pub NextSlotEnds : Reach → SoughtTerm → ℕ → ViewState → ViewState → Result (Option ℕ) Fault → Type 0
+NextSlotEnds r term from old new (Ok (Some n)) =
+    (from ≤ n) × (n < MAX_SLOTS) × (n < r.horizon)
+    × (IsTrue old.base.tells → IsDoneSlot r.volume.geometry new.image n)
+    × ((slot : ℕ) → IsOwed r term old slot → from ≤ slot → n ≤ slot)
+NextSlotEnds r term from old new (Ok None) = (slot : ℕ) → IsOwed r term old slot → from ≤ slot → ⊥
+NextSlotEnds r term from old new (Err fault) = FaultSays r old new fault
+
+pub record NextSlot (r : Reach) (term : SoughtTerm) (from : ℕ) (old new : ViewState)
+    (result : Result (Option ℕ) Fault) : Type 0 where
+  pub viewed : Viewed old new
+  pub ends : NextSlotEnds r term from old new result
+
+-- The posting of a key, if any: one with this key that has a trail is this one.
+abbrev pub ProbeEnds : Reach → ℕ → ℕ → ViewState → ViewState → Result (Option Entry) Fault → Type 0
+ProbeEnds r list key old new (Ok (Some e)) =
+    (e.key ≡ key)
+    × (IsTrue old.base.tells → IsEntryBehind (within r) new.image (head_of r list) e
+    × ((at : ℕ) (p : PostingFields) → HasTrail r.bounds old (head_of r list) at p → p.key ≡ key → p ≡ posting_of e))
+ProbeEnds r list key old new (Ok None) =
+    IsTrue old.base.tells → (at : ℕ) (p : PostingFields) → HasTrail r.bounds old (head_of r list) at p → p.key ≡ key → ⊥
+ProbeEnds r list key old new (Err fault) = FaultSays r old new fault
+
+pub record Probes (r : Reach) (list key : ℕ) (old new : ViewState) (result : Result (Option Entry) Fault) : Type 0 where
+  pub viewed : Viewed old new
+  pub ends : ProbeEnds r list key old new result
+
+-- whether a term's list has a slot
+abbrev pub HasSlotEnds : Reach → SoughtTerm → ℕ → ViewState → ViewState → Result Bool Fault → Type 0
+HasSlotEnds r term slot old new (Ok there) =
+    (IsOwed r term old slot → IsTrue there)
+    × (IsTrue there → IsTrue old.base.tells → IsVouched r term new.image slot)
+HasSlotEnds r term slot old new (Err fault) = FaultSays r old new fault
+
+pub record HasSlot (r : Reach) (term : SoughtTerm) (slot : ℕ) (old new : ViewState) (result : Result Bool Fault)
+    : Type 0 where
+  pub viewed : Viewed old new
+  pub ends : HasSlotEnds r term slot old new result

@@ -1,0 +1,31 @@
+-- Lists of terms as the join sees them.
+use Rattle.std.specs.Prelude.{ℕ, List, [], ◌∷◌, length, map}
+use Rattle.worm_device.specs.Views.{ViewState}
+use Rattle.zigzag_join.specs.Lists.{ListsState}
+use Rattle.posting_list.specs.Naming.{MayName, Shows}
+use Rattle.posting_list.specs.Owing.{Owes, Vouches}
+use Rattle.posting_list.specs.declared.reach.Reach.{Reach}
+use Rattle.posting_list.specs.declared.sought_term.SoughtTerm.{SoughtTerm}
+
+-- what is read, as a row of numbers
+abbrev pub row_of : Reach → List ℕ
+row_of r =
+    r.volume.version ∷ r.volume.geometry.slots ∷ r.volume.geometry.lists ∷ r.volume.geometry.cells ∷ r.horizon
+    ∷ r.bounds.pool ∷ r.bounds.edge ∷ []
+
+-- a term as a row of numbers
+abbrev pub term_row : SoughtTerm → List ℕ
+term_row t = t.list ∷ t.tag
+
+-- The lists of these terms over a view that was lent under this name: one a term, in their order. They are made of the
+-- loan, of what is read, and of the terms.
+abbrev pub lists_over : Reach → List SoughtTerm → ℕ → ViewState → ListsState
+lists_over r terms loan s = record {
+  lists = length terms;
+  view = s;
+  made_of = (loan ∷ s.loans) ∷ row_of r ∷ map term_row terms;
+  owes = Owes r terms s;
+  vouches = Vouches r terms s;
+  may_name = MayName r s;
+  shows = Shows r s;
+}

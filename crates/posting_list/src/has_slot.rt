@@ -1,0 +1,96 @@
+//! Whether a term's list has a slot.
+ghost use Rattle.std.specs.Prelude.{◌≡◌, ◌<◌, ◌↔◌, IsTrue};
+ghost use Rattle.byteorder.specs.Endian.{big_number};
+ghost use Rattle.cell_types.specs.declared.geometry.TheConstants.{MAX_SLOTS};
+ghost use Rattle.posting_list.specs.Keeping.{KeepsFronts};
+ghost use Rattle.posting_list.specs.Searches.{HasSlot, Probes};
+
+use crate::next_slot::find;
+use crate::{Reach, SoughtTerm};
+use byteorder::{BigEndian, ByteOrder};
+use cell_types::Fault;
+use jump_block::{Entry, KeptFronts};
+use worm_device::View;
+
+/// A tag as a number: these rise as tags do in byte order.
+fn number_of(tag: &[u8; 6]) -> u64
+    ensures { result ≡ big_number 6 tag.now }
+{
+    BigEndian::read_u48(tag)
+}
+
+/// Whether two tags are the same.
+fn is_same(a: &[u8; 6], b: &[u8; 6]) -> bool
+    ensures { IsTrue result ↔ (a.now ≡ b.now) }
+{
+    a[..] == b[..]
+}
+
+/// The posting of a key, if there is one under this very key.
+fn probe<V: View>(
+    view: &mut V,
+    fronts: &mut KeptFronts,
+    reach: &Reach,
+    list: u16,
+    key: u32,
+) -> Result<Option<Entry>, Fault>
+    requires size { reach.now.volume.geometry.cells ≡ (V.seen view.old).cells }
+    requires list { list < reach.now.volume.geometry.lists }
+    requires kept { KeepsFronts (V.seen view.old) fronts.old }
+    ensures kept { KeepsFronts (V.seen view.new) fronts.new }
+    ensures probes { Probes reach.now list key (V.seen view.old) (V.seen view.new) result }
+{
+    match find(view, fronts, reach, list, key) {
+        Ok(Some(entry)) if entry.key == key => Ok(Some(entry)),
+        Ok(_) => Ok(None),
+        Err(fault) => Err(fault),
+    }
+}
+
+/// Whether a term's list has a slot. The slot's postings there have the ordinals from 0 to the last, and their tags
+/// rise, so that the term's is found by bisection: nine searches at most.
+pub(crate) fn has_slot<V: View>(
+    view: &mut V,
+    fronts: &mut KeptFronts,
+    reach: &Reach,
+    term: &SoughtTerm,
+    slot: u32,
+) -> Result<bool, Fault>
+    requires size { reach.now.volume.geometry.cells ≡ (V.seen view.old).cells }
+    requires list { term.now.list < reach.now.volume.geometry.lists }
+    requires slot { slot < MAX_SLOTS }
+    requires kept { KeepsFronts (V.seen view.old) fronts.old }
+    ensures kept { KeepsFronts (V.seen view.new) fronts.new }
+    ensures has { HasSlot reach.now term.now slot (V.seen view.old) (V.seen view.new) result }
+{
+    let sought = number_of(&term.tag);
+    let first = match probe(view, fronts, reach, term.list, 256 * slot) {
+        Ok(first) => first,
+        Err(fault) => return Err(fault),
+    };
+    let Some(first) = first else {
+        return Ok(false);
+    };
+    // The ordinals from low up to, but not with, high are left.
+    let mut low = 0;
+    let mut high = u32::from(first.last) + 1;
+    while low < high {
+        let middle = low + (high - low) / 2;
+        let found = match probe(view, fronts, reach, term.list, 256 * slot + middle) {
+            Ok(found) => found,
+            Err(fault) => return Err(fault),
+        };
+        let Some(entry) = found else {
+            return Ok(false);
+        };
+        if is_same(&entry.tag, &term.tag) {
+            return Ok(true);
+        }
+        if number_of(&entry.tag) < sought {
+            low = middle + 1;
+        } else {
+            high = middle;
+        }
+    }
+    Ok(false)
+}

@@ -1,0 +1,49 @@
+//! The posting lists of terms, as the join asks them: which slot is next, and has it the term?
+//!
+//! A posting's key is 256 times its slot, and its ordinal among the postings of its document in this list. These rise
+//! with their tags, and each tells the greatest ordinal. On a volume of 8 slots and 2 lists, with the documents
+//! `hello world` in slot 0 and `world` in slot 2, list 0 begins at cell 36:
+//!
+//!     cell 36    key 0      tag 2cf24dba5fb0    `hello` of slot 0, ordinal 0 of 0 to 1
+//!     cell 37    key 1      tag 486ea46224d1    `world` of slot 0, ordinal 1
+//!     cell 38    key 512    tag 486ea46224d1    `world` of slot 2, ordinal 0 of 0 to 0
+//!
+//!     world: next slot from 1    first key at or past 256: 512, which is slot 2
+//!     world: has slot 0          key 0 is there, and tells 0 to 1; of these key 1 has the tag
+//!     hello: has slot 2          key 512 is there, and tells 0 alone; it has another tag: no
+//!
+//! `next` looks at no tag: a list has the postings of many terms. **`has` decides**: it finds the slot's ordinal 0, and
+//! then the tag by bisection.
+//!
+//! **What is not passed**: a slot whose document stands and has the term, where its postings have trails from the
+//! list's first block. Whoever may only write blank cells can't take these away. He may add postings: so one whose slot
+//! is not done, or lies at or past the horizon, is evidence (rule 9), and `has` vouches only for what it has read.
+//!
+//! **Memory** is taken before: `SoughtTerms` holds each term's list and tag. `TermLists` is made of it over a view that
+//! is lent to it, and making it can't fail: a constructor that answers a `Result`, or a view that is held by value,
+//! would lose the device that was lent. For all lists together it keeps fronts of blocks from one search to the next,
+//! and a ghost field says that what the view shows has them.
+//!
+//! Stands on `jump_index` (the search of a list), `term_tags` (tags and lists) and `commit_record` (a slot's state),
+//! and implements `Lists` of `zigzag_join`. Begin with `joined.rt`, then `next_slot.rt` and `has_slot.rt`;
+//! specs/Owing.antt says what must not be passed, and specs/Naming.antt what is evidence.
+#![tactic(auto)]
+
+#[cfg(test)]
+mod callers;
+mod has_slot;
+mod joined;
+mod laws;
+mod next_slot;
+mod reach;
+mod sought_term;
+mod sought_terms;
+mod term_lists;
+#[cfg(test)]
+mod tests;
+
+pub use laws::kept_are_owed;
+pub use reach::Reach;
+pub use sought_term::SoughtTerm;
+pub use sought_terms::SoughtTerms;
+pub use term_lists::TermLists;

@@ -1,0 +1,151 @@
+//! The lists of terms on the small volume of 8 slots and 2 lists on 1,000 cells. Its cells were written by hand.
+use crate::{SoughtTerms, TermLists};
+use cell_types::{Cell, Evidence, Fault, Geometry, MAX_SLOTS, Volume};
+use jump_index::Bounds;
+use std::alloc::Global;
+use std::test::Fail;
+use word_reader::words;
+use worm_device::{Device, Direct};
+use worm_memory::MemoryDevice;
+use zigzag_join::Lists;
+
+/// A cell's number, and the bytes that stand there.
+type Written = (u32, [u8; 16]);
+
+/// Slot 0 reserves cells 580 to 583, states 13 stored bytes and 3 journal cells, and is done.
+const SLOT_0: [Written; 3] = [
+    (4, [2, 0, 0, 2, 0x44, 0, 0, 0, 4, 0, 0, 0, 0, 0, 0, 4]),
+    (5, [3, 0, 0, 0, 13, 0, 0, 0, 3, 0, 0, 0, 0, 0, 0, 5]),
+    (6, [5, 0, 0, 0, 0, 0, 0, 0, 0, 0, 0, 0, 0, 0, 0, 6]),
+];
+
+/// In list 0: `hello` of slot 0, ordinal 0 of 0 to 1.
+const HELLO_0: Written = (
+    36,
+    [
+        6, 0, 0, 0, 0, 1, 0x2c, 0xf2, 0x4d, 0xba, 0x5f, 0xb0, 0, 0, 0, 36,
+    ],
+);
+
+/// And `world`, ordinal 1.
+const WORLD_0: Written = (
+    37,
+    [
+        6, 0, 0, 0, 1, 1, 0x48, 0x6e, 0xa4, 0x62, 0x24, 0xd1, 0, 0, 0, 37,
+    ],
+);
+
+/// `hello` of slot 1, ordinal 0 of 0 to 0.
+const HELLO_1: Written = (
+    38,
+    [
+        6, 0, 0, 1, 0, 0, 0x2c, 0xf2, 0x4d, 0xba, 0x5f, 0xb0, 0, 0, 0, 38,
+    ],
+);
+
+/// A device of 1,000 cells with slot 0 and these cells besides.
+fn device_with(alloc: Global, cells: &[Written]) -> Result<MemoryDevice, Fail> {
+    let mut device = MemoryDevice::new(alloc, 1_000)?;
+    device.reserve(16)?;
+    for (at, bytes) in SLOT_0.iter().chain(cells) {
+        if *at < device.cells() {
+            let value = Cell::from_bytes(*bytes).ok_or("a blank cell")?;
+            let _ = device.foreign(*at, value)?;
+        }
+    }
+    Ok(device)
+}
+
+/// What the lists of some words answer.
+#[derive(Clone, Copy)]
+struct Answers {
+    next: Result<Option<u32>, Fault>,
+    has: Result<bool, Fault>,
+    common: Result<Option<u32>, Fault>,
+}
+
+/// Asks the list of this number for the next slot at or past one, and whether it has that one; and all lists for one
+/// that they have in common. The horizon is 1, and the pool's cells up to 584 are reserved below it.
+fn ask(
+    alloc: Global,
+    device: &mut MemoryDevice,
+    text: &[u8],
+    which: u32,
+    slot: u32,
+) -> Result<Answers, Fail> {
+    let geometry = Geometry::new(8, 2, 1_000).ok_or("no geometry")?;
+    let volume = Volume {
+        version: 1,
+        geometry,
+    };
+    let bounds = Bounds {
+        pool: 580,
+        edge: 584,
+    };
+    let terms = words(alloc, text)?;
+    let sought = SoughtTerms::new(alloc, &volume, &terms)?;
+    let mut view = Direct::new(device);
+    let mut lists = TermLists::new(&mut view, &sought, volume, 1, bounds);
+    if which >= lists.count() || slot >= MAX_SLOTS {
+        return Err("no such list".into());
+    }
+    let next = lists.next(which, slot);
+    if which >= lists.count() {
+        return Err("a list went away".into());
+    }
+    let has = lists.has(which, slot);
+    if lists.count() == 0 {
+        return Err("the lists went away".into());
+    }
+    let common = lists.next_common(slot);
+    Ok(Answers { next, has, common })
+}
+
+#[test]
+fn the_lists_of_two_words_of_one_document(rt: HostRuntime) -> Result<(), Fail> {
+    let alloc = rt.alloc();
+    let mut device = device_with(alloc, &[HELLO_0, WORLD_0])?;
+    for which in 0..2 {
+        let answers = ask(alloc, &mut device, b"hello World", which, 0)?;
+        assert_eq!(rt; answers.next, Ok(Some(0)));
+        assert_eq!(rt; answers.has, Ok(true));
+        assert_eq!(rt; answers.common, Ok(Some(0)));
+        let later = ask(alloc, &mut device, b"hello World", which, 1)?;
+        assert_eq!(rt; later.next, Ok(None));
+        assert_eq!(rt; later.has, Ok(false));
+        assert_eq!(rt; later.common, Ok(None));
+    }
+    Ok(())
+}
+
+#[test]
+fn a_word_that_no_posting_has(rt: HostRuntime) -> Result<(), Fail> {
+    let alloc = rt.alloc();
+    let mut device = device_with(alloc, &[HELLO_0, WORLD_0])?;
+    // `bar` is in list 0 too, and its tag is greater than both. `foo` is in list 1, which is blank.
+    for (text, next) in [(b"bar".as_slice(), Some(0)), (b"foo".as_slice(), None)] {
+        let answers = ask(alloc, &mut device, text, 0, 0)?;
+        assert_eq!(rt; answers.next, Ok(next));
+        assert_eq!(rt; answers.has, Ok(false));
+        assert_eq!(rt; answers.common, Ok(None));
+    }
+    Ok(())
+}
+
+#[test]
+fn a_posting_of_a_slot_at_the_horizon_is_named(rt: HostRuntime) -> Result<(), Fail> {
+    let alloc = rt.alloc();
+    let (cell, bytes) = HELLO_1;
+    let found = Cell::from_bytes(bytes).ok_or("a blank cell")?;
+    let named = Fault::Tampered(Evidence {
+        rule: 9,
+        cell,
+        found,
+    });
+    let mut device = device_with(alloc, &[HELLO_0, WORLD_0, HELLO_1])?;
+    assert_eq!(rt; ask(alloc, &mut device, b"hello", 0, 0)?.next, Ok(Some(0)));
+    let answers = ask(alloc, &mut device, b"hello", 0, 1)?;
+    assert_eq!(rt; answers.next, Err(named));
+    assert_eq!(rt; answers.common, Err(named));
+    Ok(())
+}
