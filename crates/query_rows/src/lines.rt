@@ -7,6 +7,7 @@ use row_volumes::{
 };
 use std::alloc::Global;
 use std::test::Fail;
+use worm_device::Device;
 use worm_memory::{MemoryDevice, Moment};
 
 /// The abandon cell of slot 0.
