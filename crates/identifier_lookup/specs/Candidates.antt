@@ -1,0 +1,54 @@
+-- What comparing the document of a candidate's slot with an identifier answers.
+use Rattle.std.specs.Prelude.{◌≡◌, ◌≤◌, ◌<◌, ◌⊎◌, ℕ, Bool, List, Some, Result, Ok, Err, IsTrue}
+use Rattle.cell_types.specs.Image.{Image}
+use Rattle.cell_types.specs.Layout.{Layout}
+use Rattle.cell_types.specs.Records.{record_bytes}
+use Rattle.cell_types.specs.declared.geometry.TheConstants.{MAX_SLOTS}
+use Rattle.cell_types.specs.declared.record_cell.RecordCell.TheVariants.{Bucket}
+use Rattle.cell_types.specs.declared.refusal.Evidence.{Evidence}
+use Rattle.cell_types.specs.declared.refusal.Fault.{Fault}
+use Rattle.cell_types.specs.declared.refusal.Fault.TheVariants.{Tampered, ReadFault}
+use Rattle.index_paths.specs.HashPaths.{fingerprint_of}
+use Rattle.stored_documents.specs.Slots.{IsDoneSlot}
+use Rattle.stored_documents.specs.Volumes.{Holds}
+use Rattle.tamper_rules.specs.declared.numbers.TheConstants.{FAKE_BUCKET}
+use Rattle.worm_device.specs.Counts.{Rose}
+use Rattle.worm_device.specs.Views.{ViewState, Viewed}
+use Rattle.document_store.specs.Looks.{IsSame, LookFails}
+use Rattle.identifier_lookup.specs.declared.candidates.Named.{Named}
+
+-- the bucket stands, and names the slot with the fingerprint of the digest
+abbrev pub HoldsNamed : Image → Named → Type 0
+HoldsNamed image named = Holds image named.bucket (Bucket named.slot (fingerprint_of named.digest))
+
+-- these are the bucket's bytes, where a bucket can name the slot
+abbrev pub IsNamedCell : Named → List ℕ → Type 0
+IsNamedCell named found =
+    named.slot < MAX_SLOTS → found ≡ record_bytes (Bucket named.slot (fingerprint_of named.digest)) named.bucket
+
+-- The bucket stands and is no true one: the slot that it names is at or past the horizon, or was not done.
+pub record IsFake (g : Layout) (horizon : ℕ) (named : Named) (before after : Image) (e : Evidence) : Type 0 where
+  pub found : after named.bucket ≡ Some e.found
+  pub holds : HoldsNamed after named
+  pub why : (horizon ≤ named.slot) ⊎ (IsDoneSlot g before named.slot → ⊥)
+
+-- the evidence is the bucket
+abbrev pub NamesBucket : Layout → ℕ → Named → ViewState → ViewState → Evidence → Type 0
+NamesBucket g horizon named old new e =
+    (e.rule ≡ FAKE_BUCKET) × (e.cell ≡ named.bucket) × (new.base.faults ≡ old.base.faults)
+    × (IsTrue old.base.tells → IsFake g horizon named old.image new.image e)
+
+-- How comparing the document of the slot that a bucket names may end, and why.
+abbrev pub CompareEnds : Layout → ℕ → Named → List ℕ → ViewState → ViewState → Result Bool Fault → Type 0
+CompareEnds g horizon named id old new (Ok same) =
+    (named.slot < horizon) × (new.base.faults ≡ old.base.faults)
+    × (IsTrue old.base.tells → IsSame g new.image named.slot id same)
+CompareEnds g horizon named id old new (Err ReadFault) = Rose old.base.faults new.base.faults
+CompareEnds g horizon named id old new (Err (Tampered e)) =
+    NamesBucket g horizon named old new e ⊎ LookFails g named.slot old new (Tampered e)
+
+-- what comparing does
+pub record Compares (g : Layout) (horizon : ℕ) (named : Named) (id : List ℕ) (old new : ViewState)
+    (result : Result Bool Fault) : Type 0 where
+  pub viewed : Viewed old new
+  pub ends : CompareEnds g horizon named id old new result

@@ -1,0 +1,64 @@
+//! A bucket that may be that of an identifier.
+ghost use Rattle.std.specs.Prelude.{◌≡◌, ◌≤◌, IsTrue};
+ghost use Rattle.tamper_rules.specs.declared.numbers.TheConstants.{FAKE_BUCKET};
+ghost use Rattle.identifier_lookup.specs.Candidates.{Compares, HoldsNamed, IsNamedCell};
+
+use cell_types::{Evidence, Fault, MAX_SLOTS, RecordCell, Volume, encode};
+use document_store::{same_identifier, slot_part};
+use tamper_rules::FAKE_BUCKET;
+use worm_device::View;
+
+/// A bucket with the fingerprint of this digest, which names a slot.
+#[derive(Clone, Copy)]
+pub struct Named {
+    /// The number of the bucket.
+    pub bucket: u32,
+    pub slot: u32,
+    pub digest: [u8; 32],
+}
+
+/// Whether the slot that a bucket names holds a document with this identifier. The bucket is evidence where the slot
+/// is at or past the horizon, or not done.
+pub fn has_identifier<V: View>(
+    view: &mut V,
+    volume: &Volume,
+    horizon: u32,
+    named: &Named,
+    id: &[u8],
+) -> Result<bool, Fault>
+    requires size { volume.now.geometry.cells ≤ (V.seen view.old).cells }
+    requires horizon { horizon ≤ volume.now.geometry.slots }
+    requires bucket { IsTrue (V.seen view.old).base.tells → HoldsNamed (V.seen view.old).image named.now }
+    ensures { Compares volume.now.geometry horizon named.now id.now (V.seen view.old) (V.seen view.new) result }
+{
+    if named.slot >= horizon {
+        return Err(Fault::Tampered(fake_bucket(named)));
+    }
+    let found = match slot_part(view, volume, named.slot) {
+        Ok(found) => found,
+        Err(fault) => return Err(fault),
+    };
+    let Some(_part) = found else {
+        return Err(Fault::Tampered(fake_bucket(named)));
+    };
+    same_identifier(view, volume, named.slot, id)
+}
+
+/// The bucket, as evidence that it is no true one.
+fn fake_bucket(named: &Named) -> Evidence
+    ensures rule { result.rule ≡ FAKE_BUCKET }
+    ensures cell { result.cell ≡ named.now.bucket }
+    ensures found { IsNamedCell named.now result.found }
+{
+    let digest = &named.digest;
+    let fingerprint = [
+        digest[0], digest[1], digest[2], digest[3], digest[4], digest[5], digest[6],
+    ];
+    // Over a view that tells what it shows the slot is one that a bucket can name.
+    let slot = named.slot.min(MAX_SLOTS - 1);
+    Evidence {
+        rule: FAKE_BUCKET,
+        cell: named.bucket,
+        found: encode(RecordCell::Bucket { slot, fingerprint }, named.bucket),
+    }
+}

@@ -1,0 +1,82 @@
+//! The walk along the path of an identifier.
+ghost use Rattle.std.specs.Prelude.{◌≤◌};
+ghost use Rattle.hash_tree.specs.Levels.{AreBounds};
+ghost use Rattle.identifier_lookup.specs.Walks.{LooksUp, Walks};
+
+use crate::answers::Walk;
+use crate::candidates::{Named, has_identifier};
+use cell_types::{Fault, Volume};
+use hash_tree::{Level, PathStep, next_candidate};
+use sha2::{Digest, Sha256};
+use worm_device::View;
+
+/// The first slot on the path of the identifier's SHA-256 whose document has the identifier, or how the path ends.
+/// Slots below the horizon are taken, and reserve cells up to the edge. Takes no memory.
+///
+/// # Errors
+///
+/// `Tampered` where a slot that a bucket on the path names is at or past the horizon or not done (rule 11, at the
+/// bucket), where its cells are no state (rules 1 to 3) or its document is broken (rule 4), and where a cell of the
+/// path is malformed or leads out of the pool or past the edge (rules 11 and 12); `ReadFault` where a read failed.
+pub fn walk<V: View>(
+    view: &mut V,
+    volume: &Volume,
+    horizon: u32,
+    edge: u32,
+    id: &[u8],
+) -> Result<Walk, Fault>
+    requires size { volume.now.geometry.cells ≤ (V.seen view.old).cells }
+    requires horizon { horizon ≤ volume.now.geometry.slots }
+    requires bounds { AreBounds volume.now.geometry edge }
+    ensures { Walks volume.now.geometry horizon edge id.now (V.seen view.old) (V.seen view.new) result }
+{
+    let digest = Sha256::digest(id);
+    let mut level = Level::start(digest);
+    loop {
+        let step = match next_candidate(view, volume, edge, &mut level) {
+            Ok(step) => step,
+            Err(fault) => return Err(fault),
+        };
+        let named = match step {
+            PathStep::Candidate { slot, bucket } => Named {
+                bucket,
+                slot,
+                digest,
+            },
+            PathStep::End(place) => return Ok(Walk::End(place, level)),
+            PathStep::PathFull => return Ok(Walk::PathFull),
+        };
+        let same = match has_identifier(view, volume, horizon, &named, id) {
+            Ok(same) => same,
+            Err(fault) => return Err(fault),
+        };
+        if same {
+            return Ok(Walk::Found(named.slot));
+        }
+    }
+}
+
+/// The slot whose document has the identifier, `None` where no document that has a hash trail has it. The errors are
+/// those of `walk`.
+pub fn lookup<V: View>(
+    view: &mut V,
+    volume: &Volume,
+    horizon: u32,
+    edge: u32,
+    id: &[u8],
+) -> Result<Option<u32>, Fault>
+    requires size { volume.now.geometry.cells ≤ (V.seen view.old).cells }
+    requires horizon { horizon ≤ volume.now.geometry.slots }
+    requires bounds { AreBounds volume.now.geometry edge }
+    ensures { LooksUp volume.now.geometry horizon edge id.now (V.seen view.old) (V.seen view.new) result }
+{
+    let found = match walk(view, volume, horizon, edge, id) {
+        Ok(found) => found,
+        Err(fault) => return Err(fault),
+    };
+    match found {
+        Walk::Found(slot) => Ok(Some(slot)),
+        Walk::End(_place, _level) => Ok(None),
+        Walk::PathFull => Ok(None),
+    }
+}
