@@ -28,6 +28,8 @@
 mod bounds;
 mod here;
 mod later;
+#[cfg(test)]
+mod long_list;
 mod looked;
 mod search;
 #[cfg(test)]

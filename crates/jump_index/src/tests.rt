@@ -10,7 +10,7 @@ use std::test::Fail;
 use worm_device::{Device, Direct, Failed, View};
 use worm_memory::MemoryDevice;
 
-const TAG: [u8; 6] = [1, 2, 3, 4, 5, 6];
+pub const TAG: [u8; 6] = [1, 2, 3, 4, 5, 6];
 
 /// The first block is at 36, the pool begins at 600, and slots reserve its cells up to 1,200.
 const BOUNDS: Bounds = Bounds {
@@ -59,7 +59,7 @@ fn write_jumps(device: &mut MemoryDevice, from: u32, count: u32, target: u32)
 }
 
 /// The key of an answer.
-fn key_of(found: Result<Option<Entry>, Fault>) -> Result<Option<u32>, Fault> {
+pub fn key_of(found: Result<Option<Entry>, Fault>) -> Result<Option<u32>, Fault> {
     match found {
         Ok(Some(entry)) => Ok(Some(entry.key)),
         Ok(None) => Ok(None),
@@ -142,9 +142,9 @@ fn a_later_pointer_is_tried_where_the_first_is_blank(rt: HostRuntime) -> Result<
 
 /// A view that counts what it is asked for.
 #[derive(Drop)]
-struct Counted<V> {
-    view: V,
-    asked: u32,
+pub struct Counted<V> {
+    pub view: V,
+    pub asked: u32,
 }
 
 impl<V: View> View for Counted<V> {
@@ -162,23 +162,21 @@ impl<V: View> View for Counted<V> {
     }
 }
 
-/// Asks for each entry by the key before plus one, and counts them.
-fn count_entries<V: View>(view: &mut V, head: u32) -> Result<u32, Fault>
+/// Asks for each entry by the key before plus one, and counts them, up to some thousands.
+pub fn count_entries<V: View>(view: &mut V, head: u32, bounds: Bounds) -> Result<u32, Fault>
     requires head { head + 256 ≤ (V.seen view.old).cells }
-    requires edge { 1200 ≤ (V.seen view.old).cells }
+    requires edge { bounds.edge ≤ (V.seen view.old).cells }
 {
     let mut fronts = KeptFronts::new();
-    let mut count = 0_u32;
     let mut key = 0_u32;
-    while key < 1000 {
-        match find_geq_from_kept(view, &mut fronts, head, key, BOUNDS) {
+    for count in 0..5_000 {
+        match find_geq_from_kept(view, &mut fronts, head, key, bounds) {
             Ok(Some(entry)) => key = entry.key.saturating_add(1),
             Ok(None) => return Ok(count),
             Err(fault) => return Err(fault),
         }
-        count = count.saturating_add(1);
     }
-    Ok(count)
+    Ok(5_000)
 }
 
 #[test]
@@ -192,7 +190,7 @@ fn a_scan_makes_four_reads_an_entry(rt: HostRuntime) -> Result<(), Fail> {
         view: Direct::new(&mut device),
         asked: 0,
     };
-    assert_eq!(rt; count_entries(&mut view, 36), Ok(256));
+    assert_eq!(rt; count_entries(&mut view, 36, BOUNDS), Ok(256));
     assert!(rt; view.asked <= 4 * 256, "{} reads", view.asked);
     Ok(())
 }
