@@ -1,5 +1,5 @@
 -- Where all is as it is to be, a format and a settling are done, and an ingest ends with no refusal but want of memory.
-use Rattle.std.proofs.Common.{◌≡◌, ◌≢◌, ◌≤◌, ◌<◌, ◌+◌, ◌++◌, ℕ, List, length, Option, Some, None, Result, Ok, Err, refl, sym, ap, ◌∙◌, inl, subst, arith, length-append}
+use Rattle.std.proofs.Common.{◌≡◌, ◌≢◌, ◌≤◌, ◌<◌, ◌+◌, ◌++◌, ℕ, List, length, Option, Some, None, Result, Ok, Err, sym, ap, ◌∙◌, inl, subst, arith, length-append}
 use Rattle.std.proofs.lemmas.List.{append-nil}
 use Rattle.std.proofs.lemmas.Option.{none-some}
 use Rattle.cell_types.specs.Layout.{Layout}
@@ -16,7 +16,7 @@ use Rattle.recovery_engine.specs.declared.settling.Ready.{Ready}
 use Rattle.slot_walk.specs.Laws.{DocumentsWereStored}
 use Rattle.slot_walk.specs.Walks.{HasWalked}
 use Rattle.plan_writer.proofs.PutFrom.{ends_0, free_0}
-use Rattle.ingest_engine.specs.Ingesting.{HasNoRoom, HasNoSlot, IngestEnds, IsIngestRule, IsTaken}
+use Rattle.ingest_engine.specs.Ingesting.{HasNoRoom, HasNoSlot, IngestEnds, IsTaken}
 use Rattle.ingest_engine.proofs.CrashedIngests.{ready_layout, settled_unused}
 use Rattle.record_top.specs.Formatting.{DoesFormat, IsReadyToFormat}
 use Rattle.record_top.specs.Ingesting.{DoesIngest, IsReadyToIngest, acknowledgement, misnamed, untaken, taken}

@@ -1,5 +1,5 @@
 -- Bytes that move piece by piece out of a source.
-use Rattle.std.proofs.Common.{◌≡◌, ℕ, List, [], ◌++◌, Option, Some, None, refl, sym, ap, ◌∙◌, append_assoc}
+use Rattle.std.proofs.Common.{ℕ, List, [], ◌++◌, Option, Some, None, refl, sym, ap, ◌∙◌, append_assoc}
 use Rattle.host_ports.specs.Sources.{Gives}
 
 -- a source that gives one piece and then another gives both

@@ -1,5 +1,5 @@
 -- The terms of the first words of a query, as they are read one after another.
-use Rattle.std.proofs.Common.{◌≡◌, ◌+◌, ◌-◌, ◌<◌, ◌≤◌, ◌⊎◌, ℕ, List, [], ◌∷◌, ◌++◌, String, Some, length, map, refl, sym, ap, ◌∙◌, subst, inl, inr, arith}
+use Rattle.std.proofs.Common.{◌≡◌, ◌+◌, ◌<◌, ◌≤◌, ◌⊎◌, ℕ, List, [], ◌∷◌, ◌++◌, String, Some, length, map, refl, sym, ap, ◌∙◌, subst, inl, inr, arith}
 use Rattle.std.proofs.lemmas.Bool.{cases_lt}
 use Rattle.std.proofs.lemmas.List.Elements.{Contains-append_left, Contains-push, Contains-push_cases}
 use Rattle.std.proofs.lemmas.Option.{get_or_from_slice_get, slice_get-map, slice_get_read, slice_get_within}
@@ -7,7 +7,7 @@ use Rattle.std.specs.Global.{Global}
 use Rattle.std.specs.Option.{option_map}
 use Rattle.std.specs.Prelude.{Contains, get_or, slice_get}
 use Rattle.std.specs.String.{string_bytes}
-use Rattle.record_top.specs.Finding.{AreTermsOf, HasOneTerm, IsFirstBadWord, IsOneTerm}
+use Rattle.record_top.specs.Finding.{AreTermsOf, IsFirstBadWord, IsOneTerm}
 
 -- the terms are those of the first n words
 pub record TermsSoFar (asked terms : List (List ℕ)) (n : ℕ) : Type 0 where

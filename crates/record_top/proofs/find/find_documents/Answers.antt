@@ -1,11 +1,11 @@
 -- Each exit, by how far the command came.
-use Rattle.std.proofs.Common.{◌≡◌, ℕ, List, Ok, Err, map, refl, sym, ap, ◌∙◌, subst}
+use Rattle.std.proofs.Common.{ℕ, List, Ok, Err, map, refl, ap, ◌∙◌, subst}
 use Rattle.std.specs.String.{string_bytes}
 use Rattle.cell_types.specs.declared.refusal.Refusal.TheVariants.{NoMemory, SinkFault}
 use Rattle.cell_types.proofs.Passed.{handed}
 use Rattle.host_ports.specs.Sinks.{Gets, PutsPart}
 use Rattle.record_query.specs.Finding.{Searches}
-use Rattle.record_top.specs.Finding.{DoesFind, find_text, searched}
+use Rattle.record_top.specs.Finding.{find_text, searched}
 use Rattle.record_top.specs.Ports.{ports_of}
 use Rattle.record_top.proofs.Finds.{not_searched}
 use Rattle.record_top.proofs.find.find_documents.Goals as goal
