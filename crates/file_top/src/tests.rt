@@ -21,10 +21,13 @@ const DOCUMENT: [(usize, [u8; 16]); 4] = [
     (6, [5, 0, 0, 0, 0, 0, 0, 0, 0, 0, 0, 0, 0, 0, 0, 6]),
 ];
 
-/// The cells of the same document in slot 1, behind the cell of slot 0.
+/// The content cell of the document `b` with the same body.
+const NEXT_CONTENT: [u8; 16] = *b"\x1d\x01bhello world\0\0";
+
+/// The cells of that document in slot 1, behind the cell of slot 0.
 const NEXT_DOCUMENT: [(usize, [u8; 16]); 4] = [
     (8, [2, 0, 0, 2, 0x45, 0, 0, 0, 1, 0, 0, 0, 0, 0, 0, 8]),
-    (581, *b"\x1d\x01ahello world\0\0"),
+    (581, NEXT_CONTENT),
     (9, [3, 0, 0, 0, 13, 0, 0, 0, 0, 0, 0, 0, 0, 0, 0, 9]),
     (10, [5, 0, 0, 0, 1, 0, 0, 0, 0, 0, 0, 0, 0, 0, 0, 10]),
 ];
@@ -223,9 +226,9 @@ fn evidence_of(at: u32, left: [u8; 16]) -> Option<Evidence> {
 fn left_by_the_next(alloc: Global, cells: &[(usize, [u8; 16])]) -> Result<(Vec<u8>, u32), Fail> {
     let mut all = Vec::new(alloc);
     all.extend_from_slice(cells)?;
-    let [reserve, content, commit, done] = DOCUMENT;
+    let [reserve, (content, _), commit, done] = DOCUMENT;
     if written_at(cells, 4) == [0; 16] {
-        all.extend_from_slice(&[reserve, content, commit, done])?;
+        all.extend_from_slice(&[reserve, (content, NEXT_CONTENT), commit, done])?;
         return Ok((with_cells(alloc, &all)?, 0));
     }
     if written_at(cells, 5) == [0; 16] {
@@ -237,8 +240,8 @@ fn left_by_the_next(alloc: Global, cells: &[(usize, [u8; 16])]) -> Result<(Vec<u
     Ok((with_cells(alloc, &all)?, 1))
 }
 
-/// One call fails, and then the same document is ingested again. Answers whether both end as they have to, and leave
-/// what they have to.
+/// One call fails, and then another document is ingested. Answers whether both end as they have to, and leave what they
+/// have to.
 fn fails_and_goes_on(alloc: Global, fails: u32, leaving: Leaving) -> Result<bool, Fail> {
     let body = b"hello world";
     let volume = with_cells(alloc, &[(0, VOLUME)])?;
@@ -250,13 +253,13 @@ fn fails_and_goes_on(alloc: Global, fails: u32, leaving: Leaving) -> Result<bool
         return Ok(false);
     }
     if let Some(evidence) = torn {
-        let again = carry_out(alloc, "ingest|a", body, &mut device, b"")?;
+        let again = carry_out(alloc, "ingest|b", body, &mut device, b"")?;
         let want = (Err(Refusal::Tampered(evidence)), true);
         return Ok(again == want && device.file().bytes() == left.as_slice());
     }
     let (bytes, slot) = left_by_the_next(alloc, &cells)?;
     let text = format!(in alloc; "acknowledged {slot}\n")?;
-    let again = carry_out(alloc, "ingest|a", body, &mut device, text.as_bytes())?;
+    let again = carry_out(alloc, "ingest|b", body, &mut device, text.as_bytes())?;
     Ok(again == (Ok(()), true) && device.file().bytes() == bytes.as_slice())
 }
 
