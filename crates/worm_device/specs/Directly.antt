@@ -1,6 +1,6 @@
 -- Why a device as a view of it shows it is a view. It stands here and not among the proofs, since the law of `Direct`
 -- cites it.
-use Rattle.std.specs.Prelude.{◌≡◌, ◌≤◌, ℕ, List, Option, Some, None}
+use Rattle.std.specs.Prelude.{◌≡◌, ℕ, List, Option, Some, None}
 use Rattle.std.proofs.Common.{arith, refl}
 use Rattle.std.proofs.lemmas.Option.{none-some}
 use Rattle.worm_device.specs.State.{DeviceState, IsDevice}
@@ -16,6 +16,8 @@ device_is_view device loan is = record {
   cells = omega (arith, is.cells);
   inside = is.inside;
   planned = record { keeps = λ cell value h. absurd (none-some value h) };
+  unowned = λ cell free. refl;
+  unplanned = λ cell free. refl;
   below = λ cell free before. refl;
   beyond = λ cell free past. blank_there (device.image cell) (λ value h. omega (arith, (is.inside cell value h).0));
 }

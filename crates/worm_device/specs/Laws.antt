@@ -1,9 +1,9 @@
 -- Laws of the words that contracts on devices and views use.
 use Rattle.std.specs.Prelude.{◌↔◌}
-use Rattle.cell_types.specs.Image.{Image, Between}
+use Rattle.cell_types.specs.Image.{Image, Between, Extends}
 use Rattle.worm_device.specs.State.{DeviceState, LeftSince}
 use Rattle.worm_device.specs.Calls.{Called, Elapses, LeavesAll}
-use Rattle.worm_device.specs.Views.{ViewState, Viewed, Rests}
+use Rattle.worm_device.specs.Views.{ViewState, IsView, Viewed, Rests}
 
 -- Called holds of no call, and of one row of calls after another
 abbrev pub CallsCompose : Type 0
@@ -37,3 +37,8 @@ ViewsRest = (a b : ViewState) → Viewed a b → Rests a b
 -- what could have been left since the present moment lies between the sure image and the image
 abbrev pub ACrashNow : Type 0
 ACrashNow = (s : DeviceState) (image : Image) → LeftSince s s.moment image ↔ Between s.sure s.image image
+
+-- an image that has all that stands below what is planned, and each planned cell, has all that the view shows
+abbrev pub PlannedCellsShow : Type 0
+PlannedCellsShow =
+    (s : ViewState) (image : Image) → IsView s → Extends s.lower image → Extends s.planned image → Extends s.image image

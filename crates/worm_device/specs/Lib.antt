@@ -2,5 +2,8 @@ pub mod Calls
 pub mod Counts
 pub mod Directly
 pub mod Laws
+pub mod Overlaying
+pub mod Overlays
+pub mod Owned
 pub mod State
 pub mod Views

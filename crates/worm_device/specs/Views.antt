@@ -45,12 +45,14 @@ seen_directly device loan = record {
 }
 
 -- What holds of every view: its cells have numbers of 32 bits, and what it shows are written cells of its own number.
--- A planned cell is shown; of the others those before `fresh` are shown as they stand below, and those from there on
+-- A planned cell is shown and is for somebody, and no other cell is; of the others those before `fresh` are shown as they stand below, and those from there on
 -- are blank.
 pub record IsView (s : ViewState) : Type 0 where
   pub cells : s.cells < 2 ^ 32
   pub inside : (cell : ℕ) (value : List ℕ) → s.image cell ≡ Some value → (cell < s.cells) × IsCell value
   pub planned : Extends s.planned s.image
+  pub unowned : (cell : ℕ) → s.planned cell ≡ None → s.owners cell ≡ None
+  pub unplanned : (cell : ℕ) → s.owners cell ≡ None → s.planned cell ≡ None
   pub below : (cell : ℕ) → s.planned cell ≡ None → cell < s.fresh → s.image cell ≡ s.lower cell
   pub beyond : (cell : ℕ) → s.planned cell ≡ None → s.fresh ≤ cell → s.image cell ≡ None
 

@@ -1,6 +1,6 @@
 //! Laws: what the words of the contracts mean together, over all states. Each is a function that does
 //! nothing and whose contract is the law.
-ghost use Rattle.worm_device.specs.Laws.{ACrashInACall, ACrashNow, CallsCompose, CallsElapse, CrashesKeepWhatWasSure, ViewsCompose, ViewsRest};
+ghost use Rattle.worm_device.specs.Laws.{ACrashInACall, ACrashNow, CallsCompose, CallsElapse, CrashesKeepWhatWasSure, PlannedCellsShow, ViewsCompose, ViewsRest};
 
 /// Calls one after another keep what each of them keeps, and a row of no calls keeps it too.
 pub fn calls_compose()
@@ -39,4 +39,9 @@ pub fn views_rest()
 /// and can leave each such image.
 pub fn a_crash_now()
     ensures { ACrashNow }
+{}
+
+/// An image that has all that stands below what is planned, and each planned cell, has all that the view shows.
+pub fn planned_cells_show()
+    ensures { PlannedCellsShow }
 {}

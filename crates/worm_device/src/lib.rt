@@ -22,7 +22,12 @@
 //! `IsTrue old.tells`. Counts and causes hold of both.
 //!
 //! A **view** can only be read. It stands over a device, directly (`Direct`) or through a holder, which may show planned
-//! cells of its own over those below. `Viewed` is to views what `Called` is to devices.
+//! cells of its own over those below. `Viewed` is to views what `Called` is to devices. An **overlay** is such a holder:
+//! cells are planned in it one by one, each for somebody, and nothing is written below.
+//!
+//!     below      804 .. 931 written, 962 blank, 1092 free
+//!     plan       1092, a posting, and 962, the pointer to it
+//!     shown      804 .. 931, 962 and 1092; from 1092 on nothing that is not planned
 //!
 //! Begin with `device.rt`; `specs/State.antt` says what a device is, and `specs/Calls.antt` what each call does.
 #![tactic(auto)]
@@ -32,14 +37,18 @@ mod callers;
 mod device;
 mod direct;
 mod laws;
+mod overlay;
 mod owner;
+mod planning;
+mod shown;
 mod view;
 
 pub use device::{Device, Failed, Written};
 pub use direct::Direct;
 pub use laws::{
     a_crash_in_a_call, a_crash_now, calls_compose, calls_elapse, crashes_keep_what_was_sure,
-    views_compose, views_rest,
+    planned_cells_show, views_compose, views_rest,
 };
+pub use overlay::{OVERLAY_CELLS, Overlay};
 pub use owner::Owner;
 pub use view::View;

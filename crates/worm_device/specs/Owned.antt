@@ -1,0 +1,13 @@
+-- What an overlay keeps of its maps.
+use Rattle.std.specs.Prelude.{◌≡◌, ◌<◌, ℕ, List, Some, None}
+use Rattle.std.specs.Ordering.{nat_cmp}
+use Rattle.std.specs.BTreeMap.{BTreeMap, get}
+use Rattle.cell_types.specs.Bytes.{IsCell}
+use Rattle.worm_device.specs.declared.overlay.TheConstants.{OVERLAY_CELLS}
+use Rattle.worm_device.specs.declared.owner.Owner.{Owner}
+
+-- Planned cells are written cells of the overlay, and just these have an owner.
+pub record AreOwned (planned : BTreeMap ℕ (List ℕ)) (owners : BTreeMap ℕ Owner) : Type 0 where
+  pub inside : (cell : ℕ) (value : List ℕ) → get nat_cmp planned cell ≡ Some value → (cell < OVERLAY_CELLS) × IsCell value
+  pub unowned : (cell : ℕ) → get nat_cmp planned cell ≡ None → get nat_cmp owners cell ≡ None
+  pub unplanned : (cell : ℕ) → get nat_cmp owners cell ≡ None → get nat_cmp planned cell ≡ None
