@@ -12,7 +12,7 @@ use tamper_rules::LOST_POINTER;
 use worm_device::View;
 
 /// The evidence that a pointer leads nowhere.
-pub(crate) fn leads_nowhere(block: u32, span: &Span, target: u32) -> Fault
+pub fn leads_nowhere(block: u32, span: &Span, target: u32) -> Fault
     requires level { span.now.level < 8 }
     requires some { 1 ≤ span.now.digit }
     requires digit { span.now.digit ≤ 15 }

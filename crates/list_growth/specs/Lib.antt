@@ -1,0 +1,4 @@
+pub mod Evidence
+pub mod Growing
+pub mod Inserting
+pub mod Readiness
