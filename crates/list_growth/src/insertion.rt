@@ -35,6 +35,5 @@ pub fn insert<V: View>(
     ensures inserts { InsertsPosting head floor pool.old.next pool.new.next (fields_of new_entry)
         (of_overlay V.seen overlay.old) (of_overlay V.seen overlay.new) result }
 {
-    let _ = (overlay, pool, head, floor, new_entry);
     Err(GrowthFault::NoMemory)
 }

@@ -1,0 +1,145 @@
+-- What one insertion leaves of other lists, and for whom what it plans is.
+use Rattle.std.proofs.Common.{◌≡◌, ◌≢◌, ◌<◌, ◌≤◌, ◌+◌, ◌⊎◌, ⊎_elim, inl, inr, ℕ, List, Option, Some, None, refl, ap, sym, subst, arith, ◌∙◌}
+use Rattle.std.proofs.lemmas.Bool.{cases_eq}
+use Rattle.std.proofs.lemmas.Option.{none-some}
+use Rattle.cell_types.specs.Image.{Extends}
+use Rattle.cell_types.specs.Records.{IsRecordCell}
+use Rattle.cell_types.specs.declared.record_cell.RecordCell.TheVariants.{Jump}
+use Rattle.index_paths.specs.Blocks.{PostingFields, posting_record}
+use Rattle.index_paths.specs.Nodes.{AreApart}
+use Rattle.worm_device.specs.Views.{ViewState}
+use Rattle.worm_device.specs.declared.owner.Owner.{Owner}
+use Rattle.list_growth.specs.Inserting.{IsAsPlanned, IsPlannedFor, PlansEntry, alone, with_pointer}
+use Rattle.list_growth.specs.Readiness.{IsReady, IsUntouched}
+
+-- into a list for which nothing is planned each posting may go
+pub ready_untouched : {s : ViewState} {head : ℕ} (floor next key : ℕ) → IsUntouched s head → IsReady s head floor next key
+ready_untouched floor next key u = record {
+  first = record {
+    inside = λ cell owner is from to. absurd (u.first cell owner is from to);
+    apart = λ cell owner is mine. absurd (u.none cell owner is mine);
+  };
+  mine = λ cell owner is mine. absurd (u.none cell owner is mine);
+  named = λ cell owner is mine. absurd (u.none cell owner is mine);
+  reached = λ cell owner is mine. absurd (u.none cell owner is mine);
+  inside = λ cell owner is mine. absurd (u.none cell owner is mine);
+}
+
+-- a planned cell is for whom it was, or is new and lies in a block of this list
+pub data IsOwned (head floor : ℕ) (old : ViewState) (cell : ℕ) (owner : Owner) : Type 0 where
+  as_before : old.owners cell ≡ Some owner → IsOwned head floor old cell owner
+  anew : owner.head ≡ head → owner.base ≤ cell → cell < owner.base + 256 → (owner.base ≡ head) ⊎ (floor ≤ owner.base)
+      → IsOwned head floor old cell owner
+
+-- and so is what is planned there
+pub data IsHeld (p : PostingFields) (old : ViewState) (cell : ℕ) (value : List ℕ) : Type 0 where
+  held_before : old.planned cell ≡ Some value → IsHeld p old cell value
+  held_posting : old.planned cell ≡ None → IsRecordCell (posting_record p) cell value → IsHeld p old cell value
+  held_pointer : (target : ℕ) → old.planned cell ≡ None → IsRecordCell (Jump target) cell value → IsHeld p old cell value
+
+the_owner : (one other : Owner) (found : Option Owner) → found ≡ Some one → found ≡ Some other → one ≡ other
+the_owner one other found is planned = let e : Some one ≡ Some other = sym is ∙ planned in cc
+
+owned_anew : {head floor at : ℕ} {r : Rattle.cell_types.specs.declared.record_cell.RecordCell.RecordCell} {old new : ViewState}
+    → IsPlannedFor head floor r at old new → (cell : ℕ) (owner : Owner) → cell ≡ at → new.owners cell ≡ Some owner
+    → IsOwned head floor old cell owner
+owned_anew {head} {floor} {at} {r} {old} {new} one cell owner same is =
+    let owns : Owner = record { head = head; base = one.block } in
+    let e : owner ≡ owns = the_owner owner owns (new.owners cell) is
+        (subst (λ (n : ℕ). new.owners n ≡ Some owns) (sym same) one.for_whom) in
+    let base : owner.base ≡ one.block = ap (λ (o : Owner). o.base) e in
+    anew (ap (λ (o : Owner). o.head) e) (omega (arith, base, same, one.from)) (omega (arith, base, same, one.to))
+        (⊎_elim (λ first. inl (base ∙ first)) (λ past. inr (omega (arith, past, base))) one.where_blocks_lie)
+
+pub owned_in : {head floor at : ℕ} {p : PostingFields} {old new : ViewState} → PlansEntry head floor p at old new
+    → (cell : ℕ) (owner : Owner) → new.owners cell ≡ Some owner → IsOwned head floor old cell owner
+owned_in {head} {floor} {at} (alone one rest) cell owner is = ⊎_elim
+    (λ same. owned_anew one cell owner same is)
+    (λ differs. as_before (sym (rest cell differs).owners ∙ is))
+    (cases_eq cell at)
+owned_in {head} {floor} {at} (with_pointer pointer target one other apart rest) cell owner is = ⊎_elim
+    (λ same. owned_anew one cell owner same is)
+    (λ differs. ⊎_elim
+    (λ same. owned_anew other cell owner same is)
+    (λ differs_too. as_before (sym (rest cell differs differs_too).owners ∙ is))
+    (cases_eq cell pointer))
+    (cases_eq cell at)
+
+record_there : {head floor at : ℕ} {r : Rattle.cell_types.specs.declared.record_cell.RecordCell.RecordCell} {old new : ViewState}
+    → IsPlannedFor head floor r at old new → (cell : ℕ) (value : List ℕ) → cell ≡ at → new.planned cell ≡ Some value
+    → IsRecordCell r cell value
+record_there {head} {floor} {at} {r} {old} {new} one cell value same is =
+    let there : new.planned at ≡ Some value = subst (λ (n : ℕ). new.planned n ≡ Some value) same is in
+    let e : one.held.cell ≡ value = (let k : Some one.held.cell ≡ Some value = sym one.held.stands ∙ there in cc) in
+    subst (λ (n : ℕ). IsRecordCell r n value) (sym same) (subst (λ (v : List ℕ). IsRecordCell r at v) e one.held.is)
+
+free_there : {head floor at : ℕ} {r : Rattle.cell_types.specs.declared.record_cell.RecordCell.RecordCell} {old new : ViewState}
+    → IsPlannedFor head floor r at old new → (cell : ℕ) → cell ≡ at → old.planned cell ≡ None
+free_there {head} {floor} {at} {r} {old} {new} one cell same = subst (λ (n : ℕ). old.planned n ≡ None) (sym same) one.free
+
+pub held_in : {head floor at : ℕ} {p : PostingFields} {old new : ViewState} → PlansEntry head floor p at old new
+    → (cell : ℕ) (value : List ℕ) → new.planned cell ≡ Some value → IsHeld p old cell value
+held_in {head} {floor} {at} (alone one rest) cell value is = ⊎_elim
+    (λ same. held_posting (free_there one cell same) (record_there one cell value same is))
+    (λ differs. held_before (sym (rest cell differs).planned ∙ is))
+    (cases_eq cell at)
+held_in {head} {floor} {at} (with_pointer pointer target one other apart rest) cell value is = ⊎_elim
+    (λ same. held_posting (free_there one cell same) (record_there one cell value same is))
+    (λ differs. ⊎_elim
+    (λ same. held_pointer target (free_there other cell same) (record_there other cell value same is))
+    (λ differs_too. held_before (sym (rest cell differs differs_too).planned ∙ is))
+    (cases_eq cell pointer))
+    (cases_eq cell at)
+
+-- what was planned is planned still
+pub plans_keep : {head floor at : ℕ} {p : PostingFields} {old new : ViewState} → PlansEntry head floor p at old new
+    → (cell : ℕ) (value : List ℕ) → old.planned cell ≡ Some value
+    → (new.planned cell ≡ Some value) × (new.owners cell ≡ old.owners cell)
+plans_keep {head} {floor} {at} {p} {old} {new} (alone one rest) cell value is = ⊎_elim
+    (λ same. absurd (none-some value (sym (free_there one cell same) ∙ is)))
+    (λ differs. ((rest cell differs).planned ∙ is, (rest cell differs).owners))
+    (cases_eq cell at)
+plans_keep {head} {floor} {at} {p} {old} {new} (with_pointer pointer target one other apart rest) cell value is = ⊎_elim
+    (λ same. absurd (none-some value (sym (free_there one cell same) ∙ is)))
+    (λ differs. ⊎_elim
+    (λ same. absurd (none-some value (sym (free_there other cell same) ∙ is)))
+    (λ differs_too. ((rest cell differs differs_too).planned ∙ is, (rest cell differs differs_too).owners))
+    (cases_eq cell pointer))
+    (cases_eq cell at)
+
+-- a cell that is planned anew read blank
+pub plans_blank : {head floor at : ℕ} {p : PostingFields} {old new : ViewState} → PlansEntry head floor p at old new
+    → Rattle.std.specs.Prelude.IsTrue old.base.tells → (cell : ℕ) (value : List ℕ) → old.planned cell ≡ None → new.planned cell ≡ Some value
+    → old.image cell ≡ None
+plans_blank {head} {floor} {at} {p} {old} {new} (alone one rest) tells cell value free is = ⊎_elim
+    (λ same. subst (λ (n : ℕ). old.image n ≡ None) (sym same) (one.blank tells))
+    (λ differs. absurd (none-some value (sym free ∙ sym (rest cell differs).planned ∙ is)))
+    (cases_eq cell at)
+plans_blank {head} {floor} {at} {p} {old} {new} (with_pointer pointer target one other apart rest) tells cell value free is = ⊎_elim
+    (λ same. subst (λ (n : ℕ). old.image n ≡ None) (sym same) (one.blank tells))
+    (λ differs. ⊎_elim
+    (λ same. subst (λ (n : ℕ). old.image n ≡ None) (sym same) (other.blank tells))
+    (λ differs_too. absurd (none-some value (sym free ∙ sym (rest cell differs differs_too).planned ∙ is)))
+    (cases_eq cell pointer))
+    (cases_eq cell at)
+
+none_for_other : {head floor other : ℕ} {old : ViewState} (cell : ℕ) (owner : Owner) → IsOwned head floor old cell owner
+    → other ≢ head → IsUntouched old other → owner.head ≡ other → ⊥
+none_for_other cell owner (as_before is) differs u mine = u.none cell owner is mine
+none_for_other cell owner (anew head from to place) differs u mine = differs (sym mine ∙ head)
+
+none_in_other : {head floor other : ℕ} {old : ViewState} (cell : ℕ) (owner : Owner) → IsOwned head floor old cell owner
+    → AreApart other 256 head 256 → other + 256 ≤ floor → IsUntouched old other → other ≤ cell → cell < other + 256 → ⊥
+none_in_other cell owner (as_before is) apart before u from to = u.first cell owner is from to
+none_in_other cell owner (anew head low high place) apart before u from to = ⊎_elim
+    (λ first. ⊎_elim (λ x. omega (arith, x, first, low, to)) (λ y. omega (arith, y, first, high, from)) apart)
+    (λ past. omega (arith, past, before, low, to))
+    place
+
+-- another list stays untouched
+pub untouched_other : {head floor other at : ℕ} {p : PostingFields} {old new : ViewState} → PlansEntry head floor p at old new
+    → other ≢ head → AreApart other 256 head 256 → other + 256 ≤ floor → IsUntouched old other → IsUntouched new other
+untouched_other plans differs apart before u = record {
+  none = λ cell owner is mine. none_for_other cell owner (owned_in plans cell owner is) differs u mine;
+  first = λ cell owner is from to. none_in_other cell owner (owned_in plans cell owner is) apart before u from to;
+}

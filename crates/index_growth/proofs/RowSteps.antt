@@ -1,0 +1,218 @@
+-- One posting of the row after another.
+use Rattle.std.proofs.Common.{◌≡◌, ◌≢◌, ◌<◌, ◌≤◌, ◌+◌, ◌*◌, ◌⊎◌, ⊎_elim, inl, inr, ℕ, List, Option, Some, None, Result, Ok, Err, refl, ap, sym, subst, arith, ◌∙◌}
+use Rattle.std.specs.Prelude.{IsTrue, length, slice_get}
+use Rattle.std.proofs.lemmas.Bool.{cases_eq, cases_lt}
+use Rattle.std.proofs.lemmas.Option.{none-some}
+use Rattle.cell_types.specs.Image.{Extends}
+use Rattle.cell_types.specs.Layout.{Layout, list_at, pool_at}
+use Rattle.cell_types.specs.declared.refusal.Fault.TheVariants as faults
+use Rattle.index_paths.specs.Postings.{ComesBefore, ListedPosting}
+use Rattle.index_paths.proofs.Trails.{trail_on, trail_wider}
+use Rattle.stored_documents.specs.Volumes.{Holds}
+use Rattle.cell_pool.specs.Grants.{TakesFront}
+use Rattle.cell_pool.specs.declared.pool.Pool.{Pool}
+use Rattle.jump_block.specs.Entries.{cell_of}
+use Rattle.jump_block.specs.declared.held_entry.Entry.{Entry}
+use Rattle.planned_cells.specs.declared.fault.GrowthFault.{GrowthFault}
+use Rattle.planned_cells.specs.declared.fault.GrowthFault.TheVariants.{Fault, NoMemory}
+use Rattle.term_tags.specs.Listing.{listed}
+use Rattle.term_tags.specs.declared.rows.Posting.{Posting}
+use Rattle.worm_device.proofs.Counting.{rose_from}
+use Rattle.worm_device.proofs.Elapsing.{called_self, called_then}
+use Rattle.worm_device.proofs.Images.{extends_self, extends_then}
+use Rattle.worm_device.specs.Views.{ViewState}
+use Rattle.worm_device.specs.declared.owner.Owner.{Owner}
+use Rattle.list_growth.specs.Inserting.{InsertsPosting, PlansEntry}
+use Rattle.list_growth.specs.Readiness.{IsReady, IsUntouched}
+use Rattle.index_growth.specs.Rows.{AreInOrder, AreInserted, AreUntouched, InsertsRow, IsRowCell, of_posting, of_pointer, RowSoFar, StandsInList}
+use Rattle.index_growth.proofs.Others.{IsHeld, held_before, held_posting, held_pointer, IsOwned, as_before, anew, held_in, owned_in, plans_blank, plans_keep, ready_untouched, untouched_other}
+
+-- no posting is inserted yet
+pub row_begins : (g : Layout) (n : ℕ) (rows : List Posting) (pool : Pool) (s : ViewState)
+    → ((cell : ℕ) → pool.next ≤ cell → s.planned cell ≡ None) → (IsTrue s.base.tells → AreUntouched g s)
+    → RowSoFar g n rows 0 pool pool s s
+row_begins g n rows pool s free untouched = record {
+  called = called_self s.base;
+  cells = refl;
+  fresh = refl;
+  loans = refl;
+  lower = extends_self s.lower;
+  from = omega arith;
+  to = omega arith;
+  end = refl;
+  inserted = record {
+    kept = extends_self s.planned;
+    owners = λ cell owner is. is;
+    added = λ cell value is. inl is;
+    for_lists = λ cell owner is. inl is;
+    free = free;
+    shown = λ tells. extends_self s.image;
+    blank = λ tells cell none value is. absurd (none-some value (sym none ∙ is));
+    stand = λ tells i p less is. absurd (omega (arith, less));
+  };
+  untouched = λ tells l less before. untouched tells l less;
+  ready = λ tells a less before. ready_untouched (pool_at g) pool.next a.posting.key (untouched tells a.list less);
+}
+
+lists_apart : (g : Layout) (l k : ℕ) → l ≢ k
+    → (list_at g l + 256 ≤ list_at g k) ⊎ (list_at g k + 256 ≤ list_at g l)
+lists_apart g l k differs = ⊎_elim (λ less. inl (omega (arith, less)))
+    (λ le. inr (omega (arith, le, differs))) (cases_lt l k)
+
+list_below : (g : Layout) (l : ℕ) → l < g.lists → list_at g l + 256 ≤ pool_at g
+list_below g l less = omega (arith, less)
+
+more : (n : ℕ) (rows : List Posting) (count cell : ℕ) (value : List ℕ) → IsRowCell n rows count cell value
+    → IsRowCell n rows (count + 1) cell value
+more n rows count cell value (of_posting i p less is holds) = of_posting i p (omega (arith, less)) is holds
+more n rows count cell value (of_pointer target holds) = of_pointer target holds
+
+module _ (g : Layout) (n : ℕ) (rows : List Posting) (i : ℕ) (first pool later : Pool) (old mid new : ViewState) (p : Posting)
+    (e : Entry) (order : AreInOrder g.lists n rows) (here : slice_get rows i ≡ Some p) (so : RowSoFar g n rows i first pool old mid)
+    (unowned : (cell : ℕ) → mid.planned cell ≡ None → mid.owners cell ≡ None)
+    (takes : (later ≡ pool) ⊎ TakesFront pool later 256 pool.next)
+    (inserts : InsertsPosting (list_at g p.list) (pool_at g) pool.next later.next (listed n p).posting mid new (Ok e)) where
+  in_list : p.list < g.lists
+  in_list = order.lists_are i p here
+
+  plans : PlansEntry (list_at g p.list) (pool_at g) (listed n p).posting (cell_of e) mid new
+  plans = inserts.ends.3
+
+  told : IsTrue old.base.tells → IsTrue mid.base.tells
+  told tells = subst IsTrue (sym so.called.tells) tells
+
+  pool_on : (pool.next ≤ later.next) × (later.next ≤ pool.next + 256) × (later.end ≡ pool.end)
+  pool_on = ⊎_elim (λ same. (omega (arith, ap (λ (q : Pool). q.next) same), omega (arith, ap (λ (q : Pool). q.next) same), ap (λ (q : Pool). q.end) same))
+      (λ t. (omega (arith, t.next), omega (arith, t.next), t.end)) takes
+
+  the_posting : (q : Posting) (j : ℕ) → j ≡ i → slice_get rows j ≡ Some q → q ≡ p
+  the_posting q j same is =
+      let k : Some q ≡ Some p = sym is ∙ ap (λ (m : ℕ). slice_get rows m) same ∙ here in cc
+
+  kept_here : Extends mid.planned new.planned
+  kept_here = record { keeps = λ cell value is. (plans_keep plans cell value is).0 }
+
+  owner_kept : (cell : ℕ) (owner : Owner) → (held : Option (List ℕ)) → mid.planned cell ≡ held → mid.owners cell ≡ Some owner
+      → new.owners cell ≡ Some owner
+  owner_kept cell owner (Some value) is has = (plans_keep plans cell value is).1 ∙ has
+  owner_kept cell owner None is has = absurd (none-some owner (sym (unowned cell is) ∙ has))
+
+  added_now : (cell : ℕ) (value : List ℕ) → IsHeld (listed n p).posting mid cell value
+      → (old.planned cell ≡ Some value) ⊎ IsRowCell n rows (i + 1) cell value
+  added_now cell value (held_before is) = ⊎_elim (λ was. inl was) (λ row. inr (more n rows i cell value row)) (so.inserted.added cell value is)
+  added_now cell value (held_posting free holds) = inr (of_posting i p (omega arith) here holds)
+  added_now cell value (held_pointer target free holds) = inr (of_pointer target holds)
+
+  for_now : (cell : ℕ) (owner : Owner) → IsOwned (list_at g p.list) (pool_at g) mid cell owner
+      → (old.owners cell ≡ Some owner)
+      ⊎ ((j : ℕ) × (q : Posting) × (j < i + 1) × (slice_get rows j ≡ Some q) × (owner.head ≡ list_at g q.list))
+  for_now cell owner (as_before is) = ⊎_elim (λ was. inl was)
+      (λ h. inr (h.0, h.1, omega (arith, h.2), h.3, h.4)) (so.inserted.for_lists cell owner is)
+  for_now cell owner (anew head from to place) = inr (i, p, omega arith, here, head)
+
+  blank_now : IsTrue old.base.tells → (cell : ℕ) → old.planned cell ≡ None → (value : List ℕ) → new.planned cell ≡ Some value
+      → (held : Option (List ℕ)) → mid.planned cell ≡ held → old.image cell ≡ None
+  blank_now tells cell none value is (Some other) held = so.inserted.blank tells cell none other held
+  blank_now tells cell none value is None free = shown_blank (old.image cell) refl
+    where
+      shown_blank : (found : Option (List ℕ)) → old.image cell ≡ found → old.image cell ≡ None
+      shown_blank None same = same
+      shown_blank (Some held) same =
+          absurd (none-some held (sym (plans_blank plans (told tells) cell value free is) ∙ (so.inserted.shown tells).keeps cell held same))
+
+  stand_now : IsTrue old.base.tells → (j : ℕ) (q : Posting) → j < i + 1 → slice_get rows j ≡ Some q
+      → StandsInList g new later.next (listed n q)
+  stand_now tells j q less is =
+      let done = inserts.ends.5 (told tells) in
+      ⊎_elim
+      (λ (same : j ≡ i).
+      let P : Posting → Type 0 = λ r. StandsInList g new later.next (listed n r) in
+      subst P (sym (the_posting q j same is))
+      (record { at = cell_of e; trail = done.trail; planned = planned_posting plans }))
+      (λ differs.
+      let before = so.inserted.stand tells j q (omega (arith, less, differs)) is in
+      record {
+        at = before.at;
+        trail = trail_wider (pool_at g) later.next (omega arith) pool_on.0 (trail_on done.shown before.trail);
+        planned = record {
+          cell = before.planned.cell;
+          stands = kept_here.keeps before.at before.planned.cell before.planned.stands;
+          is = before.planned.is;
+        };
+      })
+      (cases_eq j i)
+    where
+      planned_posting : PlansEntry (list_at g p.list) (pool_at g) (listed n p).posting (cell_of e) mid new
+          → Holds new.planned (cell_of e) (Rattle.index_paths.specs.Blocks.posting_record (listed n p).posting)
+      planned_posting (Rattle.list_growth.specs.Inserting.alone one rest) = one.held
+      planned_posting (Rattle.list_growth.specs.Inserting.with_pointer pointer target one other apart rest) = one.held
+
+  untouched_now : IsTrue old.base.tells → (l : ℕ) → l < g.lists
+      → ((j : ℕ) (q : Posting) → j < i + 1 → slice_get rows j ≡ Some q → q.list < l) → IsUntouched new (list_at g l)
+  untouched_now tells l less before =
+      let behind : p.list < l = before i p (omega arith) here in
+      untouched_other plans (λ same. omega (arith, same, behind)) (lists_apart g l p.list (λ same. omega (arith, same, behind)))
+          (list_below g l less) (so.untouched tells l less (λ j q small is. before j q (omega (arith, small)) is))
+
+  ready_now : IsTrue old.base.tells → (a : ListedPosting) → a.list < g.lists
+      → ((j : ℕ) (q : Posting) → j < i + 1 → slice_get rows j ≡ Some q → ComesBefore (listed n q) a)
+      → IsReady new (list_at g a.list) (pool_at g) later.next a.posting.key
+  ready_now tells a less before = ⊎_elim
+      (λ (behind : p.list < a.list).
+      ready_untouched (pool_at g) later.next a.posting.key
+      (untouched_now tells a.list less (λ j q small is. all_behind behind j q small is)))
+      (λ (same : (p.list ≡ a.list) × ((listed n p).posting.key < a.posting.key)).
+      subst (λ (l : ℕ). IsReady new (list_at g l) (pool_at g) later.next a.posting.key) same.0
+      ((inserts.ends.5 (told tells)).ready a.posting.key same.1))
+      (before i p (omega arith) here)
+    where
+      all_behind : p.list < a.list → (j : ℕ) (q : Posting) → j < i + 1 → slice_get rows j ≡ Some q → q.list < a.list
+      all_behind behind j q small is = ⊎_elim
+          (λ (same : j ≡ i). omega (arith, behind, ap (λ (r : Posting). r.list) (the_posting q j same is)))
+          (λ differs. ⊎_elim (λ (lower : q.list < p.list). omega (arith, lower, behind))
+          (λ (equal : (q.list ≡ p.list) × ((listed n q).posting.key < (listed n p).posting.key)). omega (arith, equal.0, behind))
+          (order.order j i q p (omega (arith, small, differs)) is here))
+          (cases_eq j i)
+
+  pub row_next : RowSoFar g n rows (i + 1) first later old new
+  row_next = record {
+    called = called_then so.called inserts.called;
+    cells = inserts.cells ∙ so.cells;
+    fresh = inserts.fresh ∙ so.fresh;
+    loans = inserts.loans ∙ so.loans;
+    lower = extends_then so.lower inserts.lower;
+    from = omega (arith, so.from, pool_on.0);
+    to = omega (arith, so.to, pool_on.1);
+    end = pool_on.2 ∙ so.end;
+    inserted = record {
+      kept = extends_then so.inserted.kept kept_here;
+      owners = λ cell owner is. owner_kept cell owner (mid.planned cell) refl (so.inserted.owners cell owner is);
+      added = λ cell value is. added_now cell value (held_in plans cell value is);
+      for_lists = λ cell owner is. for_now cell owner (owned_in plans cell owner is);
+      free = inserts.ends.4;
+      shown = λ tells. extends_then (so.inserted.shown tells) (inserts.ends.5 (told tells)).shown;
+      blank = λ tells cell none value is. blank_now tells cell none value is (mid.planned cell) refl;
+      stand = stand_now;
+    };
+    untouched = untouched_now;
+    ready = ready_now;
+  }
+
+-- a posting was refused
+pub row_refused : (g : Layout) (n : ℕ) (rows : List Posting) (i : ℕ) (first pool later : Pool) (old mid new : ViewState)
+    (p : Posting) (fault : GrowthFault) → slice_get rows i ≡ Some p → RowSoFar g n rows i first pool old mid
+    → InsertsPosting (list_at g p.list) (pool_at g) pool.next later.next (listed n p).posting mid new (Err fault)
+    → InsertsRow g n rows later.next old new (Err fault)
+row_refused g n rows i first pool later old mid new p fault here so inserts = record {
+  called = called_then so.called inserts.called;
+  cells = inserts.cells ∙ so.cells;
+  fresh = inserts.fresh ∙ so.fresh;
+  loans = inserts.loans ∙ so.loans;
+  lower = extends_then so.lower inserts.lower;
+  ends = why fault inserts;
+} where
+  why : (fault : GrowthFault) → InsertsPosting (list_at g p.list) (pool_at g) pool.next later.next (listed n p).posting mid new (Err fault)
+      → Rattle.index_growth.specs.Rows.RowEnds g n rows later.next old new (Err fault)
+  why (Fault faults.ReadFault) inserts = omega (arith, inserts.ends, so.called.faults)
+  why (Fault (faults.Tampered e)) inserts = λ tells. (i, p, here, (inserts.ends (subst IsTrue (sym so.called.tells) tells)).0)
+  why NoMemory inserts = tt

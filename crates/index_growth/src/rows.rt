@@ -1,0 +1,87 @@
+//! A row of postings.
+ghost use Rattle.std.specs.Prelude.{◌≡◌, ◌<◌, ◌≤◌, ◌+◌, ◌*◌, ◌⊎◌, ℕ, None, IsTrue, length};
+ghost use Rattle.cell_pool.specs.Grants.{TakesFront, room_of};
+ghost use Rattle.cell_types.specs.Layout.{list_at, pool_at};
+ghost use Rattle.cell_types.specs.declared.geometry.TheConstants.{MAX_SLOTS};
+ghost use Rattle.index_growth.specs.Rows.{AreInOrder, AreUntouched, InsertsRow};
+ghost use Rattle.list_growth.specs.Inserting.{InsertsPosting};
+ghost use Rattle.list_growth.specs.Readiness.{IsReady};
+ghost use Rattle.term_tags.specs.Listing.{listed};
+ghost use Rattle.worm_device.specs.Overlays.{of_overlay};
+
+use cell_pool::Pool;
+use cell_types::Geometry;
+use jump_block::Entry;
+use list_growth::{NewEntry, insert};
+use planned_cells::GrowthFault;
+use term_tags::Posting;
+use worm_device::{Overlay, View};
+
+/// Inserts the postings of a slot's document, by list and ordinal, each into its list.
+///
+/// Afterwards each of them has a trail, and what is planned is what was planned before, these postings, and pointers.
+/// After a refusal what was planned is given up.
+pub fn insert_postings<V: View>(
+    overlay: &mut Overlay<V>,
+    pool: &mut Pool,
+    geometry: &Geometry,
+    slot: u32,
+    rows: &[Posting],
+) -> Result<(), GrowthFault>
+    requires slot { slot < MAX_SLOTS }
+    requires order { AreInOrder geometry.now.lists slot rows.now }
+    requires floor { pool_at geometry.now ≤ (of_overlay V.seen overlay.old).fresh }
+    requires fresh { (of_overlay V.seen overlay.old).fresh ≤ pool.old.next }
+    requires room { 256 * length rows.now ≤ room_of pool.old }
+    requires free { (cell : ℕ) → pool.old.next ≤ cell → (of_overlay V.seen overlay.old).planned cell ≡ None }
+    requires untouched { IsTrue (of_overlay V.seen overlay.old).base.tells →
+        AreUntouched geometry.now (of_overlay V.seen overlay.old) }
+    ensures from { pool.old.next ≤ pool.new.next }
+    ensures to { pool.new.next ≤ pool.old.next + 256 * length rows.now }
+    ensures end { pool.new.end ≡ pool.old.end }
+    ensures inserts { InsertsRow geometry.now slot rows.now pool.new.next (of_overlay V.seen overlay.old)
+        (of_overlay V.seen overlay.new) result }
+{
+    for row in rows {
+        if let Err(fault) = insert_one(overlay, pool, geometry, slot, row) {
+            return Err(fault);
+        }
+    }
+    Ok(())
+}
+
+/// Inserts one posting of a slot's document into its list.
+fn insert_one<V: View>(
+    overlay: &mut Overlay<V>,
+    pool: &mut Pool,
+    geometry: &Geometry,
+    slot: u32,
+    row: &Posting,
+) -> Result<Entry, GrowthFault>
+    requires slot { slot < MAX_SLOTS }
+    requires list { row.now.list < geometry.now.lists }
+    requires ordinal { row.now.ordinal ≤ row.now.last }
+    requires floor { pool_at geometry.now ≤ (of_overlay V.seen overlay.old).fresh }
+    requires fresh { (of_overlay V.seen overlay.old).fresh ≤ pool.old.next }
+    requires room { 256 ≤ room_of pool.old }
+    requires free { (cell : ℕ) → pool.old.next ≤ cell → (of_overlay V.seen overlay.old).planned cell ≡ None }
+    requires ready { IsTrue (of_overlay V.seen overlay.old).base.tells →
+        IsReady (of_overlay V.seen overlay.old) (list_at geometry.now row.now.list) (pool_at geometry.now) pool.old.next
+        (listed slot row.now).posting.key }
+    ensures pool { (pool.new ≡ pool.old) ⊎ TakesFront pool.old pool.new 256 pool.old.next }
+    ensures inserts { InsertsPosting (list_at geometry.now row.now.list) (pool_at geometry.now) pool.old.next pool.new.next
+        (listed slot row.now).posting (of_overlay V.seen overlay.old) (of_overlay V.seen overlay.new) result }
+{
+    let entry = NewEntry {
+        key: 256 * slot + u32::from(row.ordinal),
+        last: row.last,
+        tag: row.tag,
+    };
+    insert(
+        overlay,
+        pool,
+        geometry.list_at(row.list),
+        geometry.pool_at(),
+        entry,
+    )
+}
