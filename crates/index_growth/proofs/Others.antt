@@ -1,15 +1,14 @@
 -- What one insertion leaves of other lists, and for whom what it plans is.
-use Rattle.std.proofs.Common.{◌≡◌, ◌≢◌, ◌<◌, ◌≤◌, ◌+◌, ◌⊎◌, ⊎_elim, inl, inr, ℕ, List, Option, Some, None, refl, ap, sym, subst, arith, ◌∙◌}
+use Rattle.std.proofs.Common.{◌≡◌, ◌≢◌, ◌<◌, ◌≤◌, ◌+◌, ◌⊎◌, ⊎_elim, inl, inr, ℕ, List, Option, Some, None, ap, sym, subst, arith, ◌∙◌}
 use Rattle.std.proofs.lemmas.Bool.{cases_eq}
 use Rattle.std.proofs.lemmas.Option.{none-some}
-use Rattle.cell_types.specs.Image.{Extends}
 use Rattle.cell_types.specs.Records.{IsRecordCell}
 use Rattle.cell_types.specs.declared.record_cell.RecordCell.TheVariants.{Jump}
 use Rattle.index_paths.specs.Blocks.{PostingFields, posting_record}
 use Rattle.index_paths.specs.Nodes.{AreApart}
 use Rattle.worm_device.specs.Views.{ViewState}
 use Rattle.worm_device.specs.declared.owner.Owner.{Owner}
-use Rattle.list_growth.specs.Inserting.{IsAsPlanned, IsPlannedFor, PlansEntry, alone, with_pointer}
+use Rattle.list_growth.specs.Inserting.{IsPlannedFor, PlansEntry, alone, with_pointer}
 use Rattle.list_growth.specs.Readiness.{IsReady, IsUntouched}
 
 -- into a list for which nothing is planned each posting may go

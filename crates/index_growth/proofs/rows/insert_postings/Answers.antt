@@ -1,8 +1,11 @@
 -- One posting after another.
-use Rattle.std.proofs.Common.{◌≡◌, ◌<◌, ◌≤◌, ◌+◌, ◌*◌, ℕ, List, Some, None, sym, ap, subst, refl, arith, rules, ◌∙◌}
-use Rattle.std.specs.Prelude.{IsTrue, length, slice_get, slice_index_or}
+use Rattle.std.proofs.Common.{subst}
+use Rattle.std.specs.Prelude.{IsTrue, slice_index_or}
 use Rattle.std.proofs.lemmas.Option.{slice_get-get_or}
+use Rattle.std.proofs.Common.{[]}
+use Rattle.std.specs.Prelude.{slice_index_or}
 use Rattle.term_tags.specs.Listing.{listed}
+use Rattle.term_tags.specs.declared.rows.Posting.{Posting}
 use Rattle.worm_device.specs.Overlays.{of_overlay}
 use Rattle.index_growth.proofs.RowSteps.{row_begins, row_next, row_refused}
 use Rattle.index_growth.proofs.rows.insert_postings.Goals as goal
@@ -27,7 +30,9 @@ returns-in-Err-clause-inserts g c =
 
 pub insert_one-requires-clause-ready : goal.insert_one-requires-clause-ready
 insert_one-requires-clause-ready g c =
-    let here = slice_get-get_or c.args.rows.now c.loop-row.row-index _ c.loop-row-test.true in
-    λ tells. c.loop-row.invariant.ready (subst IsTrue c.loop-row.invariant.called.tells tells) (listed c.args.slot _)
-        (c.requires.order.lists_are c.loop-row.row-index _ here)
-        (λ i p less is. c.requires.order.order i c.loop-row.row-index p _ less is here)
+    let none : Posting = record { list = 0; ordinal = 0; last = 0; tag = [] } in
+    let row : Posting = slice_index_or c.args.rows.now c.loop-row.row-index none in
+    let here = slice_get-get_or c.args.rows.now c.loop-row.row-index none c.loop-row-test.true in
+    λ tells. c.loop-row.invariant.ready (subst IsTrue c.loop-row.invariant.called.tells tells) (listed c.args.slot row)
+        (c.requires.order.lists_are c.loop-row.row-index row here)
+        (λ i p less is. c.requires.order.order i c.loop-row.row-index p row less is here)
