@@ -1,0 +1,2 @@
+pub mod BelowPlans
+pub mod Licence

@@ -1,4 +1,5 @@
 pub mod Evidence
 pub mod Growing
 pub mod Inserting
+pub mod Licences
 pub mod Readiness
