@@ -1,2 +1,4 @@
 pub mod BelowPlans
+pub mod Costs
+pub mod Greatest
 pub mod Licence

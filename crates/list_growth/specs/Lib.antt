@@ -1,3 +1,4 @@
+pub mod Costs
 pub mod Evidence
 pub mod Growing
 pub mod Inserting
