@@ -25,3 +25,11 @@ InsertionsCost =
     (old new : Image) (floor next to head cost : ℕ) (p : PostingFields) → IsWellListed old floor next head
     → HaveTrails old floor next head → HaveKeysBelow old floor next head p.key → p.key < 2 ^ 32
     → Grows old new floor next to head p cost → PostingCosts floor head p old new next to cost
+
+-- behind it each posting has a trail again, and none a greater key than the new one
+abbrev pub InsertionsKeepTrails : Type 0
+InsertionsKeepTrails =
+    (old new : Image) (floor next to head cost : ℕ) (p : PostingFields) → IsWellListed old floor next head
+    → floor ≤ next → HaveTrails old floor next head → HaveKeysBelow old floor next head p.key
+    → Grows old new floor next to head p cost
+    → HaveTrails new floor to head × ((key : ℕ) → p.key < key → HaveKeysBelow new floor to head key)

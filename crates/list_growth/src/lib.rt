@@ -7,4 +7,4 @@ mod laws;
 
 pub use entries::NewEntry;
 pub use insertion::insert;
-pub use laws::{evidence_is_licensed, insertions_cost_their_need};
+pub use laws::{evidence_is_licensed, insertions_cost_their_need, insertions_keep_trails};
