@@ -1,6 +1,5 @@
--- What an insertion costs.
-use Rattle.std.proofs.Common.{◌≡◌, ◌<◌, ◌≤◌, ◌+◌, ◌-◌, ◌*◌, ◌^◌, ◌⊎◌, ⊎_elim, inl, inr, ℕ, Some, None, refl, ap, sym, subst, arith, ◌∙◌}
-use Rattle.std.proofs.lemmas.Bool.{cases_eq}
+-- What an insertion costs: the walk and the tail of its ending are those that a posting's need asks for.
+use Rattle.std.proofs.Common.{◌≡◌, ◌<◌, ◌≤◌, ◌+◌, ◌-◌, ◌^◌, ⊎_elim, inr, ℕ, refl, ap, sym, subst, arith, ◌∙◌}
 use Rattle.cell_types.specs.Image.{Image}
 use Rattle.cell_types.specs.declared.record_cell.RecordCell.TheVariants.{Jump}
 use Rattle.stored_documents.specs.Volumes.{Holds, IsWritten}
@@ -16,8 +15,8 @@ use Rattle.volume_growth.specs.Needs as needs
 use Rattle.volume_growth.specs.Needs.{IsBlankEntry, EndsAtPointer, WalksTo, IsTail, AddsBoth, PostingCosts}
 use Rattle.jump_block.proofs.Knowing.{front_below}
 use Rattle.list_growth.specs.Costs.{HaveTrails, HaveKeysBelow}
-use Rattle.list_growth.specs.Growing.{Steps, Walks, ends, hops, Rises, PutsTwo, IsTop, EndsAt, IsLast, IsLastFull, Grows, in_block, in_tail, in_new_block}
-use Rattle.list_growth.proofs.Greatest.{Goes, stays, leaves, goes, IsListed, trail_listed, HasGreatest, front_end, greatest_from}
+use Rattle.list_growth.specs.Growing.{Steps, Walks, ends, hops, Rises, PutsTwo, IsTop, IsLast, IsLastFull, Grows, in_block, in_tail, in_new_block}
+use Rattle.list_growth.proofs.Greatest.{Goes, stays, leaves, goes, trail_listed, front_end, greatest_from}
 
 -- a walk goes along the list
 pub walk_leads : {image : Image} {from to key last block head : ℕ} → Walks image from to key last block
@@ -67,8 +66,8 @@ first_blank {old} {new} {block} {place} {key} below adds rises = record {
       front_written h.1 (omega arith);
 }
 
--- Of the greatest key no walk for a greater one loses the trail: a key of the span stands behind each of its pointers,
--- and so the greatest key lies in the span too.
+-- A walk for a greater key goes along the trail of the list's greatest: behind each pointer of the walk stands a key of
+-- the pointer's span, so the greatest lies in this span too.
 module _ {image : Image} {floor next head at key : ℕ} {q : PostingFields} (top : IsTop image floor next head q)
     (less : q.key < key) where
   step_through : {block target : ℕ} → Steps image floor next block key target → Leads image floor next block head
@@ -127,13 +126,14 @@ module _ {image : Image} {floor next head at key : ℕ} {q : PostingFields} (top
       step.jump step.inside_from step.inside_to)
       (step_through step leads (goes trail))
 
--- The list's greatest posting, with its trail.
+-- this posting is the list's greatest, has a trail, and its key is below this one
 record IsGreatest (image : Image) (floor next head at : ℕ) (q : PostingFields) (key : ℕ) : Type 0 where
   top : IsTop image floor next head q
   trail : Trail image floor next at q head
   less : q.key < key
   most : (cell : ℕ) (r : PostingFields) → Trail image floor next cell r head → r.key ≤ q.key
 
+-- the block in whose front it stands is the tail
 tail_at : {old : Image} {floor next head at tail place key : ℕ} {q : PostingFields}
     → IsGreatest old floor next head at q key → at ≡ tail + place
     → place < 128 → InFront old tail place q → IsTail old floor next head tail
@@ -149,6 +149,7 @@ tail_at {old} {floor} {next} {head} {at} {tail} {place} {q} g is below front = r
 module _ {old : Image} {floor next head key : ℕ} (w : IsWellListed old floor next head)
     (trails : HaveTrails old floor next head) (less : HaveKeysBelow old floor next head key)
     (small : key < 2 ^ 32) where
+  -- where a walk ends at a full block, the list has one
   the_greatest : {home : ℕ} {f : PostingFields} → Walks old floor next key home head → IsFull old home f
       → (at : ℕ) × (q : PostingFields) × IsGreatest old floor next head at q key
   the_greatest walk full =
@@ -172,26 +173,30 @@ module _ {old : Image} {floor next head key : ℕ} (w : IsWellListed old floor n
         most = found.most;
       })
 
+  -- the tail where this has room
   last_is_tail : {home last : ℕ} {f : PostingFields} → Walks old floor next key home head → IsFull old home f
       → IsLast old floor next home key last → IsTail old floor next head last
-  last_is_tail {home} walk full is_last =
+  last_is_tail walk full is_last =
       let found = the_greatest walk full in
       let g = found.2 in
       let trail = trail_through g.top g.less walk (arrived head refl) g.trail in
       let end = is_last head found.0 found.1 g.top (walk_leads walk (arrived head refl)) g.less trail in
       tail_at g end.is end.in_places end.in_front
 
+  -- the tail where it is full
   full_tail : {home : ℕ} {f : PostingFields} → Walks old floor next key home head → IsFull old home f
       → IsLastFull old floor next home key
       → (tail : ℕ) × IsTail old floor next head tail × ((i : ℕ) → i < 128 → IsWritten old (tail + i))
-  full_tail {home} walk full is_last =
+  full_tail walk full is_last =
       let found = the_greatest walk full in
       let g = found.2 in
       let trail = trail_through g.top g.less walk (arrived head refl) g.trail in
       let end = is_last head found.0 found.1 g.top (walk_leads walk (arrived head refl)) g.less trail in
       (end.0, tail_at g end.1 (omega arith) end.2, λ i below. front_written end.2 (omega arith))
 
-ends_there : {old new : Image} {home target place : ℕ} {p : PostingFields} → (puts : PutsTwo old new home target place p)
+-- the walk ends at the pointer that is set
+ends_there : {old new : Image} {home target place : ℕ} {p : PostingFields}
+    → (puts : PutsTwo old new home target place p)
     → EndsAtPointer old home p.key (pointer_at home puts.level puts.digit)
 ends_there {old} {new} {home} {target} {place} puts = record {
   greatest = puts.greatest;
@@ -206,7 +211,9 @@ ends_there {old} {new} {home} {target} {place} puts = record {
       (same_or_not (pointer_at home puts.level puts.digit) (target + place));
 }
 
-adds_both : {old new : Image} {home target place at : ℕ} {p : PostingFields} → (puts : PutsTwo old new home target place p) → at ≡ target + place
+-- the posting and the pointer are added
+adds_both : {old new : Image} {home target place at : ℕ} {p : PostingFields}
+    → (puts : PutsTwo old new home target place p) → at ≡ target + place
     → AddsBoth old new at (pointer_at home puts.level puts.digit) target p
 adds_both {old} {new} {p = p} puts is = record {
   mid = puts.mid;
@@ -216,15 +223,16 @@ adds_both {old} {new} {p = p} puts is = record {
   jump = puts.jump;
 }
 
+-- whichever way the list grows
 pub posting_costs : {old new : Image} {floor next to head cost : ℕ} {p : PostingFields}
-  → IsWellListed old floor next head → HaveTrails old floor next head → HaveKeysBelow old floor next head p.key
-  → p.key < 2 ^ 32 → Grows old new floor next to head p cost → PostingCosts floor head p old new next to cost
+    → IsWellListed old floor next head → HaveTrails old floor next head → HaveKeysBelow old floor next head p.key
+    → p.key < 2 ^ 32 → Grows old new floor next to head p cost → PostingCosts floor head p old new next to cost
 posting_costs w trails less small (in_block last place walk below adds holds rises to_is cost_is) =
     needs.in_block last place (walks_to walk) (first_blank below adds rises) adds holds to_is cost_is
 posting_costs w trails less small (in_tail home target place walk puts led from inside is_last to_is cost_is) =
     needs.in_tail home (pointer_at home puts.level puts.digit) target place (walks_to walk) (ends_there puts)
-    (last_is_tail w trails less small walk puts.full is_last) (first_blank puts.in_places puts.adds puts.rises) (adds_both puts refl)
-    to_is cost_is
+    (last_is_tail w trails less small walk puts.full is_last) (first_blank puts.in_places puts.adds puts.rises)
+    (adds_both puts refl) to_is cost_is
 posting_costs w trails less small (in_new_block home walk puts blank is_last to_is cost_is) =
     let tail = full_tail w trails less small walk puts.full is_last in
     needs.in_new_block home (pointer_at home puts.level puts.digit) tail.0 (walks_to walk) (ends_there puts)

@@ -4,9 +4,9 @@ use Rattle.std.proofs.lemmas.Bool.{cases_lt}
 use Rattle.std.proofs.lemmas.Option.{none-some}
 use Rattle.cell_types.specs.Image.{Image}
 use Rattle.cell_types.specs.declared.record_cell.RecordCell.TheVariants.{Jump}
-use Rattle.stored_documents.specs.Volumes.{Holds, IsWritten}
+use Rattle.stored_documents.specs.Volumes.{Holds}
 use Rattle.stored_documents.proofs.Holding.{one_record_holds}
-use Rattle.index_paths.specs.Blocks.{PostingFields, posting_record, InFront, behind, IsFull, InSpan, Hop, Trail, here, on, Leads, arrived, pointer_at}
+use Rattle.index_paths.specs.Blocks.{PostingFields, posting_record, InFront, behind, InSpan, Hop, Trail, here, on, Leads, pointer_at}
 use Rattle.index_paths.proofs.Fronts.{front_holds, one_place, one_posting, rises_or_same}
 use Rattle.index_paths.proofs.Spans.{apart, cover, span_above}
 use Rattle.tamper_rules.specs.Rules.{HoldsInOrder}
@@ -117,6 +117,7 @@ module _ {image : Image} {floor next head : ℕ} (w : IsWellListed image floor n
   AreBehind block k top = (at : ℕ) (r : PostingFields) → Trail image floor next at r head
       → (r.key ≤ top) ⊎ (Trail image floor next at r block × (r.key ≤ k))
 
+  -- what stands at the end of a front may be the greatest
   found : (block place : ℕ) (q : PostingFields) → Leads image floor next block head → IsEnd image block place q
       → ((at : ℕ) (r : PostingFields) → Trail image floor next at r head → r.key ≤ q.key)
       → HasGreatest image floor next head

@@ -1,5 +1,5 @@
 -- What an insertion keeps: each posting of the list is an old one or the new one, and has a trail.
-use Rattle.std.proofs.Common.{◌≡◌, ◌<◌, ◌≤◌, ◌+◌, ◌-◌, ◌*◌, ◌⊎◌, ⊎_elim, inl, inr, ℕ, Some, None, refl, ap, sym, subst, arith, ◌∙◌}
+use Rattle.std.proofs.Common.{◌≡◌, ◌<◌, ◌≤◌, ◌+◌, ◌-◌, ◌⊎◌, ⊎_elim, inl, inr, ℕ, None, refl, ap, sym, subst, arith, ◌∙◌}
 use Rattle.std.proofs.lemmas.Bool.{cases_eq}
 use Rattle.std.proofs.lemmas.Option.{none-some}
 use Rattle.cell_types.specs.Image.{Image, Extends}
@@ -17,7 +17,7 @@ use Rattle.volume_growth.specs.ListShapes.{IsWellListed, Adds}
 use Rattle.volume_growth.proofs.ListShapes.{adds_extends, holds_back}
 use Rattle.worm_device.proofs.Images.{extends_then}
 use Rattle.list_growth.specs.Costs.{HaveTrails, HaveKeysBelow}
-use Rattle.list_growth.specs.Growing.{Steps, Walks, ends, hops, Rises, PutsTwo, Grows, in_block, in_tail, in_new_block}
+use Rattle.list_growth.specs.Growing.{Walks, ends, hops, Rises, PutsTwo, Grows, in_block, in_tail, in_new_block}
 use Rattle.list_growth.proofs.Costs.{walk_leads}
 
 -- what holds of a first block, and of each that a block with it leads to, holds of the list's blocks
@@ -43,6 +43,7 @@ leads_below : {image : Image} {from to last head : ℕ} → Leads image from to 
 leads_below (arrived head same) below = omega (arith, same, below)
 leads_below (onwards head level digit target l s d jump f t rest) below = leads_below rest t
 
+-- a posting is no jump cell
 no_posting_jumps : (p : PostingFields) (target : ℕ) → posting_record p ≡ Jump target → ⊥
 no_posting_jumps p target same = cc
 
@@ -52,6 +53,7 @@ not_both : {image : Image} {at target : ℕ} {p : PostingFields} → Holds image
 not_both {image} {at} {target} {p} h k =
     no_posting_jumps p target (one_record_holds image at (posting_record p) (Jump target) h k)
 
+-- the same cell by another sum
 moved : {image : Image} {at to : ℕ} {r : RecordCell} → at ≡ to → Holds image at r → Holds image to r
 moved {image} {r = r} same h = subst (λ (c : ℕ). Holds image c r) same h
 
@@ -83,7 +85,8 @@ walk_trails : {old new : Image} {floor next to head at last : ℕ} {p : PostingF
     → Leads old floor next block head → Trail new floor to at p last → Trail new floor to at p block
 walk_trails {old} {new} {floor} {next} {to} {head} {at} {last} {p = p} w e more (ends block same) leads trail =
     subst (λ (b : ℕ). Trail new floor to at p b) (sym same) trail
-walk_trails {old} {new} {floor} {next} {to} {head} {at} {last} {p = p} w e more (hops block target step rest) leads trail =
+walk_trails {old} {new} {floor} {next} {to} {head} {at} {last} {p = p} w e more
+    (hops block target step rest) leads trail =
     let led = leads_further leads step.level step.digit target step.span.levels step.span.some step.span.digits
         step.jump step.inside_from step.inside_to in
     let s = w.pointers block step.level step.digit leads step.span.levels step.span.some step.span.digits
@@ -243,13 +246,16 @@ module _ {old new : Image} {floor next head : ℕ} {p : PostingFields} (w : IsWe
 -- whichever way the list grew
 pub grown : {old new : Image} {floor next to head cost : ℕ} {p : PostingFields} → IsWellListed old floor next head
     → floor ≤ next → Grows old new floor next to head p cost → IsGrown old new floor next to head p
-grown {old} {new} {floor} {next} {to} {head} {p = p} w roomy (in_block last place walk below adds holds rises same cost_is) =
+grown {old} {new} {floor} {next} {to} {head} {p = p} w roomy
+    (in_block last place walk below adds holds rises same cost_is) =
     subst (λ (n : ℕ). IsGrown old new floor next n head p) (sym same)
     (in_a_block w last place walk below adds holds rises)
-grown {old} {new} {floor} {next} {to} {head} {p = p} w roomy (in_tail home target place walk puts led from inside last same cost_is) =
+grown {old} {new} {floor} {next} {to} {head} {p = p} w roomy
+    (in_tail home target place walk puts led from inside last same cost_is) =
     subst (λ (n : ℕ). IsGrown old new floor next n head p) (sym same)
     (in_the_tail w home target place walk puts led from inside)
-grown {old} {new} {floor} {next} {to} {head} {p = p} w roomy (in_new_block home walk puts blank last same cost_is) =
+grown {old} {new} {floor} {next} {to} {head} {p = p} w roomy
+    (in_new_block home walk puts blank last same cost_is) =
     subst (λ (n : ℕ). IsGrown old new floor next n head p) (sym same) (in_a_new_block w home roomy walk puts blank)
 
 module _ {old new : Image} {floor next to head : ℕ} {p : PostingFields} (g : IsGrown old new floor next to head p) where

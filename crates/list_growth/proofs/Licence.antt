@@ -1,27 +1,24 @@
 -- The licence of what an insertion names: it stands below, in a place of its rule, and the rule is broken there.
 use Rattle.std.proofs.Common.{◌≡◌, ◌≢◌, ◌<◌, ◌≤◌, ◌+◌, ◌*◌, ◌⊎◌, ⊎_elim, inl, inr, ℕ, List, Some, refl, ap, sym, subst, arith, ◌∙◌}
 use Rattle.cell_types.specs.Image.{Image}
-use Rattle.cell_types.specs.Layout.{Layout, FirstBlock, LiesIn, list_at, pool_at, root_at}
+use Rattle.cell_types.specs.Layout.{Layout, FirstBlock, LiesIn, list_at, pool_at}
 use Rattle.cell_types.specs.Records.{IsRecordCell}
-use Rattle.cell_types.specs.declared.record_cell.RecordCell.{RecordCell}
 use Rattle.cell_types.specs.declared.record_cell.RecordCell.TheVariants.{Jump}
 use Rattle.cell_types.specs.declared.refusal.Evidence.{Evidence}
 use Rattle.stored_documents.specs.Slots.{IsEdge, Reserves}
-use Rattle.stored_documents.specs.Volumes.{Holds, IsVolume}
+use Rattle.stored_documents.specs.Volumes.{Holds}
 use Rattle.stored_documents.proofs.Holding.{one_record_holds, some_is}
 use Rattle.index_paths.specs.Blocks.{PostingFields, posting_record, InFront, InSpan, Leads, arrived, onwards, pointer_at}
-use Rattle.index_paths.specs.Nodes.{AreApart, IsBlockOf}
+use Rattle.index_paths.specs.Nodes.{IsBlockOf}
 use Rattle.index_paths.proofs.Fronts.{front_holds, one_posting}
-use Rattle.tamper_rules.specs.Rules.{Entries, HoldsInOrder, IsBroken, IsOfPool, LeadsWell, Pointers, Postings}
+use Rattle.tamper_rules.specs.Rules.{Entries, HoldsInOrder, IsOfPool, LeadsWell, Pointers, Postings}
 use Rattle.jump_block.specs.Fronts.{IsBadEntry, no_posting, does_not_rise}
-use Rattle.jump_index.specs.Searches.{HasPlace}
 use Rattle.jump_index.proofs.Behind.{jump_target}
 use Rattle.jump_index.proofs.Licence.{in_place, leads_wider}
 use Rattle.worm_device.specs.Views.{ViewState, IsView}
-use Rattle.worm_device.specs.declared.owner.Owner.{Owner}
-use Rattle.list_growth.specs.Evidence.{StandsBelow, IsMet, IsBadHop, no_jump, outside, no_key, meets, meets_block, ShowsBelow, bad_entry, bad_pointer, late, NothingBelowPlans, IsInItsPlace, of_new, of_list, of_tree, AreInTheirPlaces, IsLatePosting, IsLicensedBelow}
+use Rattle.list_growth.specs.Evidence.{StandsBelow, IsMet, IsBadHop, no_jump, outside, no_key, meets, meets_block, ShowsBelow, bad_entry, bad_pointer, late, IsInItsPlace, of_new, of_list, of_tree, AreInTheirPlaces, IsLicensedBelow}
 use Rattle.list_growth.specs.Readiness.{IsReached, is_new, stands_below}
-use Rattle.list_growth.proofs.BelowPlans.{IsShown, is_shown, holds_shown, front_shown, order_shown, greatest_shown}
+use Rattle.list_growth.proofs.BelowPlans.{IsShown, is_shown, front_shown, order_shown, greatest_shown}
 
 -- what is no posting, or does not rise, is not in order
 not_in_order : (image : Image) (block place : ℕ) (found : List ℕ) → IsBadEntry image block place found
@@ -158,7 +155,8 @@ not_well g s l block level digit found list shown edge places before low high (o
     (λ early. omega (arith, well.from, one))
     (λ late. omega (arith, well.edge s.fresh edge, one))
     out
-not_well g s l block level digit found list shown edge places before low high (no_key target greatest jump full to from none) well =
+not_well g s l block level digit found list shown edge places before low high
+    (no_key target greatest jump full to from none) well =
     let one = one_target s block level digit target found low high jump well.target well.jump in
     let same = greatest_shown shown (omega arith) full well.full well.ends in
     none well.place well.some well.in_places

@@ -1,5 +1,5 @@
 -- What inserting a posting costs, and what the list keeps for the next one.
-use Rattle.std.specs.Prelude.{◌<◌, ◌≤◌, ◌+◌, ◌*◌, ◌^◌, ℕ}
+use Rattle.std.specs.Prelude.{◌<◌, ◌≤◌, ◌+◌, ◌^◌, ℕ}
 use Rattle.cell_types.specs.Image.{Image}
 use Rattle.stored_documents.specs.Volumes.{Holds}
 use Rattle.index_paths.specs.Blocks.{PostingFields, posting_record, Leads, Trail}
