@@ -63,13 +63,13 @@ module _ {low high : Image} {to : ℕ} (shown : IsShown low high to) where
       → ((place : ℕ) → place < 128 → IsWritten low (block + place)) → EndsFront low block greatest → greatest.key ≡ l
   greatest_shown {block} {l} {greatest} below full written ends =
       let front : InFront high block ends.place greatest =
-          front_shown (omega (arith, ends.in_places)) ends.in_front in
+      front_shown (omega (arith, ends.in_places)) ends.in_front in
       ⊎_elim
       (λ (less : ends.place + 1 < 128).
       let next = front_below full.in_front (ends.place + 1) (omega arith) in
       let up : greatest.key < next.0.key = rises next.1 ends.place greatest front (omega arith) in
       let holds : Holds low (block + (ends.place + 1)) (posting_record next.0) =
-          holds_below (omega arith) (written (ends.place + 1) less) (front_holds next.1) in
+      holds_below (omega arith) (written (ends.place + 1) less) (front_holds next.1) in
       absurd (ends.ends less next.0
       (behind (ends.place + 1) ends.place next.0 greatest refl ends.in_front up holds)))
       (λ le.

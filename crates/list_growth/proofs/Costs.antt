@@ -74,18 +74,18 @@ module _ {image : Image} {floor next head at key : ℕ} {q : PostingFields} (top
       → Goes image floor next at q block → Trail image floor next at q target
   step_through {block} {target} step leads gone =
       let p = top.listed.pointers block step.level step.digit leads step.span.levels step.span.some step.span.digits
-          (record { found = step.jump.cell; stands = step.jump.stands }) in
+      (record { found = step.jump.cell; stands = step.jump.stands }) in
       let same : p.target ≡ target = jumps p.target target
-          (one_record_holds image (pointer_at block step.level step.digit) (Jump p.target) (Jump target) p.jump
-          step.jump) in
+      (one_record_holds image (pointer_at block step.level step.digit) (Jump p.target) (Jump target) p.jump
+      step.jump) in
       let keys : p.greatest.key ≡ step.greatest.key =
-          ap (λ (f : PostingFields). f.key) (one_place p.is_full step.full) in
+      ap (λ (f : PostingFields). f.key) (one_place p.is_full step.full) in
       let within : InSpan step.greatest.key step.level step.digit p.some.key =
-          subst (λ (n : ℕ). InSpan n step.level step.digit p.some.key) keys p.in_span in
+      subst (λ (n : ℕ). InSpan n step.level step.digit p.some.key) keys p.in_span in
       let led = leads_further leads step.level step.digit target step.span.levels step.span.some step.span.digits
-          step.jump step.inside_from step.inside_to in
+      step.jump step.inside_from step.inside_to in
       let front : InFront image target p.place p.some =
-          subst (λ (n : ℕ). InFront image n p.place p.some) same p.in_front in
+      subst (λ (n : ℕ). InFront image n p.place p.some) same p.in_front in
       let most : p.some.key ≤ q.key = top.top target p.place p.some led p.in_places front in
       let hop : Hop image floor next block q.key target = record {
         greatest = step.greatest;
@@ -156,22 +156,25 @@ module _ {old : Image} {floor next head key : ℕ} (w : IsWellListed old floor n
       let head_full = begins_full walk full in
       let first = front_end w 0 head 127 head_full.0 (arrived head refl) refl head_full.1 in
       let found = greatest_from w key head first.0 key first.1 small (arrived head refl) first.2 (omega arith)
-          (λ at r trail.
-          let l = trail_listed trail (arrived head refl) in
-          let below : r.key < key = less l.block l.place r l.leads l.in_places (front_holds l.in_front) in
-          inr (trail, omega (arith, below))) in
+      (λ at r trail.
+      let l = trail_listed trail (arrived head refl) in
+      let below : r.key < key = less l.block l.place r l.leads l.in_places (front_holds l.in_front) in
+      inr (trail, omega (arith, below))) in
       let holds = front_holds found.in_front in
-      let trail = trails found.block found.place found.q found.leads found.in_places holds in
-      (trail.0, found.q, record {
-        top = record {
-          listed = w;
-          top = λ b i r leads below front.
-              let other = trails b i r leads below (front_holds front) in found.most other.0 r other.1;
-        };
-        trail = trail.1;
-        less = less found.block found.place found.q found.leads found.in_places holds;
-        most = found.most;
-      })
+      let trail = trails found.block found.place found.q found.leads found.in_places holds in (
+        trail.0,
+        found.q,
+        record {
+          top = record {
+            listed = w;
+            top = λ b i r leads below front.
+                let other = trails b i r leads below (front_holds front) in found.most other.0 r other.1;
+          };
+          trail = trail.1;
+          less = less found.block found.place found.q found.leads found.in_places holds;
+          most = found.most;
+        },
+      )
 
   -- the tail where this has room
   last_is_tail : {home last : ℕ} {f : PostingFields} → Walks old floor next key home head → IsFull old home f

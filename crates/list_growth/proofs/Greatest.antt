@@ -30,9 +30,9 @@ next_place {image} {block} {place} {q} front h = ⊎_elim
     × Holds image (block + before) (posting_record r) × (r.key < h.p.key)).
     let at : x.0 ≡ place = omega (arith, x.2) in
     let held : Holds image (block + place) (posting_record x.1) =
-        subst (λ (n : ℕ). Holds image (block + n) (posting_record x.1)) at x.3 in
+    subst (λ (n : ℕ). Holds image (block + n) (posting_record x.1)) at x.3 in
     let same : x.1.key ≡ q.key = ap (λ (r : PostingFields). r.key)
-        (one_posting image (block + place) x.1 q held (front_holds front)) in
+    (one_posting image (block + place) x.1 q held (front_holds front)) in
     let up : q.key < h.p.key = omega (arith, x.4, same) in
     (behind (place + 1) place h.p q refl front up h.holds, up))
     h.rises
@@ -145,9 +145,9 @@ module _ {image : Image} {floor next head : ℕ} (w : IsWellListed image floor n
   blank_most {block} {at} {q} {r} level digit e span blank (leaves target hop rest) =
       let same : hop.greatest.key ≡ q.key = ap (λ (f : PostingFields). f.key) (one_place hop.full e.in_front) in
       let both = apart q.key r.key hop.level hop.digit level digit
-          (subst (λ (l : ℕ). InSpan l hop.level hop.digit r.key) same hop.span) span in
+      (subst (λ (l : ℕ). InSpan l hop.level hop.digit r.key) same hop.span) span in
       let cell : pointer_at block hop.level hop.digit ≡ pointer_at block level digit =
-          omega (arith, both.0, both.1) in
+      omega (arith, both.0, both.1) in
       absurd (none-some hop.jump.cell (sym blank ∙ ap image (sym cell) ∙ hop.jump.stands))
 
   -- where it is a jump cell, a key of the span goes on to the target
@@ -158,11 +158,11 @@ module _ {image : Image} {floor next head : ℕ} (w : IsWellListed image floor n
   goes_on {block} {at} {q} {r} level digit target e span jump (leaves there hop rest) =
       let same : hop.greatest.key ≡ q.key = ap (λ (f : PostingFields). f.key) (one_place hop.full e.in_front) in
       let both = apart q.key r.key hop.level hop.digit level digit
-          (subst (λ (l : ℕ). InSpan l hop.level hop.digit r.key) same hop.span) span in
+      (subst (λ (l : ℕ). InSpan l hop.level hop.digit r.key) same hop.span) span in
       let cell : pointer_at block hop.level hop.digit ≡ pointer_at block level digit =
-          omega (arith, both.0, both.1) in
+      omega (arith, both.0, both.1) in
       let one : there ≡ target = jumps there target (one_record_holds image (pointer_at block level digit) (Jump there)
-          (Jump target) (subst (λ (c : ℕ). Holds image c (Jump there)) cell hop.jump) jump) in
+      (Jump target) (subst (λ (c : ℕ). Holds image c (Jump there)) cell hop.jump) jump) in
       inr (subst (λ (b : ℕ). Trail image floor next at r b) one rest)
 
   -- one step less: no posting has the key k
@@ -186,7 +186,7 @@ module _ {image : Image} {floor next head : ℕ} (w : IsWellListed image floor n
   further {block} {k} {top} {q} e level digit span p past behind_it at r trail =
       let same : p.greatest.key ≡ q.key = ap (λ (f : PostingFields). f.key) (one_place p.is_full e.in_front) in
       let within : InSpan q.key level digit p.some.key =
-          subst (λ (l : ℕ). InSpan l level digit p.some.key) same p.in_span in
+      subst (λ (l : ℕ). InSpan l level digit p.some.key) same p.in_span in
       let up = span_above within in
       ⊎_elim
       (λ (le : r.key ≤ q.key). inl (omega (arith, le, up, past)))
@@ -225,13 +225,13 @@ module _ {image : Image} {floor next head : ℕ} (w : IsWellListed image floor n
       (fewer e_full s.0 s.1 span blank behind_it))
       (λ (x : (v : List ℕ) × (image (pointer_at block s.0 s.1) ≡ Some v)).
       let p = w.pointers block s.0 s.1 leads span.levels span.some span.digits
-          (record { found = x.0; stands = x.1 }) in
+      (record { found = x.0; stands = x.1 }) in
       let led = leads_further leads s.0 s.1 p.target span.levels span.some span.digits p.jump p.inside_from
-          p.inside_to in
+      p.inside_to in
       let same : p.greatest.key ≡ q.key =
-          ap (λ (f : PostingFields). f.key) (one_place p.is_full e_full.in_front) in
+      ap (λ (f : PostingFields). f.key) (one_place p.is_full e_full.in_front) in
       let up : q.key < p.some.key =
-          span_above (subst (λ (l : ℕ). InSpan l s.0 s.1 p.some.key) same p.in_span) in
+      span_above (subst (λ (l : ℕ). InSpan l s.0 s.1 p.some.key) same p.in_span) in
       let last = front_end (127 - p.place) p.target p.place p.some led (omega (arith, p.in_places)) p.in_front in
       greatest_from n p.target last.0 k last.1 below led last.2 (omega (arith, up, last.3))
       (further {top = last.1.key} e_full s.0 s.1 span p last.3 behind_it))

@@ -88,14 +88,14 @@ walk_trails {old} {new} {floor} {next} {to} {head} {at} {last} {p = p} w e more 
 walk_trails {old} {new} {floor} {next} {to} {head} {at} {last} {p = p} w e more
     (hops block target step rest) leads trail =
     let led = leads_further leads step.level step.digit target step.span.levels step.span.some step.span.digits
-        step.jump step.inside_from step.inside_to in
+    step.jump step.inside_from step.inside_to in
     let s = w.pointers block step.level step.digit leads step.span.levels step.span.some step.span.digits
-        (record { found = step.jump.cell; stands = step.jump.stands }) in
+    (record { found = step.jump.cell; stands = step.jump.stands }) in
     let same : s.target ≡ target = jumps s.target target
-        (one_record_holds old (pointer_at block step.level step.digit) (Jump s.target) (Jump target) s.jump
-        step.jump) in
+    (one_record_holds old (pointer_at block step.level step.digit) (Jump s.target) (Jump target) s.jump
+    step.jump) in
     let keys : s.greatest.key ≡ step.greatest.key =
-        ap (λ (f : PostingFields). f.key) (one_place s.is_full step.full) in
+    ap (λ (f : PostingFields). f.key) (one_place s.is_full step.full) in
     let hop : Hop old floor next block p.key target = record {
       greatest = step.greatest;
       full = step.full;
@@ -123,10 +123,13 @@ module _ {old new : Image} {floor next head : ℕ} {p : PostingFields} (w : IsWe
     more = omega arith;
     each = λ b i q leads less held. ⊎_elim
         (λ same. inl (one_posting new (last + place) q p (moved same held) holds))
-        (λ differ. inr (leads_by (λ (c : ℕ). Leads old floor next c head)
-        (λ c level digit target there l s d jump f t. leads_further there level digit target l s d
-        (holds_back (adds.others (pointer_at c level digit) (λ same. not_both holds (moved same jump))) jump) f t)
-        leads (arrived head refl), holds_back (adds.others (b + i) differ) held))
+        (λ differ. inr (
+          leads_by (λ (c : ℕ). Leads old floor next c head)
+              (λ c level digit target there l s d jump f t. leads_further there level digit target l s d
+              (holds_back (adds.others (pointer_at c level digit) (λ same. not_both holds (moved same jump))) jump) f t)
+              leads (arrived head refl),
+          holds_back (adds.others (b + i) differ) held,
+        ))
         (same_or_not (b + i) (last + place));
     at = last + place;
     trail = walk_trails w (adds_extends adds) (omega arith) walk (arrived head refl)
@@ -158,8 +161,11 @@ module _ {old new : Image} {floor next head : ℕ} {p : PostingFields} (w : IsWe
       → Holds new cell (Jump to)
       → ((cell ≡ pointer_at home puts.level puts.digit) × (to ≡ target)) ⊎ Holds old cell (Jump to)
   jump_before {home} {target} {place} puts cell to held = ⊎_elim
-      (λ same. inl (same, jumps to target (one_record_holds new (pointer_at home puts.level puts.digit) (Jump to)
-      (Jump target) (moved same held) puts.jump)))
+      (λ same. inl (
+        same,
+        jumps to target (one_record_holds new (pointer_at home puts.level puts.digit) (Jump to)
+            (Jump target) (moved same held) puts.jump),
+      ))
       (λ differ. inr (holds_back (others_two puts cell (λ same. not_both (posting_two puts) (moved same held)) differ)
       held))
       (same_or_not cell (pointer_at home puts.level puts.digit))
@@ -170,7 +176,7 @@ module _ {old new : Image} {floor next head : ℕ} {p : PostingFields} (w : IsWe
       → Trail new floor to (target + place) p head
   trail_two {home} {target} {place} {to} puts walk more from inside =
       let front : InFront new target place p =
-          front_on (adds_extends puts.adds_jump) (new_in_front puts.adds puts.posting puts.rises) in
+      front_on (adds_extends puts.adds_jump) (new_in_front puts.adds puts.posting puts.rises) in
       walk_trails w (extends_two puts) more walk (arrived head refl)
       (on home target
       (record {
@@ -196,20 +202,23 @@ module _ {old new : Image} {floor next head : ℕ} {p : PostingFields} (w : IsWe
       → IsGrown old new floor next next head p
   in_the_tail home target place walk puts led from inside =
       let there : Leads old floor next target head = leads_then led (walk_leads walk (arrived head refl)) in record {
-    extends = extends_two puts;
-    more = omega arith;
-    each = λ b i q leads less held. ⊎_elim inl
-        (λ was. inr (leads_by (λ (c : ℕ). Leads old floor next c head)
-        (λ c level digit to here l s d jump f t. ⊎_elim
-        (λ (x : (pointer_at c level digit ≡ pointer_at home puts.level puts.digit) × (to ≡ target)).
-        subst (λ (n : ℕ). Leads old floor next n head) (sym x.1) there)
-        (λ kept. leads_further here level digit to l s d kept f t)
-        (jump_before puts (pointer_at c level digit) to jump))
-        leads (arrived head refl), was))
-        (posting_before puts (b + i) q held);
-    at = target + place;
-    trail = trail_two puts walk (omega arith) from inside;
-  }
+        extends = extends_two puts;
+        more = omega arith;
+        each = λ b i q leads less held. ⊎_elim inl
+            (λ was. inr (
+              leads_by (λ (c : ℕ). Leads old floor next c head)
+                  (λ c level digit to here l s d jump f t. ⊎_elim
+                  (λ (x : (pointer_at c level digit ≡ pointer_at home puts.level puts.digit) × (to ≡ target)).
+                  subst (λ (n : ℕ). Leads old floor next n head) (sym x.1) there)
+                  (λ kept. leads_further here level digit to l s d kept f t)
+                  (jump_before puts (pointer_at c level digit) to jump))
+                  leads (arrived head refl),
+              was,
+            ))
+            (posting_before puts (b + i) q held);
+        at = target + place;
+        trail = trail_two puts walk (omega arith) from inside;
+      }
 
   -- into a new block, with a pointer to it
   in_a_new_block : (home : ℕ) → floor ≤ next → Walks old floor next p.key home head → PutsTwo old new home next 0 p
@@ -236,7 +245,7 @@ module _ {old new : Image} {floor next head : ℕ} {p : PostingFields} (w : IsWe
           (λ (there : Leads old floor next c head).
           let p = w.pointers c level digit there l s d (record { found = kept.cell; stands = kept.stands }) in
           let same : p.target ≡ to = jumps p.target to
-              (one_record_holds old (pointer_at c level digit) (Jump p.target) (Jump to) p.jump kept) in
+          (one_record_holds old (pointer_at c level digit) (Jump p.target) (Jump to) p.jump kept) in
           inl (leads_further there level digit to l s d kept f (omega (arith, same, p.inside_to))))
           (λ (is : c ≡ next).
           absurd (none-some kept.cell (sym (blank (pointer_at c level digit) (omega (arith, is))) ∙ kept.stands)))

@@ -73,6 +73,12 @@ leads_on_device g image at block head edge leads = ⊎_elim
     (λ inside. leads_wider (pool_at g) g.cells (omega arith) inside leads)
     (edge_to g image at edge)
 
+-- and blocks of list l
+block_of : (g : Layout) (s : ViewState) (l block : ℕ) → l < g.lists → IsEdge g s.lower s.lower s.fresh
+    → Leads s.lower (pool_at g) s.fresh block (list_at g l) → IsBlockOf g s.lower l block
+block_of g s l block list edge leads =
+    record { list = list; leads = leads_on_device g s.lower s.fresh block (list_at g l) edge leads }
+
 -- a block of the list ends before the cell where its room ends
 leads_before : {image : Image} {from to last block : ℕ} → block + 256 ≤ to → Leads image from to last block
     → last + 256 ≤ to
@@ -127,8 +133,7 @@ reached_breaks g s l block level digit target home list edge to other low high w
     (λ (x : well.target + 256 ≤ home). omega arith)
     (λ (y : home + 256 ≤ well.target). omega arith)
     apart)
-    (well.blocks l home
-    (record { list = list; leads = leads_on_device g s.lower s.fresh home (list_at g l) edge leads }))
+    (well.blocks l home (block_of g s l home list edge leads))
 
 -- a pointer that stands below leads where it is shown to lead
 one_target : (s : ViewState) (block level digit target : ℕ) (found : List ℕ)
@@ -195,71 +200,64 @@ pub licensed : (g : Layout) (s : ViewState) (l key : ℕ) (e : Evidence) → IsV
     → ShowsBelow s (list_at g l) (pool_at g) key e → IsLicensedBelow g s l key e
 licensed g s l key e view list (bad_entry block place leads st rule cell below bad) =
     let low = stands_there s e view st in record {
-  stands = low;
-  place = λ inside. (Entries, rule, cell_in g s l block place e.cell list inside leads (omega arith) cell);
-  late = λ other. absurd (omega (arith, rule, other));
-  broken = λ other volume edge none places. record {
-    layout = g;
-    volume = volume;
-    rule = Entries;
-    named = rule;
-    place = cell_on_device g s l block place e.cell list edge leads (omega arith) cell;
-    written = record { found = e.found; stands = low };
-    not_met = λ met.
-        let is : IsBlockOf g s.lower l block = record {
-          list = list;
-          leads = leads_on_device g s.lower s.fresh block (list_at g l) edge leads;
-        } in
-        not_in_order s.image block place e.found bad
-        (order_shown (is_shown s view none) (omega (arith, cell, st.before)) (met.entry l block place is below cell));
-  };
-}
+      stands = low;
+      place = λ inside. (Entries, rule, cell_in g s l block place e.cell list inside leads (omega arith) cell);
+      late = λ other. absurd (omega (arith, rule, other));
+      broken = λ other volume edge none places. record {
+        layout = g;
+        volume = volume;
+        rule = Entries;
+        named = rule;
+        place = cell_on_device g s l block place e.cell list edge leads (omega arith) cell;
+        written = record { found = e.found; stands = low };
+        not_met = λ met.
+            not_in_order s.image block place e.found bad
+            (order_shown (is_shown s view none) (omega (arith, cell, st.before))
+            (met.entry l block place (block_of g s l block list edge leads) below cell));
+      };
+    }
 licensed g s l key e view list (bad_pointer block level digit leads st rule is cell bad) =
     let low = stands_there s e view st in record {
-  stands = low;
-  place = λ inside. (
-    Pointers,
-    rule,
-    cell_in g s l block (127 + 15 * level + digit) e.cell list inside leads
-        (omega (arith, is.levels, is.digits)) cell,
-  );
-  late = λ other. absurd (omega (arith, rule, other));
-  broken = λ other volume edge none places. record {
-    layout = g;
-    volume = volume;
-    rule = Pointers;
-    named = rule;
-    place = cell_on_device g s l block (127 + 15 * level + digit) e.cell list edge leads
-        (omega (arith, is.levels, is.digits)) cell;
-    written = record { found = e.found; stands = low };
-    not_met = λ met.
-        let of : IsBlockOf g s.lower l block = record {
-          list = list;
-          leads = leads_on_device g s.lower s.fresh block (list_at g l) edge leads;
-        } in
-        not_well g s l block level digit e.found list (is_shown s view none) edge places
-        (leads_before (omega (arith, list, edge_from g s.lower s.fresh edge)) leads)
-        (ap s.lower (sym cell) ∙ low) (ap s.image (sym cell) ∙ st.stands) bad
-        (met l block level digit of is.levels is.some is.digits cell);
-  };
-}
+      stands = low;
+      place = λ inside. (
+        Pointers,
+        rule,
+        cell_in g s l block (127 + 15 * level + digit) e.cell list inside leads
+            (omega (arith, is.levels, is.digits)) cell,
+      );
+      late = λ other. absurd (omega (arith, rule, other));
+      broken = λ other volume edge none places. record {
+        layout = g;
+        volume = volume;
+        rule = Pointers;
+        named = rule;
+        place = cell_on_device g s l block (127 + 15 * level + digit) e.cell list edge leads
+            (omega (arith, is.levels, is.digits)) cell;
+        written = record { found = e.found; stands = low };
+        not_met = λ met.
+            not_well g s l block level digit e.found list (is_shown s view none) edge places
+            (leads_before (omega (arith, list, edge_from g s.lower s.fresh edge)) leads)
+            (ap s.lower (sym cell) ∙ low) (ap s.image (sym cell) ∙ st.stands) bad
+            (met l block level digit (block_of g s l block list edge leads) is.levels is.some is.digits cell);
+      };
+    }
 licensed g s l key e view list (late block place p leads st rule cell below holds past) =
     let low = stands_there s e view st in record {
-  stands = low;
-  place = λ inside. (Postings, rule, cell_in g s l block place e.cell list inside leads (omega arith) cell);
-  late = λ same. record {
-    block = block;
-    place = place;
-    p = p;
-    leads = leads;
-    at = cell;
-    in_places = below;
-    posting = record {
-      cell = holds.cell;
-      stands = sym (view.below e.cell st.free st.before) ∙ holds.stands;
-      is = holds.is;
-    };
-    late = past;
-  };
-  broken = λ other. absurd (other rule);
-}
+      stands = low;
+      place = λ inside. (Postings, rule, cell_in g s l block place e.cell list inside leads (omega arith) cell);
+      late = λ same. record {
+        block = block;
+        place = place;
+        p = p;
+        leads = leads;
+        at = cell;
+        in_places = below;
+        posting = record {
+          cell = holds.cell;
+          stands = sym (view.below e.cell st.free st.before) ∙ holds.stands;
+          is = holds.is;
+        };
+        late = past;
+      };
+      broken = λ other. absurd (other rule);
+    }
