@@ -226,17 +226,21 @@ adds_both {old} {new} {p = p} puts is = record {
   jump = puts.jump;
 }
 
+-- the key of a posting that stands somewhere has 32 bits
+small_key : {image : Image} {at : ℕ} {p : PostingFields} → Holds image at (posting_record p) → p.key < 2 ^ 32
+small_key h = h.is.fits.0
+
 -- whichever way the list grows
 pub posting_costs : {old new : Image} {floor next to head cost : ℕ} {p : PostingFields}
     → IsWellListed old floor next head → HaveTrails old floor next head → HaveKeysBelow old floor next head p.key
-    → p.key < 2 ^ 32 → Grows old new floor next to head p cost → PostingCosts floor head p old new next to cost
-posting_costs w trails less small (in_block last place walk below adds holds rises to_is cost_is) =
+    → Grows old new floor next to head p cost → PostingCosts floor head p old new next to cost
+posting_costs w trails less (in_block last place walk below adds holds rises to_is cost_is) =
     needs.in_block last place (walks_to walk) (first_blank below adds rises) adds holds to_is cost_is
-posting_costs w trails less small (in_tail home target place walk puts led from inside is_last to_is cost_is) =
+posting_costs w trails less (in_tail home target place walk puts led from inside is_last to_is cost_is) =
     needs.in_tail home (pointer_at home puts.level puts.digit) target place (walks_to walk) (ends_there puts)
-    (last_is_tail w trails less small walk puts.full is_last) (first_blank puts.in_places puts.adds puts.rises)
+    (last_is_tail w trails less (small_key puts.posting) walk puts.full is_last) (first_blank puts.in_places puts.adds puts.rises)
     (adds_both puts refl) to_is cost_is
-posting_costs w trails less small (in_new_block home walk puts blank is_last to_is cost_is) =
-    let tail = full_tail w trails less small walk puts.full is_last in
+posting_costs w trails less (in_new_block home walk puts blank is_last to_is cost_is) =
+    let tail = full_tail w trails less (small_key puts.posting) walk puts.full is_last in
     needs.in_new_block home (pointer_at home puts.level puts.digit) tail.0 (walks_to walk) (ends_there puts)
     tail.1 tail.2 (adds_both puts (omega arith)) to_is cost_is

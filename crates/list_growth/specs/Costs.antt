@@ -1,5 +1,5 @@
 -- What inserting a posting costs, and what the list keeps for the next one.
-use Rattle.std.specs.Prelude.{◌<◌, ◌≤◌, ◌+◌, ◌^◌, ℕ}
+use Rattle.std.specs.Prelude.{◌<◌, ◌≤◌, ◌+◌, ℕ}
 use Rattle.cell_types.specs.Image.{Image}
 use Rattle.stored_documents.specs.Volumes.{Holds}
 use Rattle.index_paths.specs.Blocks.{PostingFields, posting_record, Leads, Trail}
@@ -23,7 +23,7 @@ HaveKeysBelow image floor next head key =
 abbrev pub InsertionsCost : Type 0
 InsertionsCost =
     (old new : Image) (floor next to head cost : ℕ) (p : PostingFields) → IsWellListed old floor next head
-    → HaveTrails old floor next head → HaveKeysBelow old floor next head p.key → p.key < 2 ^ 32
+    → HaveTrails old floor next head → HaveKeysBelow old floor next head p.key
     → Grows old new floor next to head p cost → PostingCosts floor head p old new next to cost
 
 -- behind it each posting has a trail again, and none a greater key than the new one
