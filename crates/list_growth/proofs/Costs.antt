@@ -238,7 +238,8 @@ posting_costs w trails less (in_block last place walk below adds holds rises to_
     needs.in_block last place (walks_to walk) (first_blank below adds rises) adds holds to_is cost_is
 posting_costs w trails less (in_tail home target place walk puts led from inside is_last to_is cost_is) =
     needs.in_tail home (pointer_at home puts.level puts.digit) target place (walks_to walk) (ends_there puts)
-    (last_is_tail w trails less (small_key puts.posting) walk puts.full is_last) (first_blank puts.in_places puts.adds puts.rises)
+    (last_is_tail w trails less (small_key puts.posting) walk puts.full is_last)
+    (first_blank puts.in_places puts.adds puts.rises)
     (adds_both puts refl) to_is cost_is
 posting_costs w trails less (in_new_block home walk puts blank is_last to_is cost_is) =
     let tail = full_tail w trails less (small_key puts.posting) walk puts.full is_last in
