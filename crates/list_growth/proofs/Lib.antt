@@ -1,0 +1,5 @@
+pub mod BelowPlans
+pub mod Costs
+pub mod Greatest
+pub mod KeptTrails
+pub mod Licence

@@ -1,0 +1,18 @@
+//! Laws: what the definitions mean together. Each is a function that does nothing and whose contract is the law.
+ghost use Rattle.list_growth.specs.Costs.{InsertionsCost, InsertionsKeepTrails};
+ghost use Rattle.list_growth.specs.Licences.{EvidenceIsLicensed};
+
+/// What an insertion shows is licensed over what stands below.
+pub fn evidence_is_licensed()
+    ensures { EvidenceIsLicensed }
+{}
+
+/// What an insertion adds to a list in which each posting has a trail costs what the posting needs.
+pub fn insertions_cost_their_need()
+    ensures { InsertionsCost }
+{}
+
+/// Each posting of a list has a trail after an insertion too, and the new one has the greatest key.
+pub fn insertions_keep_trails()
+    ensures { InsertionsKeepTrails }
+{}
