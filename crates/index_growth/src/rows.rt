@@ -22,7 +22,7 @@ use worm_device::{Overlay, View};
 /// Afterwards each of them has a trail, and what is planned is what was planned before, these postings, and pointers.
 /// After a refusal what was planned is given up.
 pub fn insert_postings<V: View>(
-    overlay: &mut Overlay<V>,
+    overlay: &mut Overlay<'_, V>,
     pool: &mut Pool,
     geometry: &Geometry,
     slot: u32,
@@ -52,7 +52,7 @@ pub fn insert_postings<V: View>(
 
 /// Inserts one posting of a slot's document into its list.
 fn insert_one<V: View>(
-    overlay: &mut Overlay<V>,
+    overlay: &mut Overlay<'_, V>,
     pool: &mut Pool,
     geometry: &Geometry,
     slot: u32,

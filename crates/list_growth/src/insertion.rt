@@ -17,7 +17,7 @@ use worm_device::{Overlay, View};
 /// It plans the posting and at most one pointer to its block, and takes at most one block from the pool. A written cell
 /// that is out of place on the way is evidence. After a refusal what was planned is given up.
 pub fn insert<V: View>(
-    overlay: &mut Overlay<V>,
+    overlay: &mut Overlay<'_, V>,
     pool: &mut Pool,
     head: u32,
     floor: u32,
