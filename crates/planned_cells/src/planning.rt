@@ -18,7 +18,7 @@ pub enum PlanFault {
 
 /// Plans the cell of a record, unless one is planned there already.
 pub fn plan_record<V: View>(
-    overlay: &mut Overlay<V>,
+    overlay: &mut Overlay<'_, V>,
     at: u32,
     value: RecordCell,
     owner: Owner,

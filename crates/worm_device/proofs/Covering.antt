@@ -1,5 +1,5 @@
 -- What an overlay shows of the view below, and what it shows after one cell more was planned.
-use Rattle.std.proofs.Common.{◌≡◌, ◌<◌, ◌≤◌, ⊎_elim, ℕ, Bool, true, false, List, Option, Some, None, Result, Ok, Err, refl, ap, sym, subst, arith, ◌∙◌, min}
+use Rattle.std.proofs.Common.{◌≡◌, ◌∷◌, ◌<◌, ◌≤◌, ⊎_elim, ℕ, Bool, true, false, List, Option, Some, None, Result, Ok, Err, refl, ap, sym, subst, arith, ◌∙◌, min}
 use Rattle.std.specs.Prelude.{nat_lt, if◌then◌else◌, MatchResult}
 use Rattle.std.proofs.lemmas.Bool.{cases_lt, lt-ltb, le-ltb}
 use Rattle.std.proofs.lemmas.Option.{none-some}
@@ -43,12 +43,12 @@ over_on planned fresh old new e = record {
       keeps_over (get nat_cmp planned cell) (nat_lt cell fresh) (old cell) (new cell) value (λ k. e.keeps cell value k) h;
 }
 
-module _ (planned : BTreeMap ℕ (List ℕ)) (owners : BTreeMap ℕ Owner) (fresh at : ℕ) where
+module _ (planned : BTreeMap ℕ (List ℕ)) (owners : BTreeMap ℕ Owner) (name fresh at : ℕ) where
   shown : ViewState → ViewState
-  shown s = seen_over s planned owners fresh
+  shown s = seen_over s name planned owners fresh
 
   pub viewed_over : (s t : ViewState) → Viewed s t
-      → Viewed (seen_over s planned owners fresh) (seen_over t planned owners fresh)
+      → Viewed (seen_over s name planned owners fresh) (seen_over t name planned owners fresh)
   viewed_over s t v =
       let few : min fresh t.cells ≡ min fresh s.cells = ap (λ (n : ℕ). min fresh n) v.cells in
       let P : ℕ → Type 0 = λ n.
@@ -62,7 +62,7 @@ module _ (planned : BTreeMap ℕ (List ℕ)) (owners : BTreeMap ℕ Owner) (fres
         owners = refl;
         lower = v.image;
         fresh = few;
-        loans = v.loans;
+        loans = ap (λ (l : List ℕ). name ∷ l) v.loans;
         quiet = rested_since (record {
           later = rests.later;
           shown = λ still cell.
@@ -76,9 +76,9 @@ module _ (planned : BTreeMap ℕ (List ℕ)) (owners : BTreeMap ℕ Owner) (fres
 
   -- a planned cell
   pub reads_planned : (s : ViewState) (value : List ℕ) → get nat_cmp planned at ≡ Some value
-      → ViewReads at (seen_over s planned owners fresh) (seen_over s planned owners fresh) (Ok (Some value))
+      → ViewReads at (seen_over s name planned owners fresh) (seen_over s name planned owners fresh) (Ok (Some value))
   reads_planned s value is = record {
-    viewed = viewed_self (seen_over s planned owners fresh);
+    viewed = viewed_self (seen_over s name planned owners fresh);
     answer = λ tells.
         sym (planned_is_shown (get nat_cmp planned at) (if nat_lt at (min fresh s.cells) then s.image at else None) value is);
     cause = refl;
@@ -88,7 +88,7 @@ module _ (planned : BTreeMap ℕ (List ℕ)) (owners : BTreeMap ℕ Owner) (fres
   -- a cell that is not planned, and asked for below
   pub reads_below : (s t : ViewState) (result : Result (Option (List ℕ)) Failed) → get nat_cmp planned at ≡ None
       → at < min fresh s.cells → ViewReads at s t result
-      → ViewReads at (seen_over s planned owners fresh) (seen_over t planned owners fresh) result
+      → ViewReads at (seen_over s name planned owners fresh) (seen_over t name planned owners fresh) result
   reads_below s t result free asked read = record {
     viewed = viewed_over s t read.viewed;
     answer = λ tells. below result (read.answer tells);
@@ -106,9 +106,9 @@ module _ (planned : BTreeMap ℕ (List ℕ)) (owners : BTreeMap ℕ Owner) (fres
 
   -- a cell that is not planned, from `fresh` on
   pub reads_beyond : (s : ViewState) → get nat_cmp planned at ≡ None → min fresh s.cells ≤ at
-      → ViewReads at (seen_over s planned owners fresh) (seen_over s planned owners fresh) (Ok None)
+      → ViewReads at (seen_over s name planned owners fresh) (seen_over s name planned owners fresh) (Ok None)
   reads_beyond s free past = record {
-    viewed = viewed_self (seen_over s planned owners fresh);
+    viewed = viewed_self (seen_over s name planned owners fresh);
     answer = λ tells.
         sym (unasked_is_blank (get nat_cmp planned at) (s.image at) (nat_lt at (min fresh s.cells)) free
         (le-ltb at (min fresh s.cells) past));

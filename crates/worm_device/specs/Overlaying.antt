@@ -7,7 +7,8 @@ use Rattle.std.proofs.lemmas.Bool.{le-ltb, lt-ltb}
 use Rattle.std.specs.Ordering.{nat_cmp}
 use Rattle.std.specs.BTreeMap.{BTreeMap, get}
 use Rattle.cell_types.specs.Bytes.{IsCell}
-use Rattle.worm_device.specs.Overlays.{over, seen_over}
+use Rattle.worm_device.specs.Overlays.{of_overlay, over, seen_over}
+use Rattle.worm_device.specs.declared.overlay.Overlay.{Overlay}
 use Rattle.worm_device.specs.Owned.{AreOwned}
 use Rattle.worm_device.specs.Views.{ViewState, IsView}
 use Rattle.worm_device.specs.declared.overlay.TheConstants.{OVERLAY_CELLS}
@@ -41,7 +42,7 @@ unasked_is_blank None below true free is = cc
 unasked_is_blank None below false free is = refl
 
 module _ (s : ViewState) (below : IsView s) (planned : BTreeMap ℕ (List ℕ)) (owners : BTreeMap ℕ Owner)
-    (owned : AreOwned planned owners) (fresh : ℕ) where
+    (owned : AreOwned planned owners) (name fresh : ℕ) where
   shown_inside : (cell : ℕ) (value : List ℕ)
       → IsShown (get nat_cmp planned cell) (s.image cell) (nat_lt cell (min fresh s.cells)) value
       → (cell < OVERLAY_CELLS) × IsCell value
@@ -49,7 +50,7 @@ module _ (s : ViewState) (below : IsView s) (planned : BTreeMap ℕ (List ℕ)) 
   shown_inside cell value (as_below free asked is) =
       let there = below.inside cell value is in (omega (arith, there.0, below.cells), there.1)
 
-  pub overlay_is_view : IsView (seen_over s planned owners fresh)
+  pub overlay_is_view : IsView (seen_over s name planned owners fresh)
   overlay_is_view = record {
     cells = omega arith;
     inside = λ cell value h.
@@ -67,3 +68,9 @@ module _ (s : ViewState) (below : IsView s) (planned : BTreeMap ℕ (List ℕ)) 
         unasked_is_blank (get nat_cmp planned cell) (s.image cell) (nat_lt cell (min fresh s.cells)) free
         (le-ltb cell (min fresh s.cells) past);
   }
+
+-- the same of an overlay over a view
+pub overlay_shows : {V : Type 0} (seen : V → ViewState) → ((view : V) → IsView (seen view)) → (o : Overlay V)
+    → IsView (of_overlay seen o)
+overlay_shows seen proper o =
+    overlay_is_view (seen o.view) (proper o.view) o.own.now.planned o.own.now.owners o.own.now.owned o.own.ghost_name o.fresh

@@ -1,5 +1,5 @@
 -- What a view of planned cells shows, and what planning one more does.
-use Rattle.std.specs.Prelude.{◌≡◌, ◌≢◌, ℕ, List, Option, Some, None, Result, Ok, Err, nat_lt, min, if◌then◌else◌}
+use Rattle.std.specs.Prelude.{◌≡◌, ◌≢◌, ℕ, List, ◌∷◌, Option, Some, None, Result, Ok, Err, nat_lt, min, if◌then◌else◌}
 use Rattle.std.specs.Ordering.{nat_cmp}
 use Rattle.std.specs.BTreeMap.{BTreeMap, get}
 use Rattle.cell_types.specs.Image.{Image}
@@ -18,9 +18,9 @@ over None below = below
 abbrev pub planned_over : BTreeMap ℕ (List ℕ) → ℕ → Image → Image
 planned_over planned fresh below = λ cell. over (get nat_cmp planned cell) (if nat_lt cell fresh then below cell else None)
 
--- a view as it shows itself with planned cells over it
-abbrev pub seen_over : ViewState → BTreeMap ℕ (List ℕ) → BTreeMap ℕ Owner → ℕ → ViewState
-seen_over s planned owners fresh = record {
+-- a view as it shows itself with planned cells over it, which are held by a loan of this name
+abbrev pub seen_over : ViewState → ℕ → BTreeMap ℕ (List ℕ) → BTreeMap ℕ Owner → ℕ → ViewState
+seen_over s name planned owners fresh = record {
   cells = OVERLAY_CELLS;
   image = planned_over planned (min fresh s.cells) s.image;
   planned = λ cell. get nat_cmp planned cell;
@@ -28,12 +28,12 @@ seen_over s planned owners fresh = record {
   lower = s.image;
   fresh = min fresh s.cells;
   base = s.base;
-  loans = s.loans;
+  loans = name ∷ s.loans;
 }
 
 -- an overlay as it shows itself, over a view of this meaning
 abbrev pub of_overlay : {V : Type 0} → (V → ViewState) → Overlay V → ViewState
-of_overlay seen o = seen_over (seen o.view) o.planned o.owners o.fresh
+of_overlay seen o = seen_over (seen o.view) o.own.ghost_name o.own.now.planned o.own.now.owners o.fresh
 
 -- nothing is planned or said to be somebody's anew
 pub record PlansNothing (old new : ViewState) : Type 0 where

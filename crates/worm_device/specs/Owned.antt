@@ -11,3 +11,9 @@ pub record AreOwned (planned : BTreeMap ℕ (List ℕ)) (owners : BTreeMap ℕ O
   pub inside : (cell : ℕ) (value : List ℕ) → get nat_cmp planned cell ≡ Some value → (cell < OVERLAY_CELLS) × IsCell value
   pub unowned : (cell : ℕ) → get nat_cmp planned cell ≡ None → get nat_cmp owners cell ≡ None
   pub unplanned : (cell : ℕ) → get nat_cmp owners cell ≡ None → get nat_cmp planned cell ≡ None
+
+-- these maps hold what those held before
+pub record AreAsBefore (planned : BTreeMap ℕ (List ℕ)) (owners : BTreeMap ℕ Owner) (new_planned : BTreeMap ℕ (List ℕ))
+    (new_owners : BTreeMap ℕ Owner) : Type 0 where
+  pub cells : (cell : ℕ) → get nat_cmp new_planned cell ≡ get nat_cmp planned cell
+  pub names : (cell : ℕ) → get nat_cmp new_owners cell ≡ get nat_cmp owners cell

@@ -5,7 +5,7 @@ ghost use Rattle.worm_device.specs.Calls.{Called};
 ghost use Rattle.worm_device.specs.Counts.{Rose, IsStill};
 ghost use Rattle.worm_device.specs.Views.{Viewed, ViewState};
 
-use crate::{Device, Direct, Failed, View, Written};
+use crate::{Device, Direct, Failed, Overlay, PlannedCells, View, Written};
 use cell_types::Cell;
 
 /// Writes two cells and syncs. Answers whether both were blank.
@@ -101,6 +101,22 @@ fn look_through_a_holder<D: Device>(device: &mut D, value: Cell) -> Result<Optio
 {
     let mut view = Counted::new(Direct::new(device));
     let found = first_written(&mut view)?;
+    device.write(2, value)?;
+    Ok(found)
+}
+
+/// Looks at a device through planned cells, and then writes to it: the device comes back from below them.
+fn look_over<D: Device>(
+    device: &mut D,
+    own: &mut PlannedCells,
+    value: Cell,
+) -> Result<Option<Cell>, Failed>
+    requires { 2 < (D.state device.old).cells }
+    ensures called { Called (D.state device.old) (D.state device.new) }
+{
+    let fresh = device.cells();
+    let mut overlay = Overlay::new(Direct::new(device), own, fresh);
+    let found = first_written(&mut overlay)?;
     device.write(2, value)?;
     Ok(found)
 }

@@ -39,6 +39,7 @@ mod direct;
 mod laws;
 mod overlay;
 mod owner;
+mod planned;
 mod planning;
 mod shown;
 mod view;
@@ -49,6 +50,6 @@ pub use laws::{
     a_crash_in_a_call, a_crash_now, calls_compose, calls_elapse, crashes_keep_what_was_sure,
     planned_cells_show, views_compose, views_rest,
 };
-pub use overlay::{OVERLAY_CELLS, Overlay};
+pub use overlay::{OVERLAY_CELLS, Overlay, PlannedCells};
 pub use owner::Owner;
 pub use view::View;

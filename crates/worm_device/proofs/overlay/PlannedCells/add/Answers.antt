@@ -4,10 +4,10 @@ use Rattle.std.specs.Ordering.{nat_cmp}
 use Rattle.std.specs.BTreeMap.{is_at}
 use Rattle.std.specs.Map.{lookup}
 use Rattle.worm_device.proofs.Owning.{at_ok, at_err, owned_with, owned_same, put_and_taken}
-use Rattle.worm_device.proofs.overlay.Overlay.plan.Goals as goal
+use Rattle.worm_device.proofs.overlay.PlannedCells.add.Goals as goal
 
 pub invariant_of-self-then-is_err-2 : goal.invariant_of-self-then-is_err-2
-invariant_of-self-then-is_err-2 g c =
+invariant_of-self-then-is_err-2 c =
     let same = at_err c.insert-2.result (sym c.is_err-2.ensures.value ∙ c.if-is_err-2.true) c.insert-2.ensures.err in
     record {
       owned = owned_same c.args.self.now.planned _ c.args.self.now.owners _ c.args.self.now.owned
@@ -17,7 +17,7 @@ invariant_of-self-then-is_err-2 g c =
     }
 
 pub invariant_of-self-else-is_err-2 : goal.invariant_of-self-else-is_err-2
-invariant_of-self-else-is_err-2 g c = record {
+invariant_of-self-else-is_err-2 c = record {
   owned = owned_with c.args.self.now.planned _ c.args.self.now.owners _ c.args.at c.args.value c.args.owner
       c.args.self.now.owned c.requires.inside c.bytes-bytes.ensures.cell
       (at_ok c.insert-2.result (sym c.is_err-2.ensures.value ∙ c.if-is_err-2.false) c.insert-2.ensures.updates)
