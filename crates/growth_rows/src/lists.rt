@@ -11,7 +11,7 @@ use list_growth::{NewEntry, insert};
 use planned_cells::GrowthFault;
 use std::alloc::Global;
 use std::test::Fail;
-use worm_device::{Device, Direct, Failed, Overlay, View};
+use worm_device::{Device, Direct, Failed, Overlay, PlannedCells, View};
 use worm_memory::MemoryDevice;
 
 pub const TAG: [u8; 6] = [1, 2, 3, 4, 5, 6];
@@ -53,7 +53,8 @@ pub fn plan_key<D: Device>(
     requires to { next ≤ (D.state device.old).cells }
     ensures { Called (D.state device.old) (D.state device.new) }
 {
-    let mut overlay = Overlay::new(alloc, Direct::new(device), next);
+    let mut own = PlannedCells::new(alloc);
+    let mut overlay = Overlay::new(Direct::new(device), &mut own, next);
     plan_over(alloc, &mut overlay, key, next)
 }
 
