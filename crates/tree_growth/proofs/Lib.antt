@@ -1,0 +1,4 @@
+pub mod Inserting
+pub mod Licence
+pub mod Rooting
+pub mod Trails
