@@ -1,6 +1,7 @@
 -- What an insertion does, put together from the cells that it plans.
 use Rattle.std.proofs.Common.{◌≡◌, ◌≢◌, ◌<◌, ◌≤◌, ◌+◌, ◌∙◌, ℕ, List, Option, Some, None, Ok, Err, refl, ap, sym, subst, arith}
 use Rattle.cell_types.specs.Layout.{Layout, pool_at}
+use Rattle.cell_types.specs.Records.{IsRecordCell}
 use Rattle.cell_types.specs.declared.record_cell.RecordCell.{RecordCell}
 use Rattle.cell_types.specs.declared.record_cell.RecordCell.TheVariants.{Bucket, Child}
 use Rattle.cell_types.specs.declared.refusal.Evidence.{Evidence}
@@ -26,7 +27,7 @@ use Rattle.tree_growth.proofs.Rooting.{rooted_alone, rooted_with_node}
 use Rattle.tree_growth.proofs.Trails.{trail_alone, trail_with_node}
 
 -- a node of a path lies before what is free
-node_before : (g : Layout) (fresh next : ℕ) (led : Option ChildCell) → IsWithin g fresh led → pool_at g ≤ fresh
+pub node_before : (g : Layout) (fresh next : ℕ) (led : Option ChildCell) → IsWithin g fresh led → pool_at g ≤ fresh
     → fresh ≤ next → node_in g led + 32 ≤ next
 node_before g fresh next None within from before = omega arith
 node_before g fresh next (Some child) within from before = omega (arith, within.1)
@@ -171,6 +172,13 @@ module _ (g : Layout) (level : Level) (place : Open) (slot : ℕ) (pool : Pool) 
             let there : IsLed old.lower (Some child) = subst (λ (l : Option ChildCell). IsLed old.lower l) led
             (ready.led tells) in
             ap old.lower cell ∙ there.0 ∙ ap (λ (f : List ℕ). Some f) (sym found);
+        leads = λ tells.
+            let there : IsLed old.lower (Some child) = subst (λ (l : Option ChildCell). IsLed old.lower l) led
+            (ready.led tells) in
+            let target : child.target ≡ node_of g level = ap (λ (l : Option ChildCell). node_in g l) (sym led) in
+            subst (λ (n : ℕ). IsRecordCell (Child n) e.cell e.found) target
+            (subst (λ (f : List ℕ). IsRecordCell (Child child.target) e.cell f) (sym found)
+            (subst (λ (c : ℕ). IsRecordCell (Child child.target) c child.found) (sym cell) there.1));
       }
 
   -- the first cell is not planned

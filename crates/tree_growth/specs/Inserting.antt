@@ -2,6 +2,7 @@
 use Rattle.std.specs.Prelude.{◌≡◌, ◌≢◌, ◌<◌, ◌≤◌, ◌+◌, ℕ, Option, Some, None, Result, Ok, Err, IsTrue}
 use Rattle.cell_types.specs.Image.{Image, Extends}
 use Rattle.cell_types.specs.Layout.{Layout, root_at, pool_at}
+use Rattle.cell_types.specs.Records.{IsRecordCell}
 use Rattle.cell_types.specs.declared.record_cell.RecordCell.{RecordCell}
 use Rattle.cell_types.specs.declared.record_cell.RecordCell.TheVariants.{Bucket, Child}
 use Rattle.cell_types.specs.declared.refusal.Evidence.{Evidence}
@@ -62,8 +63,8 @@ HasTrail g level place slot to planned =
     (image : Image) (s : Sought) → s.digest ≡ level.digest → s.pool ≡ pool_at g → to ≤ s.cells
     → Extends planned image → PassedDown g image s level place.child → HashTrail image s slot (root_at g) 0
 
--- The place's blank cell is planned already, for somebody else, and the evidence is the child cell that led to the node,
--- which stands below what is planned.
+-- The place's blank cell, one of the level's node, is planned already, for somebody else; and the evidence is the child
+-- cell that led to the node, which stands below what is planned.
 pub record IsTaken (g : Layout) (level : Level) (place : Open) (view : ViewState) (e : Evidence) : Type 0 where
   pub planned : IsWritten view.planned (blank_of place)
   pub shown : IsWritten view.image (blank_of place)
@@ -78,6 +79,7 @@ pub record IsTaken (g : Layout) (level : Level) (place : Open) (view : ViewState
   pub cell : e.cell ≡ child.cell
   pub found : e.found ≡ child.found
   pub stands : IsTrue view.base.tells → view.lower e.cell ≡ Some e.found
+  pub leads : IsTrue view.base.tells → IsRecordCell (Child (node_of g level)) e.cell e.found
 
 -- How inserting an entry may end, and why. It reads nothing, so that no read fails.
 abbrev pub InsertEnds : Layout → Level → Open → ℕ → Pool → Pool → ViewState → ViewState → Result ℕ GrowthFault → Type 0

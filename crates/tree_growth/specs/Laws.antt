@@ -1,5 +1,6 @@
 -- The licence of the evidence that a node is another's.
 use Rattle.std.specs.Prelude.{◌≡◌, ◌<◌, ◌≤◌, ◌+◌, ℕ, Option, Some, None, IsTrue, ⊤}
+use Rattle.cell_types.specs.Bytes.{AreBytes}
 use Rattle.cell_types.specs.Image.{Image}
 use Rattle.cell_types.specs.Layout.{Layout, list_at, root_at}
 use Rattle.cell_types.specs.declared.refusal.Evidence.{Evidence}
@@ -7,9 +8,10 @@ use Rattle.stored_documents.specs.Slots.{IsEdge}
 use Rattle.stored_documents.specs.Volumes.{IsVolume}
 use Rattle.index_paths.specs.Nodes.{IsBlockOf, IsNode}
 use Rattle.tamper_rules.specs.Rules.{IsBroken}
-use Rattle.worm_device.specs.Views.{ViewState}
+use Rattle.worm_device.specs.Views.{ViewState, IsView}
 use Rattle.worm_device.specs.declared.owner.Owner.{Owner}
-use Rattle.hash_tree.specs.Levels.{first_level}
+use Rattle.hash_tree.specs.Levels.{AreBounds, IsReached, first_level}
+use Rattle.hash_tree.specs.Licences.{AsksBelow}
 use Rattle.hash_tree.specs.Steps.{ComesTo}
 use Rattle.hash_tree.specs.declared.level.ChildCell.{ChildCell}
 use Rattle.hash_tree.specs.declared.level.Level.{Level}
@@ -51,8 +53,10 @@ TakenIsBroken =
     → ((cell : ℕ) (owner : Owner) → view.owners cell ≡ Some owner → LiesByOwner g view cell owner)
     → IsBroken g.cells view.lower e.rule e.cell
 
--- the child cell that led to a level to which a path comes from the root is one of a node
+-- Where no child cell is planned, a level to which a path comes from the root was reached in the lower image, and the
+-- child cell that led there is one of a node.
 abbrev pub PathsLeadWithin : Type 0
 PathsLeadWithin =
-    (g : Layout) (edge : ℕ) (image : Image) (first last : Level) → edge ≤ g.cells → first ≡ first_level first.digest
-    → ComesTo g edge image last first → IsLedWithin g image last.led_by
+    (g : Layout) (edge : ℕ) (view : ViewState) (first last : Level) → IsView view → AreBounds g edge
+    → AsksBelow edge view → AreBytes first.digest → first ≡ first_level first.digest
+    → ComesTo g edge view.image last first → IsReached g view.lower last × IsLedWithin g view.lower last.led_by

@@ -7,7 +7,7 @@ pub fn taken_is_broken()
     ensures { TakenIsBroken }
 {}
 
-/// The child cell that led to a level of a path from the root is one of a node.
+/// The child cell that led to a level of a path from the root is one of a node below what is planned.
 pub fn paths_lead_within()
     ensures { PathsLeadWithin }
 {}
