@@ -5,7 +5,7 @@ use Rattle.cell_types.specs.Records.{IsRecordCell}
 use Rattle.cell_types.specs.declared.record_cell.RecordCell.{RecordCell}
 use Rattle.cell_types.specs.declared.record_cell.RecordCell.TheVariants.{Bucket, Child}
 use Rattle.cell_types.specs.declared.refusal.Evidence.{Evidence}
-use Rattle.stored_documents.specs.Volumes.{Holds, IsWritten}
+use Rattle.stored_documents.specs.Volumes.{Holds}
 use Rattle.index_paths.specs.HashPaths.{fingerprint_of, nibble}
 use Rattle.tamper_rules.specs.declared.numbers.TheConstants.{LOST_CHILD}
 use Rattle.worm_device.specs.Views.{ViewState, IsView}
@@ -72,15 +72,17 @@ module _ (g : Layout) (level : Level) (place : Open) (slot : ℕ) (pool : Pool) 
         fresh = plans.fresh;
         base = plans.base;
         loans = plans.loans;
-        ends = (
-          alone no_child at held
-          (λ cell differ. let same = plans.others cell differ in
-          record { image = same.0; planned = same.1; owners = same.2 })
-          refl,
-          trail_alone g level place slot pool.next new.planned no_child put.ends.planned,
-          λ before. rooted_alone g level place slot pool.next old.image new.image half no_child at put.ends.shown
-          (λ cell differ. (put.others cell differ).0) before,
-        );
+        ends = record {
+          plans = alone no_child at held
+              (λ cell differ. let same = plans.others cell differ in
+              record { image = same.0; planned = same.1; owners = same.2 })
+              half refl;
+          beyond = λ cell past.
+              (put.others cell (λ same. omega (arith, same, low, half, past))).1 ∙ ready.beyond cell past;
+          trail = trail_alone g level place slot pool.next new.planned no_child put.ends.planned;
+          rooted = λ before. rooted_alone g level place slot pool.next old.image new.image half no_child at put.ends.shown
+              (λ cell differ. (put.others cell differ).0) before;
+        };
       }
 
   -- a child cell is planned, and the bucket in the node that it leads to
@@ -120,29 +122,31 @@ module _ (g : Layout) (level : Level) (place : Open) (slot : ℕ) (pool : Pool) 
         fresh = last.fresh ∙ one.fresh;
         base = last.base ∙ one.base;
         loans = last.loans ∙ one.loans;
-        ends = (
-          with_node child has_child spot.1 spot.2 led_now there entry_now
-          (λ cell away far.
-          let before = one.others cell away in
-          let after = last.others cell far in
-          record { image = after.0 ∙ before.0; planned = after.1 ∙ before.1; owners = after.2 ∙ before.2 })
-          (record { first = refl; next = moved; end = kept }),
-          trail_with_node g level place slot pool.next rest.next child new.planned has_child spot.2
-          (omega (arith, ready.from, ready.fresh)) moved
-          (subst (λ (c : ℕ). Holds new.planned c (Child pool.next)) spot.1 led_now.planned)
-          (subst (λ (c : ℕ). Holds new.planned c (entry_of level slot)) there entry_now.planned),
-          λ before. rooted_with_node g level place slot pool.next rest.next old.image mid.image new.image half next_half
-          spot.2 low (omega (arith, ready.from, ready.fresh)) moved
-          (λ cell past. view.beyond cell (ready.beyond cell past) (omega (arith, past, ready.fresh)))
-          (subst (λ (c : ℕ). Holds mid.image c (Child pool.next)) spot.1 led.shown)
-          (λ cell far. (one.others cell (λ same. far (same ∙ spot.1))).0)
-          (subst (λ (c : ℕ). Holds new.image c (entry_of level slot)) there entry_now.shown)
-          (λ cell far. (last.others cell (λ same. far (same ∙ there))).0)
-          before
-          (subst (λ (c : ℕ). old.image c ≡ None) spot.1
-          (subst (λ (c : Option ℕ). old.image (blank_in place.bucket c) ≡ None) has_child before.blank))
-          (subst (λ (c : ℕ). IsWritten old.image c) spot.0 (before.bucket child has_child)),
-        );
+        ends = record {
+          plans = with_node child has_child spot.1 spot.2 led_now there entry_now
+              (λ cell away far.
+              let before = one.others cell away in
+              let after = last.others cell far in
+              record { image = after.0 ∙ before.0; planned = after.1 ∙ before.1; owners = after.2 ∙ before.2 })
+              half next_half (record { first = refl; next = moved; end = kept });
+          beyond = λ cell past.
+              (last.others cell (λ same. omega (arith, same, there, next_half, past, moved))).1
+              ∙ (one.others cell (λ same. omega (arith, same, spot.1, half, low, past, moved))).1
+              ∙ ready.beyond cell (omega (arith, past, moved));
+          trail = trail_with_node g level place slot pool.next rest.next child new.planned has_child spot.2
+              (omega (arith, ready.from, ready.fresh)) moved
+              (subst (λ (c : ℕ). Holds new.planned c (Child pool.next)) spot.1 led_now.planned)
+              (subst (λ (c : ℕ). Holds new.planned c (entry_of level slot)) there entry_now.planned);
+          rooted = λ before.
+              rooted_with_node g level place slot pool.next rest.next old.image mid.image new.image half next_half
+              spot.2 low (omega (arith, ready.from, ready.fresh)) moved
+              (λ cell past. view.beyond cell (ready.beyond cell past) (omega (arith, past, ready.fresh)))
+              (subst (λ (c : ℕ). Holds mid.image c (Child pool.next)) spot.1 led.shown)
+              (λ cell far. (one.others cell (λ same. far (same ∙ spot.1))).0)
+              (subst (λ (c : ℕ). Holds new.image c (entry_of level slot)) there entry_now.shown)
+              (λ cell far. (last.others cell (λ same. far (same ∙ there))).0)
+              before child has_child spot.0 spot.1;
+        };
       }
 
   -- the blank cell is planned for somebody else, and the node is not the root

@@ -1,5 +1,5 @@
 -- The tree keeps its shape with an entry, and what is new in it.
-use Rattle.std.proofs.Common.{◌≡◌, ◌≢◌, ◌<◌, ◌≤◌, ◌+◌, ◌⊎◌, ⊎_elim, inl, inr, ◌∙◌, ℕ, List, Option, None, refl, ap, sym, subst, arith}
+use Rattle.std.proofs.Common.{◌≡◌, ◌≢◌, ◌<◌, ◌≤◌, ◌+◌, ◌⊎◌, ⊎_elim, inl, inr, ◌∙◌, ℕ, List, Option, Some, None, refl, ap, sym, subst, arith}
 use Rattle.std.proofs.lemmas.Option.{none-some}
 use Rattle.cell_types.specs.Image.{Image, Extends}
 use Rattle.cell_types.specs.Layout.{Layout, pool_at}
@@ -7,12 +7,14 @@ use Rattle.cell_types.specs.declared.record_cell.RecordCell.TheVariants.{Child}
 use Rattle.stored_documents.specs.Volumes.{Holds, IsWritten}
 use Rattle.stored_documents.proofs.Extending.{holds_on}
 use Rattle.stored_documents.proofs.Holding.{one_record_holds}
-use Rattle.index_paths.specs.HashPaths.{nibble}
+use Rattle.index_paths.specs.HashPaths.{IsPassed, nibble}
 use Rattle.index_paths.specs.Nodes.{IsNode, IsOnPath}
 use Rattle.index_paths.specs.Nodes as nodes
 use Rattle.tamper_rules.proofs.GivenUp.{children}
 use Rattle.tamper_rules.proofs.Writing.{same_or_not}
+use Rattle.index_paths.specs.Keeping.{sought_in}
 use Rattle.volume_growth.specs.ListShapes.{Adds}
+use Rattle.volume_growth.specs.Needs.{BucketCosts}
 use Rattle.volume_growth.specs.TreeShapes.{IsWellRooted}
 use Rattle.volume_growth.proofs.ListShapes.{adds_extends, holds_back}
 use Rattle.volume_growth.proofs.TreeShapes.{one_level, rooted_apart, rooted_with_child}
@@ -20,7 +22,7 @@ use Rattle.hash_tree.specs.Levels.{bucket_at, child_at, node_of}
 use Rattle.hash_tree.specs.declared.level.Level.{Level}
 use Rattle.hash_tree.specs.declared.path.Open.{Open}
 use Rattle.tree_growth.specs.Inserting.{entry_of}
-use Rattle.tree_growth.specs.Readiness.{blank_in}
+use Rattle.tree_growth.specs.Readiness.{PassedDown, blank_in}
 use Rattle.tree_growth.specs.Rooting.{IsNewBucket, IsRooted, IsRootedBefore, in_bucket, in_new_node}
 
 -- a node stays one
@@ -111,6 +113,10 @@ rooted_alone g level place slot next old new half no_child is_bucket held others
       rooted = with_bucket before.rooted before.node half a;
       cost = 1;
       grows = in_bucket a held refl refl;
+      needs = λ id same passed.
+          BucketCosts.in_bucket level.number (node_of g level)
+          (subst (λ (c : Option ℕ). PassedDown g old (sought_in g.cells g id) level c) no_child passed)
+          (subst (λ (d : List ℕ). old (node_of g level + nibble d level.number) ≡ None) (sym same) blank) refl;
       nodes = λ v node n. inl (node_before before.rooted before.node half a n);
       new_children = λ v node x target n xs none h. absurd (none-some h.cell
           (sym none ∙ sym (child_same before.rooted before.node half a v node x
@@ -130,8 +136,16 @@ module _ (g : Layout) (level : Level) (place : Open) (slot next to : ℕ) (old m
     (others : (cell : ℕ) → cell ≢ child_at g level → mid cell ≡ old cell)
     (held : Holds new (next + nibble level.digest (level.number + 1)) (entry_of level slot))
     (others_of_node : (cell : ℕ) → cell ≢ next + nibble level.digest (level.number + 1) → new cell ≡ mid cell)
-    (before : IsRootedBefore g level place next old) (blank : old (child_at g level) ≡ None)
-    (above : IsWritten old (bucket_at g level)) where
+    (before : IsRootedBefore g level place next old) (at : ℕ) (has_child : place.child ≡ Some at)
+    (is_bucket : place.bucket ≡ bucket_at g level) (is_child : at ≡ child_at g level) where
+  blank : old (child_at g level) ≡ None
+  blank =
+      subst (λ (c : ℕ). old c ≡ None) is_child
+      (subst (λ (c : Option ℕ). old (blank_in place.bucket c) ≡ None) has_child before.blank)
+
+  above : IsWritten old (bucket_at g level)
+  above = subst (λ (c : ℕ). IsWritten old c) is_bucket (before.bucket at has_child)
+
   a : Adds (child_at g level) old mid
   a = record { was = blank; others = others }
 
@@ -201,6 +215,13 @@ module _ (g : Layout) (level : Level) (place : Open) (slot next to : ℕ) (old m
     rooted = subst (λ (n : ℕ). IsWellRooted g new n) (sym is_to) (with_bucket mid_rooted new_node next_half b);
     cost = 34;
     grows = in_new_node mid levels a (holds_on (adds_extends b) child) b held is_to refl;
+    needs = λ id same passed.
+        let path : PassedDown g old (sought_in g.cells g id) level (Some at) =
+        subst (λ (c : Option ℕ). PassedDown g old (sought_in g.cells g id) level c) has_child passed in
+        BucketCosts.in_new_node level.number (node_of g level) levels path.0
+        (subst (λ (d : List ℕ). IsPassed old (sought_in g.cells g id) (node_of g level + nibble d level.number)) (sym same)
+        path.1)
+        (subst (λ (d : List ℕ). old (node_of g level + 16 + nibble d level.number) ≡ None) (sym same) blank) refl;
     nodes = λ v node n. node_of_mid (node_before mid_rooted new_node next_half b n);
     new_children = λ v node x target n xs none h.
         leads_there (node + 16 + x) target none

@@ -9,7 +9,8 @@ use Rattle.index_paths.specs.HashPaths.{Sought, IsPassed, LeadsDown, HashTrail, 
 use Rattle.hash_tree.specs.Levels.{bucket_at, child_at, node_of}
 use Rattle.hash_tree.specs.declared.level.Level.{Level}
 use Rattle.hash_tree.specs.declared.path.Open.{Open}
-use Rattle.tree_growth.specs.Inserting.{HasTrail, PassedDown, entry_of}
+use Rattle.tree_growth.specs.Inserting.{HasTrail, entry_of}
+use Rattle.tree_growth.specs.Readiness.{PassedDown}
 
 -- a hash trail below a path that is passed is one from the root
 pub trail_from_root : {image : Image} {s : Sought} {root node level n : ℕ} → PassedTo image s root node level

@@ -1,5 +1,5 @@
 -- What inserting an entry does.
-use Rattle.std.specs.Prelude.{◌≡◌, ◌≢◌, ◌<◌, ◌≤◌, ◌+◌, ℕ, Option, Some, None, Result, Ok, Err, IsTrue}
+use Rattle.std.specs.Prelude.{◌≡◌, ◌≢◌, ◌<◌, ◌≤◌, ◌+◌, ℕ, Some, None, Result, Ok, Err, IsTrue}
 use Rattle.cell_types.specs.Image.{Image, Extends}
 use Rattle.cell_types.specs.Layout.{Layout, root_at, pool_at}
 use Rattle.cell_types.specs.Records.{IsRecordCell}
@@ -8,7 +8,7 @@ use Rattle.cell_types.specs.declared.record_cell.RecordCell.TheVariants.{Bucket,
 use Rattle.cell_types.specs.declared.refusal.Evidence.{Evidence}
 use Rattle.cell_types.specs.declared.refusal.Fault.TheVariants.{Tampered, ReadFault}
 use Rattle.stored_documents.specs.Volumes.{IsWritten}
-use Rattle.index_paths.specs.HashPaths.{Sought, HashTrail, IsPassed, PassedTo, fingerprint_of, nibble}
+use Rattle.index_paths.specs.HashPaths.{Sought, HashTrail, fingerprint_of, nibble}
 use Rattle.tamper_rules.specs.declared.numbers.TheConstants.{LOST_CHILD}
 use Rattle.worm_device.specs.Overlays.{PlansNothing}
 use Rattle.worm_device.specs.Views.{ViewState}
@@ -22,7 +22,7 @@ use Rattle.hash_tree.specs.Levels.{bucket_at, child_at, node_of}
 use Rattle.hash_tree.specs.declared.level.ChildCell.{ChildCell}
 use Rattle.hash_tree.specs.declared.level.Level.{Level}
 use Rattle.hash_tree.specs.declared.path.Open.{Open}
-use Rattle.tree_growth.specs.Readiness.{blank_of, owner_in}
+use Rattle.tree_growth.specs.Readiness.{PassedDown, blank_of, owner_in}
 use Rattle.tree_growth.specs.Rooting.{IsRooted, IsRootedBefore}
 
 -- the entry of a slot by a level's digest
@@ -41,20 +41,15 @@ pub data PlansBucket (g : Layout) (level : Level) (place : Open) (slot at : ℕ)
     : Type 0 where
   alone : place.child ≡ None → at ≡ bucket_at g level
       → HoldsPlanned at (entry_of level slot) (owner_in g (node_of g level)) old new
-      → ((cell : ℕ) → cell ≢ at → IsAsBefore old new cell)
+      → ((cell : ℕ) → cell ≢ at → IsAsBefore old new cell) → nibble level.digest level.number < 16
       → rest ≡ pool → PlansBucket g level place slot at pool rest old new
   with_node : (child : ℕ) → place.child ≡ Some child → child ≡ child_at g level → level.number < 63
       → HoldsPlanned child (Child pool.next) (owner_in g (node_of g level)) old new
       → at ≡ pool.next + nibble level.digest (level.number + 1)
       → HoldsPlanned at (entry_of level slot) (owner_in g pool.next) old new
       → ((cell : ℕ) → cell ≢ child → cell ≢ at → IsAsBefore old new cell)
+      → nibble level.digest level.number < 16 → nibble level.digest (level.number + 1) < 16
       → TakesFront pool rest 32 pool.next → PlansBucket g level place slot at pool rest old new
-
--- the path from the root down to the place is passed in the image, and so is the bucket above a child cell
-abbrev pub PassedDown : Layout → Image → Sought → Level → Option ℕ → Type 0
-PassedDown g image s level None = PassedTo image s (root_at g) (node_of g level) level.number
-PassedDown g image s level (Some child) =
-    PassedTo image s (root_at g) (node_of g level) level.number × IsPassed image s (bucket_at g level)
 
 -- The slot has a hash trail in each image that has every planned cell and in which the path down to the place is passed,
 -- for whatever is sought by the level's digest on a device that has the pool's cells up to here.
@@ -62,6 +57,16 @@ abbrev pub HasTrail : Layout → Level → Open → ℕ → ℕ → Image → Ty
 HasTrail g level place slot to planned =
     (image : Image) (s : Sought) → s.digest ≡ level.digest → s.pool ≡ pool_at g → to ≤ s.cells
     → Extends planned image → PassedDown g image s level place.child → HashTrail image s slot (root_at g) 0
+
+-- The entry is planned, and nothing from the pool's next cell on; the slot has a hash trail; and a tree that has its shape
+-- keeps it.
+pub record IsInserted (g : Layout) (level : Level) (place : Open) (slot at : ℕ) (pool rest : Pool) (old new : ViewState)
+    : Type 0 where
+  pub plans : PlansBucket g level place slot at pool rest old new
+  pub beyond : (cell : ℕ) → rest.next ≤ cell → new.planned cell ≡ None
+  pub trail : HasTrail g level place slot rest.next new.planned
+  pub rooted : IsRootedBefore g level place pool.next old.image
+      → IsRooted g level place slot pool.next rest.next old.image new.image
 
 -- The place's blank cell, one of the level's node, is planned already, for somebody else; and the evidence is the child
 -- cell that led to the node, which stands below what is planned.
@@ -84,9 +89,7 @@ pub record IsTaken (g : Layout) (level : Level) (place : Open) (view : ViewState
 -- How inserting an entry may end, and why. It reads nothing, so that no read fails.
 abbrev pub InsertEnds : Layout → Level → Open → ℕ → Pool → Pool → ViewState → ViewState → Result ℕ GrowthFault → Type 0
 InsertEnds g level place slot pool rest old new (Ok at) =
-    PlansBucket g level place slot at pool rest old new × HasTrail g level place slot rest.next new.planned
-    × (IsRootedBefore g level place pool.next old.image
-    → IsRooted g level place slot pool.next rest.next old.image new.image)
+    IsInserted g level place slot at pool rest old new
 InsertEnds g level place slot pool rest old new (Err (Fault ReadFault)) = ⊥
 InsertEnds g level place slot pool rest old new (Err (Fault (Tampered e))) =
     IsTaken g level place old e × (rest ≡ pool) × PlansNothing old new

@@ -1,7 +1,9 @@
 -- What must be so before an entry is inserted.
 use Rattle.std.specs.Prelude.{◌≡◌, ◌≢◌, ◌<◌, ◌≤◌, ℕ, Option, Some, None, IsTrue}
+use Rattle.cell_types.specs.Image.{Image}
 use Rattle.cell_types.specs.Layout.{Layout, root_at, pool_at}
-use Rattle.hash_tree.specs.Levels.{IsLed, IsWithin, node_of}
+use Rattle.index_paths.specs.HashPaths.{Sought, IsPassed, PassedTo}
+use Rattle.hash_tree.specs.Levels.{IsLed, IsWithin, bucket_at, node_of}
 use Rattle.hash_tree.specs.Steps.{IsOpenOf}
 use Rattle.hash_tree.specs.declared.level.Level.{Level}
 use Rattle.hash_tree.specs.declared.path.Open.{Open}
@@ -19,6 +21,12 @@ blank_in bucket (Some child) = child
 
 abbrev pub blank_of : Open → ℕ
 blank_of place = blank_in place.bucket place.child
+
+-- the path from the root down to the place is passed in the image, and so is the bucket above a child cell
+abbrev pub PassedDown : Layout → Image → Sought → Level → Option ℕ → Type 0
+PassedDown g image s level None = PassedTo image s (root_at g) (node_of g level) level.number
+PassedDown g image s level (Some child) =
+    PassedTo image s (root_at g) (node_of g level) level.number × IsPassed image s (bucket_at g level)
 
 -- A path ends at this place of the level's node, and what may be planned there: the node lies before the cells that are
 -- free, nothing is planned in these, and the place's blank cell is not planned for the node itself, nor for anybody
