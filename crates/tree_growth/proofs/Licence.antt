@@ -37,11 +37,15 @@ leads_well : {g : Layout} {image : Image} {cell target : ℕ} → IsChildPlace g
     → Holds image cell (Child target)
     → (v : ℕ) × (node : ℕ) × (x : ℕ) × (well : LeadsDownWell g image v node x) × (well.target ≡ target)
 leads_well {g} {image} {cell} {target} place met held =
-    let well = met place.level place.node place.half_byte place.is_node place.below place.at in
-    (place.level, place.node, place.half_byte, well,
-     children well.target target
-     (one_record_holds image cell (Child well.target) (Child target)
-     (subst (λ (c : ℕ). Holds image c (Child well.target)) (sym place.at) well.child) held))
+    let well = met place.level place.node place.half_byte place.is_node place.below place.at in (
+      place.level,
+      place.node,
+      place.half_byte,
+      well,
+      children well.target target
+          (one_record_holds image cell (Child well.target) (Child target)
+          (subst (λ (c : ℕ). Holds image c (Child well.target)) (sym place.at) well.child) held),
+    )
 
 -- a child cell of a node lies in the root or in the pool
 child_inside : {g : Layout} {image : Image} {cell v node x : ℕ} → IsNode g image v node → x < 16
@@ -108,8 +112,8 @@ led_along : {g : Layout} {edge : ℕ} {shown image : Image} {last level : Level}
     → IsReached g image level → IsLedWithin g image level.led_by
     → IsReached g image last × IsLedWithin g image last.led_by
 led_along {g} {edge} {shown} {image} bounds keeps half (here level is) inside reached within = (
-    subst (λ (l : Level). IsReached g image l) is reached,
-    subst (λ (l : Level). IsLedWithin g image l.led_by) is within,
+  subst (λ (l : Level). IsReached g image l) is reached,
+  subst (λ (l : Level). IsLedWithin g image l.led_by) is within,
 )
 led_along {g} {edge} {shown} {image} bounds keeps half (further level child none leads rest) inside reached within =
     let x : nibble level.digest level.number < 16 = half level.number in

@@ -28,6 +28,8 @@
 
 mod insertion;
 mod laws;
+#[cfg(test)]
+mod tests;
 
 pub use insertion::insert;
 pub use laws::{paths_lead_within, taken_is_broken};

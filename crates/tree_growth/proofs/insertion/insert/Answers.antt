@@ -25,7 +25,6 @@ returns-in-Err g c =
     c.args.place.bucket None _ _ (of_overlay g.V.View.seen c.plan_record.new.overlay) c.in-Err.fault c.refusal.result
     c.in_default.is refl c.refusal.ensures c.in-Err.ensures
 
-
 pub returns-in-Err-plan_record : goal.returns-in-Err-plan_record
 returns-in-Err-plan_record g c =
     let o = c.args.overlay.now in
@@ -36,7 +35,6 @@ returns-in-Err-plan_record g c =
     c.in-Some.child (Some c.in-Some.child) _ _ (of_overlay g.V.View.seen c.plan_record-2.new.overlay)
     c.in-Err-plan_record.fault c.refusal-in-Err-plan_record.result c.in-Some.is refl c.refusal-in-Err-plan_record.ensures
     c.in-Err-plan_record.ensures
-
 
 pub overflow_add-bucket : goal.overflow_add-bucket
 overflow_add-bucket g c = omega (arith, c.next-node.ensures, c.from.ensures, c.nibble_of.ensures.below, c.requires.room)
@@ -59,4 +57,3 @@ returns-in-Some-grant g c =
     c.in-Some-grant.ensures.granted.next c.in-Some-grant.ensures.granted.end
     (rw (c.root_at-root.ensures.at, c.node.ensures) at c.in_default-plan_record.ensures)
     (rw c.root_at-root.ensures.at at c.in-Ok-plan_record.ensures)
-
