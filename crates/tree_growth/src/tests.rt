@@ -4,7 +4,7 @@ ghost use Rattle.std.specs.Prelude.{◌≡◌};
 use crate::insert;
 use cell_pool::Pool;
 use cell_types::{Cell, FORMAT_VERSION, Geometry, Volume};
-use hash_tree::{Level, Open};
+use hash_tree::{Level, Open, PathStep, next_candidate};
 use std::test::Fail;
 use worm_device::{Device, Direct, Overlay, Owner, View};
 use worm_memory::MemoryDevice;
@@ -104,5 +104,12 @@ fn an_identifier_under_another_takes_a_node(rt: HostRuntime) -> Result<(), Fail>
             base: 582
         })
     );
+    let mut sought = Level::start(E);
+    let found = next_candidate(&mut overlay, &volume, 614, &mut sought);
+    let candidate = PathStep::Candidate {
+        slot: 1,
+        bucket: 597,
+    };
+    assert_eq!(rt; found, Ok(candidate));
     Ok(())
 }
