@@ -1,7 +1,6 @@
 -- A node with a cell that is planned for somebody else breaks the rule of child cells.
-use Rattle.std.proofs.Common.{◌≡◌, ◌<◌, ◌≤◌, ◌+◌, ◌/◌, ◌∙◌, ◌⊎◌, ⊎_elim, inl, inr, ℕ, List, Option, Some, None, refl, sym, subst, arith}
+use Rattle.std.proofs.Common.{◌≡◌, ◌<◌, ◌≤◌, ◌+◌, ◌∙◌, ◌⊎◌, ⊎_elim, inl, inr, ℕ, List, Option, Some, None, refl, sym, subst, arith}
 use Rattle.std.specs.Prelude.{IsTrue}
-use Rattle.cell_types.specs.Bytes.{AreBytes}
 use Rattle.cell_types.specs.Image.{Image}
 use Rattle.cell_types.specs.Records.{IsRecordCell}
 use Rattle.cell_types.specs.Layout.{Layout, LiesIn, Root, root_at}
@@ -27,10 +26,7 @@ use Rattle.tree_growth.specs.Inserting.{IsTaken}
 use Rattle.tree_growth.specs.Laws.{IsChildPlace, IsLedWithin, PathsLeadWithin, LiesByOwner, in_block, in_node, in_new}
 use Rattle.tree_growth.specs.Readiness.{blank_of, owner_in}
 use Rattle.tree_growth.proofs.Inserting.{node_before}
-
--- a half byte
-nibble_low : (d : List ℕ) → AreBytes d → (v : ℕ) → nibble d v < 16
-nibble_low d bytes v = let b = bytes.each (v / 2) in grind (arith, b)
+use Rattle.tree_growth.proofs.Paths.{nibble_low}
 
 -- where a child cell of a node leads to this target, the rule of child cells says so of it
 leads_well : {g : Layout} {image : Image} {cell target : ℕ} → IsChildPlace g image cell → IsMet g image Children cell

@@ -1,12 +1,13 @@
--- The licence of the evidence that a node is another's.
+-- The licence of the evidence that a node is another's, and what paths are.
 use Rattle.std.specs.Prelude.{◌≡◌, ◌<◌, ◌≤◌, ◌+◌, ℕ, Option, Some, None, IsTrue, ⊤}
 use Rattle.cell_types.specs.Bytes.{AreBytes}
 use Rattle.cell_types.specs.Image.{Image}
-use Rattle.cell_types.specs.Layout.{Layout, list_at, root_at}
+use Rattle.cell_types.specs.Layout.{Layout, list_at, root_at, pool_at}
 use Rattle.cell_types.specs.declared.refusal.Evidence.{Evidence}
 use Rattle.stored_documents.specs.Slots.{IsEdge}
 use Rattle.stored_documents.specs.Volumes.{IsVolume}
-use Rattle.index_paths.specs.Nodes.{IsBlockOf, IsNode}
+use Rattle.index_paths.specs.HashPaths.{Sought, PassedTo}
+use Rattle.index_paths.specs.Nodes.{IsBlockOf, IsNode, IsOnPath}
 use Rattle.tamper_rules.specs.Rules.{IsBroken}
 use Rattle.worm_device.specs.Views.{ViewState, IsView}
 use Rattle.worm_device.specs.declared.owner.Owner.{Owner}
@@ -60,3 +61,10 @@ PathsLeadWithin =
     (g : Layout) (edge : ℕ) (view : ViewState) (first last : Level) → IsView view → AreBounds g edge
     → AsksBelow edge view → AreBytes first.digest → first ≡ first_level first.digest
     → ComesTo g edge view.image last first → IsReached g view.lower last × IsLedWithin g view.lower last.led_by
+
+-- a path that is passed down to a node goes by the digest's half bytes, and the node is one of the volume
+abbrev pub PassedIsOnPath : Type 0
+PassedIsOnPath =
+    (g : Layout) (image : Image) (s : Sought) (node level : ℕ) → AreBytes s.digest → s.pool ≡ pool_at g
+    → s.cells ≤ g.cells → PassedTo image s (root_at g) node level
+    → IsOnPath g image s.digest level node × IsNode g image level node
