@@ -41,7 +41,7 @@ impl Level {
     }
 
     /// The number of the node's first cell.
-    pub(crate) fn node(&self, geometry: &Geometry) -> u32
+    pub fn node(&self, geometry: &Geometry) -> u32
         ensures { result ≡ node_of geometry.now self.now }
     {
         match &self.led_by {

@@ -32,6 +32,7 @@ mod path;
 #[cfg(test)]
 mod tests;
 
+pub use digests::nibble_of;
 pub use laws::a_step_has_one_answer;
 pub use level::{ChildCell, Level};
 pub use path::{Open, PathStep, next_candidate};

@@ -1,0 +1,6 @@
+pub mod Inserting
+pub mod Licence
+pub mod Paths
+pub mod Readiness
+pub mod Rooting
+pub mod Trails

@@ -1,0 +1,97 @@
+//! Insertion.
+ghost use Rattle.std.specs.Prelude.{◌≡◌, ◌<◌, ◌≤◌};
+ghost use Rattle.cell_pool.specs.Grants.{room_of};
+ghost use Rattle.cell_types.specs.declared.geometry.TheConstants.{MAX_SLOTS};
+ghost use Rattle.index_paths.specs.HashPaths.{fingerprint_of};
+ghost use Rattle.worm_device.specs.Overlays.{of_overlay};
+ghost use Rattle.tree_growth.specs.Inserting.{InsertsEntry};
+ghost use Rattle.tree_growth.specs.Naming.{Names};
+ghost use Rattle.tree_growth.specs.Readiness.{IsReady};
+
+use cell_pool::Pool;
+use cell_types::{Evidence, Fault, RecordCell, Volume};
+use hash_tree::{ChildCell, Level, Open, nibble_of};
+use planned_cells::{GrowthFault, PlanFault, plan_record};
+use tamper_rules::LOST_CHILD;
+use worm_device::{Overlay, Owner, View};
+
+/// Plans the entry of a slot where the path of the level's digest ends, and answers its bucket's cell. Under a child cell
+/// it takes a node of 32 cells from the pool.
+///
+/// Where the place is planned for somebody else, the child cell that led to the level's node is evidence, and nothing has
+/// changed. Without memory what was planned is to be given up; the pool has not changed.
+pub fn insert<V: View>(
+    overlay: &mut Overlay<V>,
+    pool: &mut Pool,
+    volume: &Volume,
+    place: Open,
+    level: &Level,
+    slot: u32,
+) -> Result<u32, GrowthFault>
+    requires slot { slot < MAX_SLOTS }
+    requires room { 32 ≤ room_of pool.old }
+    requires ready { IsReady volume.now.geometry level.now place pool.old.next (of_overlay V.seen overlay.old) }
+    ensures { InsertsEntry volume.now.geometry level.now place slot pool.old pool.new (of_overlay V.seen overlay.old) (of_overlay V.seen overlay.new) result }
+{
+    let root = volume.geometry.root_at();
+    let owner = Owner {
+        head: root,
+        base: level.node(&volume.geometry),
+    };
+    let entry = RecordCell::Bucket {
+        slot,
+        fingerprint: fingerprint(&level.digest),
+    };
+    // Known of a half byte once it is asked for: it is below 16.
+    let _half = nibble_of(&level.digest, level.number);
+    let Some(child) = place.child else {
+        return match plan_record(overlay, place.bucket, entry, owner) {
+            Ok(()) => Ok(place.bucket),
+            Err(fault) => Err(refusal(fault, &level.led_by)),
+        };
+    };
+    // Known of a cell's number once it is read: it has 32 bits.
+    let _end = pool.end;
+    let node = pool.next();
+    if let Err(fault) = plan_record(overlay, child, RecordCell::Child { target: node }, owner) {
+        return Err(refusal(fault, &level.led_by));
+    }
+    let bucket = node + u32::from(nibble_of(&level.digest, level.number + 1));
+    let below = Owner {
+        head: root,
+        base: node,
+    };
+    let Ok(()) = plan_record(overlay, bucket, entry, below) else {
+        return Err(GrowthFault::NoMemory);
+    };
+    match pool.grant(32) {
+        Some(_) => Ok(bucket),
+        None => Err(GrowthFault::NoMemory),
+    }
+}
+
+/// The first seven bytes of a digest.
+fn fingerprint(digest: &[u8; 32]) -> [u8; 7]
+    ensures { result ≡ fingerprint_of digest.now }
+{
+    let mut first = [0; 7];
+    first.copy_from_slice(&digest[..7]);
+    first
+}
+
+/// Why the first cell of an entry was not planned. The cells of the root are nobody else's.
+fn refusal(fault: PlanFault, led_by: &Option<ChildCell>) -> GrowthFault
+    ensures { Names led_by.now fault result }
+{
+    let Some(child) = led_by else {
+        return GrowthFault::NoMemory;
+    };
+    match fault {
+        PlanFault::Taken => GrowthFault::Fault(Fault::Tampered(Evidence {
+            rule: LOST_CHILD,
+            cell: child.cell,
+            found: child.found,
+        })),
+        PlanFault::NoMemory => GrowthFault::NoMemory,
+    }
+}
