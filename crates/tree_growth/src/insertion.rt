@@ -21,7 +21,7 @@ use worm_device::{Overlay, Owner, View};
 /// Where the place is planned for somebody else, the child cell that led to the level's node is evidence, and nothing has
 /// changed. Without memory what was planned is to be given up; the pool has not changed.
 pub fn insert<V: View>(
-    overlay: &mut Overlay<V>,
+    overlay: &mut Overlay<'_, V>,
     pool: &mut Pool,
     volume: &Volume,
     place: Open,

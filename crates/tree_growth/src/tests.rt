@@ -6,7 +6,7 @@ use cell_pool::Pool;
 use cell_types::{Cell, FORMAT_VERSION, Geometry, Volume};
 use hash_tree::{Level, Open, PathStep, next_candidate};
 use std::test::Fail;
-use worm_device::{Device, Direct, Overlay, Owner, View};
+use worm_device::{Device, Direct, Overlay, Owner, PlannedCells, View};
 use worm_memory::MemoryDevice;
 
 /// The digest of the identifier `e`.
@@ -28,7 +28,8 @@ fn the_first_identifier_takes_a_bucket_of_the_root(rt: HostRuntime) -> Result<()
         version: FORMAT_VERSION,
         geometry,
     };
-    let mut overlay = Overlay::new(rt.alloc(), Direct::new(&mut device), 582);
+    let mut own = PlannedCells::new(rt.alloc());
+    let mut overlay = Overlay::new(Direct::new(&mut device), &mut own, 582);
     let mut pool = Pool::over(582, 1_000);
     let place = Open {
         bucket: 551,
@@ -67,7 +68,8 @@ fn an_identifier_under_another_takes_a_node(rt: HostRuntime) -> Result<(), Fail>
         version: FORMAT_VERSION,
         geometry,
     };
-    let mut overlay = Overlay::new(rt.alloc(), Direct::new(&mut device), 582);
+    let mut own = PlannedCells::new(rt.alloc());
+    let mut overlay = Overlay::new(Direct::new(&mut device), &mut own, 582);
     let mut pool = Pool::over(582, 1_000);
     let place = Open {
         bucket: 551,

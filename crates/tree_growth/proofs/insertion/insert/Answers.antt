@@ -1,6 +1,6 @@
 -- The bucket alone, or with a new node.
 use Rattle.std.proofs.Common.{◌+◌, ◌∙◌, ℕ, Some, None, ap, arith, refl}
-use Rattle.worm_device.specs.Overlaying.{overlay_is_view}
+use Rattle.worm_device.specs.Overlaying.{overlay_shows}
 use Rattle.worm_device.specs.Overlays.{of_overlay}
 use Rattle.tree_growth.proofs.Inserting.{inserts_alone, inserts_nothing, inserts_with_node}
 use Rattle.tree_growth.proofs.insertion.insert.Goals as goal
@@ -8,7 +8,7 @@ use Rattle.tree_growth.proofs.insertion.insert.Goals as goal
 pub returns-in-Ok : goal.returns-in-Ok
 returns-in-Ok g c =
     let o = c.args.overlay.now in
-    let view = overlay_is_view (g.V.View.seen o.view) (g.met.V.View.proper o.view) o.planned o.owners o.owned o.fresh in
+    let view = overlay_shows g.V.View.seen g.met.V.View.proper o in
     inserts_alone c.args.volume.now.geometry c.args.level.now c.args.place c.args.slot c.args.pool.now
     (of_overlay g.V.View.seen c.args.overlay.now) view c.requires.ready
     (rw c.nibble_of-half.ensures.same at c.nibble_of-half.ensures.below)
@@ -18,7 +18,7 @@ returns-in-Ok g c =
 pub returns-in-Err : goal.returns-in-Err
 returns-in-Err g c =
     let o = c.args.overlay.now in
-    let view = overlay_is_view (g.V.View.seen o.view) (g.met.V.View.proper o.view) o.planned o.owners o.owned o.fresh in
+    let view = overlay_shows g.V.View.seen g.met.V.View.proper o in
     inserts_nothing c.args.volume.now.geometry c.args.level.now c.args.place c.args.slot c.args.pool.now
     (of_overlay g.V.View.seen c.args.overlay.now) view c.requires.ready
     (rw c.nibble_of-half.ensures.same at c.nibble_of-half.ensures.below)
@@ -28,7 +28,7 @@ returns-in-Err g c =
 pub returns-in-Err-plan_record : goal.returns-in-Err-plan_record
 returns-in-Err-plan_record g c =
     let o = c.args.overlay.now in
-    let view = overlay_is_view (g.V.View.seen o.view) (g.met.V.View.proper o.view) o.planned o.owners o.owned o.fresh in
+    let view = overlay_shows g.V.View.seen g.met.V.View.proper o in
     inserts_nothing c.args.volume.now.geometry c.args.level.now c.args.place c.args.slot c.args.pool.now
     (of_overlay g.V.View.seen c.args.overlay.now) view c.requires.ready
     (rw c.nibble_of-half.ensures.same at c.nibble_of-half.ensures.below)
@@ -45,7 +45,7 @@ plan_record-requires-3-clause-inside g c = omega (arith, c.next-node.ensures, c.
 pub returns-in-Some-grant : goal.returns-in-Some-grant
 returns-in-Some-grant g c =
     let o = c.args.overlay.now in
-    let view = overlay_is_view (g.V.View.seen o.view) (g.met.V.View.proper o.view) o.planned o.owners o.owned o.fresh in
+    let view = overlay_shows g.V.View.seen g.met.V.View.proper o in
     inserts_with_node c.args.volume.now.geometry c.args.level.now c.args.place c.args.slot c.args.pool.now
     (of_overlay g.V.View.seen c.args.overlay.now) view c.requires.ready
     (rw c.nibble_of-half.ensures.same at c.nibble_of-half.ensures.below)
