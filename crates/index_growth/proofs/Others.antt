@@ -3,6 +3,7 @@ use Rattle.std.proofs.Common.{◌≡◌, ◌≢◌, ◌<◌, ◌≤◌, ◌+◌,
 use Rattle.std.proofs.lemmas.Bool.{cases_eq}
 use Rattle.std.proofs.lemmas.Option.{none-some}
 use Rattle.cell_types.specs.Records.{IsRecordCell}
+use Rattle.cell_types.specs.declared.record_cell.RecordCell.{RecordCell}
 use Rattle.cell_types.specs.declared.record_cell.RecordCell.TheVariants.{Jump}
 use Rattle.index_paths.specs.Blocks.{PostingFields, posting_record}
 use Rattle.index_paths.specs.Nodes.{AreApart}
@@ -30,16 +31,25 @@ pub data IsOwned (head floor : ℕ) (old : ViewState) (cell : ℕ) (owner : Owne
   anew : owner.head ≡ head → owner.base ≤ cell → cell < owner.base + 256 → (owner.base ≡ head) ⊎ (floor ≤ owner.base)
       → IsOwned head floor old cell owner
 
--- and so is what is planned there
-pub data IsHeld (p : PostingFields) (old : ViewState) (cell : ℕ) (value : List ℕ) : Type 0 where
-  held_before : old.planned cell ≡ Some value → IsHeld p old cell value
-  held_posting : old.planned cell ≡ None → IsRecordCell (posting_record p) cell value → IsHeld p old cell value
-  held_pointer : (target : ℕ) → old.planned cell ≡ None → IsRecordCell (Jump target) cell value → IsHeld p old cell value
+-- the cell lies in the first block, or in one from the floor on
+pub record IsNear (head floor cell : ℕ) : Type 0 where
+  pub block : ℕ
+  pub from : block ≤ cell
+  pub to : cell < block + 256
+  pub where_blocks_lie : (block ≡ head) ⊎ (floor ≤ block)
+
+-- what is planned there was planned before, or is the posting, or a pointer
+pub data IsHeld (head floor : ℕ) (p : PostingFields) (old : ViewState) (cell : ℕ) (value : List ℕ) : Type 0 where
+  held_before : old.planned cell ≡ Some value → IsHeld head floor p old cell value
+  held_posting : old.planned cell ≡ None → IsNear head floor cell → IsRecordCell (posting_record p) cell value
+      → IsHeld head floor p old cell value
+  held_pointer : (target : ℕ) → old.planned cell ≡ None → IsNear head floor cell → IsRecordCell (Jump target) cell value
+      → IsHeld head floor p old cell value
 
 the_owner : (one other : Owner) (found : Option Owner) → found ≡ Some one → found ≡ Some other → one ≡ other
 the_owner one other found is planned = let e : Some one ≡ Some other = sym is ∙ planned in cc
 
-owned_anew : {head floor at : ℕ} {r : Rattle.cell_types.specs.declared.record_cell.RecordCell.RecordCell} {old new : ViewState}
+owned_anew : {head floor at : ℕ} {r : RecordCell} {old new : ViewState}
     → IsPlannedFor head floor r at old new → (cell : ℕ) (owner : Owner) → cell ≡ at → new.owners cell ≡ Some owner
     → IsOwned head floor old cell owner
 owned_anew {head} {floor} {at} {r} {old} {new} one cell owner same is =
@@ -64,7 +74,7 @@ owned_in {head} {floor} {at} (with_pointer pointer target one other apart rest) 
     (cases_eq cell pointer))
     (cases_eq cell at)
 
-record_there : {head floor at : ℕ} {r : Rattle.cell_types.specs.declared.record_cell.RecordCell.RecordCell} {old new : ViewState}
+record_there : {head floor at : ℕ} {r : RecordCell} {old new : ViewState}
     → IsPlannedFor head floor r at old new → (cell : ℕ) (value : List ℕ) → cell ≡ at → new.planned cell ≡ Some value
     → IsRecordCell r cell value
 record_there {head} {floor} {at} {r} {old} {new} one cell value same is =
@@ -72,20 +82,29 @@ record_there {head} {floor} {at} {r} {old} {new} one cell value same is =
     let e : one.held.cell ≡ value = (let k : Some one.held.cell ≡ Some value = sym one.held.stands ∙ there in cc) in
     subst (λ (n : ℕ). IsRecordCell r n value) (sym same) (subst (λ (v : List ℕ). IsRecordCell r at v) e one.held.is)
 
-free_there : {head floor at : ℕ} {r : Rattle.cell_types.specs.declared.record_cell.RecordCell.RecordCell} {old new : ViewState}
+free_there : {head floor at : ℕ} {r : RecordCell} {old new : ViewState}
     → IsPlannedFor head floor r at old new → (cell : ℕ) → cell ≡ at → old.planned cell ≡ None
 free_there {head} {floor} {at} {r} {old} {new} one cell same = subst (λ (n : ℕ). old.planned n ≡ None) (sym same) one.free
 
+near_there : {head floor at : ℕ} {r : RecordCell} {old new : ViewState}
+    → IsPlannedFor head floor r at old new → (cell : ℕ) → cell ≡ at → IsNear head floor cell
+near_there one cell same = record {
+  block = one.block;
+  from = omega (arith, same, one.from);
+  to = omega (arith, same, one.to);
+  where_blocks_lie = one.where_blocks_lie;
+}
+
 pub held_in : {head floor at : ℕ} {p : PostingFields} {old new : ViewState} → PlansEntry head floor p at old new
-    → (cell : ℕ) (value : List ℕ) → new.planned cell ≡ Some value → IsHeld p old cell value
+    → (cell : ℕ) (value : List ℕ) → new.planned cell ≡ Some value → IsHeld head floor p old cell value
 held_in {head} {floor} {at} (alone one rest) cell value is = ⊎_elim
-    (λ same. held_posting (free_there one cell same) (record_there one cell value same is))
+    (λ same. held_posting (free_there one cell same) (near_there one cell same) (record_there one cell value same is))
     (λ differs. held_before (sym (rest cell differs).planned ∙ is))
     (cases_eq cell at)
 held_in {head} {floor} {at} (with_pointer pointer target one other apart rest) cell value is = ⊎_elim
-    (λ same. held_posting (free_there one cell same) (record_there one cell value same is))
+    (λ same. held_posting (free_there one cell same) (near_there one cell same) (record_there one cell value same is))
     (λ differs. ⊎_elim
-    (λ same. held_pointer target (free_there other cell same) (record_there other cell value same is))
+    (λ same. held_pointer target (free_there other cell same) (near_there other cell same) (record_there other cell value same is))
     (λ differs_too. held_before (sym (rest cell differs differs_too).planned ∙ is))
     (cases_eq cell pointer))
     (cases_eq cell at)

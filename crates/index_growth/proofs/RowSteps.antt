@@ -23,8 +23,8 @@ use Rattle.worm_device.specs.Views.{ViewState}
 use Rattle.worm_device.specs.declared.owner.Owner.{Owner}
 use Rattle.list_growth.specs.Inserting.{InsertsPosting, PlansEntry}
 use Rattle.list_growth.specs.Readiness.{IsReady, IsUntouched}
-use Rattle.index_growth.specs.Rows.{AreInOrder, AreInserted, AreUntouched, InsertsRow, IsRowCell, of_posting, of_pointer, RowSoFar, StandsInList}
-use Rattle.index_growth.proofs.Others.{IsHeld, held_before, held_posting, held_pointer, IsOwned, as_before, anew, held_in, owned_in, plans_blank, plans_keep, ready_untouched, untouched_other}
+use Rattle.index_growth.specs.Rows.{AreInOrder, AreInserted, AreUntouched, InsertsRow, IsRowCell, of_posting, of_pointer, LiesInLists, in_first, in_pool, RowSoFar, StandsInList}
+use Rattle.index_growth.proofs.Others.{IsNear, IsHeld, held_before, held_posting, held_pointer, IsOwned, as_before, anew, held_in, owned_in, plans_blank, plans_keep, ready_untouched, untouched_other}
 
 -- no posting is inserted yet
 pub row_begins : (g : Layout) (n : ℕ) (rows : List Posting) (pool : Pool) (s : ViewState)
@@ -43,6 +43,7 @@ row_begins g n rows pool s free untouched = record {
     kept = extends_self s.planned;
     owners = λ cell owner is. is;
     added = λ cell value is. inl is;
+    lie = λ cell value is. inl is;
     for_lists = λ cell owner is. inl is;
     free = free;
     shown = λ tells. extends_self s.image;
@@ -96,11 +97,23 @@ module _ (g : Layout) (n : ℕ) (rows : List Posting) (i : ℕ) (first pool late
   owner_kept cell owner (Some value) is has = (plans_keep plans cell value is).1 ∙ has
   owner_kept cell owner None is has = absurd (none-some owner (sym (unowned cell is) ∙ has))
 
-  added_now : (cell : ℕ) (value : List ℕ) → IsHeld (listed n p).posting mid cell value
+  added_now : (cell : ℕ) (value : List ℕ) → IsHeld (list_at g p.list) (pool_at g) (listed n p).posting mid cell value
       → (old.planned cell ≡ Some value) ⊎ IsRowCell n rows (i + 1) cell value
   added_now cell value (held_before is) = ⊎_elim (λ was. inl was) (λ row. inr (more n rows i cell value row)) (so.inserted.added cell value is)
-  added_now cell value (held_posting free holds) = inr (of_posting i p (omega arith) here holds)
-  added_now cell value (held_pointer target free holds) = inr (of_pointer target holds)
+  added_now cell value (held_posting free near holds) = inr (of_posting i p (omega arith) here holds)
+  added_now cell value (held_pointer target free near holds) = inr (of_pointer target holds)
+
+  near_now : (cell : ℕ) → IsNear (list_at g p.list) (pool_at g) cell → LiesInLists g cell
+  near_now cell near = ⊎_elim
+      (λ same. in_first p.list in_list (omega (arith, near.from, same)) (omega (arith, near.to, same)))
+      (λ past. in_pool (omega (arith, near.from, past)))
+      near.where_blocks_lie
+
+  lies_now : (cell : ℕ) (value : List ℕ) → IsHeld (list_at g p.list) (pool_at g) (listed n p).posting mid cell value
+      → (old.planned cell ≡ Some value) ⊎ LiesInLists g cell
+  lies_now cell value (held_before is) = so.inserted.lie cell value is
+  lies_now cell value (held_posting free near holds) = inr (near_now cell near)
+  lies_now cell value (held_pointer target free near holds) = inr (near_now cell near)
 
   for_now : (cell : ℕ) (owner : Owner) → IsOwned (list_at g p.list) (pool_at g) mid cell owner
       → (old.owners cell ≡ Some owner)
@@ -187,6 +200,7 @@ module _ (g : Layout) (n : ℕ) (rows : List Posting) (i : ℕ) (first pool late
       kept = extends_then so.inserted.kept kept_here;
       owners = λ cell owner is. owner_kept cell owner (mid.planned cell) refl (so.inserted.owners cell owner is);
       added = λ cell value is. added_now cell value (held_in plans cell value is);
+      lie = λ cell value is. lies_now cell value (held_in plans cell value is);
       for_lists = λ cell owner is. for_now cell owner (owned_in plans cell owner is);
       free = inserts.ends.4;
       shown = λ tells. extends_then (so.inserted.shown tells) (inserts.ends.5 (told tells)).shown;

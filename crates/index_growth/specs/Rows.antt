@@ -37,6 +37,11 @@ pub record StandsInList (g : Layout) (s : ViewState) (to : ℕ) (a : ListedPosti
   pub trail : Trail s.image (pool_at g) to at a.posting (list_at g a.list)
   pub planned : Holds s.planned at (posting_record a.posting)
 
+-- the cell lies in a first block or from the pool's start on
+pub data LiesInLists (g : Layout) (cell : ℕ) : Type 0 where
+  in_first : (l : ℕ) → l < g.lists → list_at g l ≤ cell → cell < list_at g l + 256 → LiesInLists g cell
+  in_pool : pool_at g ≤ cell → LiesInLists g cell
+
 -- one of the first so many postings of the row, or a pointer
 pub data IsRowCell (n : ℕ) (rows : List Posting) (count cell : ℕ) (value : List ℕ) : Type 0 where
   of_posting : (i : ℕ) (p : Posting) → i < count → slice_get rows i ≡ Some p
@@ -52,6 +57,8 @@ pub record AreInserted (g : Layout) (n : ℕ) (rows : List Posting) (count to : 
   pub owners : (cell : ℕ) (owner : Owner) → old.owners cell ≡ Some owner → new.owners cell ≡ Some owner
   pub added : (cell : ℕ) (value : List ℕ) → new.planned cell ≡ Some value
       → (old.planned cell ≡ Some value) ⊎ IsRowCell n rows count cell value
+  pub lie : (cell : ℕ) (value : List ℕ) → new.planned cell ≡ Some value
+      → (old.planned cell ≡ Some value) ⊎ LiesInLists g cell
   pub for_lists : (cell : ℕ) (owner : Owner) → new.owners cell ≡ Some owner
       → (old.owners cell ≡ Some owner)
       ⊎ ((i : ℕ) × (p : Posting) × (i < count) × (slice_get rows i ≡ Some p) × (owner.head ≡ list_at g p.list))
