@@ -1,3 +1,4 @@
+pub mod Indexing
 pub mod Journals
 pub mod Others
 pub mod RowSteps

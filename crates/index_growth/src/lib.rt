@@ -3,6 +3,8 @@
 
 mod journal;
 mod rows;
+mod whole;
 
 pub use journal::copies_of;
 pub use rows::insert_postings;
+pub use whole::insert_document;

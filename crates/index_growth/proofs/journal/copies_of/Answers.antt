@@ -1,7 +1,5 @@
 -- The values of the map's entries are the journal.
-use Rattle.std.proofs.Common.{◌≡◌, List, ℕ, sym, subst, Result, Ok, Err}
-use Rattle.std.specs.Prelude.{IfOk}
-use Rattle.index_growth.proofs.Journals.{entries_are_journal, journal_of}
+use Rattle.index_growth.proofs.Journals.{journal_of}
 use Rattle.index_growth.proofs.journal.copies_of.Goals as goal
 
 pub returns : goal.returns
