@@ -1,0 +1,100 @@
+-- From what is planned over a view of a device to what that says of the device.
+use Rattle.std.proofs.Common.{◌≡◌, ◌≤◌, ◌+◌, ◌-◌, ℕ, List, Option, Some, None, Result, Ok, Err, refl, ap, sym, subst, arith, ◌∙◌}
+use Rattle.std.specs.Prelude.{IsTrue, map, slice_get}
+use Rattle.std.specs.Option.{option_map}
+use Rattle.std.proofs.lemmas.Option.{none-some, slice_get-map}
+use Rattle.sha2.specs.Sha256.{sha256}
+use Rattle.cell_types.specs.Image.{Image, Extends}
+use Rattle.cell_types.specs.Layout.{Layout, list_at, pool_at, root_at}
+use Rattle.cell_types.specs.declared.refusal.Refusal.{Refusal}
+use Rattle.cell_types.specs.declared.refusal.Refusal.TheVariants as refusals
+use Rattle.stored_documents.specs.Documents.{Stands}
+use Rattle.index_paths.specs.Blocks.{PostingFields, Trail}
+use Rattle.index_paths.specs.HashPaths.{HashTrail}
+use Rattle.index_paths.specs.Keeping.{IsKept, sought_in}
+use Rattle.index_paths.specs.Postings.{ArePostings, IsPostingOf, ListedPosting}
+use Rattle.index_paths.proofs.Trails.{trail_wider}
+use Rattle.term_tags.specs.Listing.{listed}
+use Rattle.term_tags.specs.declared.rows.Posting.{Posting}
+use Rattle.worm_device.specs.Calls.{Called}
+use Rattle.worm_device.specs.State.{DeviceState}
+use Rattle.worm_device.specs.Views.{ViewState}
+use Rattle.hash_tree.specs.declared.level.Level.{Level}
+use Rattle.hash_tree.specs.declared.path.Open.{Open}
+use Rattle.tree_growth.specs.Readiness.{PassedDown}
+use Rattle.index_growth.specs.Indexes.{HasTrailIn, IsIndexed}
+use Rattle.index_growth.specs.Journal.{IsJournal}
+use Rattle.ingest_plan.specs.Over.{IsPlannedOver, OverEnds, PlansOver}
+use Rattle.ingest_plan.specs.Planning.{KeepsDocument, PlanEnds, PlansIndex}
+use Rattle.ingest_plan.specs.declared.plan.PlannedIndex.{PlannedIndex}
+
+-- the posting that stands at a place of the row
+posting_at : (n : ℕ) (l : ℕ) (q : PostingFields) (found : Option Posting) → option_map (listed n) found ≡ Some (record { list = l; posting = q })
+    → (p : Posting) × (found ≡ Some p) × (listed n p ≡ record { list = l; posting = q })
+posting_at n l q None is = absurd (none-some (record { list = l; posting = q }) is)
+posting_at n l q (Some p) is = (p, refl, (let k : Some (listed n p) ≡ Some (record { list = l; posting = q }) = is in cc))
+
+module _ (g : Layout) (n : ℕ) (body : List ℕ) (rows : List Posting) (level : Level) (place : Open) (to : ℕ) (old new : ViewState)
+    (are : ArePostings g.lists body n (map (listed n) rows)) (indexed : IsIndexed g n rows level place to old new) where
+  pub keeps : IsTrue old.base.tells → KeepsDocument g n body level place to new.lower new.planned
+  keeps tells id image digest below planned room stands passed = record {
+    stands = stands;
+    postings = are.exist;
+    trails = λ l q less posting.
+        let found = are.all l q less posting in
+        let at = posting_at n l q (slice_get rows found.0) (sym (slice_get-map (listed n) rows found.0) ∙ found.1) in
+        let trail = indexed.trails tells image below planned found.0 at.0 at.1 in
+        let a : ListedPosting = record { list = l; posting = q } in
+        let P : ListedPosting → Type 0 = λ b. (cell : ℕ) × Trail image (pool_at g) g.cells cell b.posting (list_at g b.list) in
+        subst P at.2 (trail.at, trail_wider (pool_at g) g.cells (omega arith) room trail.trail);
+    path = indexed.path image (sought_in g.cells g id) digest refl room planned passed;
+  }
+
+-- what the rows are, whose words are the body's, gives what is said of the device
+pub plans_index : (g : Layout) (n edge : ℕ) (body : List ℕ) (rows : List Posting) (level : Level) (place : Open)
+    (start : DeviceState) (old new : ViewState) (result : Result PlannedIndex Refusal) (done : DeviceState)
+    → ArePostings g.lists body n (map (listed n) rows) → PlansOver g n edge rows level place old new result
+    → old.base ≡ start → done ≡ new.base → new.lower ≡ new.base.image
+    → PlansIndex g n edge level place body start done result
+plans_index g n edge body rows level place start old new result done are over begins ends below = record {
+  called = subst (λ (d : DeviceState). Called start d) (sym ends)
+      (subst (λ (d : DeviceState). Called d new.base) begins over.called);
+  ends = why result over.ends;
+} where
+  told : IsTrue start.tells → IsTrue old.base.tells
+  told tells = subst (λ (d : DeviceState). IsTrue d.tells) (sym begins) tells
+  there : done.image ≡ new.lower
+  there = ap (λ (d : DeviceState). d.image) ends ∙ sym below
+  why : (result : Result PlannedIndex Refusal) → OverEnds g n edge rows level place old new result
+      → PlanEnds g n edge level place body start done result
+  why (Ok p) h = record {
+    planned = new.planned;
+    journal = h.journal;
+    keeps = λ tells. subst (λ (i : Image). KeepsDocument g n body level place (edge + p.block_length) i new.planned) (sym there)
+        (keeps g n body rows level place (edge + p.block_length) old new are h.indexed (told tells));
+  }
+  why (Err (refusals.Tampered e)) h = λ tells. record { rows = rows; view = new; over = sym there; is = h (told tells) }
+  why (Err refusals.DeviceFault) h =
+      omega (arith, h, ap (λ (d : DeviceState). d.faults) begins, ap (λ (d : DeviceState). d.faults) ends)
+  why (Err refusals.NoMemory) h = tt
+  why (Err refusal) h = absurd h
+
+-- what was planned, and its journal
+pub planned_over : (g : Layout) (n edge next : ℕ) (rows : List Posting) (level : Level) (place : Open) (p : PlannedIndex)
+    (old new : ViewState) (held : Image) → edge + p.block_length ≡ next → IsIndexed g n rows level place next old new
+    → ((cell : ℕ) → held cell ≡ new.planned cell) → IsJournal held p.journal.items
+    → IsPlannedOver g n edge rows level place p old new
+planned_over g n edge next rows level place p old new held ends indexed same journal = record {
+  indexed = subst (λ (to : ℕ). IsIndexed g n rows level place to old new) (sym ends) indexed;
+  journal = record {
+    is = record {
+      numbers = journal.numbers;
+      long = journal.long;
+      each = λ i cell value at is. sym (same cell) ∙ journal.each i cell value at is;
+      rise = journal.rise;
+      all = λ cell value is. journal.all cell value (same cell ∙ is);
+    };
+    index = indexed.only;
+    before = λ cell past. indexed.before cell (omega (arith, ends, past));
+  };
+}

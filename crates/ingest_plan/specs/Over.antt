@@ -1,0 +1,46 @@
+-- What planning over a view does.
+use Rattle.std.specs.Prelude.{◌≡◌, ◌≤◌, ◌+◌, ℕ, List, None, Result, Ok, Err, IsTrue, ⊤}
+use Rattle.cell_types.specs.Image.{Image, Extends}
+use Rattle.cell_types.specs.Layout.{Layout}
+use Rattle.cell_types.specs.declared.refusal.Fault.TheVariants as faults
+use Rattle.cell_types.specs.declared.refusal.Refusal.{Refusal}
+use Rattle.cell_types.specs.declared.refusal.Refusal.TheVariants.{DeviceFault, NoMemory, Tampered}
+use Rattle.planned_cells.specs.declared.fault.GrowthFault.{GrowthFault}
+use Rattle.planned_cells.specs.declared.fault.GrowthFault.TheVariants as growth
+use Rattle.term_tags.specs.declared.rows.Posting.{Posting}
+use Rattle.worm_device.specs.Calls.{Called}
+use Rattle.worm_device.specs.Counts.{Rose}
+use Rattle.worm_device.specs.Views.{ViewState}
+use Rattle.hash_tree.specs.declared.level.Level.{Level}
+use Rattle.hash_tree.specs.declared.path.Open.{Open}
+use Rattle.index_growth.specs.Indexes.{IsIndexed, IsNamed}
+use Rattle.ingest_plan.specs.Planning.{IsJournalBefore}
+use Rattle.ingest_plan.specs.declared.plan.PlannedIndex.{PlannedIndex}
+
+-- the refusal that says this
+abbrev pub IsRefusalOf : GrowthFault → Refusal → Type 0
+IsRefusalOf (growth.Fault (faults.Tampered e)) refusal = refusal ≡ Tampered e
+IsRefusalOf (growth.Fault faults.ReadFault) refusal = refusal ≡ DeviceFault
+IsRefusalOf growth.NoMemory refusal = refusal ≡ NoMemory
+
+-- the index is planned, and this is its journal
+pub record IsPlannedOver (g : Layout) (n edge : ℕ) (rows : List Posting) (level : Level) (place : Open) (p : PlannedIndex)
+    (old new : ViewState) : Type 0 where
+  pub indexed : IsIndexed g n rows level place (edge + p.block_length) old new
+  pub journal : IsJournalBefore g (edge + p.block_length) new.planned p.journal.items
+
+-- how planning over a view may end, and why
+abbrev pub OverEnds : Layout → ℕ → ℕ → List Posting → Level → Open → ViewState → ViewState → Result PlannedIndex Refusal
+    → Type 0
+OverEnds g n edge rows level place old new (Ok p) = IsPlannedOver g n edge rows level place p old new
+OverEnds g n edge rows level place old new (Err (Tampered e)) =
+    IsTrue old.base.tells → IsNamed g n rows level place new e
+OverEnds g n edge rows level place old new (Err DeviceFault) = Rose old.base.faults new.base.faults
+OverEnds g n edge rows level place old new (Err NoMemory) = ⊤
+OverEnds g n edge rows level place old new (Err refusal) = ⊥
+
+pub record PlansOver (g : Layout) (n edge : ℕ) (rows : List Posting) (level : Level) (place : Open) (old new : ViewState)
+    (result : Result PlannedIndex Refusal) : Type 0 where
+  pub called : Called old.base new.base
+  pub loans : new.loans ≡ old.loans
+  pub ends : OverEnds g n edge rows level place old new result

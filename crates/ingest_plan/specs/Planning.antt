@@ -1,0 +1,69 @@
+-- What planning the index of a document says of it.
+use Rattle.std.specs.Prelude.{◌≡◌, ◌≤◌, ◌+◌, ℕ, List, Some, None, Result, Ok, Err, IsTrue, ⊤}
+use Rattle.sha2.specs.Sha256.{sha256}
+use Rattle.cell_types.specs.Image.{Image, Extends}
+use Rattle.cell_types.specs.Layout.{Layout}
+use Rattle.cell_types.specs.declared.refusal.Evidence.{Evidence}
+use Rattle.cell_types.specs.declared.refusal.Refusal.{Refusal}
+use Rattle.cell_types.specs.declared.refusal.Refusal.TheVariants.{DeviceFault, NoMemory, Tampered, TooManyTerms}
+use Rattle.stored_documents.specs.Documents.{Stands}
+use Rattle.index_paths.specs.Keeping.{IsKept, sought_in}
+use Rattle.term_tags.specs.Listing.{GetsTooMany}
+use Rattle.term_tags.specs.declared.rows.Posting.{Posting}
+use Rattle.worm_device.specs.Calls.{Called}
+use Rattle.worm_device.specs.Counts.{Rose}
+use Rattle.worm_device.specs.State.{DeviceState}
+use Rattle.worm_device.specs.Views.{ViewState}
+use Rattle.hash_tree.specs.declared.level.Level.{Level}
+use Rattle.hash_tree.specs.declared.path.Open.{Open}
+use Rattle.tree_growth.specs.Readiness.{PassedDown}
+use Rattle.index_growth.specs.Indexes.{IsIndexCell, IsNamed}
+use Rattle.index_growth.specs.Journal.{IsJournal}
+use Rattle.ingest_plan.specs.declared.plan.PlannedIndex.{PlannedIndex}
+
+-- The journal copies index cells alone, which lie from the first list on and before this cell.
+pub record IsJournalBefore (g : Layout) (to : ℕ) (planned : Image) (journal : List (List ℕ)) : Type 0 where
+  pub is : IsJournal planned journal
+  pub index : (cell : ℕ) (value : List ℕ) → planned cell ≡ Some value → IsIndexCell g cell value
+  pub before : (cell : ℕ) → to ≤ cell → planned cell ≡ None
+
+-- Once each planned cell stands, the document that stands in slot n is kept, whatever else is written: each of its postings
+-- has a trail, and the slot has a hash trail, where the path of its identifier is passed down to the place.
+abbrev pub KeepsDocument : Layout → ℕ → List ℕ → Level → Open → ℕ → Image → Image → Type 0
+KeepsDocument g n body level place to below planned =
+    (id : List ℕ) (image : Image) → sha256 id ≡ level.digest → Extends below image → Extends planned image
+    → to ≤ g.cells → Stands g.cells image n id body
+    → PassedDown g image (sought_in g.cells g id) level place.child
+    → IsKept g.cells image g (record { slot = n; id = id; body = body })
+
+-- The index of a body is planned, in slot n, with its blocks from the edge on.
+pub record IsPlanned (g : Layout) (n edge : ℕ) (level : Level) (place : Open) (body : List ℕ) (p : PlannedIndex)
+    (old new : DeviceState) : Type 0 where
+  pub planned : Image
+  pub journal : IsJournalBefore g (edge + p.block_length) planned p.journal.items
+  pub keeps : IsTrue old.tells → KeepsDocument g n body level place (edge + p.block_length) new.image planned
+
+-- What is named, in a state of what was planned over the device: a cell of a list that one of the postings goes into, or
+-- the child cell that led to the level's node.
+pub record NamesCell (g : Layout) (n : ℕ) (level : Level) (place : Open) (new : DeviceState) (e : Evidence) : Type 0 where
+  pub rows : List Posting
+  pub view : ViewState
+  pub over : view.lower ≡ new.image
+  pub is : IsNamed g n rows level place view e
+
+-- how planning may end, and why
+abbrev pub PlanEnds : Layout → ℕ → ℕ → Level → Open → List ℕ → DeviceState → DeviceState → Result PlannedIndex Refusal
+    → Type 0
+PlanEnds g n edge level place body old new (Ok p) = IsPlanned g n edge level place body p old new
+PlanEnds g n edge level place body old new (Err (TooManyTerms list count)) =
+    GetsTooMany g.lists body list count × (new ≡ old)
+PlanEnds g n edge level place body old new (Err (Tampered e)) = IsTrue old.tells → NamesCell g n level place new e
+PlanEnds g n edge level place body old new (Err DeviceFault) = Rose old.faults new.faults
+PlanEnds g n edge level place body old new (Err NoMemory) = ⊤
+PlanEnds g n edge level place body old new (Err refusal) = ⊥
+
+-- what planning does: it reads alone
+pub record PlansIndex (g : Layout) (n edge : ℕ) (level : Level) (place : Open) (body : List ℕ) (old new : DeviceState)
+    (result : Result PlannedIndex Refusal) : Type 0 where
+  pub called : Called old new
+  pub ends : PlanEnds g n edge level place body old new result

@@ -1,0 +1,115 @@
+//! The index of a document, planned.
+ghost use Rattle.std.specs.Prelude.{◌≡◌, ◌<◌, ◌≤◌, ◌+◌, ◌*◌, ℕ, None, IsTrue, length};
+ghost use Rattle.cell_types.specs.Layout.{pool_at};
+ghost use Rattle.cell_types.specs.declared.geometry.TheConstants.{MAX_CELLS, MAX_SLOTS};
+ghost use Rattle.hash_tree.specs.Levels.{IsLed, IsWithin};
+ghost use Rattle.hash_tree.specs.Steps.{IsOpenOf};
+ghost use Rattle.index_growth.specs.Rows.{AreInOrder};
+ghost use Rattle.ingest_plan.specs.Over.{IsRefusalOf, PlansOver};
+ghost use Rattle.ingest_plan.specs.Planning.{PlansIndex};
+ghost use Rattle.worm_device.specs.Overlays.{of_overlay};
+
+use cell_pool::Pool;
+use cell_types::{Cell, Fault, Refusal, Volume};
+use hash_tree::{Level, Open};
+use index_growth::{copies_of, insert_document};
+use planned_cells::GrowthFault;
+use std::alloc::Global;
+use term_tags::{Posting, postings};
+use word_reader::words;
+use worm_device::{Device, Direct, Overlay, PlannedCells, View};
+
+/// The index of a document, planned.
+#[derive(Debug, Drop)]
+pub struct PlannedIndex {
+    /// How many cells its new blocks and its new node have, from the edge on.
+    pub block_length: u32,
+    /// A copy of each index cell that is to be written, in rising order of their addresses.
+    pub journal: Vec<Cell>,
+}
+
+/// Plans the index of a document with this body in a slot: its postings, and its bucket at the place where the path of its
+/// identifier ends. New blocks begin at the edge, and may pass the device's end.
+pub fn plan_index<D: Device>(
+    alloc: Global,
+    device: &mut D,
+    volume: &Volume,
+    slot: u32,
+    edge: u32,
+    place: Open,
+    level: &Level,
+    body: &[u8],
+) -> Result<PlannedIndex, Refusal>
+    requires slot { slot < MAX_SLOTS }
+    requires size { volume.now.geometry.cells ≤ (D.state device.old).cells }
+    requires from { pool_at volume.now.geometry ≤ edge }
+    requires to { edge ≤ volume.now.geometry.cells }
+    requires number { level.now.number < 64 }
+    requires open_at { IsOpenOf volume.now.geometry level.now place }
+    requires within { IsWithin volume.now.geometry edge level.now.led_by }
+    requires led { IsTrue (D.state device.old).tells → IsLed (D.state device.old).image level.now.led_by }
+    ensures { PlansIndex volume.now.geometry slot edge level.now place body.now (D.state device.old) (D.state device.new) result }
+{
+    let Ok(terms) = words(alloc, body) else {
+        return Err(Refusal::NoMemory);
+    };
+    let rows = match postings(alloc, &terms, volume.geometry.lists()) {
+        Ok(rows) => rows,
+        Err(refusal) => return Err(refusal),
+    };
+    let mut own = PlannedCells::new(alloc);
+    let mut overlay = Overlay::new(Direct::new(device), &mut own, edge);
+    plan_over(alloc, &mut overlay, volume, slot, edge, &rows, place, level)
+}
+
+/// Plans the postings and the bucket over a view, from the edge on.
+fn plan_over<V: View>(
+    alloc: Global,
+    overlay: &mut Overlay<'_, V>,
+    volume: &Volume,
+    slot: u32,
+    edge: u32,
+    rows: &[Posting],
+    place: Open,
+    level: &Level,
+) -> Result<PlannedIndex, Refusal>
+    requires slot { slot < MAX_SLOTS }
+    requires order { AreInOrder volume.now.geometry.lists slot rows.now }
+    requires few { length rows.now ≤ 256 * volume.now.geometry.lists }
+    requires from { pool_at volume.now.geometry ≤ edge }
+    requires to { edge ≤ volume.now.geometry.cells }
+    requires fresh { (of_overlay V.seen overlay.old).fresh ≡ edge }
+    requires nothing { (cell : ℕ) → (of_overlay V.seen overlay.old).planned cell ≡ None }
+    requires number { level.now.number < 64 }
+    requires open_at { IsOpenOf volume.now.geometry level.now place }
+    requires within { IsWithin volume.now.geometry edge level.now.led_by }
+    requires led { IsTrue (of_overlay V.seen overlay.old).base.tells →
+        IsLed (of_overlay V.seen overlay.old).lower level.now.led_by }
+    ensures { PlansOver volume.now.geometry slot edge rows.now level.now place (of_overlay V.seen overlay.old)
+        (of_overlay V.seen overlay.new) result }
+{
+    // Known of a layout once it is asked for: it fits a device.
+    let _cells = volume.geometry.cells();
+    let mut pool = Pool::over(edge, u32::MAX);
+    if let Err(fault) = insert_document(overlay, &mut pool, volume, slot, rows, place, level) {
+        return Err(refusal_of(fault));
+    }
+    match copies_of(alloc, overlay.planned()) {
+        Ok(journal) => Ok(PlannedIndex {
+            block_length: pool.next() - edge,
+            journal,
+        }),
+        Err(_) => Err(Refusal::NoMemory),
+    }
+}
+
+/// A fault of planning, as an ingest refuses.
+fn refusal_of(fault: GrowthFault) -> Refusal
+    ensures { IsRefusalOf fault result }
+{
+    match fault {
+        GrowthFault::Fault(Fault::Tampered(evidence)) => Refusal::Tampered(evidence),
+        GrowthFault::Fault(Fault::ReadFault) => Refusal::DeviceFault,
+        GrowthFault::NoMemory => Refusal::NoMemory,
+    }
+}
