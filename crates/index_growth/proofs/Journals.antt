@@ -42,11 +42,12 @@ entries_are_journal m ordered = record {
       omega (arith, below_from_sorted (keys m) i j 0 ordered less (slice_get_within (keys m) j b bt), first, second);
   all = λ cell value is.
       let found = place_from_lookup (is_at (nat_cmp cell)) m.entries value is in
-      let same = the_key cell found.1 found.3 in
-      (found.0,
-      (slice_get-map (λ (e : ℕ × List ℕ). e.0) m.entries found.0 ∙ ap (λ o. option_map (λ (e : ℕ × List ℕ). e.0) o) found.2
-      ∙ ap (λ (k : ℕ). Some k) same),
-      (slice_get-map (λ (e : ℕ × List ℕ). e.1) m.entries found.0 ∙ ap (λ o. option_map (λ (e : ℕ × List ℕ). e.1) o) found.2));
+      let same = the_key cell found.1 found.3 in (
+        found.0,
+        (slice_get-map (λ (e : ℕ × List ℕ). e.0) m.entries found.0 ∙ ap (λ o. option_map (λ (e : ℕ × List ℕ). e.0) o) found.2
+            ∙ ap (λ (k : ℕ). Some k) same),
+        (slice_get-map (λ (e : ℕ × List ℕ). e.1) m.entries found.0 ∙ ap (λ o. option_map (λ (e : ℕ × List ℕ). e.1) o) found.2),
+      );
 }
 
 pub journal_of : (m : BTreeMap ℕ (List ℕ)) (made : Result (Vec (List ℕ)) NoMemory) → IsOrdered nat_cmp m

@@ -55,10 +55,10 @@ owned_anew : {head floor at : ℕ} {r : RecordCell} {old new : ViewState}
 owned_anew {head} {floor} {at} {r} {old} {new} one cell owner same is =
     let owns : Owner = record { head = head; base = one.block } in
     let e : owner ≡ owns = the_owner owner owns (new.owners cell) is
-        (subst (λ (n : ℕ). new.owners n ≡ Some owns) (sym same) one.for_whom) in
+    (subst (λ (n : ℕ). new.owners n ≡ Some owns) (sym same) one.for_whom) in
     let base : owner.base ≡ one.block = ap (λ (o : Owner). o.base) e in
     anew (ap (λ (o : Owner). o.head) e) (omega (arith, base, same, one.from)) (omega (arith, base, same, one.to))
-        (⊎_elim (λ first. inl (base ∙ first)) (λ past. inr (omega (arith, past, base))) one.where_blocks_lie)
+    (⊎_elim (λ first. inl (base ∙ first)) (λ past. inr (omega (arith, past, base))) one.where_blocks_lie)
 
 pub owned_in : {head floor at : ℕ} {p : PostingFields} {old new : ViewState} → PlansEntry head floor p at old new
     → (cell : ℕ) (owner : Owner) → new.owners cell ≡ Some owner → IsOwned head floor old cell owner

@@ -164,7 +164,7 @@ module _ (g : Layout) (n : ℕ) (rows : List Posting) (i : ℕ) (first pool late
   untouched_now tells l less before =
       let behind : p.list < l = before i p (omega arith) here in
       untouched_other plans (λ same. omega (arith, same, behind)) (lists_apart g l p.list (λ same. omega (arith, same, behind)))
-          (list_below g l less) (so.untouched tells l less (λ j q small is. before j q (omega (arith, small)) is))
+      (list_below g l less) (so.untouched tells l less (λ j q small is. before j q (omega (arith, small)) is))
 
   ready_now : IsTrue old.base.tells → (a : ListedPosting) → a.list < g.lists
       → ((j : ℕ) (q : Posting) → j < i + 1 → slice_get rows j ≡ Some q → ComesBefore (listed n q) a)

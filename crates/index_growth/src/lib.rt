@@ -1,4 +1,22 @@
-//! Inserts the postings of one document, each into its list.
+//! Plans the whole index of one document over what a view shows: its postings, each in its list, and its bucket.
+//!
+//! On the volume of 8 slots and 2 lists the document `a` with the body `hello world`, in slot 0, has two postings, both
+//! in list 0, and its bucket in the root:
+//!
+//!     posting    cell  36    key 0, tag of `hello`
+//!     posting    cell  37    key 1, tag of `world`
+//!     bucket     cell 560    slot 0, fingerprint of `a`
+//!     pool       580         no block and no node was taken
+//!
+//! **One after another.** Each insertion finds what the ones before have planned, and their trails go on. So after a row
+//! of insertions over one view and one pool each posting has its trail, and what is planned is what was planned before
+//! and what the row has added (`AreInserted`). Postings come by list and ordinal, so that keys rise in each list; a list
+//! that no posting has gone into yet is as it was.
+//!
+//! **The journal** of a plan is a copy of each planned cell, by rising numbers (`copies_of`).
+//!
+//! Stands on `list_growth` and `tree_growth`, which insert one entry each, and on `term_tags` for the postings. Begin with
+//! `rows.rt`; `specs/Rows.antt` says what a row of insertions does, and `specs/Indexes.antt` what the whole does.
 #![tactic(auto)]
 
 mod journal;

@@ -1,18 +1,15 @@
 -- From what is planned over a view of a device to what that says of the device.
-use Rattle.std.proofs.Common.{◌≡◌, ◌≤◌, ◌+◌, ◌-◌, ℕ, List, Option, Some, None, Result, Ok, Err, refl, ap, sym, subst, arith, ◌∙◌}
+use Rattle.std.proofs.Common.{◌≡◌, ◌+◌, ℕ, List, Option, Some, None, Result, Ok, Err, refl, ap, sym, subst, arith, ◌∙◌}
 use Rattle.std.specs.Prelude.{IsTrue, map, slice_get}
 use Rattle.std.specs.Option.{option_map}
 use Rattle.std.proofs.lemmas.Option.{none-some, slice_get-map}
-use Rattle.sha2.specs.Sha256.{sha256}
-use Rattle.cell_types.specs.Image.{Image, Extends}
-use Rattle.cell_types.specs.Layout.{Layout, list_at, pool_at, root_at}
+use Rattle.cell_types.specs.Image.{Image}
+use Rattle.cell_types.specs.Layout.{Layout, list_at, pool_at}
 use Rattle.cell_types.specs.declared.refusal.Refusal.{Refusal}
 use Rattle.cell_types.specs.declared.refusal.Refusal.TheVariants as refusals
-use Rattle.stored_documents.specs.Documents.{Stands}
 use Rattle.index_paths.specs.Blocks.{PostingFields, Trail}
-use Rattle.index_paths.specs.HashPaths.{HashTrail}
-use Rattle.index_paths.specs.Keeping.{IsKept, sought_in}
-use Rattle.index_paths.specs.Postings.{ArePostings, IsPostingOf, ListedPosting}
+use Rattle.index_paths.specs.Keeping.{sought_in}
+use Rattle.index_paths.specs.Postings.{ArePostings, ListedPosting}
 use Rattle.index_paths.proofs.Trails.{trail_wider}
 use Rattle.term_tags.specs.Listing.{listed}
 use Rattle.term_tags.specs.declared.rows.Posting.{Posting}
@@ -21,8 +18,7 @@ use Rattle.worm_device.specs.State.{DeviceState}
 use Rattle.worm_device.specs.Views.{ViewState}
 use Rattle.hash_tree.specs.declared.level.Level.{Level}
 use Rattle.hash_tree.specs.declared.path.Open.{Open}
-use Rattle.tree_growth.specs.Readiness.{PassedDown}
-use Rattle.index_growth.specs.Indexes.{HasTrailIn, IsIndexed}
+use Rattle.index_growth.specs.Indexes.{IsIndexed}
 use Rattle.index_growth.specs.Journal.{IsJournal}
 use Rattle.ingest_plan.specs.Over.{IsPlannedOver, OverEnds, PlansOver}
 use Rattle.ingest_plan.specs.Planning.{KeepsDocument, PlanEnds, PlansIndex}
@@ -63,8 +59,10 @@ plans_index g n edge body rows level place start old new result done are over be
 } where
   told : IsTrue start.tells → IsTrue old.base.tells
   told tells = subst (λ (d : DeviceState). IsTrue d.tells) (sym begins) tells
+
   there : done.image ≡ new.lower
   there = ap (λ (d : DeviceState). d.image) ends ∙ sym below
+
   why : (result : Result PlannedIndex Refusal) → OverEnds g n edge rows level place old new result
       → PlanEnds g n edge level place body start done result
   why (Ok p) h = record {

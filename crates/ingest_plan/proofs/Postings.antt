@@ -3,9 +3,9 @@ use Rattle.std.proofs.Common.{◌≡◌, ◌<◌, ◌≤◌, ◌+◌, ◌*◌, �
 use Rattle.std.specs.Prelude.{length, map, slice_get}
 use Rattle.std.specs.Option.{option_map}
 use Rattle.std.proofs.lemmas.Bool.{cases_eq}
-use Rattle.std.proofs.lemmas.Option.{none-some, slice_get-map, slice_get_within, slice_get-get_or}
+use Rattle.std.proofs.lemmas.Option.{slice_get-map, slice_get_within, slice_get-get_or}
 use Rattle.index_paths.proofs.Tags.{tags_one}
-use Rattle.index_paths.specs.Postings.{ArePostings, ComesBefore, IsPostingOf, ListedPosting}
+use Rattle.index_paths.specs.Postings.{ArePostings, IsPostingOf}
 use Rattle.stored_documents.specs.Words.{AreWords}
 use Rattle.term_tags.specs.Listing.{GivesPostings, listed}
 use Rattle.term_tags.specs.declared.rows.Posting.{Posting}
@@ -24,9 +24,10 @@ module _ (lists : ℕ) (body : List ℕ) (n : ℕ) (rows : List Posting) (are : 
       let posting = (is_posting i p is).1 in
       let small = slice_get_within posting.tags posting.ordinal p.tag posting.here in
       let fits = are.exist.each p.list (is_posting i p is).0 in
-      let same = tags_one lists body p.list posting.tags fits.0 posting.are fits.1 in
-      (omega (arith, small, posting.key, posting.last),
-       omega (arith, posting.last, fits.2, ap (λ (t : List (List ℕ)). length t) same))
+      let same = tags_one lists body p.list posting.tags fits.0 posting.are fits.1 in (
+        omega (arith, small, posting.key, posting.last),
+        omega (arith, posting.last, fits.2, ap (λ (t : List (List ℕ)). length t) same),
+      )
 
   pub in_order : AreInOrder lists n rows
   in_order = record {
@@ -45,9 +46,9 @@ module _ (lists : ℕ) (body : List ℕ) (n : ℕ) (rows : List Posting) (are : 
       let before = behind i q here in
       let fits = ordinal_below i q here in
       ⊎_elim (λ (lower : q.list < p.list). omega (arith, before, fits.0, fits.1, lower))
-          (λ (same : (q.list ≡ p.list) × ((listed n q).posting.key < (listed n p).posting.key)).
-          omega (arith, before, same.0, same.1))
-          (are.order i (suc i) (listed n q) (listed n p) (omega arith) (at_place i q here) (at_place (suc i) p is))
+      (λ (same : (q.list ≡ p.list) × ((listed n q).posting.key < (listed n p).posting.key)).
+      omega (arith, before, same.0, same.1))
+      (are.order i (suc i) (listed n q) (listed n p) (omega arith) (at_place i q here) (at_place (suc i) p is))
 
   pub few : length rows ≤ 256 * lists
   few = ⊎_elim (λ (none : length rows ≡ 0). omega (arith, none))

@@ -34,5 +34,5 @@ insert_one-requires-clause-ready g c =
     let row : Posting = slice_index_or c.args.rows.now c.loop-row.row-index none in
     let here = slice_get-get_or c.args.rows.now c.loop-row.row-index none c.loop-row-test.true in
     λ tells. c.loop-row.invariant.ready (subst IsTrue c.loop-row.invariant.called.tells tells) (listed c.args.slot row)
-        (c.requires.order.lists_are c.loop-row.row-index row here)
-        (λ i p less is. c.requires.order.order i c.loop-row.row-index p row less is here)
+    (c.requires.order.lists_are c.loop-row.row-index row here)
+    (λ i p less is. c.requires.order.order i c.loop-row.row-index p row less is here)

@@ -1,5 +1,5 @@
 -- The postings of the body, planned over the device.
-use Rattle.std.proofs.Common.{◌≡◌, sym, refl, ap, ◌∙◌, rules, arith}
+use Rattle.std.proofs.Common.{refl, ap, ◌∙◌, arith}
 use Rattle.std.proofs.lemmas.Grind.{common_steps}
 use Rattle.ingest_plan.proofs.Deriving.{plans_index}
 use Rattle.ingest_plan.proofs.Postings.{few, given, in_order}

@@ -1,5 +1,5 @@
 -- The journal of what was planned.
-use Rattle.std.proofs.Common.{◌≡◌, ◌≤◌, ◌+◌, ◌-◌, ℕ, List, sym, refl, subst, arith, ◌∙◌}
+use Rattle.std.proofs.Common.{◌-◌, arith}
 use Rattle.worm_device.specs.Overlays.{of_overlay}
 use Rattle.ingest_plan.proofs.Deriving.{planned_over}
 use Rattle.ingest_plan.proofs.plan.plan_over.Goals as goal
