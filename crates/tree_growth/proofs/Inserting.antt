@@ -65,7 +65,8 @@ module _ (g : Layout) (level : Level) (place : Open) (slot : ℕ) (pool : Pool) 
       (subst (λ (f : List ℕ). PlansRecord place.bucket (Bucket slot f) (owner_in g (node_of g level)) old new (Ok tt))
       is_first plans) in
       let held : HoldsPlanned place.bucket (entry_of level slot) (owner_in g (node_of g level)) old new =
-      subst (λ (c : ℕ). HoldsPlanned c (entry_of level slot) (owner_in g (node_of g level)) old new) (sym at) put.ends in
+      subst (λ (c : ℕ). HoldsPlanned c (entry_of level slot) (owner_in g (node_of g level)) old new) (sym at)
+      put.ends in
       record {
         cells = plans.cells;
         lower = plans.lower;
@@ -80,7 +81,8 @@ module _ (g : Layout) (level : Level) (place : Open) (slot : ℕ) (pool : Pool) 
           beyond = λ cell past.
               (put.others cell (λ same. omega (arith, same, low, half, past))).1 ∙ ready.beyond cell past;
           trail = trail_alone g level place slot pool.next new.planned no_child put.ends.planned;
-          rooted = λ before. rooted_alone g level place slot pool.next old.image new.image half no_child at put.ends.shown
+          rooted = λ before.
+              rooted_alone g level place slot pool.next old.image new.image half no_child at put.ends.shown
               (λ cell differ. (put.others cell differ).0) before;
         };
       }

@@ -53,7 +53,10 @@ same_place : {g : Layout} {image : Image} {to v node u other a b : ℕ} → IsWe
 same_place {g} {image} {to} {v} {node} {u} {other} w n m in_one in_other same =
     ⊎_elim
     (λ is. (is, omega (arith, is, same)))
-    (λ far. absurd (⊎_elim (λ low. omega (arith, low, in_one, in_other, same)) (λ high. omega (arith, high, in_one, in_other, same)) far))
+    (λ far. absurd (⊎_elim
+    (λ low. omega (arith, low, in_one, in_other, same))
+    (λ high. omega (arith, high, in_one, in_other, same))
+    far))
     (w.apart v node u other n m)
 
 -- one bucket more
@@ -164,8 +167,8 @@ module _ (g : Layout) (level : Level) (place : Open) (slot next to : ℕ) (old m
       (λ i less. beyond (next + 16 + i) (omega arith))
 
   new_node : IsNode g mid (level.number + 1) next
-  new_node = nodes.IsNode.under (level.number + 1) next level.number (node_of g level) (nibble level.digest level.number) refl
-      (node_on (adds_extends a) before.node) half levels child pool before.room
+  new_node = nodes.IsNode.under (level.number + 1) next level.number (node_of g level)
+      (nibble level.digest level.number) refl (node_on (adds_extends a) before.node) half levels child pool before.room
 
   -- a child cell that was blank leads to the new node
   leads_there : (cell target : ℕ) → old cell ≡ None → Holds mid cell (Child target) → target ≡ next
@@ -185,8 +188,8 @@ module _ (g : Layout) (level : Level) (place : Open) (slot next to : ℕ) (old m
       (λ there. ⊎_elim
       (λ same. inr (children other next (one_record_holds mid (child_at g level) (Child other) (Child next)
       (subst (λ (c : ℕ). Holds mid c (Child other)) same hop) child)))
-      (λ differ. inl (nodes.IsNode.under u other k over y is there ys less (holds_back (others (over + 16 + y) differ) hop) from
-      inside))
+      (λ differ. inl (nodes.IsNode.under u other k over y is there ys less
+      (holds_back (others (over + 16 + y) differ) hop) from inside))
       (same_or_not (over + 16 + y) (child_at g level)))
       (λ same. absurd (none-some hop.cell (sym (still_blank (over + 16 + y) (omega (arith, same))) ∙ hop.stands)))
       (node_of_mid rest)
@@ -195,8 +198,8 @@ module _ (g : Layout) (level : Level) (place : Open) (slot next to : ℕ) (old m
       → IsOnPath g new level.digest (level.number + 1) next
   on_new_path path =
       path_on (adds_extends b)
-      (nodes.IsOnPath.under (level.number + 1) next level.number (node_of g level) refl (path_on (adds_extends a) path) levels
-      child pool before.room)
+      (nodes.IsOnPath.under (level.number + 1) next level.number (node_of g level) refl
+      (path_on (adds_extends a) path) levels child pool before.room)
 
   -- a bucket that was blank is so with the child cell too
   bucket_blank : (u other y : ℕ) → IsNode g mid u other → y < 16 → old (other + y) ≡ None → mid (other + y) ≡ None
@@ -219,8 +222,8 @@ module _ (g : Layout) (level : Level) (place : Open) (slot next to : ℕ) (old m
         let path : PassedDown g old (sought_in g.cells g id) level (Some at) =
         subst (λ (c : Option ℕ). PassedDown g old (sought_in g.cells g id) level c) has_child passed in
         BucketCosts.in_new_node level.number (node_of g level) levels path.0
-        (subst (λ (d : List ℕ). IsPassed old (sought_in g.cells g id) (node_of g level + nibble d level.number)) (sym same)
-        path.1)
+        (subst (λ (d : List ℕ). IsPassed old (sought_in g.cells g id) (node_of g level + nibble d level.number))
+        (sym same) path.1)
         (subst (λ (d : List ℕ). old (node_of g level + 16 + nibble d level.number) ≡ None) (sym same) blank) refl;
     nodes = λ v node n. node_of_mid (node_before mid_rooted new_node next_half b n);
     new_children = λ v node x target n xs none h.

@@ -35,8 +35,8 @@ pub record IsAsBefore (old new : ViewState) (cell : ℕ) : Type 0 where
   pub planned : new.planned cell ≡ old.planned cell
   pub owners : new.owners cell ≡ old.owners cell
 
--- What one entry plans, and takes of the pool: its bucket alone, in the level's node; or a child cell of this node, a new
--- node that it leads to, and the bucket there.
+-- What one entry plans, and takes of the pool: its bucket alone, in the level's node; or a child cell of this node, and
+-- the bucket in a new node that it leads to.
 pub data PlansBucket (g : Layout) (level : Level) (place : Open) (slot at : ℕ) (pool rest : Pool) (old new : ViewState)
     : Type 0 where
   alone : place.child ≡ None → at ≡ bucket_at g level
@@ -51,15 +51,15 @@ pub data PlansBucket (g : Layout) (level : Level) (place : Open) (slot at : ℕ)
       → nibble level.digest level.number < 16 → nibble level.digest (level.number + 1) < 16
       → TakesFront pool rest 32 pool.next → PlansBucket g level place slot at pool rest old new
 
--- The slot has a hash trail in each image that has every planned cell and in which the path down to the place is passed,
--- for whatever is sought by the level's digest on a device that has the pool's cells up to here.
+-- The slot has a hash trail in each image that has every planned cell and in which the path down to the place is
+-- passed, for whatever is sought by the level's digest on a device that has the pool's cells up to here.
 abbrev pub HasTrail : Layout → Level → Open → ℕ → ℕ → Image → Type 0
 HasTrail g level place slot to planned =
     (image : Image) (s : Sought) → s.digest ≡ level.digest → s.pool ≡ pool_at g → to ≤ s.cells
     → Extends planned image → PassedDown g image s level place.child → HashTrail image s slot (root_at g) 0
 
--- The entry is planned, and nothing from the pool's next cell on; the slot has a hash trail; and a tree that has its shape
--- keeps it.
+-- The entry is planned, and nothing from the pool's next cell on; the slot has a hash trail; and a tree that has its
+-- shape keeps it.
 pub record IsInserted (g : Layout) (level : Level) (place : Open) (slot at : ℕ) (pool rest : Pool) (old new : ViewState)
     : Type 0 where
   pub plans : PlansBucket g level place slot at pool rest old new

@@ -27,8 +27,8 @@ pub record IsRootedBefore (g : Layout) (level : Level) (place : Open) (next : �
 -- What an entry adds to an image, and costs: one cell of the journal for each cell that is planned, and the cells that
 -- the pool gave.
 pub data TreeGrows (g : Layout) (level : Level) (slot next to : ℕ) (old new : Image) (cost : ℕ) : Type 0 where
-  in_bucket : Adds (bucket_at g level) old new → Holds new (bucket_at g level) (Bucket slot (fingerprint_of level.digest))
-      → to ≡ next → cost ≡ 1 → TreeGrows g level slot next to old new cost
+  in_bucket : Adds (bucket_at g level) old new
+      → Holds new (bucket_at g level) (Bucket slot (fingerprint_of level.digest)) → to ≡ next → cost ≡ 1 → TreeGrows g level slot next to old new cost
   in_new_node : (mid : Image) → level.number < 63 → Adds (child_at g level) old mid
       → Holds new (child_at g level) (Child next)
       → Adds (next + nibble level.digest (level.number + 1)) mid new
@@ -41,8 +41,8 @@ pub record IsNewBucket (g : Layout) (level : Level) (slot : ℕ) (old new : Imag
   pub half_byte : x ≡ nibble level.digest v
   pub on_path : IsOnPath g old level.digest level.number (node_of g level) → IsOnPath g new level.digest v node
 
--- The tree is well shaped with the entry, whose cost is what the identifier's bucket needs. A node was one before or is the new one, a new child cell leads to the new
--- node, and a new bucket is the entry.
+-- The tree is well shaped with the entry, whose cost is what the identifier's bucket needs. A node was one before or is
+-- the new one, a new child cell leads to the new node, and a new bucket is the entry.
 pub record IsRooted (g : Layout) (level : Level) (place : Open) (slot next to : ℕ) (old new : Image) : Type 0 where
   pub rooted : IsWellRooted g new to
   pub cost : ℕ

@@ -1,5 +1,5 @@
 -- The path ended in a node that lies before what is free, and only the list has planned there.
-use Rattle.std.proofs.Common.{rules, ◌≡◌, ◌≢◌, ◌+◌, ◌<◌, ◌≤◌, ◌∙◌, ⊎_elim, ℕ, List, Option, Some, None, Ok, refl, sym, ap, subst, arith}
+use Rattle.std.proofs.Common.{rules, ◌≡◌, ◌≢◌, ◌<◌, ◌≤◌, ◌∙◌, ⊎_elim, ℕ, List, Some, None, Ok, sym, ap, subst, arith}
 use Rattle.std.specs.Prelude.{IsTrue}
 use Rattle.std.proofs.lemmas.Option.{none-some}
 use Rattle.cell_types.specs.Image.{Extends}
@@ -8,12 +8,12 @@ use Rattle.tamper_rules.proofs.Writing.{same_or_not}
 use Rattle.worm_device.specs.Overlays.{Plans}
 use Rattle.worm_device.specs.Views.{ViewState}
 use Rattle.worm_device.specs.declared.owner.Owner.{Owner}
-use Rattle.hash_tree.specs.Levels.{IsPlaced, node_of}
+use Rattle.hash_tree.specs.Levels.{IsPlaced}
 use Rattle.hash_tree.specs.Steps.{IsOpenOf}
 use Rattle.hash_tree.specs.declared.level.ChildCell.{ChildCell}
 use Rattle.hash_tree.specs.declared.level.Level.{Level}
 use Rattle.hash_tree.specs.declared.path.Open.{Open}
-use Rattle.tree_growth.specs.Readiness.{IsReady, blank_of, owner_in}
+use Rattle.tree_growth.specs.Readiness.{IsReady, blank_of}
 use Rattle.tree_growth.proofs.Readiness.{ready_after}
 use Rattle.tree_growth.proofs.tests.a_node_that_is_planned_for_a_list_is_evidence.Goals as goal
 
@@ -50,8 +50,12 @@ insert-done-requires-clause-ready g c =
     let at : IsOpenOf c.in_ok-geometry.geometry c.next_candidate-step.new.level c.in-End.place =
     (rw c.in-End.is at c.in-Ok.ensures).ends.0 in
     let from : pool_at c.in_ok-geometry.geometry ≤ 836 = rw geometry (omega arith) in
-    ready_beside c.next_candidate-step.ensures.placed at from (sym c.fresh.ensures ∙ c.if-fresh-ne836.false) (sym c.over-pool.ensures.next)
-    (λ tells. (tells, record { keeps = λ cell value is. rw (c.new-overlay.ensures.view, c.new-4.ensures.same) (search rules) }))
+    ready_beside c.next_candidate-step.ensures.placed at from (sym c.fresh.ensures ∙ c.if-fresh-ne836.false)
+    (sym c.over-pool.ensures.next)
+    (λ tells. (
+      tells,
+      record { keeps = λ cell value is. rw (c.new-overlay.ensures.view, c.new-4.ensures.same) (search rules) },
+    ))
     c.new-overlay.ensures.nothing
     (λ cell. c.new-overlay.result.owned.unowned cell (c.new-overlay.ensures.nothing cell))
     (rw c.in_ok-plan.was at c.plan.ensures) c.if-place-ge836.false c.in-Some.is
