@@ -126,7 +126,8 @@ led_along {g} {edge} {shown} {image} bounds keeps half (further level child none
     keeps child.cell child.target before (record { cell = child.found; stands = leads.stands; is = leads.is }) in
     led_along bounds keeps half rest (leads.from, leads.to)
     (nodes.IsNode.under (level.number + 1) child.target level.number (node_of g level)
-    (nibble level.digest level.number) refl reached x leads.levels (subst (λ (c : ℕ). Holds image c (Child child.target)) leads.at held) leads.from
+    (nibble level.digest level.number) refl reached x leads.levels
+    (subst (λ (c : ℕ). Holds image c (Child child.target)) leads.at held) leads.from
     (omega (arith, leads.to, bounds.to)))
     (record {
       level = level.number;

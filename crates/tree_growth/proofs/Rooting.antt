@@ -156,12 +156,14 @@ module _ (g : Layout) (level : Level) (place : Open) (slot next to : ℕ) (old m
   }
 
   mid_rooted : IsWellRooted g mid (next + 32)
-  mid_rooted = rooted_with_child before.rooted before.node half levels a child above (omega arith) pool (before.room at has_child)
+  mid_rooted = rooted_with_child before.rooted before.node half levels a child above (omega arith) pool
+      (before.room at has_child)
       (λ i less. beyond (next + 16 + i) (omega arith))
 
   new_node : IsNode g mid (level.number + 1) next
   new_node = nodes.IsNode.under (level.number + 1) next level.number (node_of g level)
-      (nibble level.digest level.number) refl (node_on (adds_extends a) before.node) half levels child pool (before.room at has_child)
+      (nibble level.digest level.number) refl (node_on (adds_extends a) before.node) half levels child pool
+      (before.room at has_child)
 
   -- a child cell that was blank leads to the new node
   leads_there : (cell target : ℕ) → old cell ≡ None → Holds mid cell (Child target) → target ≡ next

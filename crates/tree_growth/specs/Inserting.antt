@@ -60,8 +60,8 @@ HasTrail g level place slot to planned =
     (image : Image) (s : Sought) → s.digest ≡ level.digest → s.pool ≡ pool_at g → to ≤ s.cells
     → Extends planned image → PassedDown g image s level place.child → HashTrail image s slot (root_at g) 0
 
--- Where the place was blank, and the path down to it is passed for an identifier with the level's digest, the entry takes
--- what the identifier's bucket needs.
+-- Where the place was blank, and the path down to it is passed for an identifier with the level's digest, the entry
+-- takes what the identifier's bucket needs.
 abbrev pub TakesItsNeed : Layout → Level → Open → Image → Type 0
 TakesItsNeed g level place image =
     (id : List ℕ) → (sought_in g.cells g id).digest ≡ level.digest → image (blank_of place) ≡ None

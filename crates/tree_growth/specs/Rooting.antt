@@ -26,7 +26,8 @@ pub record IsRootedBefore (g : Layout) (level : Level) (place : Open) (next : �
 -- the pool gave.
 pub data TreeGrows (g : Layout) (level : Level) (slot next to : ℕ) (old new : Image) (cost : ℕ) : Type 0 where
   in_bucket : Adds (bucket_at g level) old new
-      → Holds new (bucket_at g level) (Bucket slot (fingerprint_of level.digest)) → to ≡ next → cost ≡ 1 → TreeGrows g level slot next to old new cost
+      → Holds new (bucket_at g level) (Bucket slot (fingerprint_of level.digest)) → to ≡ next → cost ≡ 1
+      → TreeGrows g level slot next to old new cost
   in_new_node : (mid : Image) → level.number < 63 → Adds (child_at g level) old mid
       → Holds new (child_at g level) (Child next)
       → Adds (next + nibble level.digest (level.number + 1)) mid new
