@@ -23,6 +23,7 @@ use Rattle.hash_tree.specs.declared.path.Open.{Open}
 use Rattle.tree_growth.specs.Inserting.{InsertsEntry, IsTaken, alone, with_node, entry_of}
 use Rattle.tree_growth.specs.Naming.{Names}
 use Rattle.tree_growth.specs.Readiness.{IsReady, blank_in, blank_of, owner_in}
+use Rattle.tree_growth.proofs.Needs.{need_alone, need_with_node}
 use Rattle.tree_growth.proofs.Rooting.{rooted_alone, rooted_with_node}
 use Rattle.tree_growth.proofs.Trails.{trail_alone, trail_with_node}
 
@@ -65,7 +66,8 @@ module _ (g : Layout) (level : Level) (place : Open) (slot : ℕ) (pool : Pool) 
       (subst (λ (f : List ℕ). PlansRecord place.bucket (Bucket slot f) (owner_in g (node_of g level)) old new (Ok tt))
       is_first plans) in
       let held : HoldsPlanned place.bucket (entry_of level slot) (owner_in g (node_of g level)) old new =
-      subst (λ (c : ℕ). HoldsPlanned c (entry_of level slot) (owner_in g (node_of g level)) old new) (sym at) put.ends in
+      subst (λ (c : ℕ). HoldsPlanned c (entry_of level slot) (owner_in g (node_of g level)) old new) (sym at)
+      put.ends in
       record {
         cells = plans.cells;
         lower = plans.lower;
@@ -80,7 +82,9 @@ module _ (g : Layout) (level : Level) (place : Open) (slot : ℕ) (pool : Pool) 
           beyond = λ cell past.
               (put.others cell (λ same. omega (arith, same, low, half, past))).1 ∙ ready.beyond cell past;
           trail = trail_alone g level place slot pool.next new.planned no_child put.ends.planned;
-          rooted = λ before. rooted_alone g level place slot pool.next old.image new.image half no_child at put.ends.shown
+          need = need_alone g level place old.image no_child at;
+          rooted = λ before.
+              rooted_alone g level place slot pool.next old.image new.image half no_child at put.ends.shown
               (λ cell differ. (put.others cell differ).0) before;
         };
       }
@@ -137,6 +141,7 @@ module _ (g : Layout) (level : Level) (place : Open) (slot : ℕ) (pool : Pool) 
               (omega (arith, ready.from, ready.fresh)) moved
               (subst (λ (c : ℕ). Holds new.planned c (Child pool.next)) spot.1 led_now.planned)
               (subst (λ (c : ℕ). Holds new.planned c (entry_of level slot)) there entry_now.planned);
+          need = need_with_node g level place old.image child has_child spot.1 spot.2;
           rooted = λ before.
               rooted_with_node g level place slot pool.next rest.next old.image mid.image new.image half next_half
               spot.2 low (omega (arith, ready.from, ready.fresh)) moved

@@ -1,5 +1,6 @@
 pub mod Inserting
 pub mod Licence
+pub mod Needs
 pub mod Paths
 pub mod Readiness
 pub mod Rooting

@@ -60,7 +60,8 @@ not_others edge well is from to another (in_block l block head low high) =
     (λ before. omega (arith, before, is, from, to, low, high))
     (λ after. omega (arith, after, is, from, to, low, high))
     (well.blocks l _ block)
-not_others {g} {view} {cell} {v} {above} {x} {node} {owner} edge well is from to another (in_node w there head low high) =
+not_others {g} {view} {cell} {v} {above} {x} {node} {owner} edge well is from to another
+    (in_node w there head low high) =
     ⊎_elim
     (λ same. another (owner_is owner (root_at g) node head (same ∙ is)))
     (λ far.
@@ -77,8 +78,8 @@ not_others {g} {view} {cell} {v} {above} {x} {node} {owner} edge well is from to
 not_others {g} {view} edge well is from to another (in_new past low) =
     omega (arith, well.edge view.fresh edge, is, to, past, low)
 
-module _ (g : Layout) (level : Level) (place : Open) (view : ViewState) (e : Evidence) (taken : IsTaken g level place view e)
-    (tells : IsTrue view.base.tells) (volume : IsVolume g.cells view.lower g)
+module _ (g : Layout) (level : Level) (place : Open) (view : ViewState) (e : Evidence)
+    (taken : IsTaken g level place view e) (tells : IsTrue view.base.tells) (volume : IsVolume g.cells view.lower g)
     (edge : IsEdge g view.lower view.lower view.fresh) (within : IsLedWithin g view.lower level.led_by)
     (lies : (cell : ℕ) (owner : Owner) → view.owners cell ≡ Some owner → LiesByOwner g view cell owner) where
   led_within : IsChildPlace g view.lower e.cell
@@ -114,12 +115,19 @@ led_along {g} {edge} {shown} {image} bounds keeps half (here level is) inside re
 led_along {g} {edge} {shown} {image} bounds keeps half (further level child none leads rest) inside reached within =
     let x : nibble level.digest level.number < 16 = half level.number in
     let before : child.cell < edge =
-    omega (arith, leads.at, x, node_before g edge edge level.led_by inside bounds.from (let h : edge ≤ edge = omega arith in h)) in
+    omega (
+      arith,
+      leads.at,
+      x,
+      node_before g edge edge level.led_by inside bounds.from
+          (let h : edge ≤ edge = omega arith in h),
+    ) in
     let held : Holds image child.cell (Child child.target) =
     keeps child.cell child.target before (record { cell = child.found; stands = leads.stands; is = leads.is }) in
     led_along bounds keeps half rest (leads.from, leads.to)
-    (nodes.IsNode.under (level.number + 1) child.target level.number (node_of g level) (nibble level.digest level.number)
-    refl reached x leads.levels (subst (λ (c : ℕ). Holds image c (Child child.target)) leads.at held) leads.from
+    (nodes.IsNode.under (level.number + 1) child.target level.number (node_of g level)
+    (nibble level.digest level.number) refl reached x leads.levels
+    (subst (λ (c : ℕ). Holds image c (Child child.target)) leads.at held) leads.from
     (omega (arith, leads.to, bounds.to)))
     (record {
       level = level.number;

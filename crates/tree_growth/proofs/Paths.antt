@@ -19,8 +19,9 @@ on_path bytes pool cells (at_root node level is zero) =
     (nodes.IsOnPath.root level node zero is, nodes.IsNode.root level node zero is)
 on_path {g} {image} {s} bytes pool cells (down node level above before is rest passed leads) =
     let way = on_path bytes pool cells rest in
-    let from : pool_at g ≤ node = omega (arith, pool, leads.inside_from) in
-    (nodes.IsOnPath.under level node before above is way.0 leads.levels leads.child from
-     (omega (arith, leads.inside_to, cells)),
-     nodes.IsNode.under level node before above (nibble s.digest before) is way.1 (nibble_low s.digest bytes before)
-     leads.levels leads.child from (omega (arith, leads.inside_to, cells)))
+    let from : pool_at g ≤ node = omega (arith, pool, leads.inside_from) in (
+      nodes.IsOnPath.under level node before above is way.0 leads.levels leads.child from
+          (omega (arith, leads.inside_to, cells)),
+      nodes.IsNode.under level node before above (nibble s.digest before) is way.1 (nibble_low s.digest bytes before)
+          leads.levels leads.child from (omega (arith, leads.inside_to, cells)),
+    )

@@ -7,14 +7,12 @@ use Rattle.cell_types.specs.declared.record_cell.RecordCell.TheVariants.{Child}
 use Rattle.stored_documents.specs.Volumes.{Holds, IsWritten}
 use Rattle.stored_documents.proofs.Extending.{holds_on}
 use Rattle.stored_documents.proofs.Holding.{one_record_holds}
-use Rattle.index_paths.specs.HashPaths.{IsPassed, nibble}
+use Rattle.index_paths.specs.HashPaths.{nibble}
 use Rattle.index_paths.specs.Nodes.{IsNode, IsOnPath}
 use Rattle.index_paths.specs.Nodes as nodes
 use Rattle.tamper_rules.proofs.GivenUp.{children}
 use Rattle.tamper_rules.proofs.Writing.{same_or_not}
-use Rattle.index_paths.specs.Keeping.{sought_in}
 use Rattle.volume_growth.specs.ListShapes.{Adds}
-use Rattle.volume_growth.specs.Needs.{BucketCosts}
 use Rattle.volume_growth.specs.TreeShapes.{IsWellRooted}
 use Rattle.volume_growth.proofs.ListShapes.{adds_extends, holds_back}
 use Rattle.volume_growth.proofs.TreeShapes.{one_level, rooted_apart, rooted_with_child}
@@ -22,7 +20,7 @@ use Rattle.hash_tree.specs.Levels.{bucket_at, child_at, node_of}
 use Rattle.hash_tree.specs.declared.level.Level.{Level}
 use Rattle.hash_tree.specs.declared.path.Open.{Open}
 use Rattle.tree_growth.specs.Inserting.{entry_of}
-use Rattle.tree_growth.specs.Readiness.{PassedDown, blank_in}
+use Rattle.tree_growth.specs.Readiness.{blank_in, cost_in}
 use Rattle.tree_growth.specs.Rooting.{IsNewBucket, IsRooted, IsRootedBefore, in_bucket, in_new_node}
 
 -- a node stays one
@@ -53,7 +51,10 @@ same_place : {g : Layout} {image : Image} {to v node u other a b : ℕ} → IsWe
 same_place {g} {image} {to} {v} {node} {u} {other} w n m in_one in_other same =
     ⊎_elim
     (λ is. (is, omega (arith, is, same)))
-    (λ far. absurd (⊎_elim (λ low. omega (arith, low, in_one, in_other, same)) (λ high. omega (arith, high, in_one, in_other, same)) far))
+    (λ far. absurd (⊎_elim
+    (λ low. omega (arith, low, in_one, in_other, same))
+    (λ high. omega (arith, high, in_one, in_other, same))
+    far))
     (w.apart v node u other n m)
 
 -- one bucket more
@@ -111,12 +112,7 @@ rooted_alone g level place slot next old new half no_child is_bucket held others
     let a : Adds (bucket_at g level) old new = record { was = blank; others = others } in
     record {
       rooted = with_bucket before.rooted before.node half a;
-      cost = 1;
-      grows = in_bucket a held refl refl;
-      needs = λ id same passed.
-          BucketCosts.in_bucket level.number (node_of g level)
-          (subst (λ (c : Option ℕ). PassedDown g old (sought_in g.cells g id) level c) no_child passed)
-          (subst (λ (d : List ℕ). old (node_of g level + nibble d level.number) ≡ None) (sym same) blank) refl;
+      grows = in_bucket a held refl (ap (λ (c : Option ℕ). cost_in c) no_child);
       nodes = λ v node n. inl (node_before before.rooted before.node half a n);
       new_children = λ v node x target n xs none h. absurd (none-some h.cell
           (sym none ∙ sym (child_same before.rooted before.node half a v node x
@@ -160,12 +156,14 @@ module _ (g : Layout) (level : Level) (place : Open) (slot next to : ℕ) (old m
   }
 
   mid_rooted : IsWellRooted g mid (next + 32)
-  mid_rooted = rooted_with_child before.rooted before.node half levels a child above (omega arith) pool before.room
+  mid_rooted = rooted_with_child before.rooted before.node half levels a child above (omega arith) pool
+      (before.room at has_child)
       (λ i less. beyond (next + 16 + i) (omega arith))
 
   new_node : IsNode g mid (level.number + 1) next
-  new_node = nodes.IsNode.under (level.number + 1) next level.number (node_of g level) (nibble level.digest level.number) refl
-      (node_on (adds_extends a) before.node) half levels child pool before.room
+  new_node = nodes.IsNode.under (level.number + 1) next level.number (node_of g level)
+      (nibble level.digest level.number) refl (node_on (adds_extends a) before.node) half levels child pool
+      (before.room at has_child)
 
   -- a child cell that was blank leads to the new node
   leads_there : (cell target : ℕ) → old cell ≡ None → Holds mid cell (Child target) → target ≡ next
@@ -185,8 +183,8 @@ module _ (g : Layout) (level : Level) (place : Open) (slot next to : ℕ) (old m
       (λ there. ⊎_elim
       (λ same. inr (children other next (one_record_holds mid (child_at g level) (Child other) (Child next)
       (subst (λ (c : ℕ). Holds mid c (Child other)) same hop) child)))
-      (λ differ. inl (nodes.IsNode.under u other k over y is there ys less (holds_back (others (over + 16 + y) differ) hop) from
-      inside))
+      (λ differ. inl (nodes.IsNode.under u other k over y is there ys less
+      (holds_back (others (over + 16 + y) differ) hop) from inside))
       (same_or_not (over + 16 + y) (child_at g level)))
       (λ same. absurd (none-some hop.cell (sym (still_blank (over + 16 + y) (omega (arith, same))) ∙ hop.stands)))
       (node_of_mid rest)
@@ -195,8 +193,8 @@ module _ (g : Layout) (level : Level) (place : Open) (slot next to : ℕ) (old m
       → IsOnPath g new level.digest (level.number + 1) next
   on_new_path path =
       path_on (adds_extends b)
-      (nodes.IsOnPath.under (level.number + 1) next level.number (node_of g level) refl (path_on (adds_extends a) path) levels
-      child pool before.room)
+      (nodes.IsOnPath.under (level.number + 1) next level.number (node_of g level) refl
+      (path_on (adds_extends a) path) levels child pool (before.room at has_child))
 
   -- a bucket that was blank is so with the child cell too
   bucket_blank : (u other y : ℕ) → IsNode g mid u other → y < 16 → old (other + y) ≡ None → mid (other + y) ≡ None
@@ -213,15 +211,8 @@ module _ (g : Layout) (level : Level) (place : Open) (slot next to : ℕ) (old m
   pub rooted_with_node : IsRooted g level place slot next to old new
   rooted_with_node = record {
     rooted = subst (λ (n : ℕ). IsWellRooted g new n) (sym is_to) (with_bucket mid_rooted new_node next_half b);
-    cost = 34;
-    grows = in_new_node mid levels a (holds_on (adds_extends b) child) b held is_to refl;
-    needs = λ id same passed.
-        let path : PassedDown g old (sought_in g.cells g id) level (Some at) =
-        subst (λ (c : Option ℕ). PassedDown g old (sought_in g.cells g id) level c) has_child passed in
-        BucketCosts.in_new_node level.number (node_of g level) levels path.0
-        (subst (λ (d : List ℕ). IsPassed old (sought_in g.cells g id) (node_of g level + nibble d level.number)) (sym same)
-        path.1)
-        (subst (λ (d : List ℕ). old (node_of g level + 16 + nibble d level.number) ≡ None) (sym same) blank) refl;
+    grows = in_new_node mid levels a (holds_on (adds_extends b) child) b held is_to
+        (ap (λ (c : Option ℕ). cost_in c) has_child);
     nodes = λ v node n. node_of_mid (node_before mid_rooted new_node next_half b n);
     new_children = λ v node x target n xs none h.
         leads_there (node + 16 + x) target none

@@ -44,8 +44,8 @@ trail_with_node g level place slot next to child planned has_child levels from i
     subst (λ (c : Option ℕ). PassedDown g image s level c) has_child passed in
     let leads : LeadsDown image s (node_of g level) level.number next = record {
       levels = levels;
-      child = subst (λ (d : List ℕ). Holds image (node_of g level + 16 + nibble d level.number) (Child next)) (sym digest)
-          (holds_on extends led);
+      child = subst (λ (d : List ℕ). Holds image (node_of g level + 16 + nibble d level.number) (Child next))
+          (sym digest) (holds_on extends led);
       inside_from = omega (arith, pool, from);
       inside_to = omega (arith, cells, is_to);
     } in

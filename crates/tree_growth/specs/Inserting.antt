@@ -1,5 +1,5 @@
 -- What inserting an entry does.
-use Rattle.std.specs.Prelude.{◌≡◌, ◌≢◌, ◌<◌, ◌≤◌, ◌+◌, ℕ, Some, None, Result, Ok, Err, IsTrue}
+use Rattle.std.specs.Prelude.{◌≡◌, ◌≢◌, ◌<◌, ◌≤◌, ◌+◌, ℕ, List, Some, None, Result, Ok, Err, IsTrue}
 use Rattle.cell_types.specs.Image.{Image, Extends}
 use Rattle.cell_types.specs.Layout.{Layout, root_at, pool_at}
 use Rattle.cell_types.specs.Records.{IsRecordCell}
@@ -9,7 +9,9 @@ use Rattle.cell_types.specs.declared.refusal.Evidence.{Evidence}
 use Rattle.cell_types.specs.declared.refusal.Fault.TheVariants.{Tampered, ReadFault}
 use Rattle.stored_documents.specs.Volumes.{IsWritten}
 use Rattle.index_paths.specs.HashPaths.{Sought, HashTrail, fingerprint_of, nibble}
+use Rattle.index_paths.specs.Keeping.{sought_in}
 use Rattle.tamper_rules.specs.declared.numbers.TheConstants.{LOST_CHILD}
+use Rattle.volume_growth.specs.Needs.{BucketCosts}
 use Rattle.worm_device.specs.Overlays.{PlansNothing}
 use Rattle.worm_device.specs.Views.{ViewState}
 use Rattle.worm_device.specs.declared.owner.Owner.{Owner}
@@ -22,7 +24,7 @@ use Rattle.hash_tree.specs.Levels.{bucket_at, child_at, node_of}
 use Rattle.hash_tree.specs.declared.level.ChildCell.{ChildCell}
 use Rattle.hash_tree.specs.declared.level.Level.{Level}
 use Rattle.hash_tree.specs.declared.path.Open.{Open}
-use Rattle.tree_growth.specs.Readiness.{PassedDown, blank_of, owner_in}
+use Rattle.tree_growth.specs.Readiness.{PassedDown, blank_of, cost_of, owner_in}
 use Rattle.tree_growth.specs.Rooting.{IsRooted, IsRootedBefore}
 
 -- the entry of a slot by a level's digest
@@ -35,8 +37,8 @@ pub record IsAsBefore (old new : ViewState) (cell : ℕ) : Type 0 where
   pub planned : new.planned cell ≡ old.planned cell
   pub owners : new.owners cell ≡ old.owners cell
 
--- What one entry plans, and takes of the pool: its bucket alone, in the level's node; or a child cell of this node, a new
--- node that it leads to, and the bucket there.
+-- What one entry plans, and takes of the pool: its bucket alone, in the level's node; or a child cell of this node, and
+-- the bucket in a new node that it leads to.
 pub data PlansBucket (g : Layout) (level : Level) (place : Open) (slot at : ℕ) (pool rest : Pool) (old new : ViewState)
     : Type 0 where
   alone : place.child ≡ None → at ≡ bucket_at g level
@@ -51,20 +53,28 @@ pub data PlansBucket (g : Layout) (level : Level) (place : Open) (slot at : ℕ)
       → nibble level.digest level.number < 16 → nibble level.digest (level.number + 1) < 16
       → TakesFront pool rest 32 pool.next → PlansBucket g level place slot at pool rest old new
 
--- The slot has a hash trail in each image that has every planned cell and in which the path down to the place is passed,
--- for whatever is sought by the level's digest on a device that has the pool's cells up to here.
+-- The slot has a hash trail in each image that has every planned cell and in which the path down to the place is
+-- passed, for whatever is sought by the level's digest on a device that has the pool's cells up to here.
 abbrev pub HasTrail : Layout → Level → Open → ℕ → ℕ → Image → Type 0
 HasTrail g level place slot to planned =
     (image : Image) (s : Sought) → s.digest ≡ level.digest → s.pool ≡ pool_at g → to ≤ s.cells
     → Extends planned image → PassedDown g image s level place.child → HashTrail image s slot (root_at g) 0
 
--- The entry is planned, and nothing from the pool's next cell on; the slot has a hash trail; and a tree that has its shape
--- keeps it.
+-- Where the place was blank, and the path down to it is passed for an identifier with the level's digest, the entry
+-- takes what the identifier's bucket needs.
+abbrev pub TakesItsNeed : Layout → Level → Open → Image → Type 0
+TakesItsNeed g level place image =
+    (id : List ℕ) → (sought_in g.cells g id).digest ≡ level.digest → image (blank_of place) ≡ None
+    → PassedDown g image (sought_in g.cells g id) level place.child → BucketCosts g image id (cost_of place)
+
+-- The entry is planned, and nothing from the pool's next cell on; the slot has a hash trail; the entry takes what
+-- its identifier needs; and a tree that has its shape keeps it.
 pub record IsInserted (g : Layout) (level : Level) (place : Open) (slot at : ℕ) (pool rest : Pool) (old new : ViewState)
     : Type 0 where
   pub plans : PlansBucket g level place slot at pool rest old new
   pub beyond : (cell : ℕ) → rest.next ≤ cell → new.planned cell ≡ None
   pub trail : HasTrail g level place slot rest.next new.planned
+  pub need : TakesItsNeed g level place old.image
   pub rooted : IsRootedBefore g level place pool.next old.image
       → IsRooted g level place slot pool.next rest.next old.image new.image
 

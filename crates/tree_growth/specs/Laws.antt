@@ -42,9 +42,9 @@ pub data LiesByOwner (g : Layout) (view : ViewState) (cell : ℕ) (owner : Owner
       → cell < owner.base + 32 → LiesByOwner g view cell owner
   in_new : view.fresh ≤ owner.base → owner.base ≤ cell → LiesByOwner g view cell owner
 
--- Where cell 0 of the lower image states this volume, up to its edge the lower image is shown, the child cell that led to
--- the level is one of a node, and each planned cell lies where its owner says: a node whose cell is planned for somebody
--- else breaks the rule of child cells.
+-- Where cell 0 of the lower image states this volume, this image is shown up to its edge, the child cell that led to
+-- the level is one of a node there, and each planned cell lies where its owner says: a node with a cell that is planned
+-- for somebody else breaks the rule of child cells.
 abbrev pub TakenIsBroken : Type 0
 TakenIsBroken =
     (g : Layout) (level : Level) (place : Open) (view : ViewState) (e : Evidence)

@@ -28,6 +28,14 @@ PassedDown g image s level None = PassedTo image s (root_at g) (node_of g level)
 PassedDown g image s level (Some child) =
     PassedTo image s (root_at g) (node_of g level) level.number × IsPassed image s (bucket_at g level)
 
+-- how many cells an entry there takes: one of the journal for each cell that is planned, and a new node
+abbrev pub cost_in : Option ℕ → ℕ
+cost_in None = 1
+cost_in (Some child) = 34
+
+abbrev pub cost_of : Open → ℕ
+cost_of place = cost_in place.child
+
 -- A path ends at this place of the level's node, and what may be planned there: the node lies before the cells that are
 -- free, nothing is planned in these, and the place's blank cell is not planned for the node itself, nor for anybody
 -- where the node is the root. The child cell that led to the node stands below what is planned.

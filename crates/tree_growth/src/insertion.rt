@@ -1,4 +1,4 @@
-//! Insertion.
+//! An entry is planned: its bucket, in the level's node or in a new one.
 ghost use Rattle.std.specs.Prelude.{◌≡◌, ◌<◌, ◌≤◌};
 ghost use Rattle.cell_pool.specs.Grants.{room_of};
 ghost use Rattle.cell_types.specs.declared.geometry.TheConstants.{MAX_SLOTS};
@@ -15,11 +15,11 @@ use planned_cells::{GrowthFault, PlanFault, plan_record};
 use tamper_rules::LOST_CHILD;
 use worm_device::{Overlay, Owner, View};
 
-/// Plans the entry of a slot where the path of the level's digest ends, and answers its bucket's cell. Under a child cell
-/// it takes a node of 32 cells from the pool.
+/// Plans the entry of a slot where the path of the level's digest ends, and answers its bucket's cell. Under a child
+/// cell it takes a node of 32 cells from the pool.
 ///
-/// Where the place is planned for somebody else, the child cell that led to the level's node is evidence, and nothing has
-/// changed. Without memory what was planned is to be given up; the pool has not changed.
+/// Where the place is planned for somebody else, the child cell that led to the level's node is evidence, and nothing
+/// has changed. Without memory what is planned is to be given up, and the pool has not changed.
 pub fn insert<V: View>(
     overlay: &mut Overlay<'_, V>,
     pool: &mut Pool,
@@ -31,7 +31,8 @@ pub fn insert<V: View>(
     requires slot { slot < MAX_SLOTS }
     requires room { 32 ≤ room_of pool.old }
     requires ready { IsReady volume.now.geometry level.now place pool.old.next (of_overlay V.seen overlay.old) }
-    ensures { InsertsEntry volume.now.geometry level.now place slot pool.old pool.new (of_overlay V.seen overlay.old) (of_overlay V.seen overlay.new) result }
+    ensures { InsertsEntry volume.now.geometry level.now place slot pool.old pool.new
+        (of_overlay V.seen overlay.old) (of_overlay V.seen overlay.new) result }
 {
     let root = volume.geometry.root_at();
     let owner = Owner {

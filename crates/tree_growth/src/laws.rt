@@ -1,5 +1,5 @@
-//! Laws: what the words of the contracts mean together. Each is a function that does nothing and whose contract is the
-//! law.
+//! Laws: what the words of the contracts mean together. Each is a function that does nothing and whose contract is
+//! the law.
 ghost use Rattle.tree_growth.specs.Laws.{PassedIsOnPath, PathsLeadWithin, TakenIsBroken};
 
 /// A node with a cell that is planned for somebody else breaks the rule of child cells.

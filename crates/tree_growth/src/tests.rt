@@ -3,8 +3,9 @@ ghost use Rattle.std.specs.Prelude.{◌≡◌};
 
 use crate::insert;
 use cell_pool::Pool;
-use cell_types::{Cell, FORMAT_VERSION, Geometry, Volume};
+use cell_types::{Cell, Evidence, FORMAT_VERSION, Fault, Geometry, RecordCell, Volume, encode};
 use hash_tree::{Level, Open, PathStep, next_candidate};
+use planned_cells::GrowthFault;
 use std::test::Fail;
 use worm_device::{Device, Direct, Overlay, Owner, PlannedCells, View};
 use worm_memory::MemoryDevice;
@@ -113,5 +114,53 @@ fn an_identifier_under_another_takes_a_node(rt: HostRuntime) -> Result<(), Fail>
         bucket: 597,
     };
     assert_eq!(rt; found, Ok(candidate));
+    Ok(())
+}
+
+/// Somebody led a child cell of the root to cell 580, and cell 595 there is planned for list 1.
+#[test]
+fn a_node_that_is_planned_for_a_list_is_evidence(rt: HostRuntime) -> Result<(), Fail> {
+    let mut device = MemoryDevice::new(rt.alloc(), 1_000)?;
+    device.reserve(4)?;
+    let bucket_of_b = Cell::from_bytes(BUCKET_OF_B).ok_or("a blank cell")?;
+    let child = encode(RecordCell::Child { target: 580 }, 567);
+    let _ = device.write(551, bucket_of_b)?;
+    let _ = device.write(567, child)?;
+    let geometry = Geometry::new(8, 2, 1_000).ok_or("no volume")?;
+    let volume = Volume {
+        version: FORMAT_VERSION,
+        geometry,
+    };
+    let mut level = Level::start(E);
+    let step = next_candidate(&mut Direct::new(&mut device), &volume, 836, &mut level);
+    let Ok(end) = step else {
+        return Err("a fault".into());
+    };
+    let PathStep::End(place) = end else {
+        return Err("no end".into());
+    };
+    let mut overlay = Overlay::new(rt.alloc(), Direct::new(&mut device), 836);
+    let led_by = level.led_by;
+    let Some(_led) = led_by else {
+        return Err("still in the root".into());
+    };
+    if overlay.fresh() != 836 || place.bucket >= 836 {
+        return Err("past the edge".into());
+    }
+    let of_list = Owner {
+        head: 292,
+        base: 580,
+    };
+    overlay.plan(place.bucket, child, of_list)?;
+    let mut pool = Pool::over(836, 1_000);
+    let done = insert(&mut overlay, &mut pool, &volume, place, &level, 1);
+    let evidence = Evidence {
+        rule: 12,
+        cell: 567,
+        found: child,
+    };
+    assert_eq!(rt; done, Err(GrowthFault::Fault(Fault::Tampered(evidence))));
+    assert_eq!(rt; pool.next(), 836);
+    assert_eq!(rt; overlay.planned().len(), 1);
     Ok(())
 }

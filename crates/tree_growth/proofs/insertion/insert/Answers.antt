@@ -33,14 +33,16 @@ returns-in-Err-plan_record g c =
     (of_overlay g.V.View.seen c.args.overlay.now) view c.requires.ready
     (rw c.nibble_of-half.ensures.same at c.nibble_of-half.ensures.below)
     c.in-Some.child (Some c.in-Some.child) _ _ (of_overlay g.V.View.seen c.plan_record-2.new.overlay)
-    c.in-Err-plan_record.fault c.refusal-in-Err-plan_record.result c.in-Some.is refl c.refusal-in-Err-plan_record.ensures
-    c.in-Err-plan_record.ensures
+    c.in-Err-plan_record.fault c.refusal-in-Err-plan_record.result c.in-Some.is refl
+    c.refusal-in-Err-plan_record.ensures c.in-Err-plan_record.ensures
 
 pub overflow_add-bucket : goal.overflow_add-bucket
-overflow_add-bucket g c = omega (arith, c.next-node.ensures, c.from.ensures, c.nibble_of.ensures.below, c.requires.room)
+overflow_add-bucket g c =
+    omega (arith, c.next-node.ensures, c.from.ensures, c.nibble_of.ensures.below, c.requires.room)
 
 pub plan_record-requires-3-clause-inside : goal.plan_record-requires-3-clause-inside
-plan_record-requires-3-clause-inside g c = omega (arith, c.next-node.ensures, c.from.ensures, c.nibble_of.ensures.below, c.requires.room)
+plan_record-requires-3-clause-inside g c =
+    omega (arith, c.next-node.ensures, c.from.ensures, c.nibble_of.ensures.below, c.requires.room)
 
 pub returns-in-Some-grant : goal.returns-in-Some-grant
 returns-in-Some-grant g c =
