@@ -1,0 +1,3 @@
+mod Readying
+mod Searching
+mod Showing
