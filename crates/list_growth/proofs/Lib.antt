@@ -1,3 +1,4 @@
 mod Readying
 mod Searching
 mod Showing
+mod Hopping

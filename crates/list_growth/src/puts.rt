@@ -51,10 +51,11 @@ pub(crate) fn put_posting<V: View>(
     ensures { PutsRecord at (posting_record (fields_of entry)) owner
         (of_overlay V.seen overlay.old) (of_overlay V.seen overlay.new) result }
 {
+    let tag = entry.tag;
     let posting = RecordCell::Posting {
         key: entry.key,
         last: entry.last,
-        tag: entry.tag,
+        tag,
     };
     put(overlay, at, posting, owner)
 }
