@@ -2,3 +2,6 @@ mod Readying
 mod Searching
 mod Showing
 mod Hopping
+mod Lasting
+mod Naming
+mod Tailing

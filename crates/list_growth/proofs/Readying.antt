@@ -10,7 +10,8 @@ use Rattle.stored_documents.proofs.Extending.{holds_on}
 use Rattle.worm_device.specs.Views.{ViewState, Viewed}
 use Rattle.worm_device.specs.declared.owner.Owner.{Owner}
 use Rattle.jump_block.proofs.Knowing.{key_on}
-use Rattle.list_growth.specs.Hopping.{IsAt}
+use Rattle.jump_block.specs.declared.spans.Span.{Span}
+use Rattle.list_growth.specs.Hopping.{IsAt, IsHop}
 use Rattle.list_growth.specs.Readiness.{IsOwnBlock, IsReached, is_new, stands_below, IsListCell, a_posting, a_pointer, IsReady}
 use Rattle.list_growth.proofs.Showing.{has_key_on, leads_on, some_same}
 
@@ -79,6 +80,11 @@ module _ {s t : ViewState} (viewed : Viewed s t) where
   pub at_viewed : {head floor next key block : ℕ} → IsAt s head floor next key block → IsAt t head floor next key block
   at_viewed {head} {floor} {next} {key} {block} =
       at_same s t head floor next key viewed.image viewed.lower viewed.fresh viewed.owners block
+
+-- a walk goes on at the target of a hop
+pub at_target : {s : ViewState} {head floor next key block target : ℕ} {span : Span} → IsAt s head floor next key block
+    → IsHop s head floor next key block span target → IsAt s head floor next key target
+at_target at hop = record { ready = at.ready; own_block = hop.own_block; reached = hop.reached }
 
 turned : (a b : ℕ) → AreApart a 256 b 256 → AreApart b 256 a 256
 turned a b apart = ⊎_elim (λ before. inr before) (λ behind. inl behind) apart

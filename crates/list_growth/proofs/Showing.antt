@@ -6,11 +6,15 @@ use Rattle.cell_types.specs.Image.{Image, Extends}
 use Rattle.index_paths.specs.Blocks.{Leads, arrived, onwards}
 use Rattle.index_paths.proofs.Fronts.{front_on}
 use Rattle.stored_documents.proofs.Extending.{holds_on}
+use Rattle.tamper_rules.proofs.Images.{same_image}
 use Rattle.worm_device.specs.Calls.{Called}
+use Rattle.worm_device.specs.Counts.{IsStill}
 use Rattle.worm_device.specs.Overlaying.{overlay_is_view}
 use Rattle.worm_device.specs.Overlays.{of_overlay}
 use Rattle.worm_device.specs.State.{DeviceState}
-use Rattle.worm_device.specs.Views.{ViewState, IsView}
+use Rattle.worm_device.specs.Views.{ViewState, Viewed, IsView}
+use Rattle.worm_device.proofs.Counting.{still_first}
+use Rattle.worm_device.proofs.Resting.{rests_of}
 use Rattle.worm_device.specs.declared.overlay.Overlay.{Overlay}
 use Rattle.jump_index.specs.Looking.{HasKeyIn}
 
@@ -61,3 +65,9 @@ pub leads_on : {old new : Image} {from to last block : ℕ} → Extends old new 
 leads_on e (arrived block same) = arrived block same
 leads_on e (onwards block level digit target levels some digits led inside_from inside_to rest) =
     onwards block level digit target levels some digits (holds_on e led) inside_from inside_to (leads_on e rest)
+
+-- reads in which nobody else wrote leave the image
+pub quiet_image : {a b : ViewState} → Viewed a b → (count : ℕ) → b.base.foreign_writes ≤ count
+    → IsStill a.base.foreign_writes count → b.image ≡ a.image
+quiet_image viewed count later still =
+    same_image ((rests_of viewed).shown (still_first viewed.called.foreign_writes later still))

@@ -135,8 +135,8 @@ pub(crate) fn tail<V: View>(
     if u64::from(greatest) < span.low {
         return Err(leads_nowhere(block, &span, target));
     }
-    let bound = span.high.min(1 << 32);
+    let below = span.high.min(1 << 32);
     tail(
-        overlay, head, floor, next, home, target, greatest, bound, span.level, key,
+        overlay, head, floor, next, home, target, greatest, below, span.level, key,
     )
 }
