@@ -87,7 +87,7 @@ module _ (s : ViewState) (view : IsView s) (head floor next key block : ℕ) (at
         let same_level : level' ≡ level = omega (arith, place.levels, place.some, place.digits, is) in
         let same_digit : digit' ≡ digit = omega (arith, place.levels, place.some, place.digits, is) in
         let same_target : target' ≡ target = jump_target target' target
-            (one_record_holds s.image (pointer_at block level digit) (Jump target') (Jump target) holds led) in
+        (one_record_holds s.image (pointer_at block level digit) (Jump target') (Jump target) holds led) in
         let named = at.ready.named cell owner planned same_head in
         let reached = at.ready.reached cell owner planned same_head in
         let P : ℕ → Type 0 = λ n. HasKeyIn s.image target' (l + digit' * 16 ^ n) (l + digit' * 16 ^ n + 16 ^ n) in
@@ -115,22 +115,22 @@ module _ (s : ViewState) (view : IsView s) (head floor next key block : ℕ) (at
     shows_hop free e names bad =
         let here = below_here (pointer_at block level digit) led.cell (omega arith) free led.stands in
         bad_pointer block level digit here.1
-            (record {
-              free = ap s.planned names.1 ∙ free;
-              before = omega (arith, names.1, here.0);
-              stands = ap s.image names.1 ∙ led.stands ∙ ap (λ (c : List ℕ). Some c) (led.is.same ∙ sym names.2);
-            })
-            names.0 (record { levels = levels; some = some; digits = digits }) names.1 bad
+        (record {
+          free = ap s.planned names.1 ∙ free;
+          before = omega (arith, names.1, here.0);
+          stands = ap s.image names.1 ∙ led.stands ∙ ap (λ (c : List ℕ). Some c) (led.is.same ∙ sym names.2);
+        })
+        names.0 (record { levels = levels; some = some; digits = digits }) names.1 bad
 
     -- the target lies outside
     pub outside_hop : s.fresh ≤ next → (target < floor) ⊎ (next < target + 256) → (e : Evidence)
         → IsPointerEvidence block level digit target (Tampered e) → ShowsBelow s head floor key e
     outside_hop fresh out e names = ⊎_elim
         (λ planned.
-            let on = planned_jump planned in
-            absurd (⊎_elim (λ less. omega (arith, on.from)) (λ more. omega (arith, on.to)) out))
+        let on = planned_jump planned in
+        absurd (⊎_elim (λ less. omega (arith, on.from)) (λ more. omega (arith, on.to)) out))
         (λ free. shows_hop free e names
-            (outside target led (⊎_elim (λ less. inl less) (λ more. inr (omega (arith, fresh, more))) out)))
+        (outside target led (⊎_elim (λ less. inl less) (λ more. inr (omega (arith, fresh, more))) out)))
         (planned_or_not (pointer_at block level digit) (omega arith) (omega arith))
 
     pub new_hop : s.planned (pointer_at block level digit) ≡ None → s.fresh < target + 256 → (e : Evidence)

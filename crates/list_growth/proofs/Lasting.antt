@@ -139,4 +139,3 @@ pub is_last_full : (floor next block l key : ℕ) (s : Span) (old mid : ViewStat
 is_last_full floor next block l key s old mid is top full blank tells still same last =
     subst (λ (i : Image). IsLastFull i floor next block key) (sym same)
     (λ head at q listed led less trail. last tells still head at q listed led (below_span s key is full blank (low_over l s is) top less trail) trail)
-

@@ -36,7 +36,7 @@ pub bad_in_front : (image : Image) (block place : ℕ) (found : List ℕ) (p : P
 bad_in_front image block place found p (no_posting bad) front =
     let holds = front_holds front in
     bad.none p (subst (λ c. IsRecordCell (posting_record p) (block + place) c)
-        (some_same holds.cell found (sym holds.stands ∙ bad.stands)) holds.is)
+    (some_same holds.cell found (sym holds.stands ∙ bad.stands)) holds.is)
 bad_in_front image block place found p (does_not_rise before key q is has stands holds le) front =
     let less : has.p.key < p.key = rises front before has.p has.in_front (omega arith) in
     let same : p.key ≡ q.key = ap (λ (f : PostingFields). f.key) (one_posting image (block + place) p q (front_holds front) holds) in
@@ -73,8 +73,8 @@ module _ (s : ViewState) (view : IsView s) (head floor next key block : ℕ) (at
       let stands = bad_stands place e.found bad in
       let here = below_here s view head floor next key block at (block + place) e.found (omega arith) free stands in
       bad_entry block place here.1
-          (record { free = ap s.planned cell ∙ free; before = omega (arith, cell, here.0); stands = ap s.image cell ∙ stands })
-          rule cell below bad
+      (record { free = ap s.planned cell ∙ free; before = omega (arith, cell, here.0); stands = ap s.image cell ∙ stands })
+      rule cell below bad
 
   -- a late posting
   pub shows_late : (entry : Entry) (e : Evidence) → entry.block ≡ block → entry.place < 128
@@ -83,18 +83,18 @@ module _ (s : ViewState) (view : IsView s) (head floor next key block : ℕ) (at
   shows_late entry e is below front late_key names =
       let holds = front_holds front in
       let free = entry_free entry.place below (λ p other less.
-          let same : p.key ≡ entry.key = ap (λ (f : PostingFields). f.key) (one_place other front) in omega (arith, same)) in
+      let same : p.key ≡ entry.key = ap (λ (f : PostingFields). f.key) (one_place other front) in omega (arith, same)) in
       let here = below_here s view head floor next key block at (block + entry.place) holds.cell (omega arith) free holds.stands in
       let cell : e.cell ≡ block + entry.place = omega (arith, names.1, is) in
       let found : e.found ≡ holds.cell =
-          names.2 ∙ ap (λ n. record_bytes (posting_record (posting_of entry)) n) (ap (λ (b : ℕ). b + entry.place) is) ∙ sym holds.is.same in
+      names.2 ∙ ap (λ n. record_bytes (posting_record (posting_of entry)) n) (ap (λ (b : ℕ). b + entry.place) is) ∙ sym holds.is.same in
       late block entry.place (posting_of entry) here.1
-          (record {
-            free = ap s.planned cell ∙ free;
-            before = omega (arith, cell, here.0);
-            stands = ap s.image cell ∙ holds.stands ∙ ap (λ (c : List ℕ). Some c) (sym found);
-          })
-          names.0 cell below (subst (λ c. Holds s.image c (posting_record (posting_of entry))) (sym cell) holds) late_key
+      (record {
+        free = ap s.planned cell ∙ free;
+        before = omega (arith, cell, here.0);
+        stands = ap s.image cell ∙ holds.stands ∙ ap (λ (c : List ℕ). Some c) (sym found);
+      })
+      names.0 cell below (subst (λ c. Holds s.image c (posting_record (posting_of entry))) (sym cell) holds) late_key
 
   pointer_planned : (level digit : ℕ) (found : List ℕ) → IsPointerPlace level digit
       → IsNoJump s.image (pointer_at block level digit) found
@@ -103,7 +103,7 @@ module _ (s : ViewState) (view : IsView s) (head floor next key block : ℕ) (at
   pointer_planned level digit found place bad
       (a_pointer level' digit' target l at' owner place' is holds from to full has planned is_head is_base) =
       bad.none target (subst (λ c. IsRecordCell (Jump target) (pointer_at block level digit) c)
-          (some_same holds.cell found (sym holds.stands ∙ bad.stands)) holds.is)
+      (some_same holds.cell found (sym holds.stands ∙ bad.stands)) holds.is)
 
   -- a pointer that is no jump cell
   pub shows_no_jump : (level digit : ℕ) (e : Evidence) → IsPointerPlace level digit → e.rule ≡ LOST_POINTER
@@ -111,14 +111,14 @@ module _ (s : ViewState) (view : IsView s) (head floor next key block : ℕ) (at
       → ShowsBelow s head floor key e
   shows_no_jump level digit e place rule cell bad =
       let free = ⊎_elim
-          (λ planned. absurd (pointer_planned level digit e.found place bad planned))
-          (λ free. free)
-          (planned_or_not s view head floor next key block at (pointer_at block level digit) (omega arith)
-            (omega (arith, place.levels, place.digits))) in
+      (λ planned. absurd (pointer_planned level digit e.found place bad planned))
+      (λ free. free)
+      (planned_or_not s view head floor next key block at (pointer_at block level digit) (omega arith)
+      (omega (arith, place.levels, place.digits))) in
       let here = below_here s view head floor next key block at (pointer_at block level digit) e.found (omega arith) free bad.stands in
       bad_pointer block level digit here.1
-          (record { free = ap s.planned cell ∙ free; before = omega (arith, cell, here.0); stands = ap s.image cell ∙ bad.stands })
-          rule place cell (no_jump bad)
+      (record { free = ap s.planned cell ∙ free; before = omega (arith, cell, here.0); stands = ap s.image cell ∙ bad.stands })
+      rule place cell (no_jump bad)
 
 module _ (s t : ViewState) (view : IsView t) (head floor next key block : ℕ)
     (at : IsTrue s.base.tells → IsAt t head floor next key block) where
@@ -179,16 +179,16 @@ module _ (s : ViewState) (view : IsView s) (head floor next key block : ℕ) (at
       → IsPointerEvidence block span.level span.digit target (Tampered e) → ShowsBelow s head floor key e
   meets_home home own reached differ before behind e names = ⊎_elim
       (λ planned.
-          let on = planned_jump s view head floor next key block at span.level span.digit target is.levels is.some is.digits led planned in
-          absurd (⊎_elim
-            (λ (same : on.owner.base ≡ home). differ (sym on.is_base ∙ same))
-            (λ apart. ⊎_elim
-              (λ (a : on.owner.base + 256 ≤ home). omega (arith, on.is_base, a, behind))
-              (λ (b : home + 256 ≤ on.owner.base). omega (arith, on.is_base, b, before)) apart)
-            (own.apart on.cell on.owner on.planned on.is_head)))
+      let on = planned_jump s view head floor next key block at span.level span.digit target is.levels is.some is.digits led planned in
+      absurd (⊎_elim
+      (λ (same : on.owner.base ≡ home). differ (sym on.is_base ∙ same))
+      (λ apart. ⊎_elim
+      (λ (a : on.owner.base + 256 ≤ home). omega (arith, on.is_base, a, behind))
+      (λ (b : home + 256 ≤ on.owner.base). omega (arith, on.is_base, b, before)) apart)
+      (own.apart on.cell on.owner on.planned on.is_head)))
       (λ (old : IsOldHop s head floor block (pointer_at block span.level span.digit) target).
-          shows_hop s view head floor next key block at span.level span.digit target is.levels is.some is.digits led old.free e names
-            (meets_block target home led checked.0 old.to reached (λ same. differ (sym same)) before behind))
+      shows_hop s view head floor next key block at span.level span.digit target is.levels is.some is.digits led old.free e names
+      (meets_block target home led checked.0 old.to reached (λ same. differ (sym same)) before behind))
       (checked.2 tells).pointer
 
   -- no key of the target lies in the span
@@ -197,13 +197,13 @@ module _ (s : ViewState) (view : IsView s) (head floor next key block : ℕ) (at
       → (e : Evidence) → IsPointerEvidence block span.level span.digit target (Tampered e) → ShowsBelow s head floor key e
   no_key_there full none e names = ⊎_elim
       (λ planned.
-          let on = planned_jump s view head floor next key block at span.level span.digit target is.levels is.some is.digits led planned in
-          let same : on.full.p.key ≡ full.p.key = ap (λ (f : PostingFields). f.key) (one_place on.full.in_front full.in_front) in
-          absurd (omega (arith, none on.has.place on.has.p on.has.in_places on.has.in_front, on.has.from, is.low, same, on.full.same, full.same)))
+      let on = planned_jump s view head floor next key block at span.level span.digit target is.levels is.some is.digits led planned in
+      let same : on.full.p.key ≡ full.p.key = ap (λ (f : PostingFields). f.key) (one_place on.full.in_front full.in_front) in
+      absurd (omega (arith, none on.has.place on.has.p on.has.in_places on.has.in_front, on.has.from, is.low, same, on.full.same, full.same)))
       (λ (old : IsOldHop s head floor block (pointer_at block span.level span.digit) target).
-          shows_hop s view head floor next key block at span.level span.digit target is.levels is.some is.digits led old.free e names
-            (no_key target l led full old.to checked.0
-              (λ place p below front within. omega (arith, none place p below front, (of_span is within).0))))
+      shows_hop s view head floor next key block at span.level span.digit target is.levels is.some is.digits led old.free e names
+      (no_key target l led full old.to checked.0
+      (λ place p below front within. omega (arith, none place p below front, (of_span is within).0))))
       (checked.2 tells).pointer
 
 -- all keys of a full front are at most the greatest
@@ -214,15 +214,18 @@ full_at_most full place p below front = omega (arith, rises_or_same front full.i
 -- what was checked holds after reads
 pub check_on : (s t : ViewState) (head floor next key block target : ℕ) (span : Span) → Viewed s t
     → CheckEnds head floor next key block span target s (Ok tt) → CheckEnds head floor next key block span target t (Ok tt)
-check_on s t head floor next key block target span viewed checked = (checked.0, checked.1, λ tells.
-    let hop = checked.2 (subst IsTrue viewed.called.tells tells) in
-    record {
-      own_block = own_block_viewed viewed head target hop.own_block;
-      reached = reached_viewed viewed head floor target hop.reached;
-      pointer = ⊎_elim
-          (λ planned. inl (cell_same s t head floor next key viewed.image viewed.lower viewed.fresh viewed.owners
+check_on s t head floor next key block target span viewed checked = (
+  checked.0,
+  checked.1,
+  λ tells.
+      let hop = checked.2 (subst IsTrue viewed.called.tells tells) in
+      record {
+        own_block = own_block_viewed viewed head target hop.own_block;
+        reached = reached_viewed viewed head floor target hop.reached;
+        pointer = ⊎_elim
+            (λ planned. inl (cell_same s t head floor next key viewed.image viewed.lower viewed.fresh viewed.owners
             (pointer_at block span.level span.digit) block planned))
-          (λ (old : IsOldHop s head floor block (pointer_at block span.level span.digit) target).
+            (λ (old : IsOldHop s head floor block (pointer_at block span.level span.digit) target).
             let P : ℕ → Type 0 = λ n. Leads t.lower floor n block head in
             inr (record {
               to = omega (arith, old.to, viewed.fresh);
@@ -230,5 +233,6 @@ check_on s t head floor next key block target span viewed checked = (checked.0, 
               before = omega (arith, old.before, viewed.fresh);
               leads = subst P (sym viewed.fresh) (leads_on viewed.lower old.leads);
             }))
-          hop.pointer;
-    })
+            hop.pointer;
+      },
+)

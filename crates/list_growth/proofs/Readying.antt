@@ -31,7 +31,7 @@ cell_on s t head floor next key next' key' image more keys owners cell base (a_p
 cell_on s t head floor next key next' key' image more keys owners cell base
     (a_pointer level digit target l at owner place is holds from to full has whose same_head same_base) =
     a_pointer level digit target l at owner place is (holds_on image holds) from (omega (arith, more, to))
-        (key_on image full) (has_key_on image has) (owners at owner whose) same_head same_base
+    (key_on image full) (has_key_on image has) (owners at owner whose) same_head same_base
 
 -- where the same cells are planned for the same owners
 module _ (s t : ViewState) (head floor next key : ℕ) (image : Extends s.image t.image) (lower : Extends s.lower t.lower)
@@ -120,17 +120,17 @@ module _ (s t : ViewState) (head floor next next' key key' at base : ℕ) (mine 
   own_block_put b lies own = record {
     inside = λ cell owner is in_from in_to. ⊎_elim
         (λ (new : (cell ≡ at) × (owner ≡ mine)). ⊎_elim
-            (λ (same : b ≡ base). (ap (λ (x : Owner). x.head) new.1 ∙ same_head, base_of new.1 ∙ sym same))
-            (λ apart. absurd (⊎_elim (λ (before : base + 256 ≤ b). omega (arith, new.0))
-                (λ (behind : b + 256 ≤ base). omega (arith, new.0)) apart))
-            lies)
+        (λ (same : b ≡ base). (ap (λ (x : Owner). x.head) new.1 ∙ same_head, base_of new.1 ∙ sym same))
+        (λ apart. absurd (⊎_elim (λ (before : base + 256 ≤ b). omega (arith, new.0))
+        (λ (behind : b + 256 ≤ base). omega (arith, new.0)) apart))
+        lies)
         (λ before. own.inside cell owner before in_from in_to)
         (whose_before cell owner is);
     apart = λ cell owner is is_head. ⊎_elim
         (λ (new : (cell ≡ at) × (owner ≡ mine)). ⊎_elim
-            (λ (same : b ≡ base). inl (base_of new.1 ∙ sym same))
-            (λ apart. inr (let P : ℕ → Type 0 = λ n. AreApart n 256 b 256 in subst P (sym (base_of new.1)) apart))
-            lies)
+        (λ (same : b ≡ base). inl (base_of new.1 ∙ sym same))
+        (λ apart. inr (let P : ℕ → Type 0 = λ n. AreApart n 256 b 256 in subst P (sym (base_of new.1)) apart))
+        lies)
         (λ before. own.apart cell owner before is_head)
         (whose_before cell owner is);
   }
@@ -142,30 +142,30 @@ module _ (s t : ViewState) (head floor next next' key key' at base : ℕ) (mine 
     first = own_block_put head lies ready.first;
     mine = λ cell owner is is_head. ⊎_elim
         (λ (new : (cell ≡ at) × (owner ≡ mine)).
-            let P : ℕ → Type 0 = λ n. IsListCell t head floor next' key' n owner.base in
-            let Q : ℕ → Type 0 = λ n. IsListCell t head floor next' key' at n in
-            subst P (sym new.0) (subst Q (sym (base_of new.1)) planned))
+        let P : ℕ → Type 0 = λ n. IsListCell t head floor next' key' n owner.base in
+        let Q : ℕ → Type 0 = λ n. IsListCell t head floor next' key' at n in
+        subst P (sym new.0) (subst Q (sym (base_of new.1)) planned))
         (λ before. cell_on s t head floor next key next' key' image more keys kept cell owner.base
-            (ready.mine cell owner before is_head))
+        (ready.mine cell owner before is_head))
         (whose_before cell owner is);
     named = λ cell owner is is_head. ⊎_elim
         (λ (new : (cell ≡ at) × (owner ≡ mine)).
-            let P : ℕ → Type 0 = λ n. IsOwnBlock t head n in
-            subst P (sym (base_of new.1)) (own_block_put base (inl refl) own_block))
+        let P : ℕ → Type 0 = λ n. IsOwnBlock t head n in
+        subst P (sym (base_of new.1)) (own_block_put base (inl refl) own_block))
         (λ before. own_block_put owner.base
-            (⊎_elim (λ same. inl same) (λ apart. inr (turned owner.base base apart)) (own_block.apart cell owner before is_head))
-            (ready.named cell owner before is_head))
+        (⊎_elim (λ same. inl same) (λ apart. inr (turned owner.base base apart)) (own_block.apart cell owner before is_head))
+        (ready.named cell owner before is_head))
         (whose_before cell owner is);
     reached = λ cell owner is is_head. ⊎_elim
         (λ (new : (cell ≡ at) × (owner ≡ mine)).
-            let P : ℕ → Type 0 = λ n. IsReached t head floor n in
-            subst P (sym (base_of new.1)) (reached_as s t head floor lower fresh base reached))
+        let P : ℕ → Type 0 = λ n. IsReached t head floor n in
+        subst P (sym (base_of new.1)) (reached_as s t head floor lower fresh base reached))
         (λ before. reached_as s t head floor lower fresh owner.base (ready.reached cell owner before is_head))
         (whose_before cell owner is);
     inside = λ cell owner is is_head. ⊎_elim
         (λ (new : (cell ≡ at) × (owner ≡ mine)).
-            let b_is : owner.base ≡ base = base_of new.1 in
-            (omega (arith, b_is, new.0), omega (arith, b_is, new.0), omega (arith, b_is)))
+        let b_is : owner.base ≡ base = base_of new.1 in
+        (omega (arith, b_is, new.0), omega (arith, b_is, new.0), omega (arith, b_is)))
         (λ before. let h = ready.inside cell owner before is_head in (h.0, h.1, omega (arith, h.2)))
         (whose_before cell owner is);
   }

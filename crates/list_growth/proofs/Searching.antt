@@ -23,13 +23,16 @@ pub blank_down : (image : Image) (block l bound : ℕ) (now : Span) → IsSpan l
     → BlankFrom image block l now.low bound
 blank_down image block l bound now is blank above = λ key level digit from below within. ⊎_elim
     (λ (inside : key < now.high).
-        let here : InSpan l now.level now.digit key = record {
-          levels = is.levels; some = is.some; digits = is.digits;
-          low = omega (arith, is.low, from); high = omega (arith, is.low, is.high, inside);
-        } in
-        let same = spans.apart l key level digit now.level now.digit within here in
-        let P : ℕ → Type 0 = λ cell. image cell ≡ None in
-        subst P (omega (arith, same.0, same.1)) blank)
+    let here : InSpan l now.level now.digit key = record {
+      levels = is.levels;
+      some = is.some;
+      digits = is.digits;
+      low = omega (arith, is.low, from);
+      high = omega (arith, is.low, is.high, inside);
+    } in
+    let same = spans.apart l key level digit now.level now.digit within here in
+    let P : ℕ → Type 0 = λ cell. image cell ≡ None in
+    subst P (omega (arith, same.0, same.1)) blank)
     (λ past. above key level digit past below within)
     (cases_lt key now.high)
 

@@ -35,7 +35,7 @@ pub blank_is_free : (s : ViewState) → IsView s → (cell : ℕ) → s.image ce
 blank_is_free s view cell blank = ⊎_elim
     (λ none. none)
     (λ (some : (v : List ℕ) × (s.planned cell ≡ Some v)).
-        absurd (none-some some.0 (sym blank ∙ view.planned.keeps cell some.0 some.1)))
+    absurd (none-some some.0 (sym blank ∙ view.planned.keeps cell some.0 some.1)))
     (some_or_none (s.planned cell))
 
 -- a cell that was blank is planned: all that was shown is shown still
@@ -57,7 +57,12 @@ same_extends a b same = record { keeps = λ cell value h. ap (λ (f : Image). f 
 pub has_key_on : {old new : Image} {block low bound : ℕ} → Extends old new → HasKeyIn old block low bound
     → HasKeyIn new block low bound
 has_key_on e h = record {
-  place = h.place; p = h.p; in_places = h.in_places; in_front = front_on e h.in_front; from = h.from; below = h.below;
+  place = h.place;
+  p = h.p;
+  in_places = h.in_places;
+  in_front = front_on e h.in_front;
+  from = h.from;
+  below = h.below;
 }
 
 pub leads_on : {old new : Image} {from to last block : ℕ} → Extends old new → Leads old from to last block

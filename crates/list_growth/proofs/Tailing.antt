@@ -34,9 +34,9 @@ pub tail_level_falls : (l bound level : ℕ) (s : Span) → IsSpan l s → s.low
 tail_level_falls l bound level s is below narrow = ⊎_elim
     (λ less. less)
     (λ le.
-        let up : 16 ^ level ≤ 16 ^ s.level = pow-le-pow_right (omega arith) le in
-        let first : 1 * 16 ^ s.level ≤ s.digit * 16 ^ s.level = mul-le-mul_right (16 ^ s.level) is.some in
-        absurd (omega (arith, up, first, is.low)))
+    let up : 16 ^ level ≤ 16 ^ s.level = pow-le-pow_right (omega arith) le in
+    let first : 1 * 16 ^ s.level ≤ s.digit * 16 ^ s.level = mul-le-mul_right (16 ^ s.level) is.some in
+    absurd (omega (arith, up, first, is.low)))
     (cases_lt s.level level)
 
 -- the target lies behind the block
@@ -53,6 +53,6 @@ pub tail_leads : (head floor next key home block target l : ℕ) (s : Span) (old
     → TailLeads floor next block old new result
 tail_leads head floor next key home block target l s old mid new is from to viewed led (Ok (Some spot)) found leads = λ tells.
     onwards block s.level s.digit target is.levels is.some is.digits (holds_on found.viewed.image (led tells)) from to
-      (leads (subst IsTrue (sym viewed.called.tells) tells))
+    (leads (subst IsTrue (sym viewed.called.tells) tells))
 tail_leads head floor next key home block target l s old mid new is from to viewed led (Ok None) found leads = tt
 tail_leads head floor next key home block target l s old mid new is from to viewed led (Err fault) found leads = tt

@@ -1,5 +1,5 @@
 -- What planning a posting does, and a pointer to its block.
-use Rattle.std.specs.Prelude.{◌≡◌, ◌≢◌, ℕ, Some, None, Result, Ok, Err, ⊤}
+use Rattle.std.specs.Prelude.{◌≡◌, ◌≢◌, ◌+◌, ℕ, Option, Some, None, Result, Ok, Err, ⊤}
 use Rattle.cell_types.specs.declared.record_cell.RecordCell.{RecordCell}
 use Rattle.cell_types.specs.declared.record_cell.RecordCell.TheVariants.{Jump}
 use Rattle.cell_types.specs.declared.refusal.Fault.TheVariants.{Tampered, ReadFault}
@@ -9,6 +9,7 @@ use Rattle.planned_cells.specs.declared.fault.GrowthFault.{GrowthFault}
 use Rattle.planned_cells.specs.declared.fault.GrowthFault.TheVariants.{Fault, NoMemory}
 use Rattle.worm_device.specs.Views.{ViewState}
 use Rattle.worm_device.specs.declared.owner.Owner.{Owner}
+use Rattle.list_growth.specs.declared.entries.Spot.{Spot}
 
 -- the record is planned; what is named as evidence was planned already
 abbrev pub PutEnds : ℕ → RecordCell → Owner → ViewState → ViewState → Result Unit GrowthFault → Type 0
@@ -29,27 +30,29 @@ pub record PutsRecord (at : ℕ) (r : RecordCell) (owner : Owner) (old new : Vie
       → (new.image cell ≡ old.image cell) × (new.planned cell ≡ old.planned cell) × (new.owners cell ≡ old.owners cell)
   pub ends : PutEnds at r owner old new result
 
--- a posting is planned, and then a pointer to its block, each for its own block
-pub record PlansTwo (at pointer : ℕ) (p : PostingFields) (target : ℕ) (owner home_owner : Owner) (old new : ViewState)
+-- a posting is planned at its place, and then a pointer to its block, each for its own block
+pub record PlansTwo (spot : Spot) (pointer : ℕ) (p : PostingFields) (owner home_owner : Owner) (old new : ViewState)
     : Type 0 where
   pub mid : ViewState
-  pub posting : PutsRecord at (posting_record p) owner old mid (Ok tt)
-  pub jump : PutsRecord pointer (Jump target) home_owner mid new (Ok tt)
+  pub posting : PutsRecord (spot.block + spot.place) (posting_record p) owner old mid (Ok tt)
+  pub jump : PutsRecord pointer (Jump spot.block) home_owner mid new (Ok tt)
 
 -- both are planned; where evidence is named, one of the two cells was planned already, or they are the same
-abbrev pub BothEnds : ℕ → ℕ → PostingFields → ℕ → Owner → Owner → ViewState → ViewState → Result Unit GrowthFault
-    → Type 0
-BothEnds at pointer p target owner home_owner old new (Ok done) = PlansTwo at pointer p target owner home_owner old new
-BothEnds at pointer p target owner home_owner old new (Err (Fault ReadFault)) = ⊥
-BothEnds at pointer p target owner home_owner old new (Err (Fault (Tampered e))) =
-    old.planned at ≡ None → old.planned pointer ≡ None → at ≢ pointer → ⊥
-BothEnds at pointer p target owner home_owner old new (Err NoMemory) = ⊤
+abbrev pub BothEnds : Spot → ℕ → PostingFields → Owner → Owner → ViewState → ViewState
+    → Result (Option Spot) GrowthFault → Type 0
+BothEnds spot pointer p owner home_owner old new (Ok (Some found)) =
+    (found ≡ spot) × PlansTwo spot pointer p owner home_owner old new
+BothEnds spot pointer p owner home_owner old new (Ok None) = ⊥
+BothEnds spot pointer p owner home_owner old new (Err (Fault ReadFault)) = ⊥
+BothEnds spot pointer p owner home_owner old new (Err (Fault (Tampered e))) =
+    old.planned (spot.block + spot.place) ≡ None → old.planned pointer ≡ None → spot.block + spot.place ≢ pointer → ⊥
+BothEnds spot pointer p owner home_owner old new (Err NoMemory) = ⊤
 
-pub record PutsBoth (at pointer : ℕ) (p : PostingFields) (target : ℕ) (owner home_owner : Owner) (old new : ViewState)
-    (result : Result Unit GrowthFault) : Type 0 where
+pub record PutsBoth (spot : Spot) (pointer : ℕ) (p : PostingFields) (owner home_owner : Owner) (old new : ViewState)
+    (result : Result (Option Spot) GrowthFault) : Type 0 where
   pub cells : new.cells ≡ old.cells
   pub lower : new.lower ≡ old.lower
   pub fresh : new.fresh ≡ old.fresh
   pub base : new.base ≡ old.base
   pub loans : new.loans ≡ old.loans
-  pub ends : BothEnds at pointer p target owner home_owner old new result
+  pub ends : BothEnds spot pointer p owner home_owner old new result

@@ -68,7 +68,7 @@ pub(crate) fn put_both<V: View>(
     to: &Span,
     spot: Spot,
     entry: NewEntry,
-) -> Result<(), GrowthFault>
+) -> Result<Option<Spot>, GrowthFault>
     requires well_formed { entry.key % 256 ≤ entry.last }
     requires level { to.now.level < 8 }
     requires some { 1 ≤ to.now.digit }
@@ -76,7 +76,7 @@ pub(crate) fn put_both<V: View>(
     requires inside { home + 256 ≤ 4294967295 }
     requires place { spot.place < 128 }
     requires block { spot.block + 256 ≤ 4294967295 }
-    ensures { PutsBoth (spot.block + spot.place) (pointer_at home to.now.level to.now.digit) (fields_of entry) spot.block
+    ensures { PutsBoth spot (pointer_at home to.now.level to.now.digit) (fields_of entry)
         (record { head = head; base = spot.block }) (record { head = head; base = home })
         (of_overlay V.seen overlay.old) (of_overlay V.seen overlay.new) result }
 {
@@ -90,5 +90,8 @@ pub(crate) fn put_both<V: View>(
     }
     let jump = RecordCell::Jump { target: spot.block };
     let pointer = pointer_cell(home, to.level, to.digit);
-    put(overlay, pointer, jump, Owner { head, base: home })
+    match put(overlay, pointer, jump, Owner { head, base: home }) {
+        Ok(()) => Ok(Some(spot)),
+        Err(fault) => Err(fault),
+    }
 }

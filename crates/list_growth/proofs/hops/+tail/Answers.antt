@@ -47,13 +47,13 @@ returns-then-from-2-clause-finds g t c =
       viewed = viewed;
       ends = named_fault c.args.head c.args.floor c.args.key c.args.block c.in-Some.span.level c.in-Some.span.digit c.in-Some.target (of_overlay g.V.View.seen c.args.overlay.now) (of_overlay g.V.View.seen c.greatest_pointer.new.view) c.leads_nowhere.result c.leads_nowhere.ensures (λ e names tells.
           meets_home (of_overlay g.V.View.seen c.greatest_pointer.new.view) (is_view g.V.View.seen g.met.V.View.proper c.greatest_pointer.new.view)
-            c.args.head c.args.floor c.args.next c.args.key c.args.block (at_viewed viewed (c.requires.at tells))
-            c.in-Some.span c.args.l c.in-Some.target found.is (found.led tells)
-            (rw c.in_default-check_target.is at c.check_target.ensures) (subst IsTrue (sym viewed.called.tells) tells)
-            c.args.home (own_block_viewed viewed c.args.head c.args.home (c.requires.home_own tells))
-            (reached_viewed viewed c.args.head c.args.floor c.args.home (c.requires.home_reached tells))
-            c.if-target-home.true (omega (arith, c.if-from.true, c.from.ensures, c.from-then-target-home.ensures))
-            (omega (arith, c.if-from-2.true, c.from-then-from.ensures, c.from-then-from-2.ensures)) e names);
+          c.args.head c.args.floor c.args.next c.args.key c.args.block (at_viewed viewed (c.requires.at tells))
+          c.in-Some.span c.args.l c.in-Some.target found.is (found.led tells)
+          (rw c.in_default-check_target.is at c.check_target.ensures) (subst IsTrue (sym viewed.called.tells) tells)
+          c.args.home (own_block_viewed viewed c.args.head c.args.home (c.requires.home_own tells))
+          (reached_viewed viewed c.args.head c.args.floor c.args.home (c.requires.home_reached tells))
+          c.if-target-home.true (omega (arith, c.if-from.true, c.from.ensures, c.from-then-target-home.ensures))
+          (omega (arith, c.if-from-2.true, c.from-then-from.ensures, c.from-then-from-2.ensures)) e names);
     }
 
 -- a fault of the look into the target
@@ -65,10 +65,10 @@ returns-in-Err-first_at_least-clause-finds g t c =
       viewed = viewed_then viewed c.first_at_least.ensures.viewed;
       ends = fault_then c.args.head c.args.floor c.args.key (of_overlay g.V.View.seen c.args.overlay.now) (of_overlay g.V.View.seen c.greatest_pointer.new.view) (of_overlay g.V.View.seen c.first_at_least.new.view) viewed c.in-Err-first_at_least.fault
           (front_fault (of_overlay g.V.View.seen c.greatest_pointer.new.view) (of_overlay g.V.View.seen c.first_at_least.new.view) (is_view g.V.View.seen g.met.V.View.proper c.first_at_least.new.view)
-            c.args.head c.args.floor c.args.next c.args.key c.in-Some.target
-            (λ tells. at_viewed c.first_at_least.ensures.viewed
-              (at_target (at_viewed viewed (c.requires.at (subst IsTrue viewed.called.tells tells))) (checked.2 tells)))
-            c.in-Err-first_at_least.fault c.in-Err-first_at_least.ensures.ends);
+          c.args.head c.args.floor c.args.next c.args.key c.in-Some.target
+          (λ tells. at_viewed c.first_at_least.ensures.viewed
+          (at_target (at_viewed viewed (c.requires.at (subst IsTrue viewed.called.tells tells))) (checked.2 tells)))
+          c.in-Err-first_at_least.fault c.in-Err-first_at_least.ensures.ends);
     }
 
 -- a late posting
@@ -80,10 +80,10 @@ returns-in-At-clause-finds g t c =
       viewed = viewed_then viewed c.first_at_least.ensures.viewed;
       ends = fault_then c.args.head c.args.floor c.args.key (of_overlay g.V.View.seen c.args.overlay.now) (of_overlay g.V.View.seen c.greatest_pointer.new.view) (of_overlay g.V.View.seen c.first_at_least.new.view) viewed c.late_posting.result
           (late_fault (of_overlay g.V.View.seen c.greatest_pointer.new.view) (of_overlay g.V.View.seen c.first_at_least.new.view) (is_view g.V.View.seen g.met.V.View.proper c.first_at_least.new.view)
-            c.args.head c.args.floor c.args.next c.args.key c.in-Some.target
-            (λ tells. at_viewed c.first_at_least.ensures.viewed
-              (at_target (at_viewed viewed (c.requires.at (subst IsTrue viewed.called.tells tells))) (checked.2 tells)))
-            c.in-At.late (rw c.in-At.is at c.in-Ok-first_at_least.ensures).ends c.late_posting.result c.late_posting.ensures);
+          c.args.head c.args.floor c.args.next c.args.key c.in-Some.target
+          (λ tells. at_viewed c.first_at_least.ensures.viewed
+          (at_target (at_viewed viewed (c.requires.at (subst IsTrue viewed.called.tells tells))) (checked.2 tells)))
+          c.in-At.late (rw c.in-At.is at c.in-Ok-first_at_least.ensures).ends c.late_posting.result c.late_posting.ensures);
     }
 
 -- a blank place
@@ -95,21 +95,27 @@ returns-in-Open-clause-finds g t c =
     let read = (rw c.in-Open.is at c.in-Ok-first_at_least.ensures).ends in
     record {
       viewed = viewed_then viewed looked;
-      ends = (read.0, checked.0, checked.1, λ tells.
-        let told = subst IsTrue (sym viewed.called.tells) tells in
-        let hop = checked.2 told in
-        record {
-          own_block = own_block_viewed looked c.args.head c.in-Some.target hop.own_block;
-          reached = reached_viewed looked c.args.head c.args.floor c.in-Some.target hop.reached;
-          apart = elim c.else-target-home.branch [
-              else-target-home-via-then-target-home+then-from+else-from-2 w ↦
-                inr (inl (omega (arith, w.if-from-2.false, w.from-then-from.ensures, w.from-then-from-2.ensures)))
-            | else-target-home-via-then-target-home+else-from w ↦
-                inr (inr (omega (arith, w.if-from.false, w.from.ensures, w.from-then-target-home.ensures)))
-            | else-target-home-via-else-target-home w ↦ inl w.if-target-home.false ];
-          blank = (read.1 told).0;
-          rises = (read.1 told).1.last;
-        });
+      ends = (
+        read.0,
+        checked.0,
+        checked.1,
+        λ tells.
+            let told = subst IsTrue (sym viewed.called.tells) tells in
+            let hop = checked.2 told in
+            record {
+              own_block = own_block_viewed looked c.args.head c.in-Some.target hop.own_block;
+              reached = reached_viewed looked c.args.head c.args.floor c.in-Some.target hop.reached;
+              apart = elim c.else-target-home.branch [
+                | else-target-home-via-then-target-home+then-from+else-from-2 w ↦
+                    inr (inl (omega (arith, w.if-from-2.false, w.from-then-from.ensures, w.from-then-from-2.ensures)))
+                | else-target-home-via-then-target-home+else-from w ↦
+                    inr (inr (omega (arith, w.if-from.false, w.from.ensures, w.from-then-target-home.ensures)))
+                | else-target-home-via-else-target-home w ↦ inl w.if-target-home.false
+              ];
+              blank = (read.1 told).0;
+              rises = (read.1 told).1.last;
+            },
+      );
     }
 
 -- the target has no key of the span
@@ -123,15 +129,19 @@ returns-then-from-span-clause-finds g t c =
     record {
       viewed = viewed_then viewed looked;
       ends = named_fault c.args.head c.args.floor c.args.key c.args.block c.in-Some.span.level c.in-Some.span.digit c.in-Some.target (of_overlay g.V.View.seen c.args.overlay.now) (of_overlay g.V.View.seen c.first_at_least.new.view) c.leads_nowhere-then-from-span.result c.leads_nowhere-then-from-span.ensures (λ e names tells.
-        let told = subst IsTrue (sym viewed.called.tells) tells in
-        no_key_there (of_overlay g.V.View.seen c.first_at_least.new.view) (is_view g.V.View.seen g.met.V.View.proper c.first_at_least.new.view)
+          let told = subst IsTrue (sym viewed.called.tells) tells in
+          no_key_there (of_overlay g.V.View.seen c.first_at_least.new.view) (is_view g.V.View.seen g.met.V.View.proper c.first_at_least.new.view)
           c.args.head c.args.floor c.args.next c.args.key c.args.block
           (at_viewed looked (at_viewed viewed (c.requires.at tells)))
           c.in-Some.span c.args.l c.in-Some.target found.is (holds_on looked.image (found.led tells))
           (check_on (of_overlay g.V.View.seen c.greatest_pointer.new.view) (of_overlay g.V.View.seen c.first_at_least.new.view) c.args.head c.args.floor c.args.next c.args.key c.args.block c.in-Some.target c.in-Some.span looked checked) (subst IsTrue (sym looked.called.tells) told)
           (key_on looked.image (key_on viewed.image (c.requires.full tells)))
-          (λ place p below front. omega (arith, full_at_most (read.1 told) place p below front,
-            c.if-from-span.true, c.from-2.ensures)) e names);
+          (λ place p below front. omega (
+            arith,
+            full_at_most (read.1 told) place p below front,
+            c.if-from-span.true,
+            c.from-2.ensures,
+          )) e names);
     }
 
 pub tail-requires : goal.tail-requires
@@ -142,16 +152,39 @@ tail-requires g t c κs within =
     let found = (rw c.in-Some.is at c.in-Ok.ensures).ends in
     let checked = rw c.in_default-check_target.is at c.check_target.ensures in
     let read = (rw c.in-Full.is at c.in-Ok-first_at_least.ensures).ends in
-    let falls = tail_level_falls c.args.l c.args.bound c.args.level c.in-Some.span found.is found.below c.requires.narrow in
-    (omega (arith, falls, c.decreases), (within, (omega (arith, checked.1), (c.requires.home, (omega (arith, c.min-below.ensures),
-    (omega (arith, c.min-below.ensures, found.is.high, c.if-from-span.false, c.from-2.ensures),
-    (omega (arith, c.requires.fresh, viewed.fresh, looked.fresh),
-    ((λ told. at_viewed looked (at_target (at_viewed viewed (c.requires.at (subst IsTrue both.called.tells told)))
-        (checked.2 (subst IsTrue looked.called.tells told)))),
-    ((λ told. read.1 (subst IsTrue looked.called.tells told)),
-    ((λ told. own_block_viewed both c.args.head c.args.home (c.requires.home_own (subst IsTrue both.called.tells told))),
-     (λ told. reached_viewed both c.args.head c.args.floor c.args.home
-        (c.requires.home_reached (subst IsTrue both.called.tells told)))))))))))))
+    let falls = tail_level_falls c.args.l c.args.bound c.args.level c.in-Some.span found.is found.below c.requires.narrow in (
+      omega (arith, falls, c.decreases),
+      (
+        within,
+        (
+          omega (arith, checked.1),
+          (
+            c.requires.home,
+            (
+              omega (arith, c.min-below.ensures),
+              (
+                omega (arith, c.min-below.ensures, found.is.high, c.if-from-span.false, c.from-2.ensures),
+                (
+                  omega (arith, c.requires.fresh, viewed.fresh, looked.fresh),
+                  (
+                    (λ told. at_viewed looked (at_target (at_viewed viewed (c.requires.at (subst IsTrue both.called.tells told)))
+                        (checked.2 (subst IsTrue looked.called.tells told)))),
+                    (
+                      (λ told. read.1 (subst IsTrue looked.called.tells told)),
+                      (
+                        (λ told. own_block_viewed both c.args.head c.args.home (c.requires.home_own (subst IsTrue both.called.tells told))),
+                        (λ told. reached_viewed both c.args.head c.args.floor c.args.home
+                            (c.requires.home_reached (subst IsTrue both.called.tells told))),
+                      ),
+                    ),
+                  ),
+                ),
+              ),
+            ),
+          ),
+        ),
+      ),
+    )
 
 -- what the search behind the target finds
 pub returns-clause-finds : goal.returns-clause-finds
@@ -163,7 +196,7 @@ returns-in-Open-clause-leads g t c = λ tells.
     let found = (rw c.in-Some.is at c.in-Ok.ensures).ends in
     let checked = rw c.in_default-check_target.is at c.check_target.ensures in
     leads_to (of_overlay g.V.View.seen c.first_at_least.new.view) found.is checked.0 checked.1
-      (holds_on c.first_at_least.ensures.viewed.image (found.led tells))
+    (holds_on c.first_at_least.ensures.viewed.image (found.led tells))
 
 pub returns-clause-leads : goal.returns-clause-leads
 returns-clause-leads g t c =
@@ -171,7 +204,7 @@ returns-clause-leads g t c =
     let checked = rw c.in_default-check_target.is at c.check_target.ensures in
     let looked = c.first_at_least.ensures.viewed in
     tail_leads c.args.head c.args.floor c.args.next c.args.key c.args.home c.args.block c.in-Some.target c.args.l c.in-Some.span (of_overlay g.V.View.seen c.args.overlay.now) (of_overlay g.V.View.seen c.first_at_least.new.view) (of_overlay g.V.View.seen c.tail.new.overlay) found.is checked.0 checked.1 (viewed_then c.greatest_pointer.ensures.viewed looked)
-      (λ tells. holds_on looked.image (found.led tells)) c.tail.result c.tail.ensures.finds c.tail.ensures.leads
+    (λ tells. holds_on looked.image (found.led tells)) c.tail.result c.tail.ensures.finds c.tail.ensures.leads
 
 -- no pointer is written: the block is the last
 pub returns-in_default-clause-last : goal.returns-in_default-clause-last
@@ -187,16 +220,16 @@ returns-in-Open-clause-last g t c = λ tells still head at q top there less trai
     let read = (rw c.in-Open.is at c.in-Ok-first_at_least.ensures).ends in
     let same = quiet_image viewed _ looked.called.foreign_writes still in
     let led = subst (λ (i : Image). HasPointer i c.args.block c.in-Some.span.level c.in-Some.span.digit c.in-Some.target)
-        same (found.led tells) in
+    same (found.led tells) in
     let h = passes c.in-Some.span found.is (c.requires.full tells) led (found.blank tells) top there less trail in
     open_last c.in-Open.place read.0
-      (blank_before (viewed_then viewed looked).image (read.1 (subst IsTrue (sym viewed.called.tells) tells)).0) h.trail
+    (blank_before (viewed_then viewed looked).image (read.1 (subst IsTrue (sym viewed.called.tells) tells)).0) h.trail
 
 pub returns-clause-last : goal.returns-clause-last
 returns-clause-last g t c =
     let found = (rw c.in-Some.is at c.in-Ok.ensures).ends in
     let looked = c.first_at_least.ensures.viewed in
     tail_last_then c.args.floor c.args.next c.args.block c.in-Some.target c.args.bound c.min-below.result c.args.l c.in-Some.span (of_overlay g.V.View.seen c.args.overlay.now) (of_overlay g.V.View.seen c.first_at_least.new.view) (of_overlay g.V.View.seen c.tail.new.overlay)
-        found.is (viewed_then c.greatest_pointer.ensures.viewed looked) c.tail.ensures.finds.viewed.called.foreign_writes
-        c.requires.full (λ tells. holds_on looked.image (found.led tells)) (λ tells. found.blank tells)
-        (λ k high low. omega (arith, high, low, c.min-below.ensures, c.requires.bound)) c.tail.result c.tail.ensures.last
+    found.is (viewed_then c.greatest_pointer.ensures.viewed looked) c.tail.ensures.finds.viewed.called.foreign_writes
+    c.requires.full (λ tells. holds_on looked.image (found.led tells)) (λ tells. found.blank tells)
+    (λ k high low. omega (arith, high, low, c.min-below.ensures, c.requires.bound)) c.tail.result c.tail.ensures.last
