@@ -5,3 +5,8 @@ mod Hopping
 mod Lasting
 mod Naming
 mod Tailing
+mod Growing
+mod Unshown
+mod Placing
+mod Adding
+mod Planned
