@@ -10,3 +10,4 @@ mod Unshown
 mod Placing
 mod Adding
 mod Planned
+mod Inserting

@@ -1,5 +1,5 @@
 -- Which cells an insertion plans.
-use Rattle.std.proofs.Common.{◌≡◌, ◌≢◌, ◌<◌, ◌≤◌, ◌+◌, ◌⊎◌, inl, inr, ℕ, Option, Some, None, Result, Ok, Err, refl, ap, sym, subst, arith, ◌∙◌}
+use Rattle.std.proofs.Common.{◌≡◌, ◌≢◌, ◌<◌, ◌≤◌, ◌+◌, ◌⊎◌, ⊎_elim, inl, inr, ℕ, Option, Some, None, Result, Ok, Err, refl, ap, sym, subst, arith, ◌∙◌}
 use Rattle.std.specs.Prelude.{IsTrue}
 use Rattle.cell_types.specs.Image.{Image}
 use Rattle.cell_types.specs.declared.record_cell.RecordCell.{RecordCell}
@@ -9,6 +9,8 @@ use Rattle.stored_documents.specs.Volumes.{Holds}
 use Rattle.stored_documents.proofs.Extending.{blank_before}
 use Rattle.index_paths.specs.Blocks.{PostingFields, posting_record, pointer_at}
 use Rattle.worm_device.specs.Views.{ViewState, Viewed}
+use Rattle.cell_pool.specs.Grants.{TakesFront}
+use Rattle.cell_pool.specs.declared.pool.Pool.{Pool}
 use Rattle.worm_device.specs.declared.owner.Owner.{Owner}
 use Rattle.planned_cells.specs.declared.fault.GrowthFault.{GrowthFault}
 use Rattle.list_growth.specs.Inserting.{IsPlannedFor, IsAsPlanned, PlansEntry, alone, with_pointer}
@@ -150,3 +152,10 @@ module _ (head floor to home level digit : ℕ) (p : PostingFields) (old mid new
       let P : Spot → Type 0 = λ x. HasPlanned head floor to p x old new in subst P (sym both.ends.0) (has_both both.ends.1)
   planned_both (Ok None) both = tt
   planned_both (Err fault) both = tt
+
+-- how far the pool is, after one block or none
+pub pool_next : (old new : Pool) → (new ≡ old) ⊎ TakesFront old new 256 old.next → old.next ≤ new.next
+pool_next old new ends = ⊎_elim
+    (λ (same : new ≡ old). let h : new.next ≡ old.next = ap (λ (x : Pool). x.next) same in omega (arith, h))
+    (λ (taken : TakesFront old new 256 old.next). omega (arith, taken.next))
+    ends
