@@ -11,3 +11,4 @@ mod Placing
 mod Adding
 mod Planned
 mod Inserting
+mod Untouched

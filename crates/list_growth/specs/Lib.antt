@@ -1,4 +1,5 @@
 pub mod Evidence
+pub mod GoingOn
 pub mod Growing
 pub mod Hopping
 pub mod Inserting

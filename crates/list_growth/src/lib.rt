@@ -6,7 +6,9 @@ mod hops;
 mod insertion;
 mod meeting;
 mod puts;
+mod readiness;
 mod spans;
 
 pub use entries::NewEntry;
 pub use insertion::insert;
+pub use readiness::{others_stay_untouched, trails_go_on, untouched_is_ready};

@@ -22,7 +22,7 @@ use Rattle.list_growth.proofs.insertion.+insert_from.Goals as goal
 pub returns-in-Err-clause-places : goal.returns-in-Err-clause-places
 returns-in-Err-clause-places g t c =
     let viewed = c.first_at_least.ensures.viewed in
-    read_fault c.args.head c.args.floor _ c.args.block (fields_of c.args.entry) c.args.within.low c.args.within.high (of_overlay g.V.View.seen c.args.overlay.now) (of_overlay g.V.View.seen c.first_at_least.new.view) c.in-Err.fault viewed
+    read_fault c.args.head c.args.floor c.args.pool.now.next c.args.block (fields_of c.args.entry) c.args.within.low c.args.within.high (of_overlay g.V.View.seen c.args.overlay.now) (of_overlay g.V.View.seen c.first_at_least.new.view) c.in-Err.fault viewed
       (front_fault (of_overlay g.V.View.seen c.args.overlay.now) (of_overlay g.V.View.seen c.first_at_least.new.view) (is_view g.V.View.seen g.met.V.View.proper c.first_at_least.new.view) c.args.head c.args.floor c.args.pool.now.next c.args.entry.key c.args.block
         (λ tells. at_viewed viewed (c.requires.at tells)) c.in-Err.fault c.in-Err.ensures.ends)
 
@@ -30,7 +30,7 @@ returns-in-Err-clause-places g t c =
 pub returns-in-At-clause-places : goal.returns-in-At-clause-places
 returns-in-At-clause-places g t c =
     let viewed = c.first_at_least.ensures.viewed in
-    read_fault c.args.head c.args.floor _ c.args.block (fields_of c.args.entry) c.args.within.low c.args.within.high (of_overlay g.V.View.seen c.args.overlay.now) (of_overlay g.V.View.seen c.first_at_least.new.view) c.late_posting.result viewed
+    read_fault c.args.head c.args.floor c.args.pool.now.next c.args.block (fields_of c.args.entry) c.args.within.low c.args.within.high (of_overlay g.V.View.seen c.args.overlay.now) (of_overlay g.V.View.seen c.first_at_least.new.view) c.late_posting.result viewed
       (late_fault (of_overlay g.V.View.seen c.args.overlay.now) (of_overlay g.V.View.seen c.first_at_least.new.view) (is_view g.V.View.seen g.met.V.View.proper c.first_at_least.new.view) c.args.head c.args.floor c.args.pool.now.next c.args.entry.key c.args.block
         (λ tells. at_viewed viewed (c.requires.at tells)) c.in-At.late (rw c.in-At.is at c.in-Ok.ensures).ends
         c.late_posting.result c.late_posting.ensures)
@@ -57,7 +57,7 @@ returns-in-Err-put_posting-clause-places g t c =
 -- no key of the span
 pub returns-then-from-within-clause-places : goal.returns-then-from-within-clause-places
 returns-then-from-within-clause-places g t c =
-    no_key_here c.args.head c.args.floor _ c.args.block c.in-Full.l (fields_of c.args.entry) c.args.within.low c.args.within.high (of_overlay g.V.View.seen c.args.overlay.now) (of_overlay g.V.View.seen c.first_at_least.new.view) c.first_at_least.ensures.viewed
+    no_key_here c.args.head c.args.floor c.args.pool.now.next c.args.block c.in-Full.l (fields_of c.args.entry) c.args.within.low c.args.within.high (of_overlay g.V.View.seen c.args.overlay.now) (of_overlay g.V.View.seen c.first_at_least.new.view) c.first_at_least.ensures.viewed
       (λ tells. (rw c.in-Full.is at c.in-Ok.ensures).ends.1 tells) (omega (arith, c.if-from-within.true, c.from-2.ensures))
 
 -- a fault of the read of the pointer
@@ -65,7 +65,7 @@ pub returns-in-Err-pointer-clause-places : goal.returns-in-Err-pointer-clause-pl
 returns-in-Err-pointer-clause-places g t c =
     let viewed = viewed_then c.first_at_least.ensures.viewed c.pointer.ensures.viewed in
     let is = c.span-to.ensures.is in
-    read_fault c.args.head c.args.floor _ c.args.block (fields_of c.args.entry) c.args.within.low c.args.within.high (of_overlay g.V.View.seen c.args.overlay.now) (of_overlay g.V.View.seen c.pointer.new.view) c.in-Err-pointer.fault viewed
+    read_fault c.args.head c.args.floor c.args.pool.now.next c.args.block (fields_of c.args.entry) c.args.within.low c.args.within.high (of_overlay g.V.View.seen c.args.overlay.now) (of_overlay g.V.View.seen c.pointer.new.view) c.in-Err-pointer.fault viewed
       (fault_then c.args.head c.args.floor c.args.entry.key (of_overlay g.V.View.seen c.args.overlay.now) (of_overlay g.V.View.seen c.first_at_least.new.view) (of_overlay g.V.View.seen c.pointer.new.view) c.first_at_least.ensures.viewed c.in-Err-pointer.fault
         (pointer_fault (of_overlay g.V.View.seen c.first_at_least.new.view) (of_overlay g.V.View.seen c.pointer.new.view) (is_view g.V.View.seen g.met.V.View.proper c.pointer.new.view) c.args.head c.args.floor c.args.pool.now.next c.args.entry.key c.args.block
           (λ told. at_viewed viewed (c.requires.at (subst IsTrue c.first_at_least.ensures.viewed.called.tells told)))
@@ -89,7 +89,7 @@ insert_behind-requires-clause-full g t c = λ tells.
 -- behind the block
 pub returns-in_default-clause-places : goal.returns-in_default-clause-places
 returns-in_default-clause-places g t c =
-    place_then c.args.head c.args.floor _ c.args.block (fields_of c.args.entry) c.args.within.low c.args.within.high (of_overlay g.V.View.seen c.args.overlay.now) (of_overlay g.V.View.seen c.pointer.new.view) (of_overlay g.V.View.seen c.insert_behind.new.overlay) (viewed_then c.first_at_least.ensures.viewed c.pointer.ensures.viewed)
+    place_then c.args.head c.args.floor c.insert_behind.new.pool.next c.args.block (fields_of c.args.entry) c.args.within.low c.args.within.high (of_overlay g.V.View.seen c.args.overlay.now) (of_overlay g.V.View.seen c.pointer.new.view) (of_overlay g.V.View.seen c.insert_behind.new.overlay) (viewed_then c.first_at_least.ensures.viewed c.pointer.ensures.viewed)
       c.insert_behind.result c.insert_behind.ensures.places
 
 pub check_target-requires-clause-at : goal.check_target-requires-clause-at
@@ -101,7 +101,7 @@ check_target-requires-clause-at g t c = λ tells.
 pub returns-in-Err-check_target-clause-places : goal.returns-in-Err-check_target-clause-places
 returns-in-Err-check_target-clause-places g t c =
     let viewed = viewed_then c.first_at_least.ensures.viewed c.pointer.ensures.viewed in
-    read_fault c.args.head c.args.floor _ c.args.block (fields_of c.args.entry) c.args.within.low c.args.within.high (of_overlay g.V.View.seen c.args.overlay.now) (of_overlay g.V.View.seen c.pointer.new.view) c.in-Err-check_target.fault viewed
+    read_fault c.args.head c.args.floor c.args.pool.now.next c.args.block (fields_of c.args.entry) c.args.within.low c.args.within.high (of_overlay g.V.View.seen c.args.overlay.now) (of_overlay g.V.View.seen c.pointer.new.view) c.in-Err-check_target.fault viewed
       (check_refused c.args.head c.args.floor c.args.pool.now.next c.args.entry.key c.args.block c.in-Some.target c.span-to.result (of_overlay g.V.View.seen c.args.overlay.now) (of_overlay g.V.View.seen c.pointer.new.view) viewed
         c.in-Err-check_target.fault c.in-Err-check_target.ensures)
 
@@ -125,7 +125,7 @@ returns-in-Ok-Some-clause-places g t c =
     let checked = rw c.in_default-check_target.is at c.check_target.ensures in
     let read = (rw c.in-Full.is at c.in-Ok.ensures).ends in
     let more = pool_next c.args.pool.now c.insert_from.new.pool c.insert_from.ensures.pool in
-    into_target c.args.head c.args.floor _ c.args.block c.in-Full.l c.args.within.low c.args.within.high c.in-Some.target (fields_of c.args.entry) c.span-to.result (of_overlay g.V.View.seen c.args.overlay.now) (of_overlay g.V.View.seen c.pointer.new.view) (of_overlay g.V.View.seen c.insert_from.new.overlay) c.in-Ok-Some.spot
+    into_target c.args.head c.args.floor c.insert_from.new.pool.next c.args.block c.in-Full.l c.args.within.low c.args.within.high c.in-Some.target (fields_of c.args.entry) c.span-to.result (of_overlay g.V.View.seen c.args.overlay.now) (of_overlay g.V.View.seen c.pointer.new.view) (of_overlay g.V.View.seen c.insert_from.new.overlay) c.in-Ok-Some.spot
       (omega (arith, c.if-from-within.false, c.from-2.ensures)) read.0 c.requires.high
       c.span-to.ensures.is c.span-to.ensures.low c.span-to.ensures.high checked.0 (omega (arith, checked.1, more)) viewed
       (λ tells. key_on c.pointer.ensures.viewed.image (read.1 tells))
@@ -140,7 +140,7 @@ returns-in-Ok-None-clause-places g t c =
     let checked = rw c.in_default-check_target.is at c.check_target.ensures in
     let done = (rw c.in-Ok-None.field-0-is at c.in-Ok-None.ensures.places).ends in
     let all = viewed_then viewed done.0 in
-    read_fault c.args.head c.args.floor _ c.args.block (fields_of c.args.entry) c.args.within.low c.args.within.high (of_overlay g.V.View.seen c.args.overlay.now) (of_overlay g.V.View.seen c.insert_from.new.overlay) c.leads_nowhere.result all
+    read_fault c.args.head c.args.floor c.insert_from.new.pool.next c.args.block (fields_of c.args.entry) c.args.within.low c.args.within.high (of_overlay g.V.View.seen c.args.overlay.now) (of_overlay g.V.View.seen c.insert_from.new.overlay) c.leads_nowhere.result all
       (named_fault c.args.head c.args.floor c.args.entry.key c.args.block c.span-to.result.level c.span-to.result.digit c.in-Some.target (of_overlay g.V.View.seen c.args.overlay.now) (of_overlay g.V.View.seen c.insert_from.new.overlay)
         c.leads_nowhere.result c.leads_nowhere.ensures
         (λ e names tells.
@@ -157,9 +157,9 @@ returns-in-Ok-None-clause-places g t c =
 -- a refusal behind the target
 pub returns-in-Err-insert_from-clause-places : goal.returns-in-Err-insert_from-clause-places
 returns-in-Err-insert_from-clause-places g t c =
-    place_then c.args.head c.args.floor _ c.args.block (fields_of c.args.entry) c.args.within.low c.args.within.high (of_overlay g.V.View.seen c.args.overlay.now) (of_overlay g.V.View.seen c.pointer.new.view) (of_overlay g.V.View.seen c.insert_from.new.overlay) (viewed_then c.first_at_least.ensures.viewed c.pointer.ensures.viewed)
+    place_then c.args.head c.args.floor c.insert_from.new.pool.next c.args.block (fields_of c.args.entry) c.args.within.low c.args.within.high (of_overlay g.V.View.seen c.args.overlay.now) (of_overlay g.V.View.seen c.pointer.new.view) (of_overlay g.V.View.seen c.insert_from.new.overlay) (viewed_then c.first_at_least.ensures.viewed c.pointer.ensures.viewed)
       (Err c.in-Err-insert_from.fault)
-      (refused_behind c.args.head c.args.floor _ c.args.block c.in-Some.target c.span-to.result.low c.span-to.result.high (fields_of c.args.entry) c.args.within.low c.args.within.high (of_overlay g.V.View.seen c.pointer.new.view) (of_overlay g.V.View.seen c.insert_from.new.overlay)
+      (refused_behind c.args.head c.args.floor c.insert_from.new.pool.next c.args.block c.in-Some.target c.span-to.result.low c.span-to.result.high (fields_of c.args.entry) c.args.within.low c.args.within.high (of_overlay g.V.View.seen c.pointer.new.view) (of_overlay g.V.View.seen c.insert_from.new.overlay)
         c.in-Err-insert_from.fault c.in-Err-insert_from.ensures.places)
 
 pub returns-in-Ok-put_posting-clause-grows : goal.returns-in-Ok-put_posting-clause-grows
