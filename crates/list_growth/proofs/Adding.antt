@@ -35,10 +35,12 @@ pub grows_open : (floor next block place : ℕ) (greatest : Option ℕ) (p : Pos
 grows_open floor next block place greatest p old mid new owner viewed read put = λ tells still.
     let open_ = read.1 tells in
     let same : mid.image ≡ old.image = quiet_image viewed new.base.foreign_writes (count_of mid.base new.base put.base) still in
-    let P : Image → Type 0 = λ i. Grows i new.image floor next next block p 1 in
-    (1, subst P same (in_block block place (ends block refl) read.0
-        (record { was = open_.0; others = λ c differ. (put.others c differ).0 })
-        put.ends.shown open_.1.last refl refl))
+    let P : Image → Type 0 = λ i. Grows i new.image floor next next block p 1 in (
+      1,
+      subst P same (in_block block place (ends block refl) read.0
+          (record { was = open_.0; others = λ c differ. (put.others c differ).0 })
+          put.ends.shown open_.1.last refl refl),
+    )
 
 -- the posting goes to another block, to which the pointer leads now
 pub grows_both : (head floor next to block l cost : ℕ) (p : PostingFields) (s : Span) (low bound : ℕ) (old mid new : ViewState)
@@ -57,7 +59,11 @@ grows_both head floor next to block l cost p s low bound old mid new spot owner 
     let P : Image → Type 0 = λ i. Grows i new.image floor next to block p cost in
     let S : ℕ → Type 0 = λ n. InSpan n s.level s.digit p.key in
     let puts : PutsTwo mid.image new.image block spot.block spot.place p = record {
-      mid = two.mid.image; level = s.level; digit = s.digit; greatest = full_mid.p; full = full_mid.in_front;
+      mid = two.mid.image;
+      level = s.level;
+      digit = s.digit;
+      greatest = full_mid.p;
+      full = full_mid.in_front;
       span = subst S (sym full_mid.same) (span_holds home.is home.span_from home.span_to);
       in_places = target.in_places;
       adds = record { was = there.blank; others = λ c differ. (two.posting.others c differ).0 };
@@ -65,7 +71,7 @@ grows_both head floor next to block l cost p s low bound old mid new spot owner 
       rises = there.rises;
       adds_jump = record {
         was = (two.posting.others (pointer_at block s.level s.digit)
-                (λ e. spot_differs head floor next to block l p s low bound old mid new spot home target viewed tells (sym e))).0
+            (λ e. spot_differs head floor next to block l p s low bound old mid new spot home target viewed tells (sym e))).0
             ∙ ap (λ (f : Image). f (pointer_at block s.level s.digit)) same ∙ home.blank tells;
         others = λ c differ. (two.jump.others c differ).0;
       };
@@ -126,8 +132,13 @@ grow_behind floor next to block l target p s old mid new spot is span_from span_
     let S : ℕ → Type 0 = λ n. InSpan n s.level s.digit p.key in
     let f = full tells in
     let step : Steps mid.image floor next block p.key target = record {
-      greatest = f.p; full = f.in_front; level = s.level; digit = s.digit;
+      greatest = f.p;
+      full = f.in_front;
+      level = s.level;
+      digit = s.digit;
       span = subst S (sym f.same) (span_holds is span_from span_to);
-      jump = led tells; inside_from = from; inside_to = below;
+      jump = led tells;
+      inside_from = from;
+      inside_to = below;
     } in
     (g.0, subst P same (grows_hop step g.1))

@@ -19,9 +19,9 @@ pub next_front : (image : Image) (block place : ℕ) (p : PostingFields) → Ris
 next_front image block place p rises holds = ⊎_elim
     (λ first. at_the_start place p first holds)
     (λ later.
-        let is : place ≡ (place - 1) + 1 = omega (arith, later) in
-        let h = rises (place - 1) is in
-        behind place (place - 1) p h.0 is h.1 h.2 holds)
+    let is : place ≡ (place - 1) + 1 = omega (arith, later) in
+    let h = rises (place - 1) is in
+    behind place (place - 1) p h.0 is h.1 h.2 holds)
     (cases_eq place 0)
 
 -- a walk goes along the list
@@ -31,7 +31,7 @@ walks_lead {image} {from} {to} {key} {last} {block} {head} (ends _ same) there =
     subst (λ (b : ℕ). Leads image from to b head) same there
 walks_lead (hops block target hop rest) there =
     walks_lead rest (leads_further there hop.level hop.digit target hop.span.levels hop.span.some hop.span.digits
-      hop.jump hop.inside_from hop.inside_to)
+    hop.jump hop.inside_from hop.inside_to)
 
 leads_then : {image : Image} {from to last mid head : ℕ} → Leads image from to last mid → Leads image from to mid head
     → Leads image from to last head
@@ -52,9 +52,9 @@ before_holds : (image : Image) (block place key : ℕ) → Rises image block pla
 before_holds image block place key rises = ⊎_elim
     (λ first. inl first)
     (λ later.
-        let is : place ≡ (place - 1) + 1 = omega (arith, later) in
-        let h = rises (place - 1) is in
-        inr (place - 1, h.0, is, front_holds h.1, h.2))
+    let is : place ≡ (place - 1) + 1 = omega (arith, later) in
+    let h = rises (place - 1) is in
+    inr (place - 1, h.0, is, front_holds h.1, h.2))
     (cases_eq place 0)
 
 -- the posting's own place is in its block's front
@@ -85,10 +85,10 @@ module _ {old new : Image} {floor next head : ℕ} {p : PostingFields} (w : IsWe
       let at_home = walks_lead walk (arrived head refl) in
       let there = leads_then led at_home in
       let mid : IsWellListed puts.mid floor next head =
-          well_with_entry w there puts.in_places puts.adds puts.posting (before_holds old target place p.key puts.rises) in
+      well_with_entry w there puts.in_places puts.adds puts.posting (before_holds old target place p.key puts.rises) in
       well_with_jump mid (leads_on e at_home) puts.span.levels puts.span.some puts.span.digits puts.adds_jump puts.jump
-          (front_on e puts.full) from to_here puts.in_places (placed puts.adds puts.posting puts.rises) puts.span
-          (inl (leads_on e there))
+      (front_on e puts.full) from to_here puts.in_places (placed puts.adds puts.posting puts.rises) puts.span
+      (inl (leads_on e there))
 
   module _ (home : ℕ) (walk : Walks old floor next p.key home head) (puts : PutsTwo old new home next 0 p)
       (blank : (cell : ℕ) → next ≤ cell → old cell ≡ None) where
@@ -116,7 +116,7 @@ module _ {old new : Image} {floor next head : ℕ} {p : PostingFields} (w : IsWe
       apart = λ b l. inr (leads_below (back (omega arith) mid_well l) head_below);
       entries = λ i less is. ⊎_elim
           (λ (first : i ≡ 0). subst (λ (n : ℕ). HoldsInOrder puts.mid next n) (sym first)
-            (record { p = p; holds = puts.posting; rises = inl refl }))
+          (record { p = p; holds = puts.posting; rises = inl refl }))
           (λ later. absurd (none-some is.found (sym (behind_first i later) ∙ is.stands)))
           (cases_eq i 0);
       blank = λ i least less. behind_first i (λ (zero_is : i ≡ 0). omega (arith, zero_is, least));
@@ -126,8 +126,8 @@ module _ {old new : Image} {floor next head : ℕ} {p : PostingFields} (w : IsWe
     well_in_new_block : IsWellListed new floor (next + 256) head
     well_in_new_block =
         well_with_jump mid_wide at_home puts.span.levels puts.span.some puts.span.digits puts.adds_jump puts.jump
-          (front_on (adds_extends puts.adds) puts.full) (omega (arith, roomy)) (omega arith) puts.in_places
-          (placed puts.adds puts.posting puts.rises) puts.span (inr is_new_block)
+        (front_on (adds_extends puts.adds) puts.full) (omega (arith, roomy)) (omega arith) puts.in_places
+        (placed puts.adds puts.posting puts.rises) puts.span (inr is_new_block)
 
 -- the shape goes on, whichever way the list grew
 pub grows_well : {old new : Image} {floor next to head : ℕ} {p : PostingFields} {cost : ℕ}
@@ -138,6 +138,6 @@ grows_well {old} {new} {floor} {next} {to} {head} w roomy (in_block last place w
 grows_well {old} {new} {floor} {next} {to} {head} w roomy
     (in_tail home target place walk puts led from below last same cost_is) =
     subst (λ (n : ℕ). IsWellListed new floor n head) (sym same)
-      (well_in_tail w roomy home target place walk puts led from below)
+    (well_in_tail w roomy home target place walk puts led from below)
 grows_well {old} {new} {floor} {next} {to} {head} w roomy (in_new_block home walk puts blank last same cost_is) =
     subst (λ (n : ℕ). IsWellListed new floor n head) (sym same) (well_in_new_block w roomy home walk puts blank)

@@ -38,32 +38,58 @@ inserted head floor next to low bound p old new spot roomy placed grown planned 
   fresh = placed.fresh;
   loans = placed.loans;
   lower = placed.lower;
-  ends = (refl, planned.in_places, planned.before, planned.planned, planned.free, λ tells.
-      let done = placed.ends tells in
-      record {
-        shown = done.shown;
-        trail = done.trail;
-        ready = done.ready;
-        grows = λ still well. let g = grown tells still in (grows_well well roomy g.1, g);
-      });
+  ends = (
+    refl,
+    planned.in_places,
+    planned.before,
+    planned.planned,
+    planned.free,
+    λ tells.
+        let done = placed.ends tells in
+        record {
+          shown = done.shown;
+          trail = done.trail;
+          ready = done.ready;
+          grows = λ still well. let g = grown tells still in (grows_well well roomy g.1, g);
+        },
+  );
 }
 
 pub refused : (head floor next to low bound : ℕ) (p : PostingFields) (old new : ViewState) (fault : GrowthFault) → IsView new
     → PlacesPosting head floor to head p low bound old new (Err fault) → InsertsPosting head floor next to p old new (Err fault)
 refused head floor next to low bound p old new (Fault ReadFault) view placed = record {
-  called = placed.called; cells = placed.cells; fresh = placed.fresh; loans = placed.loans; lower = placed.lower; ends = placed.ends;
+  called = placed.called;
+  cells = placed.cells;
+  fresh = placed.fresh;
+  loans = placed.loans;
+  lower = placed.lower;
+  ends = placed.ends;
 }
 refused head floor next to low bound p old new (Fault (Tampered e)) view placed = record {
-  called = placed.called; cells = placed.cells; fresh = placed.fresh; loans = placed.loans; lower = placed.lower;
+  called = placed.called;
+  cells = placed.cells;
+  fresh = placed.fresh;
+  loans = placed.loans;
+  lower = placed.lower;
   ends = λ tells. (placed.ends tells, λ still below. not_shown new view head floor p.key below e (placed.ends tells));
 }
 refused head floor next to low bound p old new NoMemory view placed = record {
-  called = placed.called; cells = placed.cells; fresh = placed.fresh; loans = placed.loans; lower = placed.lower; ends = tt;
+  called = placed.called;
+  cells = placed.cells;
+  fresh = placed.fresh;
+  loans = placed.loans;
+  lower = placed.lower;
+  ends = tt;
 }
 
 -- No key is below 0. A read alone has changed nothing.
 pub never_none : (head floor next to low bound : ℕ) (p : PostingFields) (old new : ViewState)
     → PlacesPosting head floor to head p low bound old new (Ok None) → InsertsPosting head floor next to p old new (Err NoMemory)
 never_none head floor next to low bound p old new placed = record {
-  called = placed.called; cells = placed.cells; fresh = placed.fresh; loans = placed.loans; lower = placed.lower; ends = tt;
+  called = placed.called;
+  cells = placed.cells;
+  fresh = placed.fresh;
+  loans = placed.loans;
+  lower = placed.lower;
+  ends = tt;
 }

@@ -12,3 +12,4 @@ mod Adding
 mod Planned
 mod Inserting
 mod Untouched
+mod Rows

@@ -38,7 +38,11 @@ use Rattle.list_growth.proofs.Showing.{blank_is_free, adding_extends, called_on,
 
 pub span_holds : {l k : ℕ} {s : Span} → IsSpan l s → s.low ≤ k → k < s.high → InSpan l s.level s.digit k
 span_holds is low high = record {
-  levels = is.levels; some = is.some; digits = is.digits; low = omega (arith, is.low, low); high = omega (arith, is.low, is.high, high);
+  levels = is.levels;
+  some = is.some;
+  digits = is.digits;
+  low = omega (arith, is.low, low);
+  high = omega (arith, is.low, is.high, high);
 }
 
 -- what a hop to a block is, whose front has a key of the span
@@ -67,8 +71,12 @@ hop_to image floor to block l target p s full is low high led from inside has =
 full_has_key : {image : Image} {block l low bound : ℕ} → HasFull image block l → low ≤ l → l < bound
     → HasKeyIn image block low bound
 full_has_key full low bound = record {
-  place = 127; p = full.p; in_places = omega arith; in_front = full.in_front;
-  from = omega (arith, full.same, low); below = omega (arith, full.same, bound);
+  place = 127;
+  p = full.p;
+  in_places = omega arith;
+  in_front = full.in_front;
+  from = omega (arith, full.same, low);
+  below = omega (arith, full.same, bound);
 }
 
 pub places_differ : (target block place level digit : ℕ) → AreApart target 256 block 256 → place < 128 → level < 8
@@ -97,7 +105,7 @@ into_open head floor next block low bound place greatest p old mid new view befo
       let blank : mid.image (block + place) ≡ None = open_.0 in
       let grown : Extends mid.image new.image = adding_extends (λ c differ. (put.others c differ).0) blank in
       let there : InFront new.image block place p = next_front new.image block place p
-          (λ before h. let q = open_.1.last before h in (q.0, front_on grown q.1, q.2)) put.ends.shown in
+      (λ before h. let q = open_.1.last before h in (q.0, front_on grown q.1, q.2)) put.ends.shown in
       let at_old = is_at tells in
       record {
         shown = extends_then viewed.image grown;
@@ -105,11 +113,11 @@ into_open head floor next block low bound place greatest p old mid new view befo
         has = record { place = place; p = p; in_places = read.0; in_front = there; from = from; below = below };
         ready = λ key less.
             ready_put mid new head floor next next p.key key (block + place) block (record { head = head; base = block }) refl refl
-              (λ c differ. (put.others c differ).2) put.ends.for_whom (view.unowned (block + place) put.ends.free)
-              grown (same_extends mid.lower new.lower put.lower) put.fresh (omega arith) (omega (arith, read.0))
-              (ready_viewed viewed head floor next p.key at_old.ready) (omega arith) (omega (arith, less)) inside
-              (apart_from_head before lies) (own_block_viewed viewed head block at_old.own_block)
-              (reached_viewed viewed head floor block at_old.reached) (a_posting place p refl read.0 there less);
+            (λ c differ. (put.others c differ).2) put.ends.for_whom (view.unowned (block + place) put.ends.free)
+            grown (same_extends mid.lower new.lower put.lower) put.fresh (omega arith) (omega (arith, read.0))
+            (ready_viewed viewed head floor next p.key at_old.ready) (omega arith) (omega (arith, less)) inside
+            (apart_from_head before lies) (own_block_viewed viewed head block at_old.own_block)
+            (reached_viewed viewed head floor block at_old.reached) (a_posting place p refl read.0 there less);
       };
 }
 
@@ -141,7 +149,14 @@ pub record IsTarget (mid : ViewState) (head floor next to key home : ℕ) (spot 
 -- a state that shows this image over this one
 abbrev pub with_image : ViewState → Image → Image → ViewState
 with_image s image lower = record {
-  cells = s.cells; image = image; planned = s.planned; owners = s.owners; lower = lower; fresh = s.fresh; base = s.base; loans = s.loans;
+  cells = s.cells;
+  image = image;
+  planned = s.planned;
+  owners = s.owners;
+  lower = lower;
+  fresh = s.fresh;
+  base = s.base;
+  loans = s.loans;
 }
 
 -- a front of another block than the pointer's stays as it is
@@ -164,8 +179,12 @@ front_past image new target block level digit apart below levels some digits oth
 span_key : {image : Image} {target l : ℕ} {s : Span} → IsSpan l s → HasKeyIn image target s.low s.high
     → HasKeyIn image target (l + s.digit * 16 ^ s.level) (l + s.digit * 16 ^ s.level + 16 ^ s.level)
 span_key is has = record {
-  place = has.place; p = has.p; in_places = has.in_places; in_front = has.in_front;
-  from = omega (arith, has.from, is.low); below = omega (arith, has.below, is.high, is.low);
+  place = has.place;
+  p = has.p;
+  in_places = has.in_places;
+  in_front = has.in_front;
+  from = omega (arith, has.from, is.low);
+  below = omega (arith, has.below, is.high, is.low);
 }
 
 -- what is written or planned behind a full block
@@ -178,9 +197,12 @@ module _ (head floor next to block l : ℕ) (p : PostingFields) (s : Span) (low 
       let there = target.told (subst IsTrue (sym viewed.called.tells) tells) in
       let full_mid = key_on viewed.image (home.full tells) in
       ⊎_elim
-      (λ (same : spot.block ≡ block). absurd (omega (arith,
-          none_from_blank mid.image block spot.place 127 full_mid.p
-            (subst (λ b. mid.image (b + spot.place) ≡ None) same there.blank) full_mid.in_front, target.in_places)))
+      (λ (same : spot.block ≡ block). absurd (omega (
+        arith,
+        none_from_blank mid.image block spot.place 127 full_mid.p
+            (subst (λ b. mid.image (b + spot.place) ≡ None) same there.blank) full_mid.in_front,
+        target.in_places,
+      )))
       (λ apart. apart)
       there.apart
 
@@ -212,7 +234,7 @@ module _ (head floor next to block l : ℕ) (p : PostingFields) (s : Span) (low 
       keeps = λ c v h.
           let at_mid = viewed.image.keeps c v h in
           let not_pointer : c ≢ pointer_at block s.level s.digit =
-              λ e. none-some v (sym (home.blank tells) ∙ ap old.image (sym e) ∙ h) in
+          λ e. none-some v (sym (home.blank tells) ∙ ap old.image (sym e) ∙ h) in
           let not_at : c ≢ spot.block + spot.place = λ e. none-some v (sym there.blank ∙ ap mid.image (sym e) ∙ at_mid) in
           (led.others c not_pointer).0 ∙ (put.others c not_at).0 ∙ at_mid;
     }
@@ -229,12 +251,15 @@ module _ (head floor next to block l : ℕ) (p : PostingFields) (s : Span) (low 
     into =
         let front_kept : Extends mid.image put_at.image = adding_extends (λ c d. (put.others c d).0) there.blank in
         next_front new.image spot.block spot.place p
-          (λ before h.
-            let q = there.rises before h in
-            (q.0, front_past put_at.image new.image spot.block block s.level s.digit (spot_apart tells)
+        (λ before h.
+        let q = there.rises before h in (
+          q.0,
+          front_past put_at.image new.image spot.block block s.level s.digit (spot_apart tells)
               (omega (arith, h, target.in_places)) home.is.levels home.is.some home.is.digits
-              (λ c d. (led.others c d).0) (front_on front_kept q.1), q.2))
-          holds_new
+              (λ c d. (led.others c d).0) (front_on front_kept q.1),
+          q.2,
+        ))
+        holds_new
 
     has : HasKeyIn new.image spot.block s.low s.high
     has = record { place = spot.place; p = p; in_places = target.in_places; in_front = into; from = home.span_from; below = home.span_to }
@@ -265,17 +290,17 @@ module _ (head floor next to block l : ℕ) (p : PostingFields) (s : Span) (low 
     ready_second : (key : ℕ) → p.key < key → IsReady second head floor to key
     ready_second key greater =
         ready_put first second head floor next to p.key key (spot.block + spot.place) spot.block owner is_head is_base
-          (λ c d. (put.others c d).2) put.ends.for_whom (target.view.unowned (spot.block + spot.place) put.ends.free)
-          grown lower_mid put.fresh (omega arith) (omega (arith, target.in_places)) ready_first target.more (omega (arith, greater)) target.inside
-          (apart_from_head home.before (inr target.from)) own_target
-          (reached_as mid first head floor (extends_self mid.lower) refl spot.block there.reached)
-          (a_posting spot.place p refl target.in_places into greater)
+        (λ c d. (put.others c d).2) put.ends.for_whom (target.view.unowned (spot.block + spot.place) put.ends.free)
+        grown lower_mid put.fresh (omega arith) (omega (arith, target.in_places)) ready_first target.more (omega (arith, greater)) target.inside
+        (apart_from_head home.before (inr target.from)) own_target
+        (reached_as mid first head floor (extends_self mid.lower) refl spot.block there.reached)
+        (a_posting spot.place p refl target.in_places into greater)
 
     own_second : (key : ℕ) → p.key < key → IsOwnBlock second head block
     own_second key greater =
         own_block_put first second head floor next to p.key key (spot.block + spot.place) spot.block owner is_head is_base
-          (λ c d. (put.others c d).2) put.ends.for_whom (target.view.unowned (spot.block + spot.place) put.ends.free)
-          grown lower_mid put.fresh (omega arith) (omega (arith, target.in_places)) block (inr (spot_apart tells)) own_home
+        (λ c d. (put.others c d).2) put.ends.for_whom (target.view.unowned (spot.block + spot.place) put.ends.free)
+        grown lower_mid put.fresh (omega arith) (omega (arith, target.in_places)) block (inr (spot_apart tells)) own_home
 
     reached_second : IsReached second head floor block
     reached_second = reached_as old second head floor (extends_then viewed.lower lower_mid) (put.fresh ∙ viewed.fresh) block at_old.reached
@@ -283,20 +308,20 @@ module _ (head floor next to block l : ℕ) (p : PostingFields) (s : Span) (low 
     pub placed_ready : (key : ℕ) → p.key < key → IsReady new head floor to key
     placed_ready key greater =
         ready_put second new head floor to to key key (pointer_at block s.level s.digit) block home_owner is_home_head is_home_base
-          (λ c d. (led.others c d).2) led.ends.for_whom (unowned_pointer led.ends.free)
-          (extends_self new.image) (extends_self new.lower) led.fresh (omega arith) (omega (arith, home.is.levels, home.is.digits))
-          (ready_second key greater) (omega arith) (omega arith) (omega (arith, home.inside, target.more))
-          (apart_from_head home.before home.lies) (own_second key greater) reached_second
-          (a_pointer s.level s.digit spot.block l (spot.block + spot.place) owner
-            (record { levels = home.is.levels; some = home.is.some; digits = home.is.digits }) refl led.ends.shown target.from target.inside
-            full_new (span_key home.is has)
-            ((led.others (spot.block + spot.place) (spot_differs tells)).2 ∙ put.ends.for_whom) is_head is_base)
+        (λ c d. (led.others c d).2) led.ends.for_whom (unowned_pointer led.ends.free)
+        (extends_self new.image) (extends_self new.lower) led.fresh (omega arith) (omega (arith, home.is.levels, home.is.digits))
+        (ready_second key greater) (omega arith) (omega arith) (omega (arith, home.inside, target.more))
+        (apart_from_head home.before home.lies) (own_second key greater) reached_second
+        (a_pointer s.level s.digit spot.block l (spot.block + spot.place) owner
+        (record { levels = home.is.levels; some = home.is.some; digits = home.is.digits }) refl led.ends.shown target.from target.inside
+        full_new (span_key home.is has)
+        ((led.others (spot.block + spot.place) (spot_differs tells)).2 ∙ put.ends.for_whom) is_head is_base)
       where
         unowned_pointer : put_at.planned (pointer_at block s.level s.digit) ≡ None → put_at.owners (pointer_at block s.level s.digit) ≡ None
         unowned_pointer free =
             let other : pointer_at block s.level s.digit ≢ spot.block + spot.place = λ e. spot_differs tells (sym e) in
             (put.others (pointer_at block s.level s.digit) other).2
-              ∙ target.view.unowned (pointer_at block s.level s.digit) (pointer_free tells)
+            ∙ target.view.unowned (pointer_at block s.level s.digit) (pointer_free tells)
 
     pub placed_hop : Hop new.image floor to block p.key spot.block
     placed_hop = hop_to new.image floor to block l spot.block p s full_new home.is home.span_from home.span_to led.ends.shown target.from target.inside has
@@ -330,7 +355,7 @@ module _ (head floor next to block l : ℕ) (p : PostingFields) (s : Span) (low 
           trail = on block spot.block
               (placed_hop two.mid owner home_owner refl refl refl refl two.posting two.jump tells)
               (here spot.block spot.place (ap (λ (x : Spot). x.block + x.place) both.ends.0) target.in_places
-                (placed_into two.mid owner home_owner refl refl refl refl two.posting two.jump tells));
+              (placed_into two.mid owner home_owner refl refl refl refl two.posting two.jump tells));
           has = placed_key two.mid owner home_owner refl refl refl refl two.posting two.jump tells;
           ready = placed_ready two.mid owner home_owner refl refl refl refl two.posting two.jump tells;
         };
@@ -399,25 +424,37 @@ pub place_then : (head floor to block : ℕ) (p : PostingFields) (low bound : �
     → (result : Result (Option Spot) GrowthFault) → PlacesPosting head floor to block p low bound mid new result
     → PlacesPosting head floor to block p low bound old new result
 place_then head floor to block p low bound old mid new viewed (Ok (Some spot)) placed = record {
-  called = called_then viewed.called placed.called; cells = placed.cells ∙ viewed.cells; fresh = placed.fresh ∙ viewed.fresh;
-  loans = placed.loans ∙ viewed.loans; lower = extends_then viewed.lower placed.lower;
+  called = called_then viewed.called placed.called;
+  cells = placed.cells ∙ viewed.cells;
+  fresh = placed.fresh ∙ viewed.fresh;
+  loans = placed.loans ∙ viewed.loans;
+  lower = extends_then viewed.lower placed.lower;
   ends = λ tells.
       let done = placed.ends (subst IsTrue (sym viewed.called.tells) tells) in
       record { shown = extends_then viewed.image done.shown; trail = done.trail; has = done.has; ready = done.ready };
 }
 place_then head floor to block p low bound old mid new viewed (Ok None) placed = record {
-  called = called_then viewed.called placed.called; cells = placed.cells ∙ viewed.cells; fresh = placed.fresh ∙ viewed.fresh;
-  loans = placed.loans ∙ viewed.loans; lower = extends_then viewed.lower placed.lower;
+  called = called_then viewed.called placed.called;
+  cells = placed.cells ∙ viewed.cells;
+  fresh = placed.fresh ∙ viewed.fresh;
+  loans = placed.loans ∙ viewed.loans;
+  lower = extends_then viewed.lower placed.lower;
   ends = (viewed_then viewed placed.ends.0, λ tells. placed.ends.1 (subst IsTrue (sym viewed.called.tells) tells));
 }
 place_then head floor to block p low bound old mid new viewed (Err (Fault fault)) placed = record {
-  called = called_then viewed.called placed.called; cells = placed.cells ∙ viewed.cells; fresh = placed.fresh ∙ viewed.fresh;
-  loans = placed.loans ∙ viewed.loans; lower = extends_then viewed.lower placed.lower;
+  called = called_then viewed.called placed.called;
+  cells = placed.cells ∙ viewed.cells;
+  fresh = placed.fresh ∙ viewed.fresh;
+  loans = placed.loans ∙ viewed.loans;
+  lower = extends_then viewed.lower placed.lower;
   ends = fault_then head floor p.key old mid new viewed fault placed.ends;
 }
 place_then head floor to block p low bound old mid new viewed (Err NoMemory) placed = record {
-  called = called_then viewed.called placed.called; cells = placed.cells ∙ viewed.cells; fresh = placed.fresh ∙ viewed.fresh;
-  loans = placed.loans ∙ viewed.loans; lower = extends_then viewed.lower placed.lower;
+  called = called_then viewed.called placed.called;
+  cells = placed.cells ∙ viewed.cells;
+  fresh = placed.fresh ∙ viewed.fresh;
+  loans = placed.loans ∙ viewed.loans;
+  lower = extends_then viewed.lower placed.lower;
   ends = tt;
 }
 
@@ -425,17 +462,32 @@ place_then head floor to block p low bound old mid new viewed (Err NoMemory) pla
 pub refused_behind : (head floor to block target a b : ℕ) (p : PostingFields) (low bound : ℕ) (old new : ViewState) (fault : GrowthFault)
     → PlacesPosting head floor to target p a b old new (Err fault) → PlacesPosting head floor to block p low bound old new (Err fault)
 refused_behind head floor to block target a b p low bound old new (Fault fault) placed = record {
-  called = placed.called; cells = placed.cells; fresh = placed.fresh; loans = placed.loans; lower = placed.lower; ends = placed.ends;
+  called = placed.called;
+  cells = placed.cells;
+  fresh = placed.fresh;
+  loans = placed.loans;
+  lower = placed.lower;
+  ends = placed.ends;
 }
 refused_behind head floor to block target a b p low bound old new NoMemory placed = record {
-  called = placed.called; cells = placed.cells; fresh = placed.fresh; loans = placed.loans; lower = placed.lower; ends = placed.ends;
+  called = placed.called;
+  cells = placed.cells;
+  fresh = placed.fresh;
+  loans = placed.loans;
+  lower = placed.lower;
+  ends = placed.ends;
 }
 
 -- a fault of the reads
 pub read_fault : (head floor to block : ℕ) (p : PostingFields) (low bound : ℕ) (old new : ViewState) (f : fault.Fault) → Viewed old new
     → FaultEnds head floor p.key old new f → PlacesPosting head floor to block p low bound old new (Err (Fault f))
 read_fault head floor to block p low bound old new f viewed ends = record {
-  called = viewed.called; cells = viewed.cells; fresh = viewed.fresh; loans = viewed.loans; lower = viewed.lower; ends = ends;
+  called = viewed.called;
+  cells = viewed.cells;
+  fresh = viewed.fresh;
+  loans = viewed.loans;
+  lower = viewed.lower;
+  ends = ends;
 }
 
 -- the block has no key of the span
@@ -443,7 +495,11 @@ pub no_key_here : (head floor to block l : ℕ) (p : PostingFields) (low bound :
     → (IsTrue old.base.tells → HasFull new.image block l) → l < low
     → PlacesPosting head floor to block p low bound old new (Ok None)
 no_key_here head floor to block l p low bound old new viewed full less = record {
-  called = viewed.called; cells = viewed.cells; fresh = viewed.fresh; loans = viewed.loans; lower = viewed.lower;
+  called = viewed.called;
+  cells = viewed.cells;
+  fresh = viewed.fresh;
+  loans = viewed.loans;
+  lower = viewed.lower;
   ends = (viewed, λ tells place q below front. omega (arith, full_at_most (full tells) place q below front, less));
 }
 
@@ -453,12 +509,18 @@ pub one_refused : (head floor to block at : ℕ) (p : PostingFields) (low bound 
     → PutsRecord at (posting_record p) owner mid new (Err fault) → PlacesPosting head floor to block p low bound old new (Err fault)
 one_refused head floor to block at p low bound old mid new owner (Fault ReadFault) viewed free put = absurd put.ends
 one_refused head floor to block at p low bound old mid new owner (Fault (Tampered e)) viewed free put = record {
-  called = called_on viewed.called put.base; cells = put.cells ∙ viewed.cells; fresh = put.fresh ∙ viewed.fresh;
-  loans = put.loans ∙ viewed.loans; lower = extends_then viewed.lower (same_extends mid.lower new.lower put.lower);
+  called = called_on viewed.called put.base;
+  cells = put.cells ∙ viewed.cells;
+  fresh = put.fresh ∙ viewed.fresh;
+  loans = put.loans ∙ viewed.loans;
+  lower = extends_then viewed.lower (same_extends mid.lower new.lower put.lower);
   ends = λ tells. absurd (put.ends (free tells));
 }
 one_refused head floor to block at p low bound old mid new owner NoMemory viewed free put = record {
-  called = called_on viewed.called put.base; cells = put.cells ∙ viewed.cells; fresh = put.fresh ∙ viewed.fresh;
-  loans = put.loans ∙ viewed.loans; lower = extends_then viewed.lower (same_extends mid.lower new.lower put.lower);
+  called = called_on viewed.called put.base;
+  cells = put.cells ∙ viewed.cells;
+  fresh = put.fresh ∙ viewed.fresh;
+  loans = put.loans ∙ viewed.loans;
+  lower = extends_then viewed.lower (same_extends mid.lower new.lower put.lower);
   ends = tt;
 }

@@ -54,12 +54,15 @@ module _ (old mid new : ViewState) (viewed : Viewed old mid) where
   plans_then (alone posting others) = alone (planned_for_then posting) (λ c differ. as_planned_then (others c differ))
   plans_then (with_pointer pointer target posting jump apart others) =
       with_pointer pointer target (planned_for_then posting) (planned_for_then jump) apart
-        (λ c differ also. as_planned_then (others c differ also))
+      (λ c differ also. as_planned_then (others c differ also))
 
   pub has_planned_then : (head floor to : ℕ) (p : PostingFields) (result : Result (Option Spot) GrowthFault)
       → PlannedEnds head floor to p mid new result → PlannedEnds head floor to p old new result
   has_planned_then head floor to p (Ok (Some spot)) h = record {
-    in_places = h.in_places; before = h.before; planned = plans_then h.planned; free = h.free;
+    in_places = h.in_places;
+    before = h.before;
+    planned = plans_then h.planned;
+    free = h.free;
   }
   has_planned_then head floor to p (Ok None) h = tt
   has_planned_then head floor to p (Err fault) h = tt
@@ -76,8 +79,15 @@ planned_alone head floor to p old new spot in_places before lies blank free put 
   before = before;
   planned = alone
       (record {
-        free = put.ends.free; blank = blank; shown = put.ends.shown; held = put.ends.planned; block = spot.block;
-        for_whom = put.ends.for_whom; from = omega arith; to = omega (arith, in_places); where_blocks_lie = lies;
+        free = put.ends.free;
+        blank = blank;
+        shown = put.ends.shown;
+        held = put.ends.planned;
+        block = spot.block;
+        for_whom = put.ends.for_whom;
+        from = omega arith;
+        to = omega (arith, in_places);
+        where_blocks_lie = lies;
       })
       (λ c differ. record { planned = (put.others c differ).1; owners = (put.others c differ).2 });
   free = λ c past.
@@ -141,7 +151,7 @@ module _ (head floor to home level digit : ℕ) (p : PostingFields) (old mid new
               (λ e. differ (sym e)) as_planned;
           free = λ cell past.
               (as_planned cell (λ (e : cell ≡ spot.block + spot.place). omega (arith, e, past, before, in_places))
-                (λ (e : cell ≡ pointer_at home level digit). omega (arith, e, past, home_before, levels, digits))).planned
+              (λ (e : cell ≡ pointer_at home level digit). omega (arith, e, past, home_before, levels, digits))).planned
               ∙ free cell past;
         }
 

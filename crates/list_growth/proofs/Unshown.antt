@@ -78,13 +78,13 @@ module _ (s : ViewState) (view : IsView s) (head floor key : ℕ) (w : ListBelow
         let own = w.own_blocks target there in
         ⊎_elim
         (λ (x : (target ≤ met.cell) × (met.cell < target + 256)).
-            let h = own.inside met.cell met.owner met.is.planned x.0 x.1 in met.is.other h.0 h.1)
+        let h = own.inside met.cell met.owner met.is.planned x.0 x.1 in met.is.other h.0 h.1)
         (λ (x : (met.owner.head ≡ head) × (met.owner.base < target + 256) × (target < met.owner.base + 256)). ⊎_elim
-            (λ (same : met.owner.base ≡ target). met.is.other x.0 same)
-            (λ apart. ⊎_elim
-              (λ (a : met.owner.base + 256 ≤ target). omega (arith, x.2, a))
-              (λ (b : target + 256 ≤ met.owner.base). omega (arith, x.1, b)) apart)
-            (own.apart met.cell met.owner met.is.planned x.0))
+        (λ (same : met.owner.base ≡ target). met.is.other x.0 same)
+        (λ apart. ⊎_elim
+        (λ (a : met.owner.base + 256 ≤ target). omega (arith, x.2, a))
+        (λ (b : target + 256 ≤ met.owner.base). omega (arith, x.1, b)) apart)
+        (own.apart met.cell met.owner met.is.planned x.0))
         met.is.meets
 
     not_meeting : (target home : ℕ) → Leads s.lower floor s.fresh target head → target + 256 ≤ s.fresh → IsReached s head floor home → home ≢ target → target < home + 256 → home < target + 256 → ⊥

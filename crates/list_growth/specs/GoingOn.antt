@@ -1,11 +1,16 @@
 -- What goes on from one insertion to the next.
-use Rattle.std.specs.Prelude.{◌≢◌, ◌≤◌, ◌+◌, ℕ}
+use Rattle.std.specs.Prelude.{◌≡◌, ◌≢◌, ◌≤◌, ◌+◌, ℕ, None}
 use Rattle.cell_types.specs.Image.{Image, Extends}
 use Rattle.index_paths.specs.Blocks.{PostingFields, Trail}
 use Rattle.index_paths.specs.Nodes.{AreApart}
-use Rattle.worm_device.specs.Views.{ViewState}
+use Rattle.worm_device.specs.Views.{ViewState, IsView}
 use Rattle.list_growth.specs.Inserting.{PlansEntry}
 use Rattle.list_growth.specs.Readiness.{IsReady, IsUntouched}
+
+-- where a view shows nothing planned, no list is touched
+abbrev pub NothingIsTouched : Type 0
+NothingIsTouched =
+    (s : ViewState) (head : ℕ) → IsView s → ((cell : ℕ) → s.planned cell ≡ None) → IsUntouched s head
 
 -- any posting may be inserted into a list of which nothing is planned
 abbrev pub UntouchedIsReady : Type 0

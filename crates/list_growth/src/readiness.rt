@@ -1,5 +1,10 @@
 //! Laws for callers that insert into one list after another: what may be inserted, and what goes on.
-ghost use Rattle.list_growth.specs.GoingOn.{OthersStayUntouched, TrailsGoOn, UntouchedIsReady};
+ghost use Rattle.list_growth.specs.GoingOn.{NothingIsTouched, OthersStayUntouched, TrailsGoOn, UntouchedIsReady};
+
+/// Where nothing is planned, no list is touched.
+pub fn nothing_is_touched()
+    ensures { NothingIsTouched }
+{}
 
 /// Any posting may be inserted into a list of which nothing is planned.
 pub fn untouched_is_ready()
