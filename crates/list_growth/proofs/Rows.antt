@@ -43,9 +43,9 @@ row_goes_on s t pool later first count done p e so_far less key taken inserts = 
       (λ (took : TakesFront pool later 256 pool.next). omega (arith, took.next, so_far.next)) taken;
   room = ⊎_elim
       (λ (same : later ≡ pool).
-          let h : later.next ≡ pool.next = ap (λ (x : Pool). x.next) same in
-          let k : later.end ≡ pool.end = ap (λ (x : Pool). x.end) same in
-          omega (arith, h, k, so_far.room, less))
+      let h : later.next ≡ pool.next = ap (λ (x : Pool). x.next) same in
+      let k : later.end ≡ pool.end = ap (λ (x : Pool). x.end) same in
+      omega (arith, h, k, so_far.room, less))
       (λ (took : TakesFront pool later 256 pool.next). omega (arith, took.next, took.end, so_far.room, less)) taken;
   free = inserts.ends.4;
   ready = λ tells. (inserts.ends.5 (subst IsTrue inserts.called.tells tells)).ready (first + 256 * (done + 1)) (omega (arith, key));

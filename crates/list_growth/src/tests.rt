@@ -57,7 +57,9 @@ fn posting(key: u32) -> NewEntry
 }
 
 /// The entry of such a posting.
-fn entry(block: u32, place: u8, key: u32) -> Entry {
+fn entry(block: u32, place: u8, key: u32) -> Entry
+    ensures { result ≡ record { block = block; place = place; key = key; last = 255; tag = TAG } }
+{
     Entry {
         block,
         place,
@@ -94,6 +96,15 @@ fn insert_row<V: View>(
     Ok(last)
 }
 
+/// Writes a jump cell.
+fn write_jump(device: &mut MemoryDevice, at: u32, target: u32)
+    ensures cells { (memory_of device.new).cells ≡ (memory_of device.old).cells }
+{
+    if at < device.cells() {
+        let _ = device.write(at, encode(RecordCell::Jump { target }, at));
+    }
+}
+
 #[test]
 fn a_full_block_leads_on_to_a_new_one(rt: HostRuntime) -> Result<(), Fail> {
     let mut device = new_device(rt.alloc(), 1)?;
@@ -105,5 +116,75 @@ fn a_full_block_leads_on_to_a_new_one(rt: HostRuntime) -> Result<(), Fail> {
     let jump = encode(RecordCell::Jump { target: 1100 }, 194);
     assert_eq!(rt; overlay.planned().get(&194).copied(), Some(jump));
     assert_eq!(rt; overlay.planned().len(), 130);
+    Ok(())
+}
+
+/// Behind the first block pointers (2, 1) to (2, 15) and (3, 1) to (3, 8) lead to the second, and its (2, 1) to the
+/// third.
+#[test]
+fn two_full_blocks_lead_on_to_a_third(rt: HostRuntime) -> Result<(), Fail> {
+    let mut device = new_device(rt.alloc(), 1)?;
+    let mut pool = Pool::over(1100, 100_000);
+    let mut overlay = Overlay::new(rt.alloc(), Direct::new(&mut device), 1100);
+    let last = insert_row(&mut overlay, &mut pool, 0, 257);
+    assert_eq!(rt; last, Ok(Some(entry(1356, 0, 65536))));
+    assert_eq!(rt; pool.next(), 1612);
+    let jump = encode(RecordCell::Jump { target: 1356 }, 1258);
+    assert_eq!(rt; overlay.planned().get(&1258).copied(), Some(jump));
+    assert_eq!(rt; overlay.planned().len(), 281);
+    Ok(())
+}
+
+#[test]
+fn a_posting_goes_into_the_tail_that_stands_below(rt: HostRuntime) -> Result<(), Fail> {
+    let mut device = new_device(rt.alloc(), 130)?;
+    write_front(&mut device, 36, 0, 128);
+    write_jump(&mut device, 194, 600);
+    write_front(&mut device, 600, 32768, 1);
+    let mut pool = Pool::over(1100, 100_000);
+    let mut overlay = Overlay::new(rt.alloc(), Direct::new(&mut device), 1100);
+    let last = insert_row(&mut overlay, &mut pool, 33024, 1);
+    assert_eq!(rt; last, Ok(Some(entry(600, 1, 33024))));
+    assert_eq!(rt; pool.next(), 1100);
+    let jump = encode(RecordCell::Jump { target: 600 }, 195);
+    assert_eq!(rt; overlay.planned().get(&195).copied(), Some(jump));
+    assert_eq!(rt; overlay.planned().len(), 2);
+    Ok(())
+}
+
+#[test]
+fn a_posting_past_the_new_one_is_evidence(rt: HostRuntime) -> Result<(), Fail> {
+    let mut device = new_device(rt.alloc(), 2)?;
+    write_front(&mut device, 36, 0, 2);
+    let mut pool = Pool::over(1100, 100_000);
+    let mut overlay = Overlay::new(rt.alloc(), Direct::new(&mut device), 1100);
+    let named = Fault::Tampered(Evidence {
+        rule: 9,
+        cell: 37,
+        found: entry(36, 1, 256).cell(),
+    });
+    assert_eq!(rt;
+        insert_row(&mut overlay, &mut pool, 256, 1),
+        Err(GrowthFault::Fault(named))
+    );
+    Ok(())
+}
+
+#[test]
+fn a_pointer_out_of_the_pool_is_evidence(rt: HostRuntime) -> Result<(), Fail> {
+    let mut device = new_device(rt.alloc(), 129)?;
+    write_front(&mut device, 36, 0, 128);
+    write_jump(&mut device, 194, 300);
+    let mut pool = Pool::over(1100, 100_000);
+    let mut overlay = Overlay::new(rt.alloc(), Direct::new(&mut device), 1100);
+    let named = Fault::Tampered(Evidence {
+        rule: 10,
+        cell: 194,
+        found: encode(RecordCell::Jump { target: 300 }, 194),
+    });
+    assert_eq!(rt;
+        insert_row(&mut overlay, &mut pool, 32768, 1),
+        Err(GrowthFault::Fault(named))
+    );
     Ok(())
 }
