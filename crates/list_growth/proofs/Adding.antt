@@ -1,9 +1,8 @@
 -- What an insertion adds where nobody else writes.
-use Rattle.std.proofs.Common.{◌≡◌, ◌≢◌, ◌<◌, ◌≤◌, ◌+◌, ◌⊎◌, ℕ, Option, Some, None, Result, Ok, Err, refl, ap, sym, subst, arith, ◌∙◌}
+use Rattle.std.proofs.Common.{◌≡◌, ◌<◌, ◌≤◌, ◌+◌, ℕ, Option, Some, None, Result, Ok, Err, refl, ap, sym, subst, arith, ◌∙◌}
 use Rattle.std.specs.Prelude.{IsTrue}
 use Rattle.cell_types.specs.Image.{Image}
 use Rattle.index_paths.specs.Blocks.{PostingFields, posting_record, InSpan, Leads, pointer_at}
-use Rattle.volume_growth.specs.ListShapes.{IsWellListed}
 use Rattle.worm_device.specs.Counts.{IsStill}
 use Rattle.worm_device.specs.State.{DeviceState}
 use Rattle.worm_device.specs.Views.{ViewState, Viewed}
@@ -16,7 +15,7 @@ use Rattle.jump_block.specs.declared.spans.Span.{Span}
 use Rattle.jump_block.proofs.Knowing.{key_on}
 use Rattle.jump_index.specs.Evidence.{HasFull, HasPointer}
 use Rattle.planned_cells.specs.declared.fault.GrowthFault.{GrowthFault}
-use Rattle.list_growth.specs.Growing.{Steps, Walks, ends, hops, PutsTwo, Grows, in_block, in_tail, in_new_block, IsLast, IsLastFull}
+use Rattle.list_growth.specs.Growing.{Steps, ends, hops, PutsTwo, Grows, in_block, in_tail, in_new_block, IsLast, IsLastFull}
 use Rattle.list_growth.specs.Placing.{GrowEnds}
 use Rattle.list_growth.specs.Planning.{PutsRecord, PutsBoth}
 use Rattle.list_growth.specs.declared.entries.Spot.{Spot}
@@ -28,13 +27,15 @@ count_of a b same =
     let h : b.foreign_writes ≡ a.foreign_writes = ap (λ (s : DeviceState). s.foreign_writes) same in omega (arith, h)
 
 -- the posting goes to a blank place of the block
-pub grows_open : (floor next block place : ℕ) (greatest : Option ℕ) (p : PostingFields) (old mid new : ViewState) (owner : Owner)
+pub grows_open : (floor next block place : ℕ) (greatest : Option ℕ) (p : PostingFields) (old mid new : ViewState)
+    (owner : Owner)
     → Viewed old mid → FirstEnds p.key block old mid (Ok (Open place greatest))
     → PutsRecord (block + place) (posting_record p) owner mid new (Ok tt)
     → GrowEnds floor next next block p old new (Ok (Some (record { block = block; place = place })))
 grows_open floor next block place greatest p old mid new owner viewed read put = λ tells still.
     let open_ = read.1 tells in
-    let same : mid.image ≡ old.image = quiet_image viewed new.base.foreign_writes (count_of mid.base new.base put.base) still in
+    let same : mid.image ≡ old.image = quiet_image viewed new.base.foreign_writes
+    (count_of mid.base new.base put.base) still in
     let P : Image → Type 0 = λ i. Grows i new.image floor next next block p 1 in (
       1,
       subst P same (in_block block place (ends block refl) read.0
@@ -43,7 +44,8 @@ grows_open floor next block place greatest p old mid new owner viewed read put =
     )
 
 -- the posting goes to another block, to which the pointer leads now
-pub grows_both : (head floor next to block l cost : ℕ) (p : PostingFields) (s : Span) (low bound : ℕ) (old mid new : ViewState)
+pub grows_both : (head floor next to block l cost : ℕ) (p : PostingFields) (s : Span) (low bound : ℕ)
+    (old mid new : ViewState)
     (spot : Spot) (owner home_owner : Owner) → IsHome old head floor next block l p s low bound
     → IsTarget mid head floor next to p.key block spot → Viewed old mid
     → (IsTrue old.base.tells → mid.image ≡ old.image → IsStill old.base.foreign_writes mid.base.foreign_writes
@@ -51,11 +53,13 @@ pub grows_both : (head floor next to block l cost : ℕ) (p : PostingFields) (s 
     → (result : Result (Option Spot) GrowthFault)
     → PutsBoth spot (pointer_at block s.level s.digit) p owner home_owner mid new result
     → GrowEnds floor next to block p old new result
-grows_both head floor next to block l cost p s low bound old mid new spot owner home_owner home target viewed grown (Ok (Some found)) both = λ tells still.
+grows_both head floor next to block l cost p s low bound old mid new spot owner home_owner home target viewed grown
+    (Ok (Some found)) both = λ tells still.
     let two = both.ends.1 in
     let there = target.told (subst IsTrue (sym viewed.called.tells) tells) in
     let full_mid = key_on viewed.image (home.full tells) in
-    let same : mid.image ≡ old.image = quiet_image viewed new.base.foreign_writes (count_of mid.base new.base both.base) still in
+    let same : mid.image ≡ old.image = quiet_image viewed new.base.foreign_writes
+    (count_of mid.base new.base both.base) still in
     let P : Image → Type 0 = λ i. Grows i new.image floor next to block p cost in
     let S : ℕ → Type 0 = λ n. InSpan n s.level s.digit p.key in
     let puts : PutsTwo mid.image new.image block spot.block spot.place p = record {
@@ -71,15 +75,21 @@ grows_both head floor next to block l cost p s low bound old mid new spot owner 
       rises = there.rises;
       adds_jump = record {
         was = (two.posting.others (pointer_at block s.level s.digit)
-            (λ e. spot_differs head floor next to block l p s low bound old mid new spot home target viewed tells (sym e))).0
+            (λ e. spot_differs head floor next to block l p s low bound old mid new spot home target viewed tells
+            (sym e))).0
             ∙ ap (λ (f : Image). f (pointer_at block s.level s.digit)) same ∙ home.blank tells;
         others = λ c differ. (two.jump.others c differ).0;
       };
       jump = two.jump.ends.shown;
-    } in
-    (cost, subst P same (grown tells same (still_first viewed.called.foreign_writes (count_of mid.base new.base both.base) still) puts))
-grows_both head floor next to block l cost p s low bound old mid new spot owner home_owner home target viewed grown (Ok None) both = tt
-grows_both head floor next to block l cost p s low bound old mid new spot owner home_owner home target viewed grown (Err fault) both = tt
+    } in (
+      cost,
+      subst P same (grown tells same (still_first viewed.called.foreign_writes
+          (count_of mid.base new.base both.base) still) puts),
+    )
+grows_both head floor next to block l cost p s low bound old mid new spot owner home_owner home target viewed grown
+    (Ok None) both = tt
+grows_both head floor next to block l cost p s low bound old mid new spot owner home_owner home target viewed grown
+    (Err fault) both = tt
 
 -- the tail has a blank place
 pub grown_in_tail : (floor next block : ℕ) (p : PostingFields) (mid new : ViewState) (spot : Spot)
@@ -90,7 +100,8 @@ grown_in_tail floor next block p mid new spot led from to last puts =
     in_tail block spot.block spot.place (ends block refl) puts led from to last refl refl
 
 -- the new block is the pool's next one
-pub grown_in_new : (floor next to block target : ℕ) (p : PostingFields) (mid new : ViewState) → target ≡ next → to ≡ next + 256
+pub grown_in_new : (floor next to block target : ℕ) (p : PostingFields) (mid new : ViewState) → target ≡ next
+    → to ≡ next + 256
     → ((c : ℕ) → next ≤ c → mid.image c ≡ None) → IsLastFull mid.image floor next block p.key
     → PutsTwo mid.image new.image block target 0 p → Grows mid.image new.image floor next to block p 258
 grown_in_new floor next to block target p mid new first more blank last puts =
@@ -102,7 +113,8 @@ pub grow_then : (floor next to block : ℕ) (p : PostingFields) (old mid new : V
     → mid.base.foreign_writes ≤ new.base.foreign_writes → (result : Result (Option Spot) GrowthFault)
     → GrowEnds floor next to block p mid new result → GrowEnds floor next to block p old new result
 grow_then floor next to block p old mid new viewed later (Ok (Some at)) grown = λ tells still.
-    let g = grown (subst IsTrue (sym viewed.called.tells) tells) (still_second viewed.called.foreign_writes later still) in
+    let g = grown (subst IsTrue (sym viewed.called.tells) tells)
+    (still_second viewed.called.foreign_writes later still) in
     let same : mid.image ≡ old.image = quiet_image viewed new.base.foreign_writes later still in
     let P : Image → Type 0 = λ i. Grows i new.image floor next to block p g.0 in
     (g.0, subst P same g.1)
@@ -120,13 +132,16 @@ grows_hop {block = block} {target = target} step (in_new_block home walk puts bl
     in_new_block home (hops block target step walk) puts blank last same cost_is
 
 -- an insertion behind a block
-pub grow_behind : (floor next to block l target : ℕ) (p : PostingFields) (s : Span) (old mid new : ViewState) (spot : Spot)
+pub grow_behind : (floor next to block l target : ℕ) (p : PostingFields) (s : Span) (old mid new : ViewState)
+    (spot : Spot)
     → IsSpan l s → s.low ≤ p.key → p.key < s.high → floor ≤ target → target + 256 ≤ next → Viewed old mid
     → mid.base.foreign_writes ≤ new.base.foreign_writes → (IsTrue old.base.tells → HasFull mid.image block l)
     → (IsTrue old.base.tells → HasPointer mid.image block s.level s.digit target)
     → GrowEnds floor next to target p mid new (Ok (Some spot)) → GrowEnds floor next to block p old new (Ok (Some spot))
-grow_behind floor next to block l target p s old mid new spot is span_from span_to from below viewed later full led grown = λ tells still.
-    let g = grown (subst IsTrue (sym viewed.called.tells) tells) (still_second viewed.called.foreign_writes later still) in
+grow_behind floor next to block l target p s old mid new spot is span_from span_to from below viewed later full led
+    grown = λ tells still.
+    let g = grown (subst IsTrue (sym viewed.called.tells) tells)
+    (still_second viewed.called.foreign_writes later still) in
     let same : mid.image ≡ old.image = quiet_image viewed new.base.foreign_writes later still in
     let P : Image → Type 0 = λ i. Grows i new.image floor next to block p g.0 in
     let S : ℕ → Type 0 = λ n. InSpan n s.level s.digit p.key in

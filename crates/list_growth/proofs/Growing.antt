@@ -61,7 +61,8 @@ before_holds image block place key rises = ⊎_elim
 placed : {old new : Image} {block place : ℕ} {p : PostingFields} → Adds (block + place) old new
     → Holds new (block + place) (posting_record p) → Rises old block place p.key → InFront new block place p
 placed {old} {new} {block} {place} {p} adds holds rises =
-    next_front new block place p (λ before is. let h = rises before is in (h.0, front_on (adds_extends adds) h.1, h.2)) holds
+    next_front new block place p (λ before is. let h =
+    rises before is in (h.0, front_on (adds_extends adds) h.1, h.2)) holds
 
 widened : {image : Image} {from to last block : ℕ} → Leads image from to last block
     → Leads image from (to + 256) last block
@@ -133,8 +134,10 @@ module _ {old new : Image} {floor next head : ℕ} {p : PostingFields} (w : IsWe
 pub grows_well : {old new : Image} {floor next to head : ℕ} {p : PostingFields} {cost : ℕ}
     → IsWellListed old floor next head → floor ≤ next → Grows old new floor next to head p cost
     → IsWellListed new floor to head
-grows_well {old} {new} {floor} {next} {to} {head} w roomy (in_block last place walk below adds holds rises same cost_is) =
-    subst (λ (n : ℕ). IsWellListed new floor n head) (sym same) (well_in_block w roomy last place walk below adds holds rises)
+grows_well {old} {new} {floor} {next} {to} {head} w roomy
+    (in_block last place walk below adds holds rises same cost_is) =
+    subst (λ (n : ℕ). IsWellListed new floor n head) (sym same)
+    (well_in_block w roomy last place walk below adds holds rises)
 grows_well {old} {new} {floor} {next} {to} {head} w roomy
     (in_tail home target place walk puts led from below last same cost_is) =
     subst (λ (n : ℕ). IsWellListed new floor n head) (sym same)

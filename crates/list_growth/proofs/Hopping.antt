@@ -1,5 +1,5 @@
 -- What is met on a hop along a list that is planned in part.
-use Rattle.std.proofs.Common.{◌≡◌, ◌<◌, ◌≤◌, ◌+◌, ◌*◌, ◌^◌, ◌⊎◌, ⊎_elim, inl, inr, ℕ, List, Option, Some, None, Ok, Err, ap, sym, subst, arith, ◌∙◌}
+use Rattle.std.proofs.Common.{◌≡◌, ◌<◌, ◌≤◌, ◌+◌, ◌*◌, ◌^◌, ◌⊎◌, ⊎_elim, inl, inr, ℕ, List, Some, None, Err, ap, sym, subst, arith, ◌∙◌}
 use Rattle.std.specs.Prelude.{IsTrue}
 use Rattle.std.proofs.lemmas.Bool.{cases_lt}
 use Rattle.std.proofs.lemmas.Option.{none-some}
@@ -82,8 +82,10 @@ module _ (s : ViewState) (view : IsView s) (head floor next key block : ℕ) (at
       (led : HasPointer s.image block level digit target) where
     pub planned_jump : IsListCell s head floor next key (pointer_at block level digit) block
         → LeadsOn s head floor next block level digit target
-    planned_jump (a_posting place p is below front less) = absurd (no_posting_there block level digit place is below some)
-    planned_jump (a_pointer level' digit' target' l cell owner place is holds from to full has planned same_head same_base) =
+    planned_jump (a_posting place p is below front less) =
+        absurd (no_posting_there block level digit place is below some)
+    planned_jump (a_pointer level' digit' target' l cell owner place is holds from to full has planned same_head
+        same_base) =
         let same_level : level' ≡ level = omega (arith, place.levels, place.some, place.digits, is) in
         let same_digit : digit' ≡ digit = omega (arith, place.levels, place.some, place.digits, is) in
         let same_target : target' ≡ target = jump_target target' target
@@ -144,7 +146,8 @@ module _ (s : ViewState) (view : IsView s) (head floor next key block : ℕ) (at
 
     -- the target is a block of the list as it stands below
     pub reached_below : s.planned (pointer_at block level digit) ≡ None → floor ≤ target → target + 256 ≤ s.fresh
-        → IsReached s head floor target × (pointer_at block level digit < s.fresh) × Leads s.lower floor s.fresh block head
+        → IsReached s head floor target × (pointer_at block level digit < s.fresh)
+        × Leads s.lower floor s.fresh block head
     reached_below free from to =
         let here = below_here (pointer_at block level digit) led.cell (omega arith) free led.stands in
         let there : Holds s.lower (pointer_at block level digit) (Jump target) = record {

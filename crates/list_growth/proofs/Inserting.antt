@@ -1,6 +1,5 @@
 -- What an insertion from the list's first block is for the list.
-use Rattle.std.proofs.Common.{◌≡◌, ◌<◌, ◌≤◌, ◌+◌, ℕ, Some, None, Ok, Err, refl, arith}
-use Rattle.std.specs.Prelude.{IsTrue}
+use Rattle.std.proofs.Common.{◌≤◌, ◌+◌, ℕ, Some, None, Ok, Err, refl, arith}
 use Rattle.cell_types.specs.declared.refusal.Fault.TheVariants.{Tampered, ReadFault}
 use Rattle.index_paths.specs.Blocks.{PostingFields, arrived}
 use Rattle.worm_device.specs.Views.{ViewState, IsView}
@@ -55,8 +54,10 @@ inserted head floor next to low bound p old new spot roomy placed grown planned 
   );
 }
 
-pub refused : (head floor next to low bound : ℕ) (p : PostingFields) (old new : ViewState) (fault : GrowthFault) → IsView new
-    → PlacesPosting head floor to head p low bound old new (Err fault) → InsertsPosting head floor next to p old new (Err fault)
+pub refused : (head floor next to low bound : ℕ) (p : PostingFields) (old new : ViewState) (fault : GrowthFault)
+    → IsView new
+    → PlacesPosting head floor to head p low bound old new (Err fault)
+    → InsertsPosting head floor next to p old new (Err fault)
 refused head floor next to low bound p old new (Fault ReadFault) view placed = record {
   called = placed.called;
   cells = placed.cells;
@@ -84,7 +85,8 @@ refused head floor next to low bound p old new NoMemory view placed = record {
 
 -- No key is below 0. A read alone has changed nothing.
 pub never_none : (head floor next to low bound : ℕ) (p : PostingFields) (old new : ViewState)
-    → PlacesPosting head floor to head p low bound old new (Ok None) → InsertsPosting head floor next to p old new (Err NoMemory)
+    → PlacesPosting head floor to head p low bound old new (Ok None)
+    → InsertsPosting head floor next to p old new (Err NoMemory)
 never_none head floor next to low bound p old new placed = record {
   called = placed.called;
   cells = placed.cells;

@@ -1,5 +1,5 @@
 -- What an insertion names as evidence stands below, in a block of the list.
-use Rattle.std.proofs.Common.{◌≡◌, ◌≢◌, ◌<◌, ◌≤◌, ◌+◌, ◌*◌, ◌%◌, ◌^◌, ◌⊎◌, ⊎_elim, inl, inr, ℕ, List, Option, Some, None, Result, Ok, Err, ap, sym, subst, arith, ◌∙◌}
+use Rattle.std.proofs.Common.{◌≡◌, ◌≢◌, ◌<◌, ◌≤◌, ◌+◌, ⊎_elim, inl, inr, ℕ, List, Some, None, Ok, Err, ap, sym, subst, arith, ◌∙◌}
 use Rattle.std.specs.Prelude.{IsTrue}
 use Rattle.cell_types.specs.Image.{Image}
 use Rattle.cell_types.specs.Records.{IsRecordCell, record_bytes}
@@ -12,15 +12,14 @@ use Rattle.index_paths.specs.Blocks.{PostingFields, posting_record, InFront, Lea
 use Rattle.index_paths.proofs.Fronts.{front_holds, one_posting, one_place, rises, rises_or_same}
 use Rattle.tamper_rules.specs.declared.numbers.TheConstants.{BLOCK_OUT_OF_ORDER, LOST_POINTER}
 use Rattle.worm_device.specs.Views.{ViewState, Viewed, IsView}
-use Rattle.jump_block.specs.Entries.{cell_of, posting_of}
-use Rattle.jump_block.specs.Fronts.{HasKeyAt, IsBadEntry, no_posting, does_not_rise, FirstEnds, FindsFirst}
+use Rattle.jump_block.specs.Entries.{posting_of}
+use Rattle.jump_block.specs.Fronts.{IsBadEntry, no_posting, does_not_rise, FirstEnds}
 use Rattle.jump_block.specs.Pointers.{IsNoJump, ReadsPointer}
 use Rattle.jump_block.specs.Spans.{IsSpan}
 use Rattle.jump_block.specs.declared.held_entry.Entry.{Entry}
 use Rattle.jump_block.specs.declared.known_front.Front.TheVariants.{At}
 use Rattle.jump_block.specs.declared.spans.Span.{Span}
 use Rattle.jump_block.proofs.Counting.{rose_later}
-use Rattle.jump_block.proofs.Knowing.{key_on}
 use Rattle.jump_index.specs.Evidence.{HasFull, HasPointer, IsPointerPlace, IsPointerEvidence}
 use Rattle.jump_index.proofs.Passing.{of_span}
 use Rattle.list_growth.specs.Evidence.{no_jump, no_key, meets_block, ShowsBelow, bad_entry, bad_pointer, late}
@@ -39,7 +38,8 @@ bad_in_front image block place found p (no_posting bad) front =
     (some_same holds.cell found (sym holds.stands ∙ bad.stands)) holds.is)
 bad_in_front image block place found p (does_not_rise before key q is has stands holds le) front =
     let less : has.p.key < p.key = rises front before has.p has.in_front (omega arith) in
-    let same : p.key ≡ q.key = ap (λ (f : PostingFields). f.key) (one_posting image (block + place) p q (front_holds front) holds) in
+    let same : p.key ≡ q.key = ap (λ (f : PostingFields). f.key)
+    (one_posting image (block + place) p q (front_holds front) holds) in
     omega (arith, less, same, has.same, le)
 
 -- a planned entry is in its block's front, with a smaller key
@@ -61,7 +61,8 @@ module _ (s : ViewState) (view : IsView s) (head floor next key block : ℕ) (at
       (λ free. free)
       (planned_or_not s view head floor next key block at (block + place) (omega arith) (omega arith))
 
-  bad_stands : (place : ℕ) (found : List ℕ) → IsBadEntry s.image block place found → s.image (block + place) ≡ Some found
+  bad_stands : (place : ℕ) (found : List ℕ) → IsBadEntry s.image block place found
+      → s.image (block + place) ≡ Some found
   bad_stands place found (no_posting bad) = bad.stands
   bad_stands place found (does_not_rise before k q is has stands holds le) = stands
 
@@ -73,7 +74,12 @@ module _ (s : ViewState) (view : IsView s) (head floor next key block : ℕ) (at
       let stands = bad_stands place e.found bad in
       let here = below_here s view head floor next key block at (block + place) e.found (omega arith) free stands in
       bad_entry block place here.1
-      (record { free = ap s.planned cell ∙ free; before = omega (arith, cell, here.0); stands = ap s.image cell ∙ stands })
+      (record {
+        free = ap s.planned cell ∙ free;
+        before = omega (arith, cell, here.0);
+        stands =
+            ap s.image cell ∙ stands;
+      })
       rule cell below bad
 
   -- a late posting
@@ -83,11 +89,14 @@ module _ (s : ViewState) (view : IsView s) (head floor next key block : ℕ) (at
   shows_late entry e is below front late_key names =
       let holds = front_holds front in
       let free = entry_free entry.place below (λ p other less.
-      let same : p.key ≡ entry.key = ap (λ (f : PostingFields). f.key) (one_place other front) in omega (arith, same)) in
-      let here = below_here s view head floor next key block at (block + entry.place) holds.cell (omega arith) free holds.stands in
+      let same : p.key ≡ entry.key = ap (λ (f : PostingFields). f.key) (one_place other front) in omega (arith, same))
+      in
+      let here = below_here s view head floor next key block at (block + entry.place) holds.cell
+      (omega arith) free holds.stands in
       let cell : e.cell ≡ block + entry.place = omega (arith, names.1, is) in
       let found : e.found ≡ holds.cell =
-      names.2 ∙ ap (λ n. record_bytes (posting_record (posting_of entry)) n) (ap (λ (b : ℕ). b + entry.place) is) ∙ sym holds.is.same in
+      names.2 ∙ ap (λ n. record_bytes (posting_record (posting_of entry)) n) (ap (λ (b : ℕ). b + entry.place) is)
+      ∙ sym holds.is.same in
       late block entry.place (posting_of entry) here.1
       (record {
         free = ap s.planned cell ∙ free;
@@ -115,9 +124,15 @@ module _ (s : ViewState) (view : IsView s) (head floor next key block : ℕ) (at
       (λ free. free)
       (planned_or_not s view head floor next key block at (pointer_at block level digit) (omega arith)
       (omega (arith, place.levels, place.digits))) in
-      let here = below_here s view head floor next key block at (pointer_at block level digit) e.found (omega arith) free bad.stands in
+      let here = below_here s view head floor next key block at (pointer_at block level digit) e.found
+      (omega arith) free bad.stands in
       bad_pointer block level digit here.1
-      (record { free = ap s.planned cell ∙ free; before = omega (arith, cell, here.0); stands = ap s.image cell ∙ bad.stands })
+      (record {
+        free = ap s.planned cell ∙ free;
+        before = omega (arith, cell, here.0);
+        stands =
+            ap s.image cell ∙ bad.stands;
+      })
       rule place cell (no_jump bad)
 
 module _ (s t : ViewState) (view : IsView t) (head floor next key block : ℕ)
@@ -140,7 +155,8 @@ module _ (s t : ViewState) (view : IsView t) (head floor next key block : ℕ)
       → ReadsPointer (pointer_at block level digit) s t (Err fault) → FaultEnds head floor key s t fault
   pointer_fault level digit place ReadFault read = read.ends
   pointer_fault level digit place (Tampered e) read = λ tells.
-      shows_no_jump t view head floor next key block (at tells) level digit e place read.ends.0 read.ends.1 (read.ends.2 tells)
+      shows_no_jump t view head floor next key block (at tells) level digit e place read.ends.0 read.ends.1
+      (read.ends.2 tells)
 
   -- a fault of the search for the greatest pointer
   pub greatest_fault : (l bound : ℕ) (fault : Fault) → GreatestEnds block l bound s t (Err fault)
@@ -156,10 +172,12 @@ pub fault_then : (head floor key : ℕ) (a b c : ViewState) → Viewed a b → (
 fault_then head floor key a b c viewed ReadFault ends = rose_later _ _ _ viewed.called.faults ends
 fault_then head floor key a b c viewed (Tampered e) ends = λ tells. ends (subst IsTrue (sym viewed.called.tells) tells)
 
-pub check_refused : (head floor next key block target : ℕ) (span : Span) (a b : ViewState) → Viewed a b → (fault : Fault)
+pub check_refused : (head floor next key block target : ℕ) (span : Span) (a b : ViewState) → Viewed a b
+    → (fault : Fault)
     → CheckEnds head floor next key block span target b (Err fault) → FaultEnds head floor key a b fault
 check_refused head floor next key block target span a b viewed ReadFault ends = absurd ends
-check_refused head floor next key block target span a b viewed (Tampered e) ends = λ tells. ends (subst IsTrue (sym viewed.called.tells) tells)
+check_refused head floor next key block target span a b viewed (Tampered e) ends =
+    λ tells. ends (subst IsTrue (sym viewed.called.tells) tells)
 
 -- a fault that names a pointer
 pub named_fault : (head floor key block level digit target : ℕ) (a b : ViewState) (fault : Fault)
@@ -179,7 +197,8 @@ module _ (s : ViewState) (view : IsView s) (head floor next key block : ℕ) (at
       → IsPointerEvidence block span.level span.digit target (Tampered e) → ShowsBelow s head floor key e
   meets_home home own reached differ before behind e names = ⊎_elim
       (λ planned.
-      let on = planned_jump s view head floor next key block at span.level span.digit target is.levels is.some is.digits led planned in
+      let on = planned_jump s view head floor next key block at span.level span.digit target is.levels is.some
+      is.digits led planned in
       absurd (⊎_elim
       (λ (same : on.owner.base ≡ home). differ (sym on.is_base ∙ same))
       (λ apart. ⊎_elim
@@ -187,21 +206,34 @@ module _ (s : ViewState) (view : IsView s) (head floor next key block : ℕ) (at
       (λ (b : home + 256 ≤ on.owner.base). omega (arith, on.is_base, b, before)) apart)
       (own.apart on.cell on.owner on.planned on.is_head)))
       (λ (old : IsOldHop s head floor block (pointer_at block span.level span.digit) target).
-      shows_hop s view head floor next key block at span.level span.digit target is.levels is.some is.digits led old.free e names
+      shows_hop s view head floor next key block at span.level span.digit target is.levels is.some is.digits led
+      old.free e names
       (meets_block target home led checked.0 old.to reached (λ same. differ (sym same)) before behind))
       (checked.2 tells).pointer
 
   -- no key of the target lies in the span
   pub no_key_there : HasFull s.image block l
       → ((place : ℕ) (p : PostingFields) → place < 128 → InFront s.image target place p → p.key < span.low)
-      → (e : Evidence) → IsPointerEvidence block span.level span.digit target (Tampered e) → ShowsBelow s head floor key e
+      → (e : Evidence) → IsPointerEvidence block span.level span.digit target (Tampered e)
+      → ShowsBelow s head floor key e
   no_key_there full none e names = ⊎_elim
       (λ planned.
-      let on = planned_jump s view head floor next key block at span.level span.digit target is.levels is.some is.digits led planned in
-      let same : on.full.p.key ≡ full.p.key = ap (λ (f : PostingFields). f.key) (one_place on.full.in_front full.in_front) in
-      absurd (omega (arith, none on.has.place on.has.p on.has.in_places on.has.in_front, on.has.from, is.low, same, on.full.same, full.same)))
+      let on = planned_jump s view head floor next key block at span.level span.digit target is.levels is.some
+      is.digits led planned in
+      let same : on.full.p.key ≡ full.p.key = ap (λ (f : PostingFields). f.key)
+      (one_place on.full.in_front full.in_front) in
+      absurd (omega (
+        arith,
+        none on.has.place on.has.p on.has.in_places on.has.in_front,
+        on.has.from,
+        is.low,
+        same,
+        on.full.same,
+        full.same,
+      )))
       (λ (old : IsOldHop s head floor block (pointer_at block span.level span.digit) target).
-      shows_hop s view head floor next key block at span.level span.digit target is.levels is.some is.digits led old.free e names
+      shows_hop s view head floor next key block at span.level span.digit target is.levels is.some is.digits led
+      old.free e names
       (no_key target l led full old.to checked.0
       (λ place p below front within. omega (arith, none place p below front, (of_span is within).0))))
       (checked.2 tells).pointer
@@ -213,7 +245,8 @@ full_at_most full place p below front = omega (arith, rises_or_same front full.i
 
 -- what was checked holds after reads
 pub check_on : (s t : ViewState) (head floor next key block target : ℕ) (span : Span) → Viewed s t
-    → CheckEnds head floor next key block span target s (Ok tt) → CheckEnds head floor next key block span target t (Ok tt)
+    → CheckEnds head floor next key block span target s (Ok tt)
+    → CheckEnds head floor next key block span target t (Ok tt)
 check_on s t head floor next key block target span viewed checked = (
   checked.0,
   checked.1,

@@ -16,7 +16,7 @@ use Rattle.worm_device.specs.declared.owner.Owner.{Owner}
 use Rattle.worm_device.proofs.Elapsing.{called_then}
 use Rattle.worm_device.proofs.Images.{extends_then, extends_self}
 use Rattle.worm_device.proofs.Resting.{viewed_then}
-use Rattle.jump_block.specs.Fronts.{HasKeyAt, FirstEnds}
+use Rattle.jump_block.specs.Fronts.{FirstEnds}
 use Rattle.jump_block.specs.Spans.{IsSpan}
 use Rattle.jump_block.specs.declared.known_front.Front.TheVariants.{Open}
 use Rattle.jump_block.specs.declared.spans.Span.{Span}
@@ -46,7 +46,8 @@ span_holds is low high = record {
 }
 
 -- what a hop to a block is, whose front has a key of the span
-hop_to : (image : Image) (floor to block l target : ℕ) (p : PostingFields) (s : Span) → HasFull image block l → IsSpan l s
+hop_to : (image : Image) (floor to block l target : ℕ) (p : PostingFields) (s : Span) → HasFull image block l
+    → IsSpan l s
     → s.low ≤ p.key → p.key < s.high → HasPointer image block s.level s.digit target → floor ≤ target
     → target + 256 ≤ to → HasKeyIn image target s.low s.high → Hop image floor to block p.key target
 hop_to image floor to block l target p s full is low high led from inside has =
@@ -94,35 +95,38 @@ pub into_open : (head floor next block low bound place : ℕ) (greatest : Option
     → (IsTrue old.base.tells → IsAt old head floor next p.key block)
     → PutsRecord (block + place) (posting_record p) (record { head = head; base = block }) mid new (Ok tt)
     → PlacesPosting head floor next block p low bound old new (Ok (Some (record { block = block; place = place })))
-into_open head floor next block low bound place greatest p old mid new view before lies from below inside viewed read is_at put = record {
-  called = called_on viewed.called put.base;
-  cells = put.cells ∙ viewed.cells;
-  fresh = put.fresh ∙ viewed.fresh;
-  loans = put.loans ∙ viewed.loans;
-  lower = extends_then viewed.lower (same_extends mid.lower new.lower put.lower);
-  ends = λ tells.
-      let open_ = read.1 tells in
-      let blank : mid.image (block + place) ≡ None = open_.0 in
-      let grown : Extends mid.image new.image = adding_extends (λ c differ. (put.others c differ).0) blank in
-      let there : InFront new.image block place p = next_front new.image block place p
-      (λ before h. let q = open_.1.last before h in (q.0, front_on grown q.1, q.2)) put.ends.shown in
-      let at_old = is_at tells in
-      record {
-        shown = extends_then viewed.image grown;
-        trail = here block place refl read.0 there;
-        has = record { place = place; p = p; in_places = read.0; in_front = there; from = from; below = below };
-        ready = λ key less.
-            ready_put mid new head floor next next p.key key (block + place) block (record { head = head; base = block }) refl refl
-            (λ c differ. (put.others c differ).2) put.ends.for_whom (view.unowned (block + place) put.ends.free)
-            grown (same_extends mid.lower new.lower put.lower) put.fresh (omega arith) (omega (arith, read.0))
-            (ready_viewed viewed head floor next p.key at_old.ready) (omega arith) (omega (arith, less)) inside
-            (apart_from_head before lies) (own_block_viewed viewed head block at_old.own_block)
-            (reached_viewed viewed head floor block at_old.reached) (a_posting place p refl read.0 there less);
-      };
-}
+into_open head floor next block low bound place greatest p old mid new view before lies from below inside viewed read
+    is_at put = record {
+      called = called_on viewed.called put.base;
+      cells = put.cells ∙ viewed.cells;
+      fresh = put.fresh ∙ viewed.fresh;
+      loans = put.loans ∙ viewed.loans;
+      lower = extends_then viewed.lower (same_extends mid.lower new.lower put.lower);
+      ends = λ tells.
+          let open_ = read.1 tells in
+          let blank : mid.image (block + place) ≡ None = open_.0 in
+          let grown : Extends mid.image new.image = adding_extends (λ c differ. (put.others c differ).0) blank in
+          let there : InFront new.image block place p = next_front new.image block place p
+          (λ before h. let q = open_.1.last before h in (q.0, front_on grown q.1, q.2)) put.ends.shown in
+          let at_old = is_at tells in
+          record {
+            shown = extends_then viewed.image grown;
+            trail = here block place refl read.0 there;
+            has = record { place = place; p = p; in_places = read.0; in_front = there; from = from; below = below };
+            ready = λ key less.
+                ready_put mid new head floor next next p.key key (block + place) block
+                (record { head = head; base = block }) refl refl
+                (λ c differ. (put.others c differ).2) put.ends.for_whom (view.unowned (block + place) put.ends.free)
+                grown (same_extends mid.lower new.lower put.lower) put.fresh (omega arith) (omega (arith, read.0))
+                (ready_viewed viewed head floor next p.key at_old.ready) (omega arith) (omega (arith, less)) inside
+                (apart_from_head before lies) (own_block_viewed viewed head block at_old.own_block)
+                (reached_viewed viewed head floor block at_old.reached) (a_posting place p refl read.0 there less);
+          };
+    }
 
 -- the block that leads on to the posting is full, and its pointer for it was blank
-pub record IsHome (old : ViewState) (head floor next block l : ℕ) (p : PostingFields) (s : Span) (low bound : ℕ) : Type 0 where
+pub record IsHome (old : ViewState) (head floor next block l : ℕ) (p : PostingFields) (s : Span)
+    (low bound : ℕ) : Type 0 where
   pub is : IsSpan l s
   pub span_from : s.low ≤ p.key
   pub span_to : p.key < s.high
@@ -160,19 +164,25 @@ with_image s image lower = record {
 }
 
 -- a front of another block than the pointer's stays as it is
-front_past : (image new : Image) (target block level digit : ℕ) {place : ℕ} {q : PostingFields} → AreApart target 256 block 256
+front_past : (image new : Image) (target block level digit : ℕ) {place : ℕ} {q : PostingFields}
+    → AreApart target 256 block 256
     → place < 128 → level < 8 → 1 ≤ digit → digit ≤ 15
-    → ((c : ℕ) → c ≢ pointer_at block level digit → new c ≡ image c) → InFront image target place q → InFront new target place q
+    → ((c : ℕ) → c ≢ pointer_at block level digit → new c ≡ image c) → InFront image target place q
+    → InFront new target place q
 front_past image new target block level digit apart below levels some digits others (at_the_start i p is holds) =
     at_the_start i p is (record {
       cell = holds.cell;
-      stands = others (target + i) (λ e. places_differ target block i level digit apart below levels some digits e) ∙ holds.stands;
+      stands = others (target + i) (λ e. places_differ target block i level digit apart below levels some digits e)
+          ∙ holds.stands;
       is = holds.is;
     })
-front_past image new target block level digit apart below levels some digits others (behind i j p r is rest less holds) =
-    behind i j p r is (front_past image new target block level digit apart (omega (arith, is, below)) levels some digits others rest) less (record {
+front_past image new target block level digit apart below levels some digits others
+    (behind i j p r is rest less holds) =
+    behind i j p r is (front_past image new target block level digit apart
+    (omega (arith, is, below)) levels some digits others rest) less (record {
       cell = holds.cell;
-      stands = others (target + i) (λ e. places_differ target block i level digit apart below levels some digits e) ∙ holds.stands;
+      stands = others (target + i) (λ e. places_differ target block i level digit apart below levels some digits e)
+          ∙ holds.stands;
       is = holds.is;
     })
 
@@ -188,8 +198,10 @@ span_key is has = record {
 }
 
 -- what is written or planned behind a full block
-module _ (head floor next to block l : ℕ) (p : PostingFields) (s : Span) (low bound : ℕ) (old mid new : ViewState) (spot : Spot)
-    (home : IsHome old head floor next block l p s low bound) (target : IsTarget mid head floor next to p.key block spot)
+module _ (head floor next to block l : ℕ) (p : PostingFields) (s : Span) (low bound : ℕ) (old mid new : ViewState)
+    (spot : Spot)
+    (home : IsHome old head floor next block l p s low bound)
+    (target : IsTarget mid head floor next to p.key block spot)
     (viewed : Viewed old mid) where
   -- the target is another block
   pub spot_apart : IsTrue old.base.tells → AreApart spot.block 256 block 256
@@ -208,7 +220,8 @@ module _ (head floor next to block l : ℕ) (p : PostingFields) (s : Span) (low 
 
   pub spot_differs : IsTrue old.base.tells → spot.block + spot.place ≢ pointer_at block s.level s.digit
   spot_differs tells = λ e.
-      places_differ spot.block block spot.place s.level s.digit (spot_apart tells) target.in_places home.is.levels home.is.some home.is.digits e
+      places_differ spot.block block spot.place s.level s.digit
+      (spot_apart tells) target.in_places home.is.levels home.is.some home.is.digits e
 
   pub spot_free : IsTrue old.base.tells → mid.planned (spot.block + spot.place) ≡ None
   spot_free tells = blank_is_free mid target.view (spot.block + spot.place)
@@ -218,7 +231,8 @@ module _ (head floor next to block l : ℕ) (p : PostingFields) (s : Span) (low 
   pointer_free tells = ap (λ (f : Image). f (pointer_at block s.level s.digit)) viewed.planned
       ∙ blank_is_free old home.view (pointer_at block s.level s.digit) (home.blank tells)
 
-  module _ (put_at : ViewState) (owner home_owner : Owner) (is_head : owner.head ≡ head) (is_base : owner.base ≡ spot.block)
+  module _ (put_at : ViewState) (owner home_owner : Owner) (is_head : owner.head ≡ head)
+      (is_base : owner.base ≡ spot.block)
       (is_home_head : home_owner.head ≡ head) (is_home_base : home_owner.base ≡ block)
       (put : PutsRecord (spot.block + spot.place) (posting_record p) owner mid put_at (Ok tt))
       (led : PutsRecord (pointer_at block s.level s.digit) (Jump spot.block) home_owner put_at new (Ok tt))
@@ -235,7 +249,8 @@ module _ (head floor next to block l : ℕ) (p : PostingFields) (s : Span) (low 
           let at_mid = viewed.image.keeps c v h in
           let not_pointer : c ≢ pointer_at block s.level s.digit =
           λ e. none-some v (sym (home.blank tells) ∙ ap old.image (sym e) ∙ h) in
-          let not_at : c ≢ spot.block + spot.place = λ e. none-some v (sym there.blank ∙ ap mid.image (sym e) ∙ at_mid) in
+          let not_at : c ≢ spot.block + spot.place =
+          λ e. none-some v (sym there.blank ∙ ap mid.image (sym e) ∙ at_mid) in
           (led.others c not_pointer).0 ∙ (put.others c not_at).0 ∙ at_mid;
     }
 
@@ -262,7 +277,14 @@ module _ (head floor next to block l : ℕ) (p : PostingFields) (s : Span) (low 
         holds_new
 
     has : HasKeyIn new.image spot.block s.low s.high
-    has = record { place = spot.place; p = p; in_places = target.in_places; in_front = into; from = home.span_from; below = home.span_to }
+    has = record {
+      place = spot.place;
+      p = p;
+      in_places = target.in_places;
+      in_front = into;
+      from = home.span_from;
+      below = home.span_to;
+    }
 
     full_new : HasFull new.image block l
     full_new = key_on grown (home.full tells)
@@ -279,52 +301,63 @@ module _ (head floor next to block l : ℕ) (p : PostingFields) (s : Span) (low 
     second = with_image put_at new.image new.lower
 
     ready_first : IsReady first head floor next p.key
-    ready_first = ready_same old first head floor next p.key (extends_self old.image) viewed.lower viewed.fresh viewed.owners at_old.ready
+    ready_first = ready_same old first head floor next p.key
+        (extends_self old.image) viewed.lower viewed.fresh viewed.owners at_old.ready
 
     own_target : IsOwnBlock first head spot.block
     own_target = record { inside = there.own_block.inside; apart = there.own_block.apart }
 
     own_home : IsOwnBlock first head block
-    own_home = own_block_same old first head floor next p.key (extends_self old.image) viewed.lower viewed.fresh viewed.owners block at_old.own_block
+    own_home = own_block_same old first head floor next p.key
+        (extends_self old.image) viewed.lower viewed.fresh viewed.owners block at_old.own_block
 
     ready_second : (key : ℕ) → p.key < key → IsReady second head floor to key
     ready_second key greater =
         ready_put first second head floor next to p.key key (spot.block + spot.place) spot.block owner is_head is_base
         (λ c d. (put.others c d).2) put.ends.for_whom (target.view.unowned (spot.block + spot.place) put.ends.free)
-        grown lower_mid put.fresh (omega arith) (omega (arith, target.in_places)) ready_first target.more (omega (arith, greater)) target.inside
+        grown lower_mid put.fresh (omega arith) (omega (arith, target.in_places)) ready_first target.more
+        (omega (arith, greater)) target.inside
         (apart_from_head home.before (inr target.from)) own_target
         (reached_as mid first head floor (extends_self mid.lower) refl spot.block there.reached)
         (a_posting spot.place p refl target.in_places into greater)
 
     own_second : (key : ℕ) → p.key < key → IsOwnBlock second head block
     own_second key greater =
-        own_block_put first second head floor next to p.key key (spot.block + spot.place) spot.block owner is_head is_base
+        own_block_put first second head floor next to p.key key
+        (spot.block + spot.place) spot.block owner is_head is_base
         (λ c d. (put.others c d).2) put.ends.for_whom (target.view.unowned (spot.block + spot.place) put.ends.free)
-        grown lower_mid put.fresh (omega arith) (omega (arith, target.in_places)) block (inr (spot_apart tells)) own_home
+        grown lower_mid put.fresh (omega arith) (omega (arith, target.in_places)) block
+        (inr (spot_apart tells)) own_home
 
     reached_second : IsReached second head floor block
-    reached_second = reached_as old second head floor (extends_then viewed.lower lower_mid) (put.fresh ∙ viewed.fresh) block at_old.reached
+    reached_second = reached_as old second head floor (extends_then viewed.lower lower_mid)
+        (put.fresh ∙ viewed.fresh) block at_old.reached
 
     pub placed_ready : (key : ℕ) → p.key < key → IsReady new head floor to key
     placed_ready key greater =
-        ready_put second new head floor to to key key (pointer_at block s.level s.digit) block home_owner is_home_head is_home_base
+        ready_put second new head floor to to key key
+        (pointer_at block s.level s.digit) block home_owner is_home_head is_home_base
         (λ c d. (led.others c d).2) led.ends.for_whom (unowned_pointer led.ends.free)
-        (extends_self new.image) (extends_self new.lower) led.fresh (omega arith) (omega (arith, home.is.levels, home.is.digits))
+        (extends_self new.image) (extends_self new.lower) led.fresh (omega arith)
+        (omega (arith, home.is.levels, home.is.digits))
         (ready_second key greater) (omega arith) (omega arith) (omega (arith, home.inside, target.more))
         (apart_from_head home.before home.lies) (own_second key greater) reached_second
         (a_pointer s.level s.digit spot.block l (spot.block + spot.place) owner
-        (record { levels = home.is.levels; some = home.is.some; digits = home.is.digits }) refl led.ends.shown target.from target.inside
+        (record { levels = home.is.levels; some = home.is.some; digits = home.is.digits }) refl led.ends.shown
+        target.from target.inside
         full_new (span_key home.is has)
         ((led.others (spot.block + spot.place) (spot_differs tells)).2 ∙ put.ends.for_whom) is_head is_base)
       where
-        unowned_pointer : put_at.planned (pointer_at block s.level s.digit) ≡ None → put_at.owners (pointer_at block s.level s.digit) ≡ None
+        unowned_pointer : put_at.planned (pointer_at block s.level s.digit) ≡ None
+            → put_at.owners (pointer_at block s.level s.digit) ≡ None
         unowned_pointer free =
             let other : pointer_at block s.level s.digit ≢ spot.block + spot.place = λ e. spot_differs tells (sym e) in
             (put.others (pointer_at block s.level s.digit) other).2
             ∙ target.view.unowned (pointer_at block s.level s.digit) (pointer_free tells)
 
     pub placed_hop : Hop new.image floor to block p.key spot.block
-    placed_hop = hop_to new.image floor to block l spot.block p s full_new home.is home.span_from home.span_to led.ends.shown target.from target.inside has
+    placed_hop = hop_to new.image floor to block l spot.block p s full_new home.is home.span_from home.span_to
+        led.ends.shown target.from target.inside has
 
     pub placed_grown : Extends old.image new.image
     placed_grown = grown
@@ -337,7 +370,8 @@ module _ (head floor next to block l : ℕ) (p : PostingFields) (s : Span) (low 
 
   -- the call that plans both
   pub both_places : (result : Result (Option Spot) GrowthFault)
-      → PutsBoth spot (pointer_at block s.level s.digit) p (record { head = head; base = spot.block }) (record { head = head; base = block }) mid new result
+      → PutsBoth spot (pointer_at block s.level s.digit) p (record { head = head; base = spot.block })
+      (record { head = head; base = block }) mid new result
       → PlacesPosting head floor to block p low bound old new result
   both_places (Ok (Some found)) both = record {
     called = called_on viewed.called both.base;
@@ -380,7 +414,8 @@ module _ (head floor next to block l : ℕ) (p : PostingFields) (s : Span) (low 
   }
 
 -- a new block is one to go to
-pub new_spot : (s : ViewState) → IsView s → (head floor next key block : ℕ) → IsReady s head floor next key → s.fresh ≤ next
+pub new_spot : (s : ViewState) → IsView s → (head floor next key block : ℕ) → IsReady s head floor next key
+    → s.fresh ≤ next
     → ((cell : ℕ) → next ≤ cell → s.planned cell ≡ None) → block + 256 ≤ next → IsSpot s head floor key block next 0
 new_spot s view head floor next key block ready fresh free before = record {
   own_block = record {
@@ -400,27 +435,30 @@ pub into_target : (head floor to block l low bound target : ℕ) (p : PostingFie
     → (IsTrue old.base.tells → HasPointer mid.image block s.level s.digit target)
     → PlacesPosting head floor to target p s.low s.high mid new (Ok (Some spot))
     → PlacesPosting head floor to block p low bound old new (Ok (Some spot))
-into_target head floor to block l low bound target p s old mid new spot from less below is span_from span_to inside_from inside_to viewed full led placed = record {
-  called = called_then viewed.called placed.called;
-  cells = placed.cells ∙ viewed.cells;
-  fresh = placed.fresh ∙ viewed.fresh;
-  loans = placed.loans ∙ viewed.loans;
-  lower = extends_then viewed.lower placed.lower;
-  ends = λ tells.
-      let done = placed.ends (subst IsTrue (sym viewed.called.tells) tells) in
-      let full_new = key_on done.shown (full tells) in
-      record {
-        shown = extends_then viewed.image done.shown;
-        trail = on block target
-            (hop_to new.image floor to block l target p s full_new is span_from span_to (holds_on done.shown (led tells)) inside_from inside_to done.has)
-            done.trail;
-        has = full_has_key full_new from (omega (arith, less, below));
-        ready = done.ready;
-      };
-}
+into_target head floor to block l low bound target p s old mid new spot from less below is span_from span_to
+    inside_from inside_to viewed full led placed = record {
+      called = called_then viewed.called placed.called;
+      cells = placed.cells ∙ viewed.cells;
+      fresh = placed.fresh ∙ viewed.fresh;
+      loans = placed.loans ∙ viewed.loans;
+      lower = extends_then viewed.lower placed.lower;
+      ends = λ tells.
+          let done = placed.ends (subst IsTrue (sym viewed.called.tells) tells) in
+          let full_new = key_on done.shown (full tells) in
+          record {
+            shown = extends_then viewed.image done.shown;
+            trail = on block target
+                (hop_to new.image floor to block l target p s full_new is span_from span_to
+                (holds_on done.shown (led tells)) inside_from inside_to done.has)
+                done.trail;
+            has = full_has_key full_new from (omega (arith, less, below));
+            ready = done.ready;
+          };
+    }
 
 -- an insertion after reads
-pub place_then : (head floor to block : ℕ) (p : PostingFields) (low bound : ℕ) (old mid new : ViewState) → Viewed old mid
+pub place_then : (head floor to block : ℕ) (p : PostingFields) (low bound : ℕ) (old mid new : ViewState)
+    → Viewed old mid
     → (result : Result (Option Spot) GrowthFault) → PlacesPosting head floor to block p low bound mid new result
     → PlacesPosting head floor to block p low bound old new result
 place_then head floor to block p low bound old mid new viewed (Ok (Some spot)) placed = record {
@@ -459,8 +497,10 @@ place_then head floor to block p low bound old mid new viewed (Err NoMemory) pla
 }
 
 -- a refusal behind the target is one behind the block
-pub refused_behind : (head floor to block target a b : ℕ) (p : PostingFields) (low bound : ℕ) (old new : ViewState) (fault : GrowthFault)
-    → PlacesPosting head floor to target p a b old new (Err fault) → PlacesPosting head floor to block p low bound old new (Err fault)
+pub refused_behind : (head floor to block target a b : ℕ) (p : PostingFields) (low bound : ℕ) (old new : ViewState)
+    (fault : GrowthFault)
+    → PlacesPosting head floor to target p a b old new (Err fault)
+    → PlacesPosting head floor to block p low bound old new (Err fault)
 refused_behind head floor to block target a b p low bound old new (Fault fault) placed = record {
   called = placed.called;
   cells = placed.cells;
@@ -479,7 +519,8 @@ refused_behind head floor to block target a b p low bound old new NoMemory place
 }
 
 -- a fault of the reads
-pub read_fault : (head floor to block : ℕ) (p : PostingFields) (low bound : ℕ) (old new : ViewState) (f : fault.Fault) → Viewed old new
+pub read_fault : (head floor to block : ℕ) (p : PostingFields) (low bound : ℕ) (old new : ViewState) (f : fault.Fault)
+    → Viewed old new
     → FaultEnds head floor p.key old new f → PlacesPosting head floor to block p low bound old new (Err (Fault f))
 read_fault head floor to block p low bound old new f viewed ends = record {
   called = viewed.called;
@@ -504,9 +545,11 @@ no_key_here head floor to block l p low bound old new viewed full less = record 
 }
 
 -- the cell of the posting was planned already, which a view that tells does not show as blank
-pub one_refused : (head floor to block at : ℕ) (p : PostingFields) (low bound : ℕ) (old mid new : ViewState) (owner : Owner)
+pub one_refused : (head floor to block at : ℕ) (p : PostingFields) (low bound : ℕ) (old mid new : ViewState)
+    (owner : Owner)
     (fault : GrowthFault) → Viewed old mid → (IsTrue old.base.tells → mid.planned at ≡ None)
-    → PutsRecord at (posting_record p) owner mid new (Err fault) → PlacesPosting head floor to block p low bound old new (Err fault)
+    → PutsRecord at (posting_record p) owner mid new (Err fault)
+    → PlacesPosting head floor to block p low bound old new (Err fault)
 one_refused head floor to block at p low bound old mid new owner (Fault ReadFault) viewed free put = absurd put.ends
 one_refused head floor to block at p low bound old mid new owner (Fault (Tampered e)) viewed free put = record {
   called = called_on viewed.called put.base;

@@ -1,9 +1,8 @@
 -- Which cells an insertion plans.
-use Rattle.std.proofs.Common.{◌≡◌, ◌≢◌, ◌<◌, ◌≤◌, ◌+◌, ◌⊎◌, ⊎_elim, inl, inr, ℕ, Option, Some, None, Result, Ok, Err, refl, ap, sym, subst, arith, ◌∙◌}
+use Rattle.std.proofs.Common.{◌≡◌, ◌≢◌, ◌<◌, ◌≤◌, ◌+◌, ◌⊎◌, ⊎_elim, inr, ℕ, Option, Some, None, Result, Ok, Err, ap, sym, subst, arith, ◌∙◌}
 use Rattle.std.specs.Prelude.{IsTrue}
 use Rattle.cell_types.specs.Image.{Image}
 use Rattle.cell_types.specs.declared.record_cell.RecordCell.{RecordCell}
-use Rattle.cell_types.specs.declared.record_cell.RecordCell.TheVariants.{Jump}
 use Rattle.std.proofs.lemmas.Option.{none-some}
 use Rattle.stored_documents.specs.Volumes.{Holds}
 use Rattle.stored_documents.proofs.Extending.{blank_before}
@@ -72,7 +71,8 @@ pub planned_alone : (head floor to : ℕ) (p : PostingFields) (old new : ViewSta
     → spot.block + 256 ≤ to → (spot.block ≡ head) ⊎ (floor ≤ spot.block)
     → (IsTrue old.base.tells → old.image (spot.block + spot.place) ≡ None)
     → ((cell : ℕ) → to ≤ cell → old.planned cell ≡ None)
-    → PutsRecord (spot.block + spot.place) (posting_record p) (record { head = head; base = spot.block }) old new (Ok tt)
+    → PutsRecord (spot.block + spot.place) (posting_record p) (record { head = head; base = spot.block }) old new
+    (Ok tt)
     → HasPlanned head floor to p spot old new
 planned_alone head floor to p old new spot in_places before lies blank free put = record {
   in_places = in_places;
@@ -95,19 +95,22 @@ planned_alone head floor to p old new spot in_places before lies blank free put 
 }
 
 -- the posting and a pointer to its block
-module _ (head floor to home level digit : ℕ) (p : PostingFields) (old mid new : ViewState) (spot : Spot) (viewed : Viewed old mid)
+module _ (head floor to home level digit : ℕ) (p : PostingFields) (old mid new : ViewState) (spot : Spot)
+    (viewed : Viewed old mid)
     (in_places : spot.place < 128) (before : spot.block + 256 ≤ to) (home_before : home + 256 ≤ to)
     (levels : level < 8) (digits : digit ≤ 15) (from : floor ≤ spot.block) (lies : (home ≡ head) ⊎ (floor ≤ home))
     (blank : IsTrue old.base.tells → old.image (spot.block + spot.place) ≡ None)
     (blank_pointer : IsTrue old.base.tells → old.image (pointer_at home level digit) ≡ None)
     (free : (cell : ℕ) → to ≤ cell → old.planned cell ≡ None) where
-  module _ (two : PlansTwo spot (pointer_at home level digit) p (record { head = head; base = spot.block }) (record { head = head; base = home }) mid new) where
+  module _ (two : PlansTwo spot (pointer_at home level digit) p (record { head = head; base = spot.block })
+      (record { head = head; base = home }) mid new) where
     -- the posting was planned first, and the pointer's cell was not planned then
     differ : spot.block + spot.place ≢ pointer_at home level digit
     differ e = none-some two.posting.ends.planned.cell
         (sym two.jump.ends.free ∙ ap two.mid.planned (sym e) ∙ two.posting.ends.planned.stands)
 
-    as_planned : (cell : ℕ) → cell ≢ spot.block + spot.place → cell ≢ pointer_at home level digit → IsAsPlanned old new cell
+    as_planned : (cell : ℕ) → cell ≢ spot.block + spot.place → cell ≢ pointer_at home level digit
+        → IsAsPlanned old new cell
     as_planned cell not_at not_pointer =
         let led = two.jump.others cell not_pointer in
         let put = two.posting.others cell not_at in
@@ -156,10 +159,12 @@ module _ (head floor to home level digit : ℕ) (p : PostingFields) (old mid new
         }
 
   pub planned_both : (result : Result (Option Spot) GrowthFault)
-      → PutsBoth spot (pointer_at home level digit) p (record { head = head; base = spot.block }) (record { head = head; base = home }) mid new result
+      → PutsBoth spot (pointer_at home level digit) p (record { head = head; base = spot.block })
+      (record { head = head; base = home }) mid new result
       → PlannedEnds head floor to p old new result
   planned_both (Ok (Some found)) both =
-      let P : Spot → Type 0 = λ x. HasPlanned head floor to p x old new in subst P (sym both.ends.0) (has_both both.ends.1)
+      let P : Spot → Type 0 = λ x. HasPlanned head floor to p x old new in subst P (sym both.ends.0)
+      (has_both both.ends.1)
   planned_both (Ok None) both = tt
   planned_both (Err fault) both = tt
 

@@ -1,8 +1,8 @@
 -- What is planned for a list stays ready for the next insertion.
-use Rattle.std.proofs.Common.{◌≡◌, ◌≢◌, ◌<◌, ◌≤◌, ◌+◌, ◌*◌, ◌^◌, ◌⊎◌, ⊎_elim, inl, inr, ℕ, List, Option, Some, None, refl, ap, sym, subst, arith, ◌∙◌}
+use Rattle.std.proofs.Common.{◌≡◌, ◌≢◌, ◌<◌, ◌≤◌, ◌+◌, ◌⊎◌, ⊎_elim, inl, inr, ℕ, Option, Some, None, refl, ap, sym, subst, arith, ◌∙◌}
 use Rattle.std.proofs.lemmas.Bool.{cases_eq}
 use Rattle.std.proofs.lemmas.Option.{none-some}
-use Rattle.cell_types.specs.Image.{Image, Extends}
+use Rattle.cell_types.specs.Image.{Extends}
 use Rattle.index_paths.specs.Blocks.{Leads}
 use Rattle.index_paths.specs.Nodes.{AreApart}
 use Rattle.index_paths.proofs.Fronts.{front_on}
@@ -45,7 +45,8 @@ module _ (s t : ViewState) (head floor next key : ℕ) (image : Extends s.image 
     apart = λ cell owner is same_head. own.apart cell owner (whose cell owner is) same_head;
   }
 
-  pub cell_same : (cell base : ℕ) → IsListCell s head floor next key cell base → IsListCell t head floor next key cell base
+  pub cell_same : (cell base : ℕ) → IsListCell s head floor next key cell base
+      → IsListCell t head floor next key cell base
   cell_same = cell_on s t head floor next key next key image (omega arith) (omega arith)
       (λ cell owner is. ap (λ (f : ℕ → Option Owner). f cell) owners ∙ is)
 
@@ -75,7 +76,8 @@ module _ {s t : ViewState} (viewed : Viewed s t) where
   reached_viewed head floor block = reached_as s t head floor viewed.lower viewed.fresh block
 
   pub ready_viewed : (head floor next key : ℕ) → IsReady s head floor next key → IsReady t head floor next key
-  ready_viewed head floor next key = ready_same s t head floor next key viewed.image viewed.lower viewed.fresh viewed.owners
+  ready_viewed head floor next key = ready_same s t head floor next key viewed.image viewed.lower viewed.fresh
+      viewed.owners
 
   pub at_viewed : {head floor next key block : ℕ} → IsAt s head floor next key block → IsAt t head floor next key block
   at_viewed {head} {floor} {next} {key} {block} =
@@ -153,7 +155,8 @@ module _ (s t : ViewState) (head floor next next' key key' at base : ℕ) (mine 
         let P : ℕ → Type 0 = λ n. IsOwnBlock t head n in
         subst P (sym (base_of new.1)) (own_block_put base (inl refl) own_block))
         (λ before. own_block_put owner.base
-        (⊎_elim (λ same. inl same) (λ apart. inr (turned owner.base base apart)) (own_block.apart cell owner before is_head))
+        (⊎_elim (λ same. inl same) (λ apart. inr (turned owner.base base apart))
+        (own_block.apart cell owner before is_head))
         (ready.named cell owner before is_head))
         (whose_before cell owner is);
     reached = λ cell owner is is_head. ⊎_elim

@@ -1,5 +1,5 @@
 -- Rows of postings that are inserted one after another.
-use Rattle.std.proofs.Common.{◌≡◌, ◌<◌, ◌≤◌, ◌+◌, ◌-◌, ◌*◌, ◌⊎◌, ⊎_elim, ℕ, None, Ok, ap, sym, subst, arith, ◌∙◌}
+use Rattle.std.proofs.Common.{◌≡◌, ◌<◌, ◌≤◌, ◌+◌, ◌-◌, ◌*◌, ◌⊎◌, ⊎_elim, ℕ, None, Ok, ap, subst, arith, ◌∙◌}
 use Rattle.std.specs.Prelude.{IsTrue}
 use Rattle.index_paths.specs.Blocks.{PostingFields}
 use Rattle.worm_device.specs.Views.{ViewState, IsView}
@@ -39,7 +39,8 @@ row_goes_on s t pool later first count done p e so_far less key taken inserts = 
   most = omega (arith, less);
   fresh = inserts.fresh ∙ so_far.fresh;
   next = ⊎_elim
-      (λ (same : later ≡ pool). let h : later.next ≡ pool.next = ap (λ (x : Pool). x.next) same in omega (arith, h, so_far.next))
+      (λ (same : later ≡ pool). let h : later.next ≡ pool.next =
+      ap (λ (x : Pool). x.next) same in omega (arith, h, so_far.next))
       (λ (took : TakesFront pool later 256 pool.next). omega (arith, took.next, so_far.next)) taken;
   room = ⊎_elim
       (λ (same : later ≡ pool).
@@ -48,5 +49,6 @@ row_goes_on s t pool later first count done p e so_far less key taken inserts = 
       omega (arith, h, k, so_far.room, less))
       (λ (took : TakesFront pool later 256 pool.next). omega (arith, took.next, took.end, so_far.room, less)) taken;
   free = inserts.ends.4;
-  ready = λ tells. (inserts.ends.5 (subst IsTrue inserts.called.tells tells)).ready (first + 256 * (done + 1)) (omega (arith, key));
+  ready = λ tells. (inserts.ends.5 (subst IsTrue inserts.called.tells tells)).ready (first + 256 * (done + 1))
+      (omega (arith, key));
 }

@@ -1,5 +1,5 @@
 -- A list of which nothing is planned, and that it stays so.
-use Rattle.std.proofs.Common.{◌≡◌, ◌≢◌, ◌<◌, ◌≤◌, ◌+◌, ◌⊎◌, ⊎_elim, ℕ, Some, None, ap, sym, arith, ◌∙◌}
+use Rattle.std.proofs.Common.{◌≡◌, ◌≢◌, ◌<◌, ◌≤◌, ◌+◌, ⊎_elim, ℕ, Some, None, ap, sym, arith, ◌∙◌}
 use Rattle.std.proofs.lemmas.Bool.{cases_eq}
 use Rattle.std.proofs.lemmas.Option.{none-some}
 use Rattle.cell_types.specs.declared.record_cell.RecordCell.{RecordCell}
@@ -29,7 +29,8 @@ untouched_ready s head floor next key untouched = record {
   inside = λ cell owner is same. absurd (untouched.none cell owner is same);
 }
 
-module _ (head floor : ℕ) (old new : ViewState) (other : ℕ) (differ : other ≢ head) (apart : AreApart other 256 head 256)
+module _ (head floor : ℕ) (old new : ViewState) (other : ℕ) (differ : other ≢ head)
+    (apart : AreApart other 256 head 256)
     (before : other + 256 ≤ floor) where
   -- a cell that was planned for another list is not this one's
   not_mine : {r : RecordCell} {at : ℕ} → IsPlannedFor head floor r at old new → (cell : ℕ) (owner : Owner) → cell ≡ at
@@ -40,7 +41,8 @@ module _ (head floor : ℕ) (old new : ViewState) (other : ℕ) (differ : other 
       differ (sym is_other ∙ ap (λ (x : Owner). x.head) owner_is)
 
   -- nor does it lie in this one's first block
-  not_in_first : {r : RecordCell} {at : ℕ} → IsPlannedFor head floor r at old new → (cell : ℕ) → cell ≡ at → other ≤ cell
+  not_in_first : {r : RecordCell} {at : ℕ} → IsPlannedFor head floor r at old new → (cell : ℕ) → cell ≡ at
+      → other ≤ cell
       → cell < other + 256 → ⊥
   not_in_first planned cell same from to = ⊎_elim
       (λ (first : planned.block ≡ head). ⊎_elim

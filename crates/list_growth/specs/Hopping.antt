@@ -1,10 +1,10 @@
 -- What the walk along a list does, partly over planned cells: hops from block to block, and the search for the tail.
-use Rattle.std.specs.Prelude.{◌≡◌, ◌<◌, ◌≤◌, ◌+◌, ◌%◌, ◌⊎◌, ℕ, List, Option, Some, None, Result, Ok, Err, IsTrue, ⊤}
+use Rattle.std.specs.Prelude.{◌≡◌, ◌<◌, ◌≤◌, ◌+◌, ◌⊎◌, ℕ, List, Option, Some, None, Result, Ok, Err, IsTrue, ⊤}
 use Rattle.cell_types.specs.Image.{Image}
 use Rattle.cell_types.specs.Records.{record_bytes}
 use Rattle.cell_types.specs.declared.refusal.Fault.{Fault}
 use Rattle.cell_types.specs.declared.refusal.Fault.TheVariants.{Tampered, ReadFault}
-use Rattle.index_paths.specs.Blocks.{PostingFields, posting_record, InFront, IsFull, InSpan, Trail, Leads, pointer_at}
+use Rattle.index_paths.specs.Blocks.{PostingFields, posting_record, IsFull, InSpan, Trail, Leads, pointer_at}
 use Rattle.index_paths.specs.Nodes.{AreApart}
 use Rattle.tamper_rules.specs.declared.numbers.TheConstants.{FAKE_POSTING, LOST_POINTER}
 use Rattle.worm_device.specs.Counts.{IsStill, Rose}
@@ -117,7 +117,8 @@ pub record FindsTail (head floor next key home : ℕ) (old new : ViewState) (res
 
 -- the block with a blank place is behind the block at which the search began
 abbrev pub TailLeads : ℕ → ℕ → ℕ → ViewState → ViewState → Result (Option Spot) Fault → Type 0
-TailLeads floor next block old new (Ok (Some spot)) = IsTrue old.base.tells → Leads new.image floor next spot.block block
+TailLeads floor next block old new (Ok (Some spot)) = IsTrue old.base.tells
+    → Leads new.image floor next spot.block block
 TailLeads floor next block old new (Ok None) = ⊤
 TailLeads floor next block old new (Err fault) = ⊤
 

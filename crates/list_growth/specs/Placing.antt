@@ -16,7 +16,8 @@ use Rattle.list_growth.specs.declared.entries.Spot.{Spot}
 
 -- What was shown is shown still, the posting has a trail from the block, whose front has a key of this span, and
 -- postings with greater keys may be inserted.
-pub record IsPlaced (head floor to block : ℕ) (p : PostingFields) (low bound at : ℕ) (old new : ViewState) : Type 0 where
+pub record IsPlaced (head floor to block : ℕ) (p : PostingFields) (low bound at : ℕ)
+    (old new : ViewState) : Type 0 where
   pub shown : Extends old.image new.image
   pub trail : Trail new.image floor to at p block
   pub has : HasKeyIn new.image block low bound

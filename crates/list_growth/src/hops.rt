@@ -68,8 +68,8 @@ pub(crate) fn late_posting(late: &Entry) -> Fault
 }
 
 /// The tail of a list, searched from a full block with the greatest key l on, behind its pointers for keys below the
-/// bound: a blank place of the last block, or `None` where that block is full. The home is the block at which the search
-/// began.
+/// bound: a blank place of the last block, or `None` where that block is full. The home is the block at which the
+/// search began.
 pub(crate) fn tail<V: View>(
     overlay: &mut Overlay<V>,
     head: u32,

@@ -64,8 +64,8 @@ pub fn insert<V: View>(
     }
 }
 
-/// Inserts a posting in or behind a block, to which a pointer for these keys led. `None` where the block is full and has
-/// none of them.
+/// Inserts a posting in or behind a block, to which a pointer for these keys led. `None` where the block is full and
+/// has none of them.
 fn insert_from<V: View>(
     overlay: &mut Overlay<V>,
     pool: &mut Pool,

@@ -1,5 +1,5 @@
 -- Each ending, by the lemma of its kind.
-use Rattle.std.proofs.Common.{rules, ◌≡◌, ◌<◌, ◌≤◌, ◌+◌, ◌⊎◌, inl, inr, ℕ, arith, sym, subst, Some, None}
+use Rattle.std.proofs.Common.{inl, inr, arith, sym, subst}
 use Rattle.std.specs.Prelude.{IsTrue}
 use Rattle.cell_types.specs.Image.{Image}
 use Rattle.stored_documents.proofs.Extending.{holds_on, blank_before}
@@ -21,7 +21,9 @@ returns-in-Err-clause-finds g t c =
     let viewed = c.greatest_pointer.ensures.viewed in
     record {
       viewed = viewed;
-      ends = greatest_fault (of_overlay g.V.View.seen c.args.overlay.now) (of_overlay g.V.View.seen c.greatest_pointer.new.view) (is_view g.V.View.seen g.met.V.View.proper c.greatest_pointer.new.view)
+      ends = greatest_fault (of_overlay g.V.View.seen c.args.overlay.now)
+          (of_overlay g.V.View.seen c.greatest_pointer.new.view)
+          (is_view g.V.View.seen g.met.V.View.proper c.greatest_pointer.new.view)
           c.args.head c.args.floor c.args.next c.args.key c.args.block (λ tells. at_viewed viewed (c.requires.at tells))
           c.args.l c.args.bound c.in-Err.fault c.in-Err.ensures.ends;
     }
@@ -35,7 +37,10 @@ check_target-requires-clause-at g t c = λ tells.
 pub returns-in-Err-check_target-clause-finds : goal.returns-in-Err-check_target-clause-finds
 returns-in-Err-check_target-clause-finds g t c = record {
   viewed = c.greatest_pointer.ensures.viewed;
-  ends = check_refused c.args.head c.args.floor c.args.next c.args.key c.args.block c.in-Some.target c.in-Some.span (of_overlay g.V.View.seen c.args.overlay.now) (of_overlay g.V.View.seen c.greatest_pointer.new.view) c.greatest_pointer.ensures.viewed c.in-Err-check_target.fault c.in-Err-check_target.ensures;
+  ends = check_refused c.args.head c.args.floor c.args.next c.args.key c.args.block c.in-Some.target c.in-Some.span
+      (of_overlay g.V.View.seen c.args.overlay.now)
+      (of_overlay g.V.View.seen c.greatest_pointer.new.view) c.greatest_pointer.ensures.viewed
+      c.in-Err-check_target.fault c.in-Err-check_target.ensures;
 }
 
 -- the target meets the home
@@ -45,8 +50,12 @@ returns-then-from-2-clause-finds g t c =
     let found = (rw c.in-Some.is at c.in-Ok.ensures).ends in
     record {
       viewed = viewed;
-      ends = named_fault c.args.head c.args.floor c.args.key c.args.block c.in-Some.span.level c.in-Some.span.digit c.in-Some.target (of_overlay g.V.View.seen c.args.overlay.now) (of_overlay g.V.View.seen c.greatest_pointer.new.view) c.leads_nowhere.result c.leads_nowhere.ensures (λ e names tells.
-          meets_home (of_overlay g.V.View.seen c.greatest_pointer.new.view) (is_view g.V.View.seen g.met.V.View.proper c.greatest_pointer.new.view)
+      ends = named_fault c.args.head c.args.floor c.args.key c.args.block c.in-Some.span.level c.in-Some.span.digit
+          c.in-Some.target (of_overlay g.V.View.seen c.args.overlay.now)
+          (of_overlay g.V.View.seen c.greatest_pointer.new.view) c.leads_nowhere.result c.leads_nowhere.ensures
+          (λ e names tells.
+          meets_home (of_overlay g.V.View.seen c.greatest_pointer.new.view)
+          (is_view g.V.View.seen g.met.V.View.proper c.greatest_pointer.new.view)
           c.args.head c.args.floor c.args.next c.args.key c.args.block (at_viewed viewed (c.requires.at tells))
           c.in-Some.span c.args.l c.in-Some.target found.is (found.led tells)
           (rw c.in_default-check_target.is at c.check_target.ensures) (subst IsTrue (sym viewed.called.tells) tells)
@@ -63,8 +72,12 @@ returns-in-Err-first_at_least-clause-finds g t c =
     let checked = rw c.in_default-check_target.is at c.check_target.ensures in
     record {
       viewed = viewed_then viewed c.first_at_least.ensures.viewed;
-      ends = fault_then c.args.head c.args.floor c.args.key (of_overlay g.V.View.seen c.args.overlay.now) (of_overlay g.V.View.seen c.greatest_pointer.new.view) (of_overlay g.V.View.seen c.first_at_least.new.view) viewed c.in-Err-first_at_least.fault
-          (front_fault (of_overlay g.V.View.seen c.greatest_pointer.new.view) (of_overlay g.V.View.seen c.first_at_least.new.view) (is_view g.V.View.seen g.met.V.View.proper c.first_at_least.new.view)
+      ends = fault_then c.args.head c.args.floor c.args.key (of_overlay g.V.View.seen c.args.overlay.now)
+          (of_overlay g.V.View.seen c.greatest_pointer.new.view)
+          (of_overlay g.V.View.seen c.first_at_least.new.view) viewed c.in-Err-first_at_least.fault
+          (front_fault (of_overlay g.V.View.seen c.greatest_pointer.new.view)
+          (of_overlay g.V.View.seen c.first_at_least.new.view)
+          (is_view g.V.View.seen g.met.V.View.proper c.first_at_least.new.view)
           c.args.head c.args.floor c.args.next c.args.key c.in-Some.target
           (λ tells. at_viewed c.first_at_least.ensures.viewed
           (at_target (at_viewed viewed (c.requires.at (subst IsTrue viewed.called.tells tells))) (checked.2 tells)))
@@ -78,12 +91,17 @@ returns-in-At-clause-finds g t c =
     let checked = rw c.in_default-check_target.is at c.check_target.ensures in
     record {
       viewed = viewed_then viewed c.first_at_least.ensures.viewed;
-      ends = fault_then c.args.head c.args.floor c.args.key (of_overlay g.V.View.seen c.args.overlay.now) (of_overlay g.V.View.seen c.greatest_pointer.new.view) (of_overlay g.V.View.seen c.first_at_least.new.view) viewed c.late_posting.result
-          (late_fault (of_overlay g.V.View.seen c.greatest_pointer.new.view) (of_overlay g.V.View.seen c.first_at_least.new.view) (is_view g.V.View.seen g.met.V.View.proper c.first_at_least.new.view)
+      ends = fault_then c.args.head c.args.floor c.args.key (of_overlay g.V.View.seen c.args.overlay.now)
+          (of_overlay g.V.View.seen c.greatest_pointer.new.view)
+          (of_overlay g.V.View.seen c.first_at_least.new.view) viewed c.late_posting.result
+          (late_fault (of_overlay g.V.View.seen c.greatest_pointer.new.view)
+          (of_overlay g.V.View.seen c.first_at_least.new.view)
+          (is_view g.V.View.seen g.met.V.View.proper c.first_at_least.new.view)
           c.args.head c.args.floor c.args.next c.args.key c.in-Some.target
           (λ tells. at_viewed c.first_at_least.ensures.viewed
           (at_target (at_viewed viewed (c.requires.at (subst IsTrue viewed.called.tells tells))) (checked.2 tells)))
-          c.in-At.late (rw c.in-At.is at c.in-Ok-first_at_least.ensures).ends c.late_posting.result c.late_posting.ensures);
+          c.in-At.late (rw c.in-At.is at c.in-Ok-first_at_least.ensures).ends c.late_posting.result
+          c.late_posting.ensures);
     }
 
 -- a blank place
@@ -128,13 +146,19 @@ returns-then-from-span-clause-finds g t c =
     let read = (rw c.in-Full.is at c.in-Ok-first_at_least.ensures).ends in
     record {
       viewed = viewed_then viewed looked;
-      ends = named_fault c.args.head c.args.floor c.args.key c.args.block c.in-Some.span.level c.in-Some.span.digit c.in-Some.target (of_overlay g.V.View.seen c.args.overlay.now) (of_overlay g.V.View.seen c.first_at_least.new.view) c.leads_nowhere-then-from-span.result c.leads_nowhere-then-from-span.ensures (λ e names tells.
+      ends = named_fault c.args.head c.args.floor c.args.key c.args.block c.in-Some.span.level c.in-Some.span.digit
+          c.in-Some.target (of_overlay g.V.View.seen c.args.overlay.now)
+          (of_overlay g.V.View.seen c.first_at_least.new.view) c.leads_nowhere-then-from-span.result
+          c.leads_nowhere-then-from-span.ensures (λ e names tells.
           let told = subst IsTrue (sym viewed.called.tells) tells in
-          no_key_there (of_overlay g.V.View.seen c.first_at_least.new.view) (is_view g.V.View.seen g.met.V.View.proper c.first_at_least.new.view)
+          no_key_there (of_overlay g.V.View.seen c.first_at_least.new.view)
+          (is_view g.V.View.seen g.met.V.View.proper c.first_at_least.new.view)
           c.args.head c.args.floor c.args.next c.args.key c.args.block
           (at_viewed looked (at_viewed viewed (c.requires.at tells)))
           c.in-Some.span c.args.l c.in-Some.target found.is (holds_on looked.image (found.led tells))
-          (check_on (of_overlay g.V.View.seen c.greatest_pointer.new.view) (of_overlay g.V.View.seen c.first_at_least.new.view) c.args.head c.args.floor c.args.next c.args.key c.args.block c.in-Some.target c.in-Some.span looked checked) (subst IsTrue (sym looked.called.tells) told)
+          (check_on (of_overlay g.V.View.seen c.greatest_pointer.new.view)
+          (of_overlay g.V.View.seen c.first_at_least.new.view) c.args.head c.args.floor c.args.next c.args.key
+          c.args.block c.in-Some.target c.in-Some.span looked checked) (subst IsTrue (sym looked.called.tells) told)
           (key_on looked.image (key_on viewed.image (c.requires.full tells)))
           (λ place p below front. omega (
             arith,
@@ -152,7 +176,8 @@ tail-requires g t c κs within =
     let found = (rw c.in-Some.is at c.in-Ok.ensures).ends in
     let checked = rw c.in_default-check_target.is at c.check_target.ensures in
     let read = (rw c.in-Full.is at c.in-Ok-first_at_least.ensures).ends in
-    let falls = tail_level_falls c.args.l c.args.bound c.args.level c.in-Some.span found.is found.below c.requires.narrow in (
+    let falls = tail_level_falls c.args.l c.args.bound c.args.level c.in-Some.span found.is found.below
+    c.requires.narrow in (
       omega (arith, falls, c.decreases),
       (
         within,
@@ -167,12 +192,14 @@ tail-requires g t c κs within =
                 (
                   omega (arith, c.requires.fresh, viewed.fresh, looked.fresh),
                   (
-                    (λ told. at_viewed looked (at_target (at_viewed viewed (c.requires.at (subst IsTrue both.called.tells told)))
+                    (λ told. at_viewed looked (at_target (at_viewed viewed
+                        (c.requires.at (subst IsTrue both.called.tells told)))
                         (checked.2 (subst IsTrue looked.called.tells told)))),
                     (
                       (λ told. read.1 (subst IsTrue looked.called.tells told)),
                       (
-                        (λ told. own_block_viewed both c.args.head c.args.home (c.requires.home_own (subst IsTrue both.called.tells told))),
+                        (λ told. own_block_viewed both c.args.head c.args.home
+                            (c.requires.home_own (subst IsTrue both.called.tells told))),
                         (λ told. reached_viewed both c.args.head c.args.floor c.args.home
                             (c.requires.home_reached (subst IsTrue both.called.tells told))),
                       ),
@@ -189,7 +216,11 @@ tail-requires g t c κs within =
 -- what the search behind the target finds
 pub returns-clause-finds : goal.returns-clause-finds
 returns-clause-finds g t c =
-    tail_then c.args.head c.args.floor c.args.next c.args.key c.args.home (of_overlay g.V.View.seen c.args.overlay.now) (of_overlay g.V.View.seen c.first_at_least.new.view) (of_overlay g.V.View.seen c.tail.new.overlay) (viewed_then c.greatest_pointer.ensures.viewed c.first_at_least.ensures.viewed) c.tail.result c.tail.ensures.finds
+    tail_then c.args.head c.args.floor c.args.next c.args.key c.args.home
+    (of_overlay g.V.View.seen c.args.overlay.now) (of_overlay g.V.View.seen c.first_at_least.new.view)
+    (of_overlay g.V.View.seen c.tail.new.overlay)
+    (viewed_then c.greatest_pointer.ensures.viewed c.first_at_least.ensures.viewed) c.tail.result
+    c.tail.ensures.finds
 
 pub returns-in-Open-clause-leads : goal.returns-in-Open-clause-leads
 returns-in-Open-clause-leads g t c = λ tells.
@@ -203,7 +234,11 @@ returns-clause-leads g t c =
     let found = (rw c.in-Some.is at c.in-Ok.ensures).ends in
     let checked = rw c.in_default-check_target.is at c.check_target.ensures in
     let looked = c.first_at_least.ensures.viewed in
-    tail_leads c.args.head c.args.floor c.args.next c.args.key c.args.home c.args.block c.in-Some.target c.args.l c.in-Some.span (of_overlay g.V.View.seen c.args.overlay.now) (of_overlay g.V.View.seen c.first_at_least.new.view) (of_overlay g.V.View.seen c.tail.new.overlay) found.is checked.0 checked.1 (viewed_then c.greatest_pointer.ensures.viewed looked)
+    tail_leads c.args.head c.args.floor c.args.next c.args.key c.args.home c.args.block c.in-Some.target c.args.l
+    c.in-Some.span (of_overlay g.V.View.seen c.args.overlay.now)
+    (of_overlay g.V.View.seen c.first_at_least.new.view)
+    (of_overlay g.V.View.seen c.tail.new.overlay) found.is checked.0 checked.1
+    (viewed_then c.greatest_pointer.ensures.viewed looked)
     (λ tells. holds_on looked.image (found.led tells)) c.tail.result c.tail.ensures.finds c.tail.ensures.leads
 
 -- no pointer is written: the block is the last
@@ -219,7 +254,8 @@ returns-in-Open-clause-last g t c = λ tells still head at q top there less trai
     let found = (rw c.in-Some.is at c.in-Ok.ensures).ends in
     let read = (rw c.in-Open.is at c.in-Ok-first_at_least.ensures).ends in
     let same = quiet_image viewed _ looked.called.foreign_writes still in
-    let led = subst (λ (i : Image). HasPointer i c.args.block c.in-Some.span.level c.in-Some.span.digit c.in-Some.target)
+    let led = subst (λ (i : Image). HasPointer i c.args.block c.in-Some.span.level c.in-Some.span.digit
+    c.in-Some.target)
     same (found.led tells) in
     let h = passes c.in-Some.span found.is (c.requires.full tells) led (found.blank tells) top there less trail in
     open_last c.in-Open.place read.0
@@ -229,7 +265,9 @@ pub returns-clause-last : goal.returns-clause-last
 returns-clause-last g t c =
     let found = (rw c.in-Some.is at c.in-Ok.ensures).ends in
     let looked = c.first_at_least.ensures.viewed in
-    tail_last_then c.args.floor c.args.next c.args.block c.in-Some.target c.args.bound c.min-below.result c.args.l c.in-Some.span (of_overlay g.V.View.seen c.args.overlay.now) (of_overlay g.V.View.seen c.first_at_least.new.view) (of_overlay g.V.View.seen c.tail.new.overlay)
+    tail_last_then c.args.floor c.args.next c.args.block c.in-Some.target c.args.bound c.min-below.result c.args.l
+    c.in-Some.span (of_overlay g.V.View.seen c.args.overlay.now)
+    (of_overlay g.V.View.seen c.first_at_least.new.view) (of_overlay g.V.View.seen c.tail.new.overlay)
     found.is (viewed_then c.greatest_pointer.ensures.viewed looked) c.tail.ensures.finds.viewed.called.foreign_writes
     c.requires.full (λ tells. holds_on looked.image (found.led tells)) (λ tells. found.blank tells)
     (λ k high low. omega (arith, high, low, c.min-below.ensures, c.requires.bound)) c.tail.result c.tail.ensures.last

@@ -1,5 +1,5 @@
 -- Outside, planned, new, met, or below.
-use Rattle.std.proofs.Common.{rules, ◌≡◌, ◌<◌, ◌≤◌, ◌+◌, ◌⊎◌, inl, inr, ℕ, arith, sym, ◌∙◌, subst, Some, None}
+use Rattle.std.proofs.Common.{◌≡◌, ◌≤◌, ◌+◌, inl, inr, arith, sym, ◌∙◌, subst, Some, None}
 use Rattle.worm_device.specs.Overlays.{of_overlay}
 use Rattle.list_growth.proofs.Hopping.{check_fault, outside_hop, new_hop, met_hop, reached_below, owned_is_planned, planned_jump}
 use Rattle.list_growth.proofs.Showing.{is_view}
@@ -13,7 +13,8 @@ returns-then-target-floor g c =
     let view = is_view g.V.View.seen g.met.V.View.proper c.args.overlay.now in
     check_fault s c.args.head c.args.floor c.args.next c.args.key c.args.block c.args.target c.args.span.now
     c.leads_nowhere.result c.leads_nowhere.ensures
-    (λ e names tells. outside_hop s view c.args.head c.args.floor c.args.next c.args.key c.args.block (c.requires.at tells)
+    (λ e names tells. outside_hop s view c.args.head c.args.floor c.args.next c.args.key c.args.block
+    (c.requires.at tells)
     c.args.span.now.level c.args.span.now.digit c.args.target
     c.requires.level c.requires.some c.requires.digit (c.requires.jump tells) c.requires.fresh
     (elim c.then-target-floor.branch [
@@ -30,8 +31,10 @@ returns-in-Some g c = (
   λ tells.
       let s = of_overlay g.V.View.seen c.args.overlay.now in
       let view = is_view g.V.View.seen g.met.V.View.proper c.args.overlay.now in
-      let owns = subst (λ n. s.owners n ≡ Some c.in-Some._owner) c.pointer_cell.ensures (sym c.owner.ensures ∙ c.in-Some.is) in
-      let planned = owned_is_planned s view c.args.head c.args.floor c.args.next c.args.key c.args.block (c.requires.at tells)
+      let owns = subst (λ n. s.owners n ≡ Some c.in-Some._owner) c.pointer_cell.ensures
+      (sym c.owner.ensures ∙ c.in-Some.is) in
+      let planned = owned_is_planned s view c.args.head c.args.floor c.args.next c.args.key c.args.block
+      (c.requires.at tells)
       _ c.in-Some._owner (omega arith) (omega (arith, c.requires.level, c.requires.digit)) owns in
       let on = planned_jump s view c.args.head c.args.floor c.args.next c.args.key c.args.block (c.requires.at tells)
       c.args.span.now.level c.args.span.now.digit c.args.target
@@ -79,7 +82,8 @@ returns g c = (
       let free = view.unplanned _ none in
       let old : c.args.target + 256 ≤ s.fresh =
       omega (arith, c.if-from-2.false, c.from-3.ensures, c.fresh.ensures, c.from-2.ensures) in
-      let below = reached_below s view c.args.head c.args.floor c.args.next c.args.key c.args.block (c.requires.at tells)
+      let below = reached_below s view c.args.head c.args.floor c.args.next c.args.key c.args.block
+      (c.requires.at tells)
       c.args.span.now.level c.args.span.now.digit c.args.target
       c.requires.level c.requires.some c.requires.digit (c.requires.jump tells) free
       (omega (arith, c.if-target-floor.false)) old in

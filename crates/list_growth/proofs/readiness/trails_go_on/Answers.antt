@@ -1,5 +1,5 @@
 -- The law, for all images.
-use Rattle.std.proofs.Common.{◌≤◌, arith}
+use Rattle.std.proofs.Common.{arith}
 use Rattle.index_paths.proofs.Trails.{trail_on, trail_wider}
 use Rattle.list_growth.proofs.readiness.trails_go_on.Goals as goal
 

@@ -1,5 +1,5 @@
 -- One span before.
-use Rattle.std.proofs.Common.{rules, ◌≡◌, arith, ℕ, sym, subst}
+use Rattle.std.proofs.Common.{arith, ℕ, sym, subst}
 use Rattle.std.specs.Prelude.{IsTrue}
 use Rattle.stored_documents.proofs.Extending.{blank_before}
 use Rattle.worm_device.proofs.Resting.{viewed_then}
@@ -17,9 +17,11 @@ loop-fault-preserved g c =
       viewed = viewed;
       is = c.before-now.ensures.is c.args.l so_far.is;
       below = omega (arith, c.before-now.ensures.ends, (c.before-now.ensures.is c.args.l so_far.is).high, so_far.below);
-      above = λ tells. subst (λ (n : ℕ). BlankFrom image c.args.block c.args.l n c.args.bound) (sym c.before-now.ensures.ends)
+      above = λ tells. subst (λ (n : ℕ). BlankFrom image c.args.block c.args.l n c.args.bound)
+          (sym c.before-now.ensures.ends)
           (blank_down image c.args.block c.args.l c.args.bound c.loop-fault.now so_far.is
-          (blank_before viewed.image (read.ends (subst IsTrue (sym so_far.viewed.called.tells) tells))) (so_far.above tells));
+          (blank_before viewed.image (read.ends (subst IsTrue (sym so_far.viewed.called.tells) tells)))
+          (so_far.above tells));
     }
 
 -- the first span's pointer is blank too
@@ -34,5 +36,6 @@ returns-then-now-eq1 g c =
       ends = λ tells. blank_below image c.args.block c.args.l c.loop-fault.now.low c.args.bound
           (first_low c.args.l c.loop-fault.now so_far.is c.if-now-eq0.true c.if-now-eq1.true)
           (blank_down image c.args.block c.args.l c.args.bound c.loop-fault.now so_far.is
-          (blank_before viewed.image (read.ends (subst IsTrue (sym so_far.viewed.called.tells) tells))) (so_far.above tells));
+          (blank_before viewed.image (read.ends (subst IsTrue (sym so_far.viewed.called.tells) tells)))
+          (so_far.above tells));
     }

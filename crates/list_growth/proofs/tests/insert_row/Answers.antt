@@ -1,5 +1,5 @@
 -- One after another.
-use Rattle.std.proofs.Common.{rules, ◌≡◌, ◌<◌, ◌≤◌, ◌+◌, ◌*◌, ℕ, arith, sym, subst}
+use Rattle.std.proofs.Common.{ℕ, sym, subst}
 use Rattle.worm_device.specs.Overlays.{of_overlay}
 use Rattle.list_growth.specs.Inserting.{fields_of}
 use Rattle.list_growth.specs.Readiness.{IsReady}
@@ -9,7 +9,8 @@ use Rattle.list_growth.proofs.tests.insert_row.Goals as goal
 
 pub loop-done-init : goal.loop-done-init
 loop-done-init g c =
-    row_begins (of_overlay g.V.View.seen c.args.overlay.now) (is_view g.V.View.seen g.met.V.View.proper c.args.overlay.now)
+    row_begins (of_overlay g.V.View.seen c.args.overlay.now)
+    (is_view g.V.View.seen g.met.V.View.proper c.args.overlay.now)
     c.args.pool.now c.args.first c.args.count c.requires.fresh c.requires.next c.requires.room c.requires.nothing
 
 pub insert-requires-clause-ready : goal.insert-requires-clause-ready
@@ -20,5 +21,6 @@ insert-requires-clause-ready g c = λ tells.
 pub loop-done-preserved : goal.loop-done-preserved
 loop-done-preserved g c =
     row_goes_on (of_overlay g.V.View.seen c.loop-done.overlay) (of_overlay g.V.View.seen c.insert.new.overlay)
-    c.loop-done.pool c.insert.new.pool c.args.first c.args.count c.loop-done.done (fields_of c.posting.result) c.in-Ok.entry
+    c.loop-done.pool c.insert.new.pool c.args.first c.args.count c.loop-done.done
+    (fields_of c.posting.result) c.in-Ok.entry
     c.loop-done.invariant c.loop-done-test.true c.posting.ensures.key c.in-Ok.ensures.pool c.in-Ok.ensures.inserts
