@@ -1,5 +1,20 @@
+mod Adding
 pub mod BelowPlans
 pub mod Costs
 pub mod Greatest
+mod Growing
+mod Hopping
+mod Inserting
 pub mod KeptTrails
+mod Lasting
 pub mod Licence
+mod Naming
+mod Placing
+mod Planned
+mod Readying
+mod Rows
+mod Searching
+mod Showing
+mod Tailing
+mod Unshown
+mod Untouched

@@ -1,6 +1,11 @@
 pub mod Costs
 pub mod Evidence
+pub mod GoingOn
 pub mod Growing
+pub mod Hopping
 pub mod Inserting
 pub mod Licences
+pub mod Meeting
+pub mod Placing
+pub mod Planning
 pub mod Readiness

@@ -1,4 +1,4 @@
-//! What is inserted.
+//! What is inserted, and where.
 
 /// A posting that is to be inserted.
 #[derive(Clone, Copy, Debug, PartialEq, Eq)]
@@ -9,4 +9,13 @@ pub struct NewEntry {
     pub last: u8,
     /// The first six bytes of the term's digest.
     pub tag: [u8; 6],
+}
+
+/// A place of a block.
+#[derive(Clone, Copy)]
+pub(crate) struct Spot {
+    /// The number of the block's first cell.
+    pub block: u32,
+    /// 0 to 127.
+    pub place: u8,
 }

@@ -1,15 +1,23 @@
 //! Inserting a posting.
-ghost use Rattle.std.specs.Prelude.{◌≡◌, ◌<◌, ◌≤◌, ◌+◌, ◌%◌, ◌⊎◌, ℕ, None, IsTrue};
+ghost use Rattle.std.specs.Prelude.{◌≡◌, ◌<◌, ◌≤◌, ◌+◌, ◌%◌, ◌^◌, ◌⊎◌, ℕ, None, IsTrue};
 ghost use Rattle.cell_pool.specs.Grants.{TakesFront, room_of};
+ghost use Rattle.index_paths.specs.Blocks.{pointer_at};
+ghost use Rattle.jump_block.specs.Spans.{IsSpan};
+ghost use Rattle.jump_index.specs.Evidence.{HasFull};
 ghost use Rattle.worm_device.specs.Overlays.{of_overlay};
+ghost use Rattle.list_growth.specs.Hopping.{IsAt};
 ghost use Rattle.list_growth.specs.Inserting.{InsertsPosting, fields_of};
+ghost use Rattle.list_growth.specs.Placing.{GrowEnds, PlacesPosting, PlannedEnds};
 ghost use Rattle.list_growth.specs.Readiness.{IsReady};
 
-use crate::entries::NewEntry;
+use crate::entries::{NewEntry, Spot};
+use crate::hops::{check_target, late_posting, tail};
+use crate::puts::{put_both, put_posting};
 use cell_pool::Pool;
-use jump_block::Entry;
+use jump_block::{Entry, Front, Span, first_at_least, pointer, span};
+use jump_index::leads_nowhere;
 use planned_cells::GrowthFault;
-use worm_device::{Overlay, View};
+use worm_device::{Overlay, Owner, View};
 
 /// Inserts a posting into the list whose first block begins at `head` and whose other blocks lie from `floor` on, the
 /// pool's start, and answers the entry that is planned.
@@ -35,5 +43,164 @@ pub fn insert<V: View>(
     ensures inserts { InsertsPosting head floor pool.old.next pool.new.next (fields_of new_entry)
         (of_overlay V.seen overlay.old) (of_overlay V.seen overlay.new) result }
 {
-    Err(GrowthFault::NoMemory)
+    let all = Span {
+        level: 8,
+        digit: 0,
+        low: 0,
+        high: 1 << 32,
+    };
+    let tag = new_entry.tag;
+    match insert_from(overlay, pool, head, floor, head, all, new_entry) {
+        Ok(Some(spot)) => Ok(Entry {
+            block: spot.block,
+            place: spot.place,
+            key: new_entry.key,
+            last: new_entry.last,
+            tag,
+        }),
+        // No key is below 0, so this is never so.
+        Ok(None) => Err(GrowthFault::NoMemory),
+        Err(fault) => Err(fault),
+    }
+}
+
+/// Inserts a posting in or behind a block, to which a pointer for these keys led. `None` where the block is full and
+/// has none of them.
+fn insert_from<V: View>(
+    overlay: &mut Overlay<'_, V>,
+    pool: &mut Pool,
+    head: u32,
+    floor: u32,
+    block: u32,
+    within: Span,
+    entry: NewEntry,
+) -> Result<Option<Spot>, GrowthFault>
+    requires well_formed { entry.key % 256 ≤ entry.last }
+    requires low { within.low ≤ entry.key }
+    requires high { entry.key < within.high }
+    requires narrow { within.high ≤ within.low + 16 ^ within.level }
+    requires head { head + 256 ≤ floor }
+    requires lies { (block ≡ head) ⊎ (floor ≤ block) }
+    requires before { block + 256 ≤ pool.old.next }
+    requires room { 256 ≤ room_of pool.old }
+    requires floor { floor ≤ pool.old.next }
+    requires fresh { (of_overlay V.seen overlay.old).fresh ≤ pool.old.next }
+    requires free { (cell : ℕ) → pool.old.next ≤ cell → (of_overlay V.seen overlay.old).planned cell ≡ None }
+    requires at { IsTrue (of_overlay V.seen overlay.old).base.tells →
+        IsAt (of_overlay V.seen overlay.old) head floor pool.old.next entry.key block }
+    ensures pool { (pool.new ≡ pool.old) ⊎ TakesFront pool.old pool.new 256 pool.old.next }
+    ensures places { PlacesPosting head floor pool.new.next block (fields_of entry) within.low within.high
+        (of_overlay V.seen overlay.old) (of_overlay V.seen overlay.new) result }
+    ensures grows { GrowEnds floor pool.old.next pool.new.next block (fields_of entry)
+        (of_overlay V.seen overlay.old) (of_overlay V.seen overlay.new) result }
+    ensures planned { PlannedEnds head floor pool.new.next (fields_of entry)
+        (of_overlay V.seen overlay.old) (of_overlay V.seen overlay.new) result }
+{
+    let _end = pool.end;
+    let first = match first_at_least(overlay, block, entry.key) {
+        Ok(first) => first,
+        Err(fault) => return Err(GrowthFault::Fault(fault)),
+    };
+    let l = match first {
+        Front::At(late) => return Err(GrowthFault::Fault(late_posting(&late))),
+        Front::Open(place, _) => {
+            let at = block + u32::from(place);
+            return match put_posting(overlay, at, Owner { head, base: block }, entry) {
+                Ok(()) => Ok(Some(Spot { block, place })),
+                Err(fault) => Err(fault),
+            };
+        }
+        Front::Full(l) => l,
+    };
+    if u64::from(l) < within.low {
+        return Ok(None);
+    }
+    let to = span(l, entry.key);
+    let led = match pointer(overlay, block, to.level, to.digit) {
+        Ok(led) => led,
+        Err(fault) => return Err(GrowthFault::Fault(fault)),
+    };
+    let Some(target) = led else {
+        return insert_behind(overlay, pool, head, floor, block, l, within, to, entry);
+    };
+    if let Err(fault) = check_target(
+        overlay, head, floor, pool.next, entry.key, block, &to, target,
+    ) {
+        return Err(GrowthFault::Fault(fault));
+    }
+    match insert_from(overlay, pool, head, floor, target, to, entry) {
+        Ok(Some(spot)) => Ok(Some(spot)),
+        Ok(None) => Err(GrowthFault::Fault(leads_nowhere(block, &to, target))),
+        Err(fault) => Err(fault),
+    }
+}
+
+/// Inserts a posting behind a full block, with the greatest key l, whose pointer for it is blank: into the list's tail,
+/// or where that is full into a new block.
+fn insert_behind<V: View>(
+    overlay: &mut Overlay<'_, V>,
+    pool: &mut Pool,
+    head: u32,
+    floor: u32,
+    block: u32,
+    l: u32,
+    within: Span,
+    to: Span,
+    entry: NewEntry,
+) -> Result<Option<Spot>, GrowthFault>
+    requires well_formed { entry.key % 256 ≤ entry.last }
+    requires span { IsSpan l to }
+    requires from { to.low ≤ entry.key }
+    requires below { entry.key < to.high }
+    requires low { within.low ≤ l }
+    requires less { l < entry.key }
+    requires high { entry.key < within.high }
+    requires head { head + 256 ≤ floor }
+    requires lies { (block ≡ head) ⊎ (floor ≤ block) }
+    requires before { block + 256 ≤ pool.old.next }
+    requires room { 256 ≤ room_of pool.old }
+    requires floor { floor ≤ pool.old.next }
+    requires fresh { (of_overlay V.seen overlay.old).fresh ≤ pool.old.next }
+    requires free { (cell : ℕ) → pool.old.next ≤ cell → (of_overlay V.seen overlay.old).planned cell ≡ None }
+    requires at { IsTrue (of_overlay V.seen overlay.old).base.tells →
+        IsAt (of_overlay V.seen overlay.old) head floor pool.old.next entry.key block }
+    requires full { IsTrue (of_overlay V.seen overlay.old).base.tells →
+        HasFull (of_overlay V.seen overlay.old).image block l }
+    requires blank { IsTrue (of_overlay V.seen overlay.old).base.tells →
+        (of_overlay V.seen overlay.old).image (pointer_at block to.level to.digit) ≡ None }
+    ensures pool { (pool.new ≡ pool.old) ⊎ TakesFront pool.old pool.new 256 pool.old.next }
+    ensures places { PlacesPosting head floor pool.new.next block (fields_of entry) within.low within.high
+        (of_overlay V.seen overlay.old) (of_overlay V.seen overlay.new) result }
+    ensures grows { GrowEnds floor pool.old.next pool.new.next block (fields_of entry)
+        (of_overlay V.seen overlay.old) (of_overlay V.seen overlay.new) result }
+    ensures planned { PlannedEnds head floor pool.new.next (fields_of entry)
+        (of_overlay V.seen overlay.old) (of_overlay V.seen overlay.new) result }
+{
+    let _end = pool.end;
+    let found = match tail(
+        overlay,
+        head,
+        floor,
+        pool.next,
+        block,
+        block,
+        l,
+        to.low,
+        to.level + 1,
+        entry.key,
+    ) {
+        Ok(found) => found,
+        Err(fault) => return Err(GrowthFault::Fault(fault)),
+    };
+    let Some(spot) = found else {
+        let Some(target) = pool.grant(256) else {
+            return Err(GrowthFault::NoMemory);
+        };
+        let spot = Spot {
+            block: target,
+            place: 0,
+        };
+        return put_both(overlay, head, block, &to, spot, entry);
+    };
+    put_both(overlay, head, block, &to, spot, entry)
 }

@@ -139,7 +139,8 @@ fn a_node_that_is_planned_for_a_list_is_evidence(rt: HostRuntime) -> Result<(), 
     let PathStep::End(place) = end else {
         return Err("no end".into());
     };
-    let mut overlay = Overlay::new(rt.alloc(), Direct::new(&mut device), 836);
+    let mut own = PlannedCells::new(rt.alloc());
+    let mut overlay = Overlay::new(Direct::new(&mut device), &mut own, 836);
     let led_by = level.led_by;
     let Some(_led) = led_by else {
         return Err("still in the root".into());

@@ -1,0 +1,142 @@
+//! Hops from block to block of a list that is planned in part, and the list's tail.
+ghost use Rattle.std.specs.Prelude.{◌≡◌, ◌<◌, ◌≤◌, ◌+◌, ◌%◌, ◌^◌, IsTrue};
+ghost use Rattle.jump_index.specs.Evidence.{HasFull, HasPointer};
+ghost use Rattle.worm_device.specs.Overlays.{of_overlay};
+ghost use Rattle.list_growth.specs.Hopping.{CheckEnds, FindsTail, IsAt, IsLateEvidence, TailLast, TailLeads};
+ghost use Rattle.list_growth.specs.Readiness.{IsOwnBlock, IsReached};
+
+use crate::entries::Spot;
+use crate::meeting::is_met;
+use crate::spans::greatest_pointer;
+use cell_types::{Evidence, Fault};
+use jump_block::{Entry, Front, Span, first_at_least, pointer_cell};
+use jump_index::leads_nowhere;
+use tamper_rules::FAKE_POSTING;
+use worm_device::{Overlay, View};
+
+/// Whether a walk may go on to the target of a span's pointer. A pointer that stands below and leads nowhere is
+/// evidence.
+pub(crate) fn check_target<V: View>(
+    overlay: &Overlay<'_, V>,
+    head: u32,
+    floor: u32,
+    next: u32,
+    key: u32,
+    block: u32,
+    span: &Span,
+    target: u32,
+) -> Result<(), Fault>
+    requires inside { block + 256 ≤ 4294967295 }
+    requires level { span.now.level < 8 }
+    requires some { 1 ≤ span.now.digit }
+    requires digit { span.now.digit ≤ 15 }
+    requires fresh { (of_overlay V.seen overlay.now).fresh ≤ next }
+    requires at { IsTrue (of_overlay V.seen overlay.now).base.tells →
+        IsAt (of_overlay V.seen overlay.now) head floor next key block }
+    requires jump { IsTrue (of_overlay V.seen overlay.now).base.tells →
+        HasPointer (of_overlay V.seen overlay.now).image block span.now.level span.now.digit target }
+    ensures { CheckEnds head floor next key block span.now target (of_overlay V.seen overlay.now) result }
+{
+    let _key = key;
+    if target < floor || u64::from(target) + 256 > u64::from(next) {
+        return Err(leads_nowhere(block, span, target));
+    }
+    // A pointer that was planned leads to a block of the list that was checked, or granted, then.
+    if let Some(_owner) = overlay.owner(pointer_cell(block, span.level, span.digit)) {
+        return Ok(());
+    }
+    if u64::from(target) + 256 > u64::from(overlay.fresh()) {
+        return Err(leads_nowhere(block, span, target));
+    }
+    if is_met(overlay, head, target) {
+        return Err(leads_nowhere(block, span, target));
+    }
+    Ok(())
+}
+
+/// The evidence that a posting is late: its key is not below the new one.
+pub(crate) fn late_posting(late: &Entry) -> Fault
+    requires inside { late.now.block + late.now.place < 2 ^ 32 }
+    requires well_formed { late.now.key % 256 ≤ late.now.last }
+    ensures { IsLateEvidence late.now result }
+{
+    Fault::Tampered(Evidence {
+        rule: FAKE_POSTING,
+        cell: late.block + u32::from(late.place),
+        found: late.cell(),
+    })
+}
+
+/// The tail of a list, searched from a full block with the greatest key l on, behind its pointers for keys below the
+/// bound: a blank place of the last block, or `None` where that block is full. The home is the block at which the
+/// search began.
+pub(crate) fn tail<V: View>(
+    overlay: &mut Overlay<'_, V>,
+    head: u32,
+    floor: u32,
+    next: u32,
+    home: u32,
+    block: u32,
+    l: u32,
+    bound: u64,
+    level: u8,
+    key: u32,
+) -> Result<Option<Spot>, Fault>
+    requires inside { block + 256 ≤ 4294967295 }
+    requires home { home + 256 ≤ 4294967295 }
+    requires bound { bound ≤ 2 ^ 32 }
+    requires narrow { bound ≤ l + 16 ^ level }
+    requires fresh { (of_overlay V.seen overlay.old).fresh ≤ next }
+    requires at { IsTrue (of_overlay V.seen overlay.old).base.tells →
+        IsAt (of_overlay V.seen overlay.old) head floor next key block }
+    requires full { IsTrue (of_overlay V.seen overlay.old).base.tells →
+        HasFull (of_overlay V.seen overlay.old).image block l }
+    requires home_own { IsTrue (of_overlay V.seen overlay.old).base.tells →
+        IsOwnBlock (of_overlay V.seen overlay.old) head home }
+    requires home_reached { IsTrue (of_overlay V.seen overlay.old).base.tells →
+        IsReached (of_overlay V.seen overlay.old) head floor home }
+    ensures finds { FindsTail head floor next key home
+        (of_overlay V.seen overlay.old) (of_overlay V.seen overlay.new) result }
+    ensures leads { TailLeads floor next block (of_overlay V.seen overlay.old) (of_overlay V.seen overlay.new) result }
+    ensures last { TailLast floor next block bound
+        (of_overlay V.seen overlay.old) (of_overlay V.seen overlay.new) result }
+{
+    let found = match greatest_pointer(overlay, block, l, bound) {
+        Ok(found) => found,
+        Err(fault) => return Err(fault),
+    };
+    let Some((span, target)) = found else {
+        return Ok(None);
+    };
+    if let Err(fault) = check_target(overlay, head, floor, next, key, block, &span, target) {
+        return Err(fault);
+    }
+    // No two blocks of a list meet: else a planned pointer could come to lie in a posting's place.
+    if target != home
+        && u64::from(target) < u64::from(home) + 256
+        && u64::from(home) < u64::from(target) + 256
+    {
+        return Err(leads_nowhere(block, &span, target));
+    }
+    let first = match first_at_least(overlay, target, key) {
+        Ok(first) => first,
+        Err(fault) => return Err(fault),
+    };
+    let greatest = match first {
+        Front::At(late) => return Err(late_posting(&late)),
+        Front::Open(place, _) => {
+            return Ok(Some(Spot {
+                block: target,
+                place,
+            }));
+        }
+        Front::Full(greatest) => greatest,
+    };
+    if u64::from(greatest) < span.low {
+        return Err(leads_nowhere(block, &span, target));
+    }
+    let below = span.high.min(1 << 32);
+    tail(
+        overlay, head, floor, next, home, target, greatest, below, span.level, key,
+    )
+}

@@ -1,0 +1,48 @@
+//! Whether a cell that is planned for another is met in a block.
+ghost use Rattle.std.specs.Prelude.{◌≡◌, ◌<◌, ◌≤◌, ◌+◌, ◌^◌, IsTrue, IsFalse};
+ghost use Rattle.worm_device.specs.Overlays.{of_overlay};
+ghost use Rattle.list_growth.specs.Evidence.{IsMet};
+ghost use Rattle.list_growth.specs.Meeting.{LieInBlocks, Meets};
+ghost use Rattle.list_growth.specs.Readiness.{IsOwnBlock};
+
+use worm_device::{Overlay, Owner, View};
+
+/// Whether a planned cell of another owner lies in this block of the list, or in a block of the list that meets it.
+pub(crate) fn is_met<V: View>(overlay: &Overlay<'_, V>, head: u32, block: u32) -> bool
+    requires inside { block + 256 < 2 ^ 32 }
+    requires lies { IsTrue (of_overlay V.seen overlay.now).base.tells →
+        LieInBlocks (of_overlay V.seen overlay.now) head }
+    ensures met { IsTrue result → IsMet (of_overlay V.seen overlay.now) head block }
+    ensures own { IsFalse result → IsTrue (of_overlay V.seen overlay.now).base.tells →
+        IsOwnBlock (of_overlay V.seen overlay.now) head block }
+{
+    // A block that meets this one begins less than 256 cells before it, and ends less than 512 behind its start.
+    let mut at = block.saturating_sub(256);
+    let end = block.saturating_add(512);
+    while at < end {
+        if let Some(owner) = overlay.owner(at) {
+            if meets(owner, at, head, block) {
+                return true;
+            }
+        }
+        at += 1;
+    }
+    false
+}
+
+/// Whether a cell is planned for another, and it or its block meets this block of the list.
+fn meets(owner: Owner, at: u32, head: u32, block: u32) -> bool
+    ensures yes { IsTrue result → Meets owner at head block }
+    ensures no { IsFalse result → Meets owner at head block → ⊥ }
+{
+    if owner.head == head && owner.base == block {
+        return false;
+    }
+    let first = u64::from(block);
+    let cell = u64::from(at);
+    let base = u64::from(owner.base);
+    if first <= cell && cell < first + 256 {
+        return true;
+    }
+    owner.head == head && base < first + 256 && first < base + 256
+}
