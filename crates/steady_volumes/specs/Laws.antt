@@ -1,0 +1,53 @@
+-- Laws of steady devices.
+use Rattle.std.specs.Prelude.{◌≡◌, ℕ, Result, Ok, Err, IsTrue}
+use Rattle.cell_types.specs.Image.{Image}
+use Rattle.cell_types.specs.declared.refusal.Evidence.{Evidence}
+use Rattle.cell_types.specs.declared.refusal.Refusal.{Refusal}
+use Rattle.cell_types.specs.declared.refusal.Refusal.TheVariants.{Tampered}
+use Rattle.tamper_rules.specs.Rules.{IsBroken}
+use Rattle.tamper_rules.specs.Settling.{Sound}
+use Rattle.tamper_rules.specs.declared.numbers.TheConstants.{OTHER_TARGET}
+use Rattle.worm_device.specs.Counts.{IsStill}
+use Rattle.worm_device.specs.State.{DeviceState, IsDevice, LeftSince}
+use Rattle.recovery_engine.specs.Settling.{HasOtherTarget, HasSettled, Settles}
+use Rattle.recovery_engine.specs.declared.settling.Ready.{Ready}
+use Rattle.steady_volumes.specs.Steadiness.{CrashesLeaveWhole, EndsAs, IsLeftWhole, IsSoundRule, IsSteady, StaysSteady}
+
+-- settling leaves whole volumes at every moment, and a steady device, whatever it answers
+abbrev pub SettlingStaysSteady : Type 0
+SettlingStaysSteady =
+    (old new : DeviceState) (result : Result Ready Refusal) → IsDevice old → IsTrue old.tells → Settles old new result
+    → IsStill old.foreign_writes new.foreign_writes → IsSteady old → StaysSteady old new
+
+-- so does a volume that is settled and then only looked at
+abbrev pub LookingStaysSteady : Type 0
+LookingStaysSteady =
+    (old new : DeviceState) (r : Ready) → IsDevice old → IsDevice new → IsTrue old.tells → HasSettled old new r
+    → IsStill old.foreign_writes new.foreign_writes → IsSteady old → StaysSteady old new
+
+-- settling that ends well ends as it makes of a sound image
+abbrev pub SettlingEndsAs : Type 0
+SettlingEndsAs =
+    (old new : DeviceState) (r : Ready) → IsDevice new → IsTrue old.tells → Settles old new (Ok r)
+    → IsStill old.foreign_writes new.foreign_writes → (sound : Sound old.cells old.image)
+    → EndsAs old new sound.after r.step
+
+-- from a steady state settling names no tampering
+abbrev pub SettlingNamesNone : Type 0
+SettlingNamesNone =
+    (old new : DeviceState) (e : Evidence) → IsDevice old → IsTrue old.tells → Settles old new (Err (Tampered e))
+    → IsStill old.foreign_writes new.foreign_writes → IsSteady old → ⊥
+
+-- A sound image breaks none of these rules; and where it breaks the one of targets, the target is blank. (That it may:
+-- a done slot's journal names a cell that is blank, and so does the journal of the committed slot behind it.)
+pub record SoundIsUnbroken : Type 0 where
+  pub rules : (cells : ℕ) (image : Image) (number cell : ℕ) → Sound cells image → IsSoundRule number
+      → IsBroken cells image number cell → ⊥
+  pub targets : (cells : ℕ) (image : Image) (cell : ℕ) → Sound cells image → IsBroken cells image OTHER_TARGET cell
+      → HasOtherTarget image cell → ⊥
+
+-- what a crash could leave from a steady state on is whole
+abbrev pub WholeFromTheStart : Type 0
+WholeFromTheStart =
+    (old new : DeviceState) (image : Image) → IsDevice old → IsSteady old → CrashesLeaveWhole old new
+    → LeftSince new old.moment image → IsLeftWhole old image
