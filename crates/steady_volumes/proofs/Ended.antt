@@ -1,27 +1,24 @@
 -- What settling puts, against what it makes of the image.
-use Rattle.std.proofs.Common.{◌≡◌, ◌≤◌, ◌<◌, ◌+◌, ◌-◌, ◌^◌, ◌⊎◌, ℕ, zero, suc, List, Some, None, Ok, refl, sym, ap, ◌∙◌, inl, inr, ⊎_elim, subst, arith}
+use Rattle.std.proofs.Common.{◌≡◌, ◌≤◌, ◌<◌, ◌+◌, ◌⊎◌, ℕ, List, Some, refl, sym, ap, ◌∙◌, inl, inr, ⊎_elim, subst, arith}
 use Rattle.std.proofs.lemmas.Option.{none-some}
-use Rattle.cell_types.specs.Image.{Image, Extends, IsUnchanged}
+use Rattle.cell_types.specs.Image.{Image, Extends}
 use Rattle.cell_types.specs.Layout.{Layout, reserve_at, outcome_at, done_at, list_at}
-use Rattle.cell_types.specs.Records.{IsRecordCell, record_bytes}
 use Rattle.cell_types.specs.declared.geometry.TheConstants.{MAX_SLOTS}
 use Rattle.cell_types.specs.declared.record_cell.RecordCell.{RecordCell}
 use Rattle.cell_types.specs.declared.record_cell.RecordCell.TheVariants as records
 use Rattle.cell_types.proofs.OneRecord.{address_in}
-use Rattle.commit_record.specs.States.{IsState}
-use Rattle.commit_record.specs.declared.slot.SlotState.{SlotState}
-use Rattle.commit_record.specs.declared.slot.SlotState.TheVariants.{Unused, Reserved, Abandoned, Committed, Done}
+use Rattle.commit_record.specs.declared.slot.SlotState.TheVariants.{Reserved, Committed}
 use Rattle.phase_writer.specs.declared.put.Blame.TheVariants.{Journal}
 use Rattle.phase_writer.specs.declared.put.Put.{Put}
 use Rattle.phase_writer.specs.Putting.{AreStanding, IsPut, IsInFirst, ChangesBy}
-use Rattle.recovery_engine.specs.Ending.{IsFirstEnd, IsLastEnd, abandon_put, done_put, end_phases}
+use Rattle.recovery_engine.specs.Ending.{abandon_put, done_put}
 use Rattle.recovery_engine.specs.Journal.{IsEntryPut}
 use Rattle.recovery_engine.specs.Settling.{settle_plan}
 use Rattle.recovery_engine.specs.Entries.{target_of}
 use Rattle.tamper_rules.specs.Journals.{journal_at, Copies}
 use Rattle.tamper_rules.specs.Settling.{IsSettled, Settled, IsOneHorizon, IsWith, AbandonRow, JournalRow, DoneRow, After, nothing, abandoned, completed}
 use Rattle.stored_documents.specs.Slots.{IsReserved, IsCommitted, IsAbandonedSlot, IsDoneSlot, HasEnded, IsHorizon}
-use Rattle.stored_documents.specs.Volumes.{Holds, IsWritten, IsVolume}
+use Rattle.stored_documents.specs.Volumes.{Holds, IsVolume}
 use Rattle.stored_documents.proofs.Holding.{some_is, one_record_holds}
 use Rattle.tamper_rules.proofs.GivenUp.{no_abandon, one_layout}
 use Rattle.tamper_rules.proofs.Images.{all_of_it}

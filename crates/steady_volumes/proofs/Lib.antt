@@ -1,2 +1,4 @@
+pub mod Alarms
 pub mod Ended
+pub mod SoundRules
 pub mod States

@@ -1,22 +1,22 @@
 -- What a crash in settling leaves, and what settling ends with.
-use Rattle.std.proofs.Common.{◌≡◌, ◌≤◌, ◌<◌, ◌+◌, ◌⊎◌, ℕ, zero, suc, List, Some, None, Ok, refl, sym, ap, ◌∙◌, inl, inr, ⊎_elim, subst, arith}
+use Rattle.std.proofs.Common.{◌≡◌, ◌≤◌, ◌<◌, ◌+◌, ℕ, zero, suc, List, Some, None, Ok, refl, sym, ap, ◌∙◌, inl, inr, ⊎_elim, subst, arith}
 use Rattle.std.specs.Prelude.{IsTrue, Result}
 use Rattle.std.proofs.lemmas.Option.{none-some}
-use Rattle.cell_types.specs.Image.{Image, Extends, Between, IsUnchanged}
-use Rattle.cell_types.specs.Layout.{Layout, reserve_at, outcome_at, done_at}
+use Rattle.cell_types.specs.Image.{Image, Extends, Between}
+use Rattle.cell_types.specs.Layout.{Layout, outcome_at, done_at}
 use Rattle.cell_types.specs.declared.refusal.Refusal.{Refusal}
 use Rattle.commit_record.specs.declared.slot.SlotState.{SlotState}
 use Rattle.commit_record.specs.declared.slot.SlotState.TheVariants.{Unused, Reserved, Abandoned, Committed, Done}
 use Rattle.phase_writer.specs.declared.put.Put.{Put}
 use Rattle.phase_writer.specs.Putting.{AreStanding, IsPut, IsInFirst, ChangesBy, LeavesPhases}
 use Rattle.recovery_engine.specs.Ending.{IsFirstEnd, IsLastEnd, abandon_put, done_put, end_phases, step_of}
-use Rattle.recovery_engine.specs.Settling.{HasSettled, Settles, EndsByPhases, IsEnding, IsReady, StepMakes, settle_plan}
+use Rattle.recovery_engine.specs.Settling.{HasSettled, Settles, IsEnding, IsReady, StepMakes, settle_plan}
 use Rattle.recovery_engine.specs.declared.settling.Ready.{Ready}
 use Rattle.recovery_engine.specs.declared.settling.Step.{Step}
 use Rattle.recovery_engine.specs.declared.settling.Step.TheVariants as steps
 use Rattle.stored_documents.specs.Documents.{AreDocuments, Document}
 use Rattle.tamper_rules.specs.Settling.{Settled, IsOneHorizon, After, nothing, abandoned, completed, Sound, Held, none, of_after}
-use Rattle.stored_documents.specs.Slots.{IsAbandonedSlot, IsDoneSlot, IsReserved, IsCommitted, HasEnded, IsHorizon}
+use Rattle.stored_documents.specs.Slots.{IsAbandonedSlot, IsDoneSlot, HasEnded, IsHorizon}
 use Rattle.stored_documents.specs.Volumes.{IsVolume}
 use Rattle.tamper_rules.proofs.Images.{same_image, same_both}
 use Rattle.tamper_rules.proofs.OneAfter.{one_after}
