@@ -9,10 +9,15 @@ use Rattle.tamper_rules.specs.Settling.{Sound}
 use Rattle.tamper_rules.specs.declared.numbers.TheConstants.{BROKEN_JOURNAL, OTHER_TARGET}
 use Rattle.worm_device.specs.Counts.{IsStill}
 use Rattle.worm_device.specs.State.{DeviceState, IsDevice}
+use Rattle.worm_device.proofs.Counting.{still_first}
 use Rattle.worm_device.proofs.Images.{extends_self}
+use Rattle.tamper_rules.proofs.SettledLaws.{unbroken}
+use Rattle.cell_types.specs.Image.{Image}
 use Rattle.recovery_engine.specs.LastSlot.{IsSlotRule}
-use Rattle.recovery_engine.specs.Settling.{IsFound, IsSettlingRule, Settles}
+use Rattle.recovery_engine.specs.Settling.{HasSettled, IsFound, IsSettlingRule, Settles}
+use Rattle.recovery_engine.specs.declared.settling.Ready.{Ready}
 use Rattle.steady_volumes.specs.Steadiness.{IsSteady}
+use Rattle.steady_volumes.proofs.States.{looked_ends, settled_sound}
 use Rattle.steady_volumes.proofs.SoundRules.{sound_targets, sound_unbroken}
 
 -- where a rule is broken, the image of a steady device is sound
@@ -44,3 +49,16 @@ settling_named old new e device tells settles still steady = ⊎_elim
 
     sound : Sound old.cells old.image
     sound = sound_broken old e.rule e.cell device steady broken
+
+-- and where a volume was settled and looked at since, no rule is broken in what stands
+pub looked_unbroken : (old new : DeviceState) (r : Ready) (number cell : ℕ) → IsDevice old → IsDevice new
+    → IsTrue old.tells → HasSettled old new r → IsStill old.foreign_writes new.foreign_writes → IsSteady old
+    → IsBroken new.cells new.image number cell → ⊥
+looked_unbroken old new r number cell device device_new tells h still steady broken =
+    let first = still_first h.settles.called.foreign_writes h.looked.foreign_writes still in
+    let sound : Sound old.cells old.image = settled_sound old h.settled r device tells h.settles first steady in
+    let ends = looked_ends old new r sound.after device_new.sure tells h still sound.is sound.settled in
+    let cells : new.cells ≡ old.cells = h.looked.cells ∙ h.settles.called.cells in
+    unbroken old.cells sound.after number cell sound.settled
+    (subst (λ (i : Image). IsBroken old.cells i number cell) ends.image
+    (subst (λ (n : ℕ). IsBroken n new.image number cell) cells broken))

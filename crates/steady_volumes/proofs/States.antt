@@ -262,6 +262,23 @@ settled_sound old new ready device tells settles still steady =
     zero_by (Reserved s r) n ending only = ends_at (ending (omega arith))
     zero_by (Committed s r b j) n ending only = ends_at (ending (omega arith))
 
+-- a volume that was settled and looked at since stands as settling ended it
+pub looked_ends : (old new : DeviceState) (r : Ready) (after : Image) → Extends new.sure new.image → IsTrue old.tells
+    → HasSettled old new r → IsStill old.foreign_writes new.foreign_writes → After old.cells old.image after
+    → Settled old.cells after → EndsAs old new after r.step
+looked_ends old new r after lies tells h still a settled =
+    let mid = h.settled in
+    let first = still_first h.settles.called.foreign_writes h.looked.foreign_writes still in
+    let same : new.image ≡ mid.image =
+    same_image (h.quiet (still_second h.settles.called.foreign_writes h.looked.foreign_writes still)) in
+    let mid_lies : Extends mid.sure mid.image =
+    subst (λ (i : Image). Extends mid.sure i) same (extends_then h.looked.sure lies) in
+    let ends : EndsAs old mid after r.step = settling_ends old mid r after mid_lies tells h.settles first a settled in
+    let image : new.image ≡ after = same ∙ ends.image in
+    let low : Extends after new.sure = subst (λ (i : Image). Extends i new.sure) ends.sure h.looked.sure in
+    let high : Extends new.sure after = subst (λ (i : Image). Extends new.sure i) image lies in
+    record { image = image; sure = same_both low high; step_is = ends.step_is }
+
 -- a volume that was settled and looked at since
 module _ (old new : DeviceState) (r : Ready) (device : IsDevice old) (device_new : IsDevice new) (tells : IsTrue old.tells)
     (h : HasSettled old new r) (still : IsStill old.foreign_writes new.foreign_writes) (steady : IsSteady old) where

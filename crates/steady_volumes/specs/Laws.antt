@@ -32,11 +32,31 @@ SettlingEndsAs =
     → IsStill old.foreign_writes new.foreign_writes → (sound : Sound old.cells old.image)
     → EndsAs old new sound.after r.step
 
+-- and so it stands behind looks at it
+abbrev pub LookingEndsAs : Type 0
+LookingEndsAs =
+    (old new : DeviceState) (r : Ready) → IsDevice new → IsTrue old.tells → HasSettled old new r
+    → IsStill old.foreign_writes new.foreign_writes → (sound : Sound old.cells old.image)
+    → EndsAs old new sound.after r.step
+
+-- where settling ends well from a steady state, the image was sound: no blank device is settled
+abbrev pub SettledWasSound : Type 0
+SettledWasSound =
+    (old new : DeviceState) (r : Ready) → IsDevice old → IsTrue old.tells → Settles old new (Ok r)
+    → IsStill old.foreign_writes new.foreign_writes → IsSteady old → Sound old.cells old.image
+
 -- from a steady state settling names no tampering
 abbrev pub SettlingNamesNone : Type 0
 SettlingNamesNone =
     (old new : DeviceState) (e : Evidence) → IsDevice old → IsTrue old.tells → Settles old new (Err (Tampered e))
     → IsStill old.foreign_writes new.foreign_writes → IsSteady old → ⊥
+
+-- and behind it no rule is broken in what stands, so that looks name none either
+abbrev pub LookingFindsNone : Type 0
+LookingFindsNone =
+    (old new : DeviceState) (r : Ready) (number cell : ℕ) → IsDevice old → IsDevice new → IsTrue old.tells
+    → HasSettled old new r → IsStill old.foreign_writes new.foreign_writes → IsSteady old
+    → IsBroken new.cells new.image number cell → ⊥
 
 -- A sound image breaks none of these rules; and where it breaks the one of targets, the target is blank. (That it may:
 -- a done slot's journal names a cell that is blank, and so does the journal of the committed slot behind it.)

@@ -1,5 +1,5 @@
 //! Laws: what the definitions mean together. Each is a function that does nothing and whose contract is the law.
-ghost use Rattle.steady_volumes.specs.Laws.{LookingStaysSteady, SettlingEndsAs, SettlingNamesNone, SettlingStaysSteady, SoundIsUnbroken, WholeFromTheStart};
+ghost use Rattle.steady_volumes.specs.Laws.{LookingEndsAs, LookingFindsNone, LookingStaysSteady, SettledWasSound, SettlingEndsAs, SettlingNamesNone, SettlingStaysSteady, SoundIsUnbroken, WholeFromTheStart};
 
 /// Settling leaves whole volumes at every moment, and a steady device.
 pub fn settling_stays_steady()
@@ -16,9 +16,24 @@ pub fn settling_ends_as()
     ensures { SettlingEndsAs }
 {}
 
+/// And so it stands behind looks at it.
+pub fn looking_ends_as()
+    ensures { LookingEndsAs }
+{}
+
+/// What is settled from a steady state was sound.
+pub fn settled_was_sound()
+    ensures { SettledWasSound }
+{}
+
 /// From a steady state settling names no tampering.
 pub fn settling_names_none()
     ensures { SettlingNamesNone }
+{}
+
+/// Behind it looks find no broken rule.
+pub fn looking_finds_none()
+    ensures { LookingFindsNone }
 {}
 
 /// A sound image breaks no rule of the log.
