@@ -34,7 +34,7 @@ use Rattle.steady_volumes.specs.Steadiness.{CrashesLeaveWhole, EndsAs, IsLeftWho
 use Rattle.steady_volumes.proofs.Ended.{ends_committed, ends_reserved, goes_r, whole_r, goes_c, whole_c}
 
 -- what settling makes something of is a volume, and so not blank
-not_blank : {cells : ℕ} {image after : Image} → After cells image after → image 0 ≡ None → ⊥
+pub not_blank : {cells : ℕ} {image after : Image} → After cells image after → image 0 ≡ None → ⊥
 not_blank (nothing s same) blank = none-some _ (sym blank ∙ s.volume.volume.stands)
 not_blank (abandoned g n start reserved v h r w) blank = none-some _ (sym blank ∙ v.volume.stands)
 not_blank (completed g n start reserved bytes journal v h c ready w) blank = none-some _ (sym blank ∙ v.volume.stands)
@@ -65,7 +65,7 @@ first_none : (image : Image) (n : ℕ) (state : SlotState) (j : ℕ) (put : Put)
 first_none image n state j put less h = ⊎_elim (λ (a : (j ≡ 1) × IsFirstEnd image n state put). omega (arith, a.0, less)) (λ (b : (j ≡ 2) × IsLastEnd n state put). omega (arith, b.0, less)) h
 
 module _ (old : DeviceState) (device : IsDevice old) (steady : IsSteady old) (image : Image) where
-  left_between : Between old.sure old.image image → IsLeftWhole old image
+  pub left_between : Between old.sure old.image image → IsLeftWhole old image
   left_between b = record {
     sound = steady.each image b;
     holds = steady_two (λ other e f. steady.each other (record { above = e; below = f })) b.above b.below;
