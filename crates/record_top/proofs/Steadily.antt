@@ -1,29 +1,27 @@
 -- What a crash leaves of each command that adds no document, from a steady device on, where nobody else writes.
-use Rattle.std.proofs.Common.{◌≡◌, ◌≤◌, ◌<◌, ◌⊎◌, ℕ, suc, zero, List, [], Some, None, Result, Ok, Err, refl, sym, ap, ◌∙◌, inl, inr, ⊎_elim, subst, arith}
+use Rattle.std.proofs.Common.{◌≡◌, ◌⊎◌, ℕ, List, [], Some, None, Result, Ok, Err, refl, sym, ap, ◌∙◌, inl, inr, ⊎_elim, subst, arith}
 use Rattle.std.specs.Global.{Vec}
-use Rattle.std.specs.Prelude.{IsTrue}
 use Rattle.std.proofs.lemmas.Option.{none-some}
-use Rattle.cell_types.specs.Image.{Image, Between, ChangesOnly, Extends}
+use Rattle.cell_types.specs.Image.{Image, Between, ChangesOnly}
 use Rattle.cell_types.specs.Layout.{IsLayout, Layout}
 use Rattle.cell_types.specs.declared.refusal.Evidence.{Evidence}
 use Rattle.cell_types.specs.declared.refusal.Refusal.{Refusal}
 use Rattle.cell_types.specs.declared.refusal.Refusal.TheVariants as refusals
 use Rattle.stored_documents.specs.Documents.{AreDocuments, Document}
 use Rattle.stored_documents.specs.Volumes.{IsVolume}
-use Rattle.tamper_rules.specs.Settling.{After, Held, IsBlankOrSound, Settled, Sound, none, nothing, of_after}
-use Rattle.tamper_rules.proofs.Images.{look, same_both, same_image}
+use Rattle.tamper_rules.specs.Settling.{After, Held, Settled, Sound, none, nothing, of_after}
+use Rattle.tamper_rules.proofs.Images.{look, same_image}
 use Rattle.tamper_rules.proofs.SettledLaws.{formatted}
 use Rattle.worm_device.specs.Calls.{Called}
-use Rattle.worm_device.specs.Counts.{IsStill}
-use Rattle.worm_device.specs.State.{DeviceState, IsDevice, LeftSince}
+use Rattle.worm_device.specs.State.{DeviceState, IsDevice}
 use Rattle.worm_device.proofs.Elapsing.{elapses_of}
-use Rattle.worm_device.proofs.Images.{extends_self, extends_then}
-use Rattle.recovery_engine.specs.Settling.{HasSettled, IsFound, Settles}
+use Rattle.worm_device.proofs.Images.{extends_self}
+use Rattle.recovery_engine.specs.Settling.{IsFound, Settles}
 use Rattle.recovery_engine.specs.declared.settling.Ready.{Ready}
-use Rattle.steady_volumes.specs.Steadiness.{CrashesLeaveWhole, HoldsOneOf, IsLeftWhole, IsSteady, StaysSteady}
+use Rattle.steady_volumes.specs.Steadiness.{IsLeftWhole, IsSteady, StaysSteady}
 use Rattle.steady_volumes.proofs.Alarms.{looked_unbroken, settling_named}
-use Rattle.steady_volumes.proofs.States.{left_between, looking_steady, not_blank, settling_left, sound_written, stays_steady}
-use Rattle.ingest_engine.specs.Formats.{FormatEnds, volume_cell}
+use Rattle.steady_volumes.proofs.States.{left_between, looking_steady, not_blank, settling_left, stays_steady}
+use Rattle.ingest_engine.specs.Formats.{volume_cell}
 use Rattle.slot_walk.specs.Walks.{IsQueryRule}
 use Rattle.record_query.specs.Finding.{ComesTo, FindEnds, settled, settling}
 use Rattle.record_query.specs.LookingUp.{LookUpEnds}

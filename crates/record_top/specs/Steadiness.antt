@@ -1,5 +1,5 @@
 -- What a crash leaves of a command, at whichever moment of it.
-use Rattle.std.specs.Prelude.{◌≡◌, ℕ, List, Result, Err, IsTrue, ⊤}
+use Rattle.std.specs.Prelude.{◌≡◌, Result, Err, IsTrue, ⊤}
 use Rattle.cell_types.specs.declared.refusal.Evidence.{Evidence}
 use Rattle.cell_types.specs.declared.refusal.Refusal.{Refusal}
 use Rattle.cell_types.specs.declared.refusal.Refusal.TheVariants.{Tampered}

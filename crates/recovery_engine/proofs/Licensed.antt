@@ -492,8 +492,11 @@ module _ (g : Layout) (n : ℕ) (s0 s3 s4 s5 : DeviceState) (c03 : Called s0 s3)
       (λ (first : (t.planned.0 ≡ 0) × IsEntryPut s4.image (journal_at s l j) j t.put).
       target_names volume tells e s l b j last.is.commits last.is.done entries phases t first.1 still)
       (λ (final : (t.planned.0 ≡ 1) × (t.put ≡ done_put n)).
-      absurd (omega (arith, six,
-      ap (λ (f : Evidence). f.rule) (t.is ∙ ap (λ (p : Put). evidence_of p t.found) final.1))))
+      absurd (omega (
+        arith,
+        six,
+        ap (λ (f : Evidence). f.rule) (t.is ∙ ap (λ (p : Put). evidence_of p t.found) final.1),
+      )))
       t.planned.2
 
   pub end_refused : (state : SlotState) (fault : Fault) → (IsTrue s0.tells → IsVolume s4.cells s4.image g)

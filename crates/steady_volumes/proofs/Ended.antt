@@ -60,9 +60,9 @@ module _ {cells : ℕ} {old : Image} (g : Layout) (v : IsVolume cells old g) (n 
       → (from ≡ start) × (more ≡ reserved) × (entries ≡ journal)
   same_cells k m from more count entries slot d start reserved bytes journal c =
       let r = reserves from more start reserved (one_record_holds old (reserve_at n) (records.Reserve from more) (records.Reserve start reserved)
-          (subst (λ (j : ℕ). Holds old (reserve_at j) (records.Reserve from more)) slot d.commits.reserves.reserve) c.commits.reserves.reserve) in
+      (subst (λ (j : ℕ). Holds old (reserve_at j) (records.Reserve from more)) slot d.commits.reserves.reserve) c.commits.reserves.reserve) in
       let o = commits count entries bytes journal (one_record_holds old (outcome_at n) (records.Commit count entries) (records.Commit bytes journal)
-          (subst (λ (j : ℕ). Holds old (outcome_at j) (records.Commit count entries)) slot d.commits.outcome) c.commits.outcome) in
+      (subst (λ (j : ℕ). Holds old (outcome_at j) (records.Commit count entries)) slot d.commits.outcome) c.commits.outcome) in
       (r.0, r.1, o.1)
 
   pub ends_reserved : (after : Image) (start reserved : ℕ) → IsReserved g old old n start reserved → After cells old after → GivesUp g old after n
@@ -111,15 +111,17 @@ module _ {cells : ℕ} {old : Image} (g : Layout) (v : IsVolume cells old g) (n 
           p.2
 
       pub low_r : Extends image after
-      low_r = record { keeps = λ cell value is. ⊎_elim
-          (λ (was : old cell ≡ Some value). rows_r.keeps.keeps cell value was)
-          (λ (q : IsPut (IsInFirst (settle_plan old n (Reserved start reserved)) (phase + 1)) old cell value).
-          let same = abandon_is q.put q.planned in
-          rows_r.adds cell value (record {
-            at = sym q.here ∙ ap (λ (x : Put). x.at) same;
-            is = record { fits = tt; well_formed = tt; same = sym q.is ∙ ap (λ (x : Put). x.value) same };
-          }))
-          (only cell value is) }
+      low_r = record {
+        keeps = λ cell value is. ⊎_elim
+            (λ (was : old cell ≡ Some value). rows_r.keeps.keeps cell value was)
+            (λ (q : IsPut (IsInFirst (settle_plan old n (Reserved start reserved)) (phase + 1)) old cell value).
+            let same = abandon_is q.put q.planned in
+            rows_r.adds cell value (record {
+              at = sym q.here ∙ ap (λ (x : Put). x.at) same;
+              is = record { fits = tt; well_formed = tt; same = sym q.is ∙ ap (λ (x : Put). x.value) same };
+            }))
+            (only cell value is);
+      }
 
       pub goes_r : After cells image after
       goes_r = goes_on cells old after image a s e low_r (λ k m from more bytes journal w c d. absurd (⊎_elim
@@ -163,13 +165,15 @@ module _ {cells : ℕ} {old : Image} (g : Layout) (v : IsVolume cells old g) (n 
       }
 
       pub low_c : Extends image after
-      low_c = record { keeps = λ cell value is. ⊎_elim
-          (λ (was : old cell ≡ Some value). all_c.rows.keeps.keeps cell value was)
-          (λ (q : IsPut (IsInFirst plan (phase + 1)) old cell value). all_c.rows.adds cell value (⊎_elim
-          (λ (x : (q.planned.0 ≡ 1) × IsEntryPut old (journal_at start reserved journal) journal q.put). inl ((entry_row cell value q.put q.here q.is x.1).0))
-          (λ (x : (q.planned.0 ≡ 2) × (q.put ≡ done_put n)). inr (done_row cell value q.put q.here q.is x.1))
-          q.planned.2))
-          (only cell value is) }
+      low_c = record {
+        keeps = λ cell value is. ⊎_elim
+            (λ (was : old cell ≡ Some value). all_c.rows.keeps.keeps cell value was)
+            (λ (q : IsPut (IsInFirst plan (phase + 1)) old cell value). all_c.rows.adds cell value (⊎_elim
+            (λ (x : (q.planned.0 ≡ 1) × IsEntryPut old (journal_at start reserved journal) journal q.put). inl ((entry_row cell value q.put q.here q.is x.1).0))
+            (λ (x : (q.planned.0 ≡ 2) × (q.put ≡ done_put n)). inr (done_row cell value q.put q.here q.is x.1))
+            q.planned.2))
+            (only cell value is);
+      }
 
       -- a journal cell at its target
       row_stands : 2 ≤ phase → (cell : ℕ) (value : List ℕ) → JournalRow old start reserved journal cell value → image cell ≡ Some value

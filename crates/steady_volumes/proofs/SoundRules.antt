@@ -310,8 +310,12 @@ module _ {g : Layout} {image after : Image} (e : Extends image after) (s : IsSet
               (λ (a : Holds after (outcome_at m) Abandon). inl (back w a))
               (λ (c : (bytes : ℕ) × (journal : ℕ) × Holds after (outcome_at m) (Commit bytes journal)
               × ((start reserved : ℕ) → Holds after (reserve_at m) (Reserve start reserved)
-              → cells_for bytes + journal ≤ reserved)). inr (c.0, c.1, back w c.2,
-              λ start reserved x. c.3 start reserved (holds_on e x)))
+              → cells_for bytes + journal ≤ reserved)). inr (
+                c.0,
+                c.1,
+                back w c.2,
+                λ start reserved x. c.3 start reserved (holds_on e x),
+              ))
               r.outcome;
         }
 

@@ -49,10 +49,12 @@ sound_written {cells} {image} value is whole = ⊎_elim
 
 -- the image has changed by nothing
 by_none : {P : Put → Type 0} {old image : Image} → ((put : Put) → P put → ⊥) → ChangesBy P old image → Extends image old
-by_none {P} {old} {image} never only = record { keeps = λ cell value is. ⊎_elim
-    (λ (was : old cell ≡ Some value). was)
-    (λ (q : IsPut P old cell value). absurd (never q.put q.planned))
-    (only cell value is) }
+by_none {P} {old} {image} never only = record {
+  keeps = λ cell value is. ⊎_elim
+      (λ (was : old cell ≡ Some value). was)
+      (λ (q : IsPut P old cell value). absurd (never q.put q.planned))
+      (only cell value is);
+}
 
 ends_none : (image : Image) (n : ℕ) (state : SlotState) → end_phases state ≡ 0 → (j : ℕ) (put : Put) → settle_plan image n state j put → ⊥
 ends_none image n Unused e j put h = ⊎_elim (λ (a : (j ≡ 1) × ⊥). a.1) (λ (b : (j ≡ 2) × ⊥). b.1) h
@@ -75,7 +77,7 @@ module _ (old : DeviceState) (device : IsDevice old) (steady : IsSteady old) (im
   left_goes g v goes =
       let s : Sound old.cells old.image = sound_written v.volume.cell v.volume.stands (steady.each old.image (record { above = device.sure; below = extends_self old.image })) in
       let all : (after : Image) → After old.cells old.image after → After old.cells image after = λ after a.
-          goes after a (subst (Settled old.cells) (one_after old.cells old.image s.after after s.is a) s.settled) in
+      goes after a (subst (Settled old.cells) (one_after old.cells old.image s.after after s.is a) s.settled) in
       let held : (documents : List Document) → Held old.cells old.image documents → Held old.cells image documents = λ documents h. held_on s all documents h in
       record { sound = inr (record { after = s.after; is = all s.after s.is; settled = s.settled }); holds = inr held }
     where
@@ -98,7 +100,7 @@ module _ (old : DeviceState) (device : IsDevice old) (steady : IsSteady old) (im
         at (suc k) is =
             let e = ending (omega arith) in
             left_goes e.layout e.volume (λ after a settled.
-                goes_r e.layout e.volume n e.horizon after a settled image (l.synced (omega (arith, is))) l.phase s r e.is (l.only still))
+            goes_r e.layout e.volume n e.horizon after a settled image (l.synced (omega (arith, is))) l.phase s r e.is (l.only still))
     by_state (Committed s r b j) ending l = at l.phase refl
       where
         at : (phase : ℕ) → l.phase ≡ phase → IsLeftWhole old image
@@ -106,7 +108,7 @@ module _ (old : DeviceState) (device : IsDevice old) (steady : IsSteady old) (im
         at (suc k) is =
             let e = ending (omega arith) in
             left_goes e.layout e.volume (λ after a settled.
-                goes_c e.layout e.volume n e.horizon after a settled image (l.synced (omega (arith, is))) l.phase s r b j e.is (l.only still) l.all)
+            goes_c e.layout e.volume n e.horizon after a settled image (l.synced (omega (arith, is))) l.phase s r b j e.is (l.only still) l.all)
 
 -- a crash in settling
 pub settling_left : (old new : DeviceState) (result : Result Ready Refusal) → IsDevice old → IsTrue old.tells → Settles old new result
@@ -118,10 +120,9 @@ settling_left old new result device tells settles still steady since image le le
     ⊎_elim inl
     (λ (l : LeavesPhases (settle_plan w.between w.slot w.state) 3 old new image).
     inr (by_state old device steady image new still w.slot w.state
-        (λ some. subst (λ (i : Image). IsEnding old.cells old.image i w.slot w.state) same (w.ending some))
-        (subst (λ (i : Image). LeavesPhases (settle_plan i w.slot w.state) 3 old new image) same l)))
+    (λ some. subst (λ (i : Image). IsEnding old.cells old.image i w.slot w.state) same (w.ending some))
+    (subst (λ (i : Image). LeavesPhases (settle_plan i w.slot w.state) 3 old new image) same l)))
     (w.crashes tells since image le left)
-
 
 -- what a crash could leave from a steady state on is whole
 pub whole_from : (old new : DeviceState) (image : Image) → IsDevice old → IsSteady old → CrashesLeaveWhole old new
@@ -233,9 +234,9 @@ settling_ends old new ready after lies tells settles still a settled =
     let same : w.between ≡ old.image = same_image (w.quiet still) in
     let sure = w.sure refl in
     subst (EndsAs old new after) (sym w.step) (both old new ready after lies (settles.ends.1 tells) a settled w.slot w.state
-        (λ some. subst (λ (i : Image). IsEnding old.cells old.image i w.slot w.state) same (w.ending some))
-        (subst (λ (i : Image). AreStanding (IsInFirst (settle_plan i w.slot w.state) 3) new.sure) same sure.0) sure.1
-        (subst (λ (i : Image). ChangesBy (IsInFirst (settle_plan i w.slot w.state) 3) old.image new.image) same (w.only still)))
+    (λ some. subst (λ (i : Image). IsEnding old.cells old.image i w.slot w.state) same (w.ending some))
+    (subst (λ (i : Image). AreStanding (IsInFirst (settle_plan i w.slot w.state) 3) new.sure) same sure.0) sure.1
+    (subst (λ (i : Image). ChangesBy (IsInFirst (settle_plan i w.slot w.state) 3) old.image new.image) same (w.only still)))
 
 -- where settling ends well from a steady state, the image was sound
 pub settled_sound : (old new : DeviceState) (ready : Ready) → IsDevice old → IsTrue old.tells → Settles old new (Ok ready)
@@ -244,8 +245,8 @@ settled_sound old new ready device tells settles still steady =
     let w = settles.writes tells in
     let same : w.between ≡ old.image = same_image (w.quiet still) in
     let start = zero_by w.state w.slot
-        (λ some. subst (λ (i : Image). IsEnding old.cells old.image i w.slot w.state) same (w.ending some))
-        (subst (λ (i : Image). ChangesBy (IsInFirst (settle_plan i w.slot w.state) 3) old.image new.image) same (w.only still)) in
+    (λ some. subst (λ (i : Image). IsEnding old.cells old.image i w.slot w.state) same (w.ending some))
+    (subst (λ (i : Image). ChangesBy (IsInFirst (settle_plan i w.slot w.state) 3) old.image new.image) same (w.only still)) in
     sound_written start.0 start.1 (steady.each old.image (record { above = device.sure; below = extends_self old.image }))
   where
     stood : Extends new.image old.image → (value : List ℕ) × (old.image 0 ≡ Some value)
