@@ -20,7 +20,8 @@ use Rattle.recovery_engine.specs.Settling.{IsFound, Settles}
 use Rattle.recovery_engine.specs.declared.settling.Ready.{Ready}
 use Rattle.steady_volumes.specs.Steadiness.{IsLeftWhole, IsSteady, StaysSteady}
 use Rattle.steady_volumes.proofs.Alarms.{looked_unbroken, settling_named}
-use Rattle.steady_volumes.proofs.States.{left_between, looking_steady, not_blank, settling_left, stays_steady}
+use Rattle.steady_volumes.proofs.LeftWhole.{left_between, not_blank, settling_left, stays_steady}
+use Rattle.steady_volumes.proofs.LookedAt.{looking_steady}
 use Rattle.ingest_engine.specs.Formats.{volume_cell}
 use Rattle.slot_walk.specs.Walks.{IsQueryRule}
 use Rattle.record_query.specs.Finding.{ComesTo, FindEnds, settled, settling}
@@ -42,7 +43,8 @@ one_refusal result a b p q = cc
 -- a device that nothing was done with stays steady
 module _ (old new : DeviceState) (device : IsDevice old) (steady : IsSteady old) where
   unused_steady : new ≡ old → StaysSteady old new
-  unused_steady same = subst (StaysSteady old) (sym same) (record { crashes = λ since image le left. inl left; steady = steady })
+  unused_steady same = subst (StaysSteady old) (sym same)
+      (record { crashes = λ since image le left. inl left; steady = steady })
 
   -- calls that leave nothing but what is whole
   calls_steady : Called old new → ((image : Image) → Between old.sure new.image image → IsLeftWhole old image)
@@ -194,7 +196,7 @@ module _ (old new : Ports) (device : IsDevice old.device) (device_new : IsDevice
       settles.called.cells
       (settling_left old.device new.device (Err refusal) device begins.tells settles begins.alone begins.steady)
   query_stays (settled r has) =
-      looking_steady old.device new.device r device device_new begins.tells has begins.alone begins.steady
+      looking_steady old.device new.device r begins.tells has begins.alone device device_new begins.steady
 
   query_names : {X : Type 0} {answer : Result X Refusal} → ComesTo X old.device new.device answer → (e : Evidence)
       → answer ≡ Err (refusals.Tampered e) → IsFound IsQueryRule old.device new.device e → ⊥
@@ -259,7 +261,8 @@ module _ (old new : Ports) (device : IsDevice old.device) (device_new : IsDevice
           → Answers a (Err (refusals.Tampered e)) → ⊥
       told (Ok found) comes ends e answered = no_answer (Err (refusals.Tampered e)) e refl answered
       told (Err refused) comes ends e answered =
-          let same : refusals.Tampered e ≡ refused = one_refusal (Err (refusals.Tampered e)) (refusals.Tampered e) refused refl answered in
+          let same : refusals.Tampered e ≡ refused = one_refusal (Err (refusals.Tampered e))
+          (refusals.Tampered e) refused refl answered in
           query_names comes e (ap Err (sym same))
           (((subst (λ (r : Refusal). LookUpEnds id old.device new.device old.sink new.sink (Err r)) (sym same) ends).1
           begins.tells).1)

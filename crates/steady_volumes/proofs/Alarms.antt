@@ -9,7 +9,6 @@ use Rattle.tamper_rules.specs.Settling.{Sound}
 use Rattle.tamper_rules.specs.declared.numbers.TheConstants.{BROKEN_JOURNAL, OTHER_TARGET}
 use Rattle.worm_device.specs.Counts.{IsStill}
 use Rattle.worm_device.specs.State.{DeviceState, IsDevice}
-use Rattle.worm_device.proofs.Counting.{still_first}
 use Rattle.worm_device.proofs.Images.{extends_self}
 use Rattle.tamper_rules.proofs.SettledLaws.{unbroken}
 use Rattle.cell_types.specs.Image.{Image}
@@ -17,7 +16,7 @@ use Rattle.recovery_engine.specs.LastSlot.{IsSlotRule}
 use Rattle.recovery_engine.specs.Settling.{HasSettled, IsFound, IsSettlingRule, Settles}
 use Rattle.recovery_engine.specs.declared.settling.Ready.{Ready}
 use Rattle.steady_volumes.specs.Steadiness.{IsSteady}
-use Rattle.steady_volumes.proofs.States.{looked_ends, settled_sound}
+use Rattle.steady_volumes.proofs.LookedAt.{looked_ends, looked_sound}
 use Rattle.steady_volumes.proofs.SoundRules.{sound_targets, sound_unbroken}
 
 -- where a rule is broken, the image of a steady device is sound
@@ -55,9 +54,8 @@ pub looked_unbroken : (old new : DeviceState) (r : Ready) (number cell : ℕ) �
     → IsTrue old.tells → HasSettled old new r → IsStill old.foreign_writes new.foreign_writes → IsSteady old
     → IsBroken new.cells new.image number cell → ⊥
 looked_unbroken old new r number cell device device_new tells h still steady broken =
-    let first = still_first h.settles.called.foreign_writes h.looked.foreign_writes still in
-    let sound : Sound old.cells old.image = settled_sound old h.settled r device tells h.settles first steady in
-    let ends = looked_ends old new r sound.after device_new.sure tells h still sound.is sound.settled in
+    let sound : Sound old.cells old.image = looked_sound old new r tells h still device device_new steady in
+    let ends = looked_ends old new r tells h still device_new.sure sound in
     let cells : new.cells ≡ old.cells = h.looked.cells ∙ h.settles.called.cells in
     unbroken old.cells sound.after number cell sound.settled
     (subst (λ (i : Image). IsBroken old.cells i number cell) ends.image

@@ -1,4 +1,6 @@
 pub mod Alarms
-pub mod Ended
+pub mod EndedAs
+pub mod LeftWhole
+pub mod LookedAt
+pub mod PutCells
 pub mod SoundRules
-pub mod States

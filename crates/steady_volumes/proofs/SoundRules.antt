@@ -101,7 +101,8 @@ module _ {g : Layout} {image after : Image} (e : Extends image after) (s : IsSet
       there = e.keeps target other.found (ap image (sym target_is) ∙ other.there)
 
       not_same : after target ≡ after cell → ⊥
-      not_same same = other.differs (some_is other.found other.value (sym there ∙ same ∙ e.keeps cell other.value other.stands))
+      not_same same = other.differs (some_is other.found other.value
+          (sym there ∙ same ∙ e.keeps cell other.value other.stands))
 
       not_stored : (m bytes : ℕ) → Stores g after m start reserved bytes journal → ⊥
       not_stored m bytes t = ⊎_elim
@@ -126,7 +127,8 @@ module _ {g : Layout} {image after : Image} (e : Extends image after) (s : IsSet
     }
 
   module _ (n : ℕ) (h : IsHorizon g image image (n + 1))
-      (adds : (cell : ℕ) (value : List ℕ) → after cell ≡ Some value → (image cell ≡ Some value) ⊎ IsAdded g n cell value) where
+      (adds : (cell : ℕ) (value : List ℕ) → after cell ≡ Some value → (image cell ≡ Some value)
+      ⊎ IsAdded g n cell value) where
     -- reserve cells stood
     reserve_stood : (m : ℕ) (value : List ℕ) → m < g.slots → after (reserve_at m) ≡ Some value
         → image (reserve_at m) ≡ Some value
@@ -187,7 +189,8 @@ module _ {g : Layout} {image after : Image} (e : Extends image after) (s : IsSet
     }
 
     -- and done cells, but that of the last slot
-    done_stood : (m : ℕ) → m < g.slots → (m ≡ n → ⊥) → Holds after (done_at m) (Done m) → Holds image (done_at m) (Done m)
+    done_stood : (m : ℕ) → m < g.slots → (m ≡ n → ⊥) → Holds after (done_at m) (Done m) → Holds image (done_at m)
+        (Done m)
     done_stood m inside apart x =
         record { cell = x.cell; stands = ⊎_elim (λ was. was) not (adds (done_at m) x.cell x.stands); is = x.is }
       where
@@ -305,7 +308,11 @@ module _ {g : Layout} {image after : Image} (e : Extends image after) (s : IsSet
     outcome_rule m inside w =
         let r : OutcomeRule after m = s.met Rules.OutcomeCells (outcome_at m) (written_on e w) m inside refl in
         record {
-          reserve = record { found = r.reserve.found; stands = reserve_stood m r.reserve.found inside r.reserve.stands };
+          reserve = record {
+            found = r.reserve.found;
+            stands =
+                reserve_stood m r.reserve.found inside r.reserve.stands;
+          };
           outcome = ⊎_elim
               (λ (a : Holds after (outcome_at m) Abandon). inl (back w a))
               (λ (c : (bytes : ℕ) × (journal : ℕ) × Holds after (outcome_at m) (Commit bytes journal)

@@ -1,17 +1,21 @@
 -- Laws of steady devices.
 use Rattle.std.specs.Prelude.{ℕ, Result, Ok, Err, IsTrue}
-use Rattle.cell_types.specs.Image.{Image}
+use Rattle.cell_types.specs.Image.{Image, IsUnchanged}
 use Rattle.cell_types.specs.declared.refusal.Evidence.{Evidence}
 use Rattle.cell_types.specs.declared.refusal.Refusal.{Refusal}
 use Rattle.cell_types.specs.declared.refusal.Refusal.TheVariants.{Tampered}
 use Rattle.tamper_rules.specs.Rules.{IsBroken}
-use Rattle.tamper_rules.specs.Settling.{Sound}
+use Rattle.tamper_rules.specs.Settling.{IsBlankOrSound, Sound}
 use Rattle.tamper_rules.specs.declared.numbers.TheConstants.{OTHER_TARGET}
 use Rattle.worm_device.specs.Counts.{IsStill}
 use Rattle.worm_device.specs.State.{DeviceState, IsDevice, LeftSince}
 use Rattle.recovery_engine.specs.Settling.{HasOtherTarget, HasSettled, Settles}
 use Rattle.recovery_engine.specs.declared.settling.Ready.{Ready}
 use Rattle.steady_volumes.specs.Steadiness.{CrashesLeaveWhole, EndsAs, IsLeftWhole, IsSoundRule, IsSteady, StaysSteady}
+
+-- where all that stands is sure, as it is behind a crash, a device is steady if that is blank or sound
+abbrev pub SureIsSteady : Type 0
+SureIsSteady = (s : DeviceState) → IsUnchanged s.image s.sure → IsBlankOrSound s.cells s.image → IsSteady s
 
 -- settling leaves whole volumes at every moment, and a steady device, whatever it answers
 abbrev pub SettlingStaysSteady : Type 0

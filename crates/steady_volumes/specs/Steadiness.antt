@@ -57,7 +57,7 @@ pub record EndsAs (old new : DeviceState) (after : Image) (step : Step) : Type 0
   pub sure : new.sure ≡ after
   pub step_is : IsStepTo old.cells old.image after step
 
--- The rules that no sound image breaks: those of the cells that tell a slot's state, of documents, and of journals. Others
--- it may: a target stands before the done cell of the slot whose journal names it.
+-- The rules that no sound image breaks: those of the cells that tell a slot's state, of documents, and of journals.
+-- Others it may break: a target stands before the done cell of the slot whose journal names it.
 abbrev pub IsSoundRule : ℕ → Type 0
 IsSoundRule number = IsSlotRule number ⊎ (number ≡ BROKEN_DOCUMENT) ⊎ (number ≡ BROKEN_JOURNAL)

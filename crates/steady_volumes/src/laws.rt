@@ -1,5 +1,10 @@
 //! Laws: what the definitions mean together. Each is a function that does nothing and whose contract is the law.
-ghost use Rattle.steady_volumes.specs.Laws.{LookingEndsAs, LookingFindsNone, LookingStaysSteady, SettledWasSound, SettlingEndsAs, SettlingNamesNone, SettlingStaysSteady, SoundIsUnbroken, WholeFromTheStart};
+ghost use Rattle.steady_volumes.specs.Laws.{LookingEndsAs, LookingFindsNone, LookingStaysSteady, SettledWasSound, SettlingEndsAs, SettlingNamesNone, SettlingStaysSteady, SoundIsUnbroken, SureIsSteady, WholeFromTheStart};
+
+/// Where all that stands is sure, a device is steady if that is blank or sound.
+pub fn sure_is_steady()
+    ensures { SureIsSteady }
+{}
 
 /// Settling leaves whole volumes at every moment, and a steady device.
 pub fn settling_stays_steady()

@@ -1,5 +1,5 @@
 -- The law is a lemma.
-use Rattle.steady_volumes.proofs.States.{settling_ends}
+use Rattle.steady_volumes.proofs.EndedAs.{settling_ends}
 use Rattle.steady_volumes.proofs.laws.settling_ends_as.Goals as goal
 
 pub returns : goal.returns

@@ -1,5 +1,5 @@
 -- The law is a lemma.
-use Rattle.steady_volumes.proofs.States.{settling_left, stays_steady}
+use Rattle.steady_volumes.proofs.LeftWhole.{settling_left, stays_steady}
 use Rattle.steady_volumes.proofs.laws.settling_stays_steady.Goals as goal
 
 pub returns : goal.returns
