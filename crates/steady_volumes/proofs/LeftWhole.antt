@@ -5,7 +5,7 @@ use Rattle.std.proofs.lemmas.Option.{none-some}
 use Rattle.cell_types.specs.Image.{Image, Extends, Between, IsUnchanged}
 use Rattle.cell_types.specs.Layout.{Layout}
 use Rattle.cell_types.specs.declared.refusal.Refusal.{Refusal}
-use Rattle.stored_documents.specs.Documents.{Document}
+use Rattle.stored_documents.specs.Documents.{AreDocuments, Document}
 use Rattle.stored_documents.specs.Volumes.{IsVolume}
 use Rattle.tamper_rules.specs.Settling.{Settled, After, nothing, abandoned, completed, IsBlankOrSound, Sound, Held, none, of_after}
 use Rattle.tamper_rules.proofs.Images.{same_both, same_image}
@@ -29,6 +29,13 @@ pub not_blank : {cells : ℕ} {image after : Image} → After cells image after 
 not_blank (nothing s same) blank = none-some _ (sym blank ∙ s.volume.volume.stands)
 not_blank (abandoned g n start reserved v h r w) blank = none-some _ (sym blank ∙ v.volume.stands)
 not_blank (completed g n start reserved bytes journal v h c ready w) blank = none-some _ (sym blank ∙ v.volume.stands)
+
+-- the documents that a sound image holds are those of what settling makes of it
+pub documents_after : {cells : ℕ} {image : Image} (s : Sound cells image) (documents : List Document)
+    → Held cells image documents → AreDocuments cells s.after documents
+documents_after s documents (none blank is) = absurd (not_blank s.is (blank 0))
+documents_after {cells} {image} s documents (of_after after a are) =
+    subst (λ (i : Image). AreDocuments cells i documents) (one_after cells image after s.after a s.is) are
 
 -- where cell 0 is written, an image that is blank or sound is sound
 pub sound_written : {cells : ℕ} {image : Image} (value : List ℕ) → image 0 ≡ Some value → IsBlankOrSound cells image

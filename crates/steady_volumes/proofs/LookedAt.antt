@@ -1,11 +1,9 @@
 -- A volume that was settled, and looked at since.
-use Rattle.std.proofs.Common.{◌≡◌, List, Ok, sym, ◌∙◌, inr, ⊎_elim, subst, refl, arith}
+use Rattle.std.proofs.Common.{◌≡◌, Ok, sym, ◌∙◌, inr, ⊎_elim, subst, refl, arith}
 use Rattle.std.specs.Prelude.{IsTrue}
 use Rattle.cell_types.specs.Image.{Image, Between, Extends}
-use Rattle.stored_documents.specs.Documents.{AreDocuments, Document}
-use Rattle.tamper_rules.specs.Settling.{Held, Sound, none, nothing, of_after}
+use Rattle.tamper_rules.specs.Settling.{Held, Sound, nothing, of_after}
 use Rattle.tamper_rules.proofs.Images.{same_both, same_image}
-use Rattle.tamper_rules.proofs.OneAfter.{one_after}
 use Rattle.worm_device.specs.Counts.{IsStill}
 use Rattle.worm_device.specs.State.{DeviceState, IsDevice, LeftSince}
 use Rattle.worm_device.proofs.Counting.{still_first, still_second}
@@ -15,7 +13,7 @@ use Rattle.recovery_engine.specs.Settling.{HasSettled}
 use Rattle.recovery_engine.specs.declared.settling.Ready.{Ready}
 use Rattle.steady_volumes.specs.Steadiness.{CrashesLeaveWhole, EndsAs, IsLeftWhole, IsSteady, StaysSteady}
 use Rattle.steady_volumes.proofs.EndedAs.{settled_sound, settling_ends}
-use Rattle.steady_volumes.proofs.LeftWhole.{not_blank, settling_left, stays_steady}
+use Rattle.steady_volumes.proofs.LeftWhole.{documents_after, settling_left, stays_steady}
 
 module _ (old new : DeviceState) (r : Ready) (tells : IsTrue old.tells) (h : HasSettled old new r)
     (still : IsStill old.foreign_writes new.foreign_writes) where
@@ -50,15 +48,6 @@ module _ (old new : DeviceState) (r : Ready) (tells : IsTrue old.tells) (h : Has
     pub looked_sound : Sound old.cells old.image
     looked_sound = settled_sound old h.settled r device tells h.settles first steady
 
-    -- what settling has made holds the documents that it held before
-    held_after : (documents : List Document) → Held old.cells old.image documents
-        → Held old.cells looked_sound.after documents
-    held_after documents (none blank is) = absurd (not_blank looked_sound.is (blank 0))
-    held_after documents (of_after after a are) = of_after looked_sound.after
-        (nothing looked_sound.settled (λ cell. refl))
-        (subst (λ (i : Image). AreDocuments old.cells i documents)
-        (one_after old.cells old.image after looked_sound.after a looked_sound.is) are)
-
     looked_left : (image : Image) → Between h.settled.sure new.image image → IsLeftWhole old image
     looked_left image b =
         let is : image ≡ looked_sound.after = looked_is device_new.sure looked_sound image b in
@@ -69,8 +58,8 @@ module _ (old new : DeviceState) (r : Ready) (tells : IsTrue old.tells) (h : Has
         } in
         record {
           sound = inr (subst (Sound old.cells) (sym is) whole);
-          holds = inr (λ documents held.
-              subst (λ (i : Image). Held old.cells i documents) (sym is) (held_after documents held));
+          holds = inr (λ documents held. subst (λ (i : Image). Held old.cells i documents) (sym is)
+              (of_after looked_sound.after whole.is (documents_after looked_sound documents held)));
         }
 
     crashes_looked : CrashesLeaveWhole old new
