@@ -1,6 +1,13 @@
 -- The slot that the walk has found is that of the first document with the identifier.
-use Rattle.std.proofs.Common.{Ok, Option, ℕ, subst}
-use Rattle.slot_walk.specs.Walks.{WalkEnds}
+use Rattle.std.proofs.Common.{Err, List, Ok, Option, ℕ, subst}
+use Rattle.cell_types.specs.Refusals.{refusal_of_fault}
+use Rattle.cell_types.specs.declared.refusal.Fault.{Fault}
+use Rattle.cell_types.specs.declared.refusal.Fault.TheVariants.{ReadFault, Tampered}
+use Rattle.cell_types.proofs.Passed.{handed}
+use Rattle.worm_device.specs.State.{DeviceState}
+use Rattle.recovery_engine.specs.declared.settling.Ready.{Ready}
+use Rattle.slot_walk.specs.Walks.{WalkEnds, Walks}
+use Rattle.ingest_engine.specs.Ingesting.{IdentifierChecks}
 use Rattle.ingest_engine.proofs.ingesting.check_identifier.Goals as goal
 
 pub returns-in-Some : goal.returns-in-Some
@@ -30,3 +37,15 @@ returns-in-None g c =
       ends = λ old settles. subst (λ (found : Option ℕ). WalkEnds r c.args.id.now old entry new (Ok found)) c.in-None.is
           (walks.ends old settles);
     }
+
+-- the walk was ended
+refused : (r : Ready) (id : List ℕ) (entry new : DeviceState) (fault : Fault) → Walks r id entry new (Err fault)
+    → IdentifierChecks r id entry new (Err (refusal_of_fault fault))
+refused r id entry new ReadFault w = record { called = w.called; quiet = w.quiet; ends = w.ends }
+refused r id entry new (Tampered e) w = record { called = w.called; quiet = w.quiet; ends = w.ends }
+
+pub returns-in_err-slot : goal.returns-in_err-slot
+returns-in_err-slot g c =
+    rw (handed c.from_residual.result (refusal_of_fault c.in_err-slot.field-0.0) c.from_residual.ensures.1)
+    (refused c.args.ready.now c.args.id.now (g.D.Device.state c.args.device.now)
+    (g.D.Device.state c.first_with_identifier.new.device) c.in_err-slot.field-0.0 c.in_err-slot.ensures)
