@@ -72,7 +72,7 @@ module _ (id : List ℕ) (old new : DeviceState) (sink : SinkState) where
       → LooksUp id old new sink sink (Err refusal)
   look_up_unsettled refusal s = record {
     called = s.called;
-    comes = ComesTo.settling refusal s;
+    comes = ComesTo.settling refusal refl s;
     ends = refused refusal s.ends;
   }
 

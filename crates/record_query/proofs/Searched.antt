@@ -22,8 +22,9 @@ pub walked : {r : Ready} {old settled new : DeviceState} → Settles old settled
 walked s viewed = record { settles = s; looked = viewed.called; quiet = (rests_of viewed).below }
 
 -- so a query has come far
-pub comes_to_settled : {r : Ready} {old settled new : DeviceState} → HasWalked r old settled new → ComesTo old new
-comes_to_settled {r} {old} {settled} {new} w = ComesTo.settled r
+pub comes_to_settled : {X : Type 0} {result : Result X Refusal} {r : Ready} {old settled new : DeviceState}
+    → HasWalked r old settled new → ComesTo X old new result
+comes_to_settled {X} {result} {r} {old} {settled} {new} w = ComesTo.settled r
     (record { settled = settled; settles = w.settles; looked = w.looked; quiet = w.quiet })
 
 -- settling was ended
@@ -40,7 +41,7 @@ module _ (terms : List (List ℕ)) (old new : DeviceState) where
   pub search_unsettled : (refusal : Refusal) → Settles old new (Err refusal) → Searches terms old new (Err refusal)
   search_unsettled refusal s = record {
     called = s.called;
-    comes = ComesTo.settling refusal s;
+    comes = ComesTo.settling refusal refl s;
     ends = refused refusal s.ends;
   }
 

@@ -14,11 +14,11 @@ use Rattle.recovery_engine.specs.declared.settling.Ready.{Ready}
 use Rattle.slot_walk.specs.Walks.{IsQueryRule, OfAll, WereRead}
 use Rattle.record_query.specs.declared.found.Match.{Match}
 
--- How far a query has come, whatever it answers: settling was ended, or the volume was settled and then looked at
--- alone.
-pub data ComesTo (old new : DeviceState) : Type 0 where
-  settling : (refusal : Refusal) → Settles old new (Err refusal) → ComesTo old new
-  settled : (r : Ready) → HasSettled old new r → ComesTo old new
+-- How far a query has come: settling was ended, and its refusal is the answer; or the volume was settled and then
+-- looked at alone, whatever is answered.
+pub data ComesTo (X : Type 0) (old new : DeviceState) (result : Result X Refusal) : Type 0 where
+  settling : (refusal : Refusal) → result ≡ Err refusal → Settles old new (Err refusal) → ComesTo X old new result
+  settled : (r : Ready) → HasSettled old new r → ComesTo X old new result
 
 -- one of the matches tells of this document
 pub record HasMatch (matches : List Match) (n : ℕ) (id body : List ℕ) : Type 0 where
@@ -66,5 +66,5 @@ FindEnds terms old new (Err refusal) = ⊥
 -- what it means that the documents of a volume are searched for these terms, or that this was ended
 pub record Searches (terms : List (List ℕ)) (old new : DeviceState) (result : Result (Vec Match) Refusal) : Type 0 where
   pub called : Called old new
-  pub comes : ComesTo old new
+  pub comes : ComesTo (Vec Match) old new result
   pub ends : FindEnds terms old new result

@@ -55,7 +55,7 @@ LookUpEnds id old new from to (Err refusal) = ⊥
 pub record LooksUp (id : List ℕ) (old new : DeviceState) (from to : SinkState) (result : Result Found Refusal)
     : Type 0 where
   pub called : Called old new
-  pub comes : ComesTo old new
+  pub comes : ComesTo Found old new result
   pub ends : LookUpEnds id old new from to result
 
 -- a fault of putting a body, as a command refuses

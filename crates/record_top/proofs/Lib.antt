@@ -7,6 +7,7 @@ pub mod LookUps
 pub mod MatchLines
 pub mod Options
 pub mod Pieces
+pub mod Steadily
 pub mod Taken
 pub mod Terms
 pub mod WholeLogs

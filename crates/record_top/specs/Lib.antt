@@ -5,6 +5,7 @@ pub mod Ingesting
 pub mod LookingUp
 pub mod Ports
 pub mod Recovering
+pub mod Steadiness
 pub mod Taking
 pub mod WholeLogs
 pub mod Words

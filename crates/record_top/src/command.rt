@@ -4,6 +4,7 @@ ghost use Rattle.std.specs.String.{string_bytes};
 ghost use Rattle.worm_device.specs.Calls.{Called};
 ghost use Rattle.record_top.specs.Commands.{Asks, AsksNothing, Does, IsAnswered, IsAskedFor, IsUnhindered, Request, request_of};
 ghost use Rattle.record_top.specs.Ports.{ports_of};
+ghost use Rattle.record_top.specs.Steadiness.{BeginsSteady, LeavesWhole};
 
 use crate::find::find_documents;
 use crate::format::format_device;
@@ -46,6 +47,12 @@ pub fn run<D: Device, S: Source, K: Sink>(
     ensures complete { (request : Request) → Asks (map string_bytes words.now) request → IsUnhindered request
         (ports_of (D.state device.old) (S.state source.old) (K.state sink.old))
         (ports_of (D.state device.new) (S.state source.new) (K.state sink.new)) → IsAnswered request result }
+
+    // From a steady device on, where nobody else writes, a crash leaves at every moment what settling makes whole.
+    ensures steady { (request : Request) → Asks (map string_bytes words.now) request
+        → BeginsSteady (D.state device.old) (D.state device.new) → LeavesWhole request
+        (ports_of (D.state device.old) (S.state source.old) (K.state sink.old))
+        (ports_of (D.state device.new) (S.state source.new) (K.state sink.new)) result }
 {
     let Some(command) = command_of(words) else {
         return Err(Refusal::Usage);

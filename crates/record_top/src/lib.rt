@@ -10,14 +10,16 @@
 //!     recover         settles the volume                                           nothing to settle
 //!
 //! A `find` makes its text before the first byte goes out, and a `lookup` checks the document whole before that.
-//! Whatever keeps a command from being done is a refusal that names its cause.
+//! Whatever keeps a command from being done is a refusal that names its cause. And whatever a crash leaves of any of
+//! these but `ingest`, at any moment, is blank or sound: settling makes a settled volume of it, with the documents that
+//! were sure before the command or those that stood then.
 //!
-//! A further command is one case in each relation of specs/Commands.antt, a file of its own there and here, and one arm
-//! in `command.rt`.
+//! A further command is one case in each relation of specs/Commands.antt and of specs/Steadiness.antt, a file of its
+//! own there and here, and one arm in `command.rt`.
 //!
-//! Stands on `ingest_engine` and `recovery_engine`, which write, on `record_query`, which searches and looks up, and on
-//! `host_ports`. Begin with `command.rt`; specs/Commands.antt says which commands there are, and leads to what each
-//! does.
+//! Stands on `ingest_engine` and `recovery_engine`, which write, on `record_query`, which searches and looks up, on
+//! `steady_volumes`, and on `host_ports`. Begin with `command.rt`; specs/Commands.antt says which commands there are,
+//! and leads to what each does; specs/Steadiness.antt says what a crash leaves of it.
 #![tactic(auto)]
 
 mod body;

@@ -39,7 +39,7 @@ use Rattle.recovery_engine.specs.Ending.{HasJournal, SlotCheckEnds, abandon_put,
 use Rattle.recovery_engine.specs.Journal.{IsEntryPut, IsUnfitAt, IsFlawed, JournalEnds}
 use Rattle.recovery_engine.specs.declared.journal.Journal.{Journal}
 use Rattle.recovery_engine.specs.LastSlot.{IsLast}
-use Rattle.recovery_engine.specs.Settling.{IsFound, IsSettlingRule, SettleEnds}
+use Rattle.recovery_engine.specs.Settling.{HasOtherTarget, IsFound, IsSettlingRule, NamesTarget, SettleEnds}
 use Rattle.recovery_engine.proofs.Rising.{entries_apart, entries_from}
 use Rattle.recovery_engine.proofs.InOrder.{state_further}
 
@@ -233,6 +233,17 @@ journal_checked g n s l b j old new state journal result e f ends =
     by_result (Err faults.ReadFault) h = h
     by_result (Err (faults.Tampered e)) h = h
 
+-- a look at the slot's journal names no target
+pub check_names : (g : Layout) (n : ℕ) (s0 s4 s5 : DeviceState) (state : SlotState) (fault : Fault) → IsTrue s4.tells
+    → SlotCheckEnds g n state s4 s5 (Err fault) → NamesTarget s0 s5 (Err (refusal_of_fault fault))
+check_names g n s0 s4 s5 state faults.ReadFault tells ends = tt
+check_names g n s0 s4 s5 Unused (faults.Tampered e) tells ends = absurd (ends tells)
+check_names g n s0 s4 s5 (Reserved s l) (faults.Tampered e) tells ends = absurd (ends tells)
+check_names g n s0 s4 s5 (Abandoned s l) (faults.Tampered e) tells ends = absurd (ends tells)
+check_names g n s0 s4 s5 (Done s l b j) (faults.Tampered e) tells ends = absurd (ends tells)
+check_names g n s0 s4 s5 (Committed s l b j) (faults.Tampered e) tells ends = λ six.
+    absurd (omega (arith, six, flaw_rule g n s l b j s4 s5 (ends tells)))
+
 -- Settling after the last slot was looked at: it began at s0, and looks alone came before s4.
 module _ (g : Layout) (n : ℕ) (s0 s3 s4 s5 : DeviceState) (c03 : Called s0 s3) (c34 : Called s3 s4) (c45 : Called s4 s5)
     (quiet_04 : IsStill s0.foreign_writes s4.foreign_writes → IsUnchanged s0.image s4.image)
@@ -347,6 +358,43 @@ module _ (g : Layout) (n : ℕ) (s0 s3 s4 s5 : DeviceState) (c03 : Called s0 s3)
             (look s5.image (done_at n));
       }
 
+      -- where nobody else wrote, the target held what was found there before
+      target_stood : (taken : IsTaken (IsInFirst (end_plan s4.image n (Committed s l b j)) 2) s4 s5 e)
+          → IsEntryPut s4.image (journal_at s l j) j taken.put → IsStill s0.foreign_writes s5.foreign_writes
+          → s4.image (target_of taken.put.value) ≡ Some taken.found
+      target_stood taken is still = ⊎_elim
+          (λ (was : s4.image taken.put.at ≡ Some taken.found). ap s4.image (sym is.2.at) ∙ was)
+          (λ (twice : IsPutTwice (IsInFirst (end_plan s4.image n (Committed s l b j)) 2) taken.put taken.found). absurd
+          (⊎_elim
+          (λ (first : (twice.planned.0 ≡ 0) × IsEntryPut s4.image (journal_at s l j) j twice.other).
+          taken.differs (sym twice.is
+          ∙ entries_apart (list_at g 0) s4.image (journal_at s l j) (document_at s l b j) j entries first.1.0 is.0
+          twice.other.value taken.put.value first.1.1 is.1 first.1.2.stands is.2.stands
+          (sym first.1.2.at ∙ twice.here ∙ is.2.at)))
+          (λ (final : (twice.planned.0 ≡ 1) × (twice.other ≡ done_put n)).
+          no_target taken.put is (sym twice.here ∙ ap (λ (p : Put). p.at) final.1))
+          twice.planned.2))
+          (taken.stood (still_45 still))
+
+      -- so it held another value than its journal cell before the call
+      target_names : (taken : IsTaken (IsInFirst (end_plan s4.image n (Committed s l b j)) 2) s4 s5 e)
+          → IsEntryPut s4.image (journal_at s l j) j taken.put → IsStill s0.foreign_writes s5.foreign_writes
+          → HasOtherTarget s0.image e.cell
+      target_names taken is still =
+          let put = taken.put in
+          let same : s4.image ≡ s0.image =
+          same_image (quiet_04 (still_first c04.foreign_writes c45.foreign_writes still)) in
+          let here : e.cell ≡ journal_at s l j + is.0 = ap (λ (f : Evidence). f.cell)
+          (taken.is ∙ ap (λ (w : Blame). blamed w put.at put.value taken.found) is.2.blame) in
+          record {
+            value = put.value;
+            stands = subst (λ (i : Image). i e.cell ≡ Some put.value) same (ap s4.image here ∙ is.2.stands);
+            found = taken.found;
+            there = subst (λ (i : Image). i (target_of put.value) ≡ Some taken.found) same
+                (target_stood taken is still);
+            differs = taken.differs;
+          }
+
       -- the target of this journal cell holds another value
       target_held : (taken : IsTaken (IsInFirst (end_plan s4.image n (Committed s l b j)) 2) s4 s5 e)
           → IsEntryPut s4.image (journal_at s l j) j taken.put → IsFound IsSettlingRule s0 s5 e
@@ -361,20 +409,7 @@ module _ (g : Layout) (n : ℕ) (s0 s3 s4 s5 : DeviceState) (c03 : Called s0 s3)
           let stands : s5.image (journal_at s l j + k) ≡ Some put.value =
           c45.image.keeps (journal_at s l j + k) put.value is.2.stands in
           let other : s5.image (target_of put.value) ≡ Some taken.found = ap s5.image (sym is.2.at) ∙ taken.stands in
-          let stood : IsStill s0.foreign_writes s5.foreign_writes → s4.image (target_of put.value) ≡ Some taken.found =
-          λ still. ⊎_elim
-          (λ (was : s4.image put.at ≡ Some taken.found). ap s4.image (sym is.2.at) ∙ was)
-          (λ (twice : IsPutTwice (IsInFirst (end_plan s4.image n (Committed s l b j)) 2) put taken.found). absurd
-          (⊎_elim
-          (λ (first : (twice.planned.0 ≡ 0) × IsEntryPut s4.image (journal_at s l j) j twice.other).
-          taken.differs (sym twice.is
-          ∙ entries_apart (list_at g 0) s4.image (journal_at s l j) (document_at s l b j) j entries first.1.0 k
-          twice.other.value put.value first.1.1 is.1 first.1.2.stands is.2.stands
-          (sym first.1.2.at ∙ twice.here ∙ is.2.at)))
-          (λ (final : (twice.planned.0 ≡ 1) × (twice.other ≡ done_put n)).
-          no_target put is (sym twice.here ∙ ap (λ (p : Put). p.at) final.1))
-          twice.planned.2))
-          (taken.stood (still_45 still)) in
+          let stood = target_stood taken is in
           subst (IsFound IsSettlingRule s0 s5)
           (sym (taken.is ∙ ap (λ (w : Blame). blamed w put.at put.value taken.found) is.2.blame))
           (record {
@@ -413,7 +448,8 @@ module _ (g : Layout) (n : ℕ) (s0 s3 s4 s5 : DeviceState) (c03 : Called s0 s3)
     taken_found (Reserved s l) last entries phases =
         let t = phases.puts.ends tells in
         own_held (IsInFirst (end_plan s4.image n (Reserved s l)) 1) OUTCOME_CELL (outcome_at n) _ t
-        (abandon t.put t.planned) (OutcomeCells, refl, (n, last.is.reserves.slot, refl)) (inl (inr (inl refl))) last.is.outcome
+        (abandon t.put t.planned) (OutcomeCells, refl, (n, last.is.reserves.slot, refl))
+            (inl (inr (inl refl))) last.is.outcome
         (λ other h here. ap (λ (x : Put). x.value) (abandon other h))
       where
         abandon : (put : Put) → IsInFirst (end_plan s4.image n (Reserved s l)) 1 put → put ≡ abandon_put n
@@ -431,6 +467,38 @@ module _ (g : Layout) (n : ℕ) (s0 s3 s4 s5 : DeviceState) (c03 : Called s0 s3)
         (DoneCells, refl, (n, last.is.commits.reserves.slot, refl)) (inl (inr (inr refl))) last.is.done
         (once s l b j last.is.commits last.is.done entries phases))
         t.planned.2
+
+  -- and what was named by the rule of targets
+  pub end_names : (state : SlotState) (fault : Fault) → IsVolume s4.cells s4.image g → IsTrue s4.tells
+      → IsLast g s3.image s4.image n state → HasJournal g state s4.image
+      → PutsPhases (end_plan s4.image n state) (end_phases state) s4 s5 (Err fault)
+      → NamesTarget s0 s5 (Err (refusal_of_fault fault))
+  end_names state faults.ReadFault volume tells last entries phases = tt
+  end_names Unused (faults.Tampered e) volume tells last entries phases =
+      absurd (let t = phases.puts.ends tells in omega (arith, t.planned.1))
+  end_names (Abandoned s l) (faults.Tampered e) volume tells last entries phases =
+      absurd (let t = phases.puts.ends tells in omega (arith, t.planned.1))
+  end_names (Done s l b j) (faults.Tampered e) volume tells last entries phases =
+      absurd (let t = phases.puts.ends tells in omega (arith, t.planned.1))
+  end_names (Reserved s l) (faults.Tampered e) volume tells last entries phases = λ six still.
+      let t = phases.puts.ends tells in
+      absurd (⊎_elim
+      (λ (a : (t.planned.0 ≡ 0) × (t.put ≡ abandon_put n)).
+      omega (arith, six, ap (λ (f : Evidence). f.rule) (t.is ∙ ap (λ (p : Put). evidence_of p t.found) a.1)))
+      (λ (c : (t.planned.0 ≡ 1) × ⊥). c.1)
+      t.planned.2)
+  end_names (Committed s l b j) (faults.Tampered e) volume tells last entries phases = λ six still.
+      let t = phases.puts.ends tells in
+      ⊎_elim
+      (λ (first : (t.planned.0 ≡ 0) × IsEntryPut s4.image (journal_at s l j) j t.put).
+      target_names volume tells e s l b j last.is.commits last.is.done entries phases t first.1 still)
+      (λ (final : (t.planned.0 ≡ 1) × (t.put ≡ done_put n)).
+      absurd (omega (
+        arith,
+        six,
+        ap (λ (f : Evidence). f.rule) (t.is ∙ ap (λ (p : Put). evidence_of p t.found) final.1),
+      )))
+      t.planned.2
 
   pub end_refused : (state : SlotState) (fault : Fault) → (IsTrue s0.tells → IsVolume s4.cells s4.image g)
       → (IsTrue s4.tells → IsLast g s3.image s4.image n state) → (IsTrue s4.tells → HasJournal g state s4.image)

@@ -1,6 +1,6 @@
 -- What settling knows when all that stood is sure, and it has only looked since.
 use Rattle.std.proofs.Common.{true, false, ◌≡◌, ◌≤◌, ◌<◌, ◌+◌, ◌-◌, ◌⊎◌, ℕ, Ok, Err, refl, sym, ◌∙◌, inl, inr, ⊎_elim, subst, arith}
-use Rattle.std.specs.Prelude.{IsTrue, IsOk, Result}
+use Rattle.std.specs.Prelude.{IsTrue, IsOk, IfOk, Result}
 use Rattle.cell_types.specs.Image.{Image, Extends, Between, IsUnchanged}
 use Rattle.cell_types.specs.declared.refusal.Fault.{Fault}
 use Rattle.cell_types.specs.declared.refusal.Refusal.{Refusal}
@@ -17,8 +17,8 @@ use Rattle.worm_device.specs.declared.device.Failed.{Failed}
 use Rattle.worm_device.proofs.Counting.{still_first, still_second}
 use Rattle.worm_device.proofs.Elapsing.{called_then, elapses_of}
 use Rattle.worm_device.proofs.Images.{extends_self, extends_then, unchanged_then}
-use Rattle.recovery_engine.specs.Ending.{HasJournal, IsFirstEnd, IsLastEnd, end_plan, end_phases}
-use Rattle.recovery_engine.specs.Settling.{Settles, SettleEnds, EndsByPhases, IsEnding, settle_plan}
+use Rattle.recovery_engine.specs.Ending.{HasJournal, IsFirstEnd, IsLastEnd, end_plan, end_phases, step_of}
+use Rattle.recovery_engine.specs.Settling.{Settles, SettleEnds, NamesTarget, EndsByPhases, IsEnding, settle_plan}
 use Rattle.recovery_engine.specs.LastSlot.{IsLast}
 use Rattle.cell_types.specs.Layout.{Layout}
 use Rattle.stored_documents.specs.Slots.{AreTaken, IsHorizon}
@@ -116,8 +116,9 @@ none_settles image j put h = ⊎_elim
 -- settling ends after looks alone
 settled_spared : (old now : DeviceState) (result : Result Ready Refusal) → Called old now
     → (IsStill old.foreign_writes now.foreign_writes → IsUnchanged old.image now.image) → CrashesSpare old now
-    → (IsOk result → IsTrue old.tells → Extends old.image now.sure) → SettleEnds old now result → Settles old now result
-settled_spared old now result called quiet crashes synced ends = record {
+    → (IsOk result → IsTrue old.tells → Extends old.image now.sure) → IfOk result (λ r. r.step ≡ step_of 0 Unused)
+    → (IsTrue old.tells → NamesTarget old now result) → SettleEnds old now result → Settles old now result
+settled_spared old now result called quiet crashes synced step targets ends = record {
   called = called;
   writes = λ tells. record {
     between = old.image;
@@ -127,22 +128,25 @@ settled_spared old now result called quiet crashes synced ends = record {
     state = Unused;
     quiet = λ still cell. refl;
     ending = λ some. absurd (omega (arith, some));
+    step = step;
     sure = λ okay. (λ put h. absurd (none_settles old.image h.0 put h.2), synced okay tells);
     only = λ still. changes_same (IsInFirst (settle_plan old.image 0 Unused) 3) old.image now.image (quiet still);
     crashes = spared_phases (settle_plan old.image 0 Unused) 3 old now quiet crashes;
   };
   ends = ends;
+  targets = targets;
 }
 
 pub settled_looked : (old now : DeviceState) (result : Result Ready Refusal) → Looked old now
+    → IfOk result (λ r. r.step ≡ step_of 0 Unused) → (IsTrue old.tells → NamesTarget old now result)
     → SettleEnds old now result → Settles old now result
-settled_looked old now result looked ends = settled_spared old now result looked.called looked.quiet looked.crashes
-    (λ okay tells. looked.synced tells) ends
+settled_looked old now result looked step targets ends = settled_spared old now result looked.called looked.quiet
+    looked.crashes (λ okay tells. looked.synced tells) step targets ends
 
 -- the sync failed
 pub sync_failed : (s0 s1 : DeviceState) (f : Failed) → Syncs s0 s1 (Err f) → Settles s0 s1 (Err DeviceFault)
 sync_failed s0 s1 f sync = settled_spared s0 s1 (Err DeviceFault) sync.called sync.only (spared_call sync.called)
-    (λ okay tells. absurd (false_true okay)) sync.cause
+    (λ okay tells. absurd (false_true okay)) tt (λ tells. tt) sync.cause
 
 two_phases : (state : SlotState) → end_phases state ≤ 2
 two_phases Unused = omega arith
@@ -201,12 +205,14 @@ pub settled_ended : (n : ℕ) (s0 s4 s5 : DeviceState) (state : SlotState) (ende
     (result : Result Ready Refusal) → Looked s0 s4
     → PutsPhases (end_plan s4.image n state) (end_phases state) s4 s5 ended →
     (IsTrue s0.tells → IsEnding s0.cells s0.image s4.image n state)
-    → (IsOk result → PutsPhases (end_plan s4.image n state) (end_phases state) s4 s5 (Ok tt)) → SettleEnds s0 s5 result
-    → Settles s0 s5 result
-settled_ended n s0 s4 s5 state ended result looked phases ending okay ends = record {
+    → (IsOk result → PutsPhases (end_plan s4.image n state) (end_phases state) s4 s5 (Ok tt))
+    → IfOk result (λ r. r.step ≡ step_of n state) → (IsTrue s0.tells → NamesTarget s0 s5 result)
+    → SettleEnds s0 s5 result → Settles s0 s5 result
+settled_ended n s0 s4 s5 state ended result looked phases ending okay step targets ends = record {
   called = called_then looked.called phases.puts.called;
   writes = λ tells. writes ended phases tells;
   ends = ends;
+  targets = targets;
 }
   where
     plan : ℕ → Put → Type 0
@@ -233,6 +239,7 @@ settled_ended n s0 s4 s5 state ended result looked phases ending okay ends = rec
           state = state;
           quiet = λ still. looked.quiet (still_first looked.called.foreign_writes p.puts.called.foreign_writes still);
           ending = λ some. ending tells;
+          step = step;
           sure = λ ok.
               let sure = (all (Ok tt) (okay ok)).sure tells in (
                 λ put h. sure.0 put (h.0, in_phases s4.image n state h.0 put h.2, h.2),

@@ -1,5 +1,5 @@
 -- A volume that is settled: from the looks over the slot's last cell to the end.
-use Rattle.std.proofs.Common.{◌≡◌, ◌≤◌, ◌<◌, ◌+◌, ℕ, List, Some, None, Ok, Err, refl, sym, ◌∙◌, inl, inr, subst, arith}
+use Rattle.std.proofs.Common.{◌≡◌, ◌≤◌, ◌<◌, ◌+◌, ◌⊎◌, ℕ, List, Some, None, Ok, Err, refl, sym, ◌∙◌, inl, inr, ⊎_elim, subst, arith}
 use Rattle.std.specs.Prelude.{IsTrue}
 use Rattle.cell_types.specs.Image.{Extends, IsUnchanged}
 use Rattle.cell_types.specs.Layout.{Layout, IsLayout, reserve_at, outcome_at, done_at}
@@ -27,8 +27,9 @@ use Rattle.worm_device.specs.State.{DeviceState}
 use Rattle.worm_device.proofs.Counting.{still_first, still_second}
 use Rattle.worm_device.proofs.Elapsing.{called_then}
 use Rattle.worm_device.proofs.Images.{extends_self, extends_then}
-use Rattle.recovery_engine.specs.LastSlot.{IsLast, IsNamed, LastEnds}
-use Rattle.recovery_engine.specs.Settling.{StepMakes, IsReady, LiesInBounds, SettleEnds, unused}
+use Rattle.recovery_engine.specs.LastSlot.{IsLast, IsNamed, IsSlotRule, LastEnds}
+use Rattle.recovery_engine.specs.Settling.{StepMakes, IsReady, LiesInBounds, NamesTarget, SettleEnds, unused}
+use Rattle.tamper_rules.specs.declared.numbers.TheConstants.{OTHER_TARGET, RESERVE_CELL, OUTCOME_CELL, DONE_CELL}
 use Rattle.cell_types.specs.declared.geometry.Volume.{Volume}
 use Rattle.cell_types.specs.declared.record_cell.TheConstants.{FORMAT_VERSION}
 use Rattle.cell_types.specs.Refusals.{refusal_of_fault}
@@ -200,6 +201,29 @@ open_refused s0 s1 s2 (NotAVolume found) l1 l2 c12 ends = λ tells. ends.1 (subs
 open_refused s0 s1 s2 (WrongSize stated real) l1 l2 c12 ends =
     (ends.1, ends.2, λ tells. ends.3 (subst IsTrue (sym l1.called.tells) tells))
 open_refused s0 s1 s2 ReadFault l1 l2 c12 ends = omega (arith, ends, l1.called.faults)
+
+-- cell 0 names no target
+pub open_names : (s0 s2 : DeviceState) (fault : OpenRefusal) → NamesTarget s0 s2 (Err (refusal_of fault))
+open_names s0 s2 NotFormatted = tt
+open_names s0 s2 (NotAVolume found) = tt
+open_names s0 s2 (WrongSize stated real) = tt
+open_names s0 s2 ReadFault = tt
+
+-- nor do the cells of a slot's state
+not_other : (number : ℕ) → IsSlotRule number → number ≡ OTHER_TARGET → ⊥
+not_other number rule six = ⊎_elim
+    (λ (a : number ≡ RESERVE_CELL). omega (arith, a, six))
+    (λ (b : (number ≡ OUTCOME_CELL) ⊎ (number ≡ DONE_CELL)). ⊎_elim
+    (λ (c : number ≡ OUTCOME_CELL). omega (arith, c, six))
+    (λ (d : number ≡ DONE_CELL). omega (arith, d, six)) b)
+    rule
+
+pub last_names : (g : Layout) (n : ℕ) (s0 s3 s4 : DeviceState) (fault : Fault) → IsTrue s3.tells
+    → LastEnds g n (seen_directly s3 0) (seen_directly s4 0) (Err fault)
+    → NamesTarget s0 s4 (Err (refusal_of_fault fault))
+last_names g n s0 s3 s4 faults.ReadFault tells ends = tt
+last_names g n s0 s3 s4 (faults.Tampered e) tells ends = λ six still.
+    absurd (not_other e.rule (ends tells).rule six)
 
 -- the last slot is out of place, or a read failed
 pub last_refused : (g : Layout) (n : ℕ) (s0 s3 s4 : DeviceState) (fault : Fault) → Called s0 s3 → Called s3 s4

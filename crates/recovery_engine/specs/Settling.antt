@@ -1,5 +1,5 @@
 -- What it means that a volume is settled: what a crash left half done is given up or carried out.
-use Rattle.std.specs.Prelude.{◌≡◌, ◌≢◌, ◌<◌, ◌≤◌, ◌+◌, ◌⊎◌, ℕ, List, Some, None, Result, Ok, Err, IsTrue, IsOk}
+use Rattle.std.specs.Prelude.{◌≡◌, ◌≢◌, ◌<◌, ◌≤◌, ◌+◌, ◌⊎◌, ℕ, List, Some, None, Result, Ok, Err, IsTrue, IsOk, IfOk, ⊤}
 use Rattle.cell_types.specs.Image.{Image, Extends, IsUnchanged}
 use Rattle.cell_types.specs.Layout.{Layout, IsLayout, reserve_at, pool_at}
 use Rattle.cell_types.specs.declared.record_cell.TheConstants.{FORMAT_VERSION}
@@ -20,7 +20,7 @@ use Rattle.commit_record.specs.Licences.{IsLicensed}
 use Rattle.commit_record.specs.Opening.{IsNoVolumeCell}
 use Rattle.commit_record.specs.States.{IsState}
 use Rattle.commit_record.specs.declared.slot.SlotState.{SlotState}
-use Rattle.recovery_engine.specs.Ending.{HasJournal, IsFirstEnd, IsLastEnd, end_phases}
+use Rattle.recovery_engine.specs.Ending.{HasJournal, IsFirstEnd, IsLastEnd, end_phases, step_of}
 use Rattle.recovery_engine.specs.Entries.{target_of}
 use Rattle.recovery_engine.specs.LastSlot.{IsSlotRule}
 use Rattle.cell_types.specs.declared.geometry.Volume.{Volume}
@@ -94,6 +94,21 @@ SettleEnds old new (Err (WrongSize stated real)) =
 SettleEnds old new (Err (Tampered e)) = IsTrue old.tells → IsFound IsSettlingRule old new e
 SettleEnds old new (Err refusal) = ⊥
 
+-- a journal cell stands here, and its target holds another value
+pub record HasOtherTarget (image : Image) (cell : ℕ) : Type 0 where
+  pub value : List ℕ
+  pub stands : image cell ≡ Some value
+  pub found : List ℕ
+  pub there : image (target_of value) ≡ Some found
+  pub differs : found ≢ value
+
+-- What is named by the rule of targets is a journal cell whose target is not blank but holds another value; where nobody
+-- else wrote it did so before the call.
+abbrev pub NamesTarget : DeviceState → DeviceState → Result Ready Refusal → Type 0
+NamesTarget old new (Err (Tampered e)) =
+    e.rule ≡ OTHER_TARGET → IsStill old.foreign_writes new.foreign_writes → HasOtherTarget old.image e.cell
+NamesTarget old new result = ⊤
+
 -- Which cells settling puts, in the phases behind its first sync: those that end a slot in this state. Phase 0 is the
 -- first sync, and puts none.
 abbrev pub settle_plan : Image → ℕ → SlotState → ℕ → Put → Type 0
@@ -109,8 +124,8 @@ pub record IsEnding (cells : ℕ) (old between : Image) (n : ℕ) (state : SlotS
   pub is : IsState layout old between n state
   pub journal : HasJournal layout state between
 
--- Settling ends one slot at most, by its state, in phases. The slot's journal stands in an image that lies between the
--- one at entry and the one at exit, and is the one at entry where nobody else wrote.
+-- Settling ends one slot at most, by its state, in phases, and its step says which. The slot's journal stands in an
+-- image that lies between the one at entry and the one at exit, and is the one at entry where nobody else wrote.
 pub record EndsByPhases (old new : DeviceState) (result : Result Ready Refusal) : Type 0 where
   pub between : Image
   pub grows : Extends old.image between
@@ -119,6 +134,7 @@ pub record EndsByPhases (old new : DeviceState) (result : Result Ready Refusal) 
   pub state : SlotState
   pub quiet : IsStill old.foreign_writes new.foreign_writes → IsUnchanged old.image between
   pub ending : 1 ≤ end_phases state → IsEnding old.cells old.image between slot state
+  pub step : IfOk result (λ r. r.step ≡ step_of slot state)
   pub sure : IsOk result
       → AreStanding (IsInFirst (settle_plan between slot state) 3) new.sure × Extends old.image new.sure
   pub only : IsStill old.foreign_writes new.foreign_writes
@@ -130,6 +146,7 @@ pub record Settles (old new : DeviceState) (result : Result Ready Refusal) : Typ
   pub called : Called old new
   pub writes : IsTrue old.tells → EndsByPhases old new result
   pub ends : SettleEnds old new result
+  pub targets : IsTrue old.tells → NamesTarget old new result
 
 -- The volume was settled, and has only been looked at since.
 pub record HasSettled (old new : DeviceState) (r : Ready) : Type 0 where

@@ -3,6 +3,7 @@ use Rattle.std.proofs.Common.{subst}
 use Rattle.record_top.specs.Commands.{Does, Request, request_of}
 use Rattle.record_top.specs.Ports.{ports_of}
 use Rattle.record_top.proofs.Asking.{asks_once, called_of, completes}
+use Rattle.record_top.proofs.Steadily.{leaves_whole}
 use Rattle.record_top.proofs.command.run.Goals as goal
 
 pub returns-clause-called : goal.returns-clause-called
@@ -30,3 +31,16 @@ returns-clause-complete g c = λ request asks free.
     let one = asks_once _ _ request c.in-Some.ensures.some asks in
     let done = subst (λ (r : Request). Does r old new ran.result) one ran.ensures in
     completes old new c.documents_were_stored.ensures request ran.result done free
+
+pub returns-clause-steady : goal.returns-clause-steady
+returns-clause-steady g c = λ request asks begins.
+    let device = g.D.Device.state in
+    let source = g.S.Source.state in
+    let sink = g.K.Sink.state in
+    let old = ports_of (device c.args.device.now) (source c.args.source.now) (sink c.args.sink.now) in
+    let ran = c.carry_out in
+    let new = ports_of (device ran.new.device) (source ran.new.source) (sink ran.new.sink) in
+    let one = asks_once _ _ request c.in-Some.ensures.some asks in
+    let done = subst (λ (r : Request). Does r old new ran.result) one ran.ensures in
+    leaves_whole old new (g.met.D.Device.proper c.args.device.now) (g.met.D.Device.proper ran.new.device) begins request
+    ran.result done

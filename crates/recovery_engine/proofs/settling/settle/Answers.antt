@@ -13,8 +13,8 @@ use Rattle.cell_types.specs.declared.geometry.TheConstants.{MAX_SLOTS}
 use Rattle.worm_device.proofs.Elapsing.{called_then}
 use Rattle.worm_device.proofs.Images.{extends_then, unchanged_then}
 use Rattle.recovery_engine.proofs.Looked.{false_true, looked_sync, looked_more, settled_looked, settled_ended, ending_of, sync_failed}
-use Rattle.recovery_engine.proofs.Settled.{ready, unused_bounds, unused_ready, open_refused, last_refused, never_unused}
-use Rattle.recovery_engine.proofs.Licensed.{check_refused, end_refused, last_on, volume_later}
+use Rattle.recovery_engine.proofs.Settled.{ready, unused_bounds, unused_ready, open_names, open_refused, last_names, last_refused, never_unused}
+use Rattle.recovery_engine.proofs.Licensed.{check_names, check_refused, end_names, end_refused, last_on, volume_later}
 use Rattle.recovery_engine.specs.Ending.{HasJournal}
 use Rattle.recovery_engine.specs.LastSlot.{IsLast}
 use Rattle.cell_types.specs.Image.{IsUnchanged}
@@ -32,7 +32,7 @@ returns-in_err-volume g c =
     let s2 = g.D.Device.state c.open_device.new.device in
     let l2 = looked_more s0 s1 s2 l1 c.open_device.ensures.called c.open_device.ensures.quiet in
     rw (handed c.from_residual.result (refusal_of c.in_err-volume.field-0.0) c.from_residual.ensures.1)
-    (settled_looked s0 s2 _ l2
+    (settled_looked s0 s2 _ l2 tt (λ tells. open_names s0 s2 c.in_err-volume.field-0.0)
     (open_refused s0 s1 s2 c.in_err-volume.field-0.0 l1 l2 c.open_device.ensures.called c.in_err-volume.ensures.ends))
 
 pub returns-in_default-horizon_of_device : goal.returns-in_default-horizon_of_device
@@ -45,7 +45,7 @@ returns-in_default-horizon_of_device g c =
     let s3 = g.D.Device.state c.horizon_of_device.new.device in
     let l3 = looked_more s0 s2 s3 l2 c.horizon_of_device.ensures.called c.horizon_of_device.ensures.quiet in
     let rose : Rose s2.faults s3.faults = c.in_default-horizon_of_device.ensures.cause refl in
-    settled_looked s0 s3 _ l3 (omega (arith, rose, l2.called.faults))
+    settled_looked s0 s3 _ l3 tt (λ tells. tt) (omega (arith, rose, l2.called.faults))
 
 pub returns-then-horizon-eq0 : goal.returns-then-horizon-eq0
 returns-then-horizon-eq0 g c =
@@ -63,7 +63,7 @@ returns-then-horizon-eq0 g c =
     let tells_3 : IsTrue s0.tells → IsTrue s3.tells = λ t. subst IsTrue (sym l3.called.tells) t in
     let u = c.in-Ok-horizon_of_device.horizon in
     let zero_is : u ≡ 0 = c.if-horizon-eq0.true in
-    subst (λ (r : Ready). Settles s0 s3 (Ok r)) (sym c.unused.ensures) (settled_looked s0 s3 _ l3 (
+    subst (λ (r : Ready). Settles s0 s3 (Ok r)) (sym c.unused.ensures) (settled_looked s0 s3 _ l3 refl (λ tells. tt) (
       unused_bounds s3 volume opened.0 opened.1 (opened.2 ∙ sym c.horizon_of_device.ensures.called.cells),
       λ tells. unused_ready s0 s2 s3 volume l2.called c.horizon_of_device.ensures.called
           c.horizon_of_device.ensures.quiet
@@ -96,7 +96,9 @@ returns-in_err-state g c =
     let c24 = called_then c.horizon_of_device.ensures.called c.last_slot_of_device.ensures.called in
     rw (handed c.from_residual-in_err-state.result (refusal_of_fault c.in_err-state.field-0.0)
     c.from_residual-in_err-state.ensures.1)
-    (settled_looked s0 s4 _ l4
+    (settled_looked s0 s4 _ l4 tt
+    (λ tells. last_names volume.geometry n s0 s3 s4 c.in_err-state.field-0.0
+        (tells_3 tells) c.in_err-state.ensures.ends)
     (last_refused volume.geometry n s0 s3 s4 c.in_err-state.field-0.0 l3.called c.last_slot_of_device.ensures.called
     l4.quiet
     (λ tells. volume_later s2 s4 volume.geometry c24 (opened.4 (tells_1 tells))) c.in_err-state.ensures.ends))
@@ -124,7 +126,7 @@ returns-in_default-reservation g c =
     let state = c.in_ok-state.state in
     let c24 = called_then c.horizon_of_device.ensures.called c.last_slot_of_device.ensures.called in
     subst (λ (r : Ready). Settles s0 s4 (Ok r)) (sym c.unused-in_default-reservation.ensures)
-    (settled_looked s0 s4 _ l4 (
+    (settled_looked s0 s4 _ l4 refl (λ tells. tt) (
       unused_bounds s4 volume opened.0 opened.1 (opened.2 ∙ sym c24.cells),
       λ tells. absurd (never_unused volume.geometry n u s3 s4 state (omega (arith, next))
           (c.in-Ok-horizon_of_device.ensures.horizon (tells_2 tells)).1
@@ -166,7 +168,9 @@ returns-in_err-check_slot g c =
     (subst IsTrue c.last_slot_of_device.ensures.called.tells t) in
     rw (handed c.from_residual-in_err-check_slot.result (refusal_of_fault c.in_err-check_slot.field-0.0)
     c.from_residual-in_err-check_slot.ensures.1)
-    (settled_looked s0 s5 _ l5
+    (settled_looked s0 s5 _ l5 tt
+    (λ tells. check_names layout n s0 s4 s5 state c.in_err-check_slot.field-0.0 (tells_4 tells)
+    c.in_err-check_slot.ensures.ends)
     (check_refused layout n s0 s3 s4 s5 l3.called c.last_slot_of_device.ensures.called c.check_slot.ensures.called
     l4.quiet
     c.last_slot_of_device.ensures.quiet state c.in_err-check_slot.field-0.0 c.check_slot.ensures.quiet
@@ -228,7 +232,11 @@ returns-in_err-end_slot g c =
     (c.in-Ok-horizon_of_device.ensures.horizon (tells_2 tells)).0
     (c.in-Ok-horizon_of_device.ensures.horizon (tells_2 tells)).1 (last_5 (tells_5 tells))
     (journal (tells_5 tells)))
-    (λ okay. absurd (false_true okay))
+    (λ okay. absurd (false_true okay)) tt
+    (λ tells. end_names layout n s0 s3 s5 s6 l3.called c35 c.end_slot.ensures.puts.called l5.quiet quiet_35 state
+    c.in_err-end_slot.field-0.0
+    (volume_later s2 s5 layout (called_then c.horizon_of_device.ensures.called c35) (opened.4 (tells_1 tells)))
+    (tells_5 tells) (last_5 (tells_5 tells)) (journal (tells_5 tells)) c.in_err-end_slot.ensures)
     (end_refused layout n s0 s3 s5 s6 l3.called c35 c.end_slot.ensures.puts.called l5.quiet quiet_35 state
     c.in_err-end_slot.field-0.0
     (λ tells. volume_later s2 s5 layout (called_then c.horizon_of_device.ensures.called c35) (opened.4 (tells_1 tells)))
@@ -290,7 +298,7 @@ returns g c =
     (c.in-Ok-horizon_of_device.ensures.horizon (tells_2 tells)).0
     (c.in-Ok-horizon_of_device.ensures.horizon (tells_2 tells)).1 (last_5 (tells_5 tells))
     (journal (tells_5 tells)))
-    (λ okay. c.in_ok-end_slot.ensures) (
+    (λ okay. c.in_ok-end_slot.ensures) c.step_of.ensures (λ tells. tt) (
       record {
         version = opened.0;
         layout = opened.1;

@@ -1,0 +1,278 @@
+-- What a crash leaves of each command that adds no document, from a steady device on, where nobody else writes.
+use Rattle.std.proofs.Common.{◌≡◌, ◌⊎◌, ℕ, List, [], Some, None, Result, Ok, Err, refl, sym, ap, ◌∙◌, inl, inr, ⊎_elim, subst, arith}
+use Rattle.std.specs.Global.{Vec}
+use Rattle.std.proofs.lemmas.Option.{none-some}
+use Rattle.cell_types.specs.Image.{Image, Between, ChangesOnly}
+use Rattle.cell_types.specs.Layout.{IsLayout, Layout}
+use Rattle.cell_types.specs.declared.refusal.Evidence.{Evidence}
+use Rattle.cell_types.specs.declared.refusal.Refusal.{Refusal}
+use Rattle.cell_types.specs.declared.refusal.Refusal.TheVariants as refusals
+use Rattle.stored_documents.specs.Documents.{AreDocuments, Document}
+use Rattle.stored_documents.specs.Volumes.{IsVolume}
+use Rattle.tamper_rules.specs.Settling.{After, Held, Settled, Sound, none, nothing, of_after}
+use Rattle.tamper_rules.proofs.Images.{look, same_image}
+use Rattle.tamper_rules.proofs.SettledLaws.{formatted}
+use Rattle.worm_device.specs.Calls.{Called}
+use Rattle.worm_device.specs.State.{DeviceState, IsDevice}
+use Rattle.worm_device.proofs.Elapsing.{elapses_of}
+use Rattle.worm_device.proofs.Images.{extends_self}
+use Rattle.recovery_engine.specs.Settling.{IsFound, Settles}
+use Rattle.recovery_engine.specs.declared.settling.Ready.{Ready}
+use Rattle.steady_volumes.specs.Steadiness.{IsLeftWhole, IsSteady, StaysSteady}
+use Rattle.steady_volumes.proofs.Alarms.{looked_unbroken, settling_named}
+use Rattle.steady_volumes.proofs.LeftWhole.{left_between, not_blank, settling_left, stays_steady}
+use Rattle.steady_volumes.proofs.LookedAt.{looking_steady}
+use Rattle.ingest_engine.specs.Formats.{volume_cell}
+use Rattle.slot_walk.specs.Walks.{IsQueryRule}
+use Rattle.record_query.specs.Finding.{ComesTo, FindEnds, settled, settling}
+use Rattle.record_query.specs.LookingUp.{LookUpEnds}
+use Rattle.record_query.specs.declared.found.Found.{Found}
+use Rattle.record_query.specs.declared.found.Match.{Match}
+use Rattle.record_top.specs.Commands.{Does, Request, ToFind, ToFormat, ToIngest, ToLookUp, ToRecover, layout_on}
+use Rattle.record_top.specs.Finding.{DoesFind, found_text, misworded, searched, unread}
+use Rattle.record_top.specs.Formatting.{DoesFormat, FormatCommandEnds}
+use Rattle.record_top.specs.LookingUp.{Answers, DoesLookUp, looked, misnamed}
+use Rattle.record_top.specs.Ports.{Ports, Tells, TellsFromMemory}
+use Rattle.record_top.specs.Recovering.{DoesRecover, recovered}
+use Rattle.record_top.specs.Steadiness.{AddsNone, BeginsSteady, LeavesWhole}
+
+-- a result refuses in one way
+one_refusal : {A : Type 0} (result : Result A Refusal) (a b : Refusal) → result ≡ Err a → result ≡ Err b → a ≡ b
+one_refusal result a b p q = cc
+
+-- a device that nothing was done with stays steady
+module _ (old new : DeviceState) (device : IsDevice old) (steady : IsSteady old) where
+  unused_steady : new ≡ old → StaysSteady old new
+  unused_steady same = subst (StaysSteady old) (sym same)
+      (record { crashes = λ since image le left. inl left; steady = steady })
+
+  -- calls that leave nothing but what is whole
+  calls_steady : Called old new → ((image : Image) → Between old.sure new.image image → IsLeftWhole old image)
+      → StaysSteady old new
+  calls_steady called whole = stays_steady old new device steady called.cells
+      (λ since image le left. ⊎_elim inl (λ (b : Between old.sure new.image image). inr (whole image b))
+      ((elapses_of called).adds since image le left))
+
+  -- calls that write nothing
+  quiet_steady : Called old new → new.image ≡ old.image → StaysSteady old new
+  quiet_steady called same = calls_steady called (λ image b.
+      left_between old device steady image (subst (λ (i : Image). Between old.sure i image) same b))
+
+-- Formatting, with a layout that may be.
+module _ (g : Layout) (old new : DeviceState) (is : IsLayout g) (size : g.cells ≡ old.cells) (device : IsDevice old)
+    (steady : IsSteady old) (called : Called old new) (only : ChangesOnly 0 (volume_cell g) old.image new.image) where
+  -- where a cell is written already, nothing is
+  same_where : (value : List ℕ) → old.image 0 ≡ Some value → new.image ≡ old.image
+  same_where value stands = same_image (λ cell. ⊎_elim (λ same. same)
+      (λ (w : (cell ≡ 0) × (old.image cell ≡ None) × (new.image cell ≡ Some (volume_cell g))).
+      absurd (none-some value (sym w.1 ∙ ap old.image w.0 ∙ stands)))
+      (only cell))
+
+  module _ (blank : (cell : ℕ) → old.image cell ≡ None) (image : Image) (b : Between old.sure new.image image) where
+    -- nothing is sure
+    none_sure : (cell : ℕ) (value : List ℕ) → old.sure cell ≡ Some value → ⊥
+    none_sure cell value sure = none-some value (sym (blank cell) ∙ device.sure.keeps cell value sure)
+
+    -- and nothing stands but the volume cell
+    alone : (cell : ℕ) (value : List ℕ) → image cell ≡ Some value → (cell ≡ 0) × (value ≡ volume_cell g)
+    alone cell value stands = ⊎_elim
+        (λ (same : new.image cell ≡ old.image cell).
+        absurd (none-some value (sym (same ∙ blank cell) ∙ b.below.keeps cell value stands)))
+        (λ (w : (cell ≡ 0) × (old.image cell ≡ None) × (new.image cell ≡ Some (volume_cell g))).
+        (w.0, value_is value (volume_cell g) (sym (b.below.keeps cell value stands) ∙ w.2)))
+        (only cell)
+      where
+        value_is : (x y : List ℕ) → Some x ≡ Some y → x ≡ y
+        value_is x y e = cc
+
+    -- no documents were held
+    held_none : (documents : List Document) → Held old.cells old.sure documents → documents ≡ []
+    held_none documents (none free is) = is
+    held_none documents (of_after after a are) = absurd (not_blank a (⊎_elim (λ free. free)
+        (λ (w : (v : List ℕ) × (old.sure 0 ≡ Some v)). absurd (none_sure 0 w.0 w.1)) (look old.sure 0)))
+
+    where_blank : image 0 ≡ None → IsLeftWhole old image
+    where_blank first = record {
+      sound = inl all;
+      holds = inl (λ documents held. none all (held_none documents held));
+    }
+      where
+        all : (cell : ℕ) → image cell ≡ None
+        all cell = ⊎_elim (λ free. free)
+            (λ (w : (v : List ℕ) × (image cell ≡ Some v)). absurd (
+            let here = alone cell w.0 w.1 in
+            none-some w.0 (sym first ∙ ap image (sym here.0) ∙ w.1)))
+            (look image cell)
+
+    where_written : (value : List ℕ) → image 0 ≡ Some value → IsLeftWhole old image
+    where_written value stands = record {
+      sound = inr (record { after = image; is = unchanged; settled = made.0 });
+      holds = inl (λ documents held. of_after image unchanged
+          (subst (AreDocuments old.cells image) (sym (held_none documents held)) made.1));
+    }
+      where
+        volume : IsVolume old.cells image g
+        volume = record {
+          volume = record {
+            cell = value;
+            stands = stands;
+            is = record {
+              fits = (
+                omega arith,
+                omega (arith, is.slots),
+                omega (arith, is.lists),
+                omega (arith, is.cells),
+              );
+              well_formed = (refl, is, refl);
+              same = (alone 0 value stands).1;
+            };
+          };
+          size = size;
+        }
+
+        made : Settled old.cells image × AreDocuments old.cells image []
+        made = formatted is volume (λ cell some. ⊎_elim (λ free. free)
+            (λ (w : (v : List ℕ) × (image cell ≡ Some v)).
+            absurd (let here = alone cell w.0 w.1 in omega (arith, some, here.0)))
+            (look image cell))
+
+        unchanged : After old.cells image image
+        unchanged = nothing made.0 (λ cell. refl)
+
+    by_first : IsLeftWhole old image
+    by_first = ⊎_elim where_blank (λ (w : (v : List ℕ) × (image 0 ≡ Some v)). where_written w.0 w.1) (look image 0)
+
+  formatting_steady : StaysSteady old new
+  formatting_steady = ⊎_elim
+      (λ (blank : (cell : ℕ) → old.image cell ≡ None). calls_steady old new device steady called (by_first blank))
+      (λ (sound : Sound old.cells old.image). ⊎_elim
+      (λ (none_there : old.image 0 ≡ None). absurd (not_blank sound.is none_there))
+      (λ (w : (v : List ℕ) × (old.image 0 ≡ Some v)).
+      quiet_steady old new device steady called (same_where w.0 w.1))
+      (look old.image 0))
+      (steady.each old.image (record { above = device.sure; below = extends_self old.image }))
+
+-- the layout may be, or nothing was done
+format_layout : (g : Layout) (old new : Ports) (result : Result Unit Refusal) → FormatCommandEnds g old new result
+    → IsLayout g ⊎ (new.device ≡ old.device)
+format_layout g old new (Ok u) ends = inl ends.0.0
+format_layout g old new (Err refusals.SinkFault) ends = inl ends.0.0
+format_layout g old new (Err refusals.TooSmall) ends = inr ends.0.1
+format_layout g old new (Err refusals.DeviceFault) ends = inl ends.0.0
+format_layout g old new (Err (refusals.NotBlank at)) ends = inl ends.0.0
+format_layout g old new (Err refusal) ends = absurd ends.0
+
+module _ (old new : Ports) (device : IsDevice old.device) (device_new : IsDevice new.device)
+    (begins : BeginsSteady old.device new.device) where
+  format_adds : (g : Layout) (result : Result Unit Refusal) → g.cells ≡ old.device.cells → DoesFormat g old new result
+      → AddsNone old new result
+  format_adds g result size does = record {
+    stays = ⊎_elim
+        (λ (is : IsLayout g). formatting_steady g old.device new.device is size device begins.steady does.called
+        (does.only begins.alone))
+        (λ same. unused_steady old.device new.device device begins.steady same)
+        (format_layout g old new result does.ends);
+    no_alarm = λ e is. (subst (FormatCommandEnds g old new) is does.ends).0;
+  }
+
+  recover_adds : (result : Result Unit Refusal) → DoesRecover old new result → AddsNone old new result
+  recover_adds result does = record {
+    stays = stays_steady old.device new.device device begins.steady does.settles.called.cells
+        (settling_left old.device new.device does.answer device begins.tells does.settles begins.alone begins.steady);
+    no_alarm = λ e is. told does.answer does.settles e (subst (Tells recovered does.answer old new) is does.tells);
+  }
+    where
+      told : (answer : Result Ready Refusal) → Settles old.device new.device answer → (e : Evidence)
+          → Tells recovered answer old new (Err (refusals.Tampered e)) → ⊥
+      told (Ok r) settles e tells = tells
+      told (Err refused) settles e tells = settling_named old.device new.device e device begins.tells
+          (subst (λ (r : Refusal). Settles old.device new.device (Err r)) (sym tells.0) settles) begins.alone
+          begins.steady
+
+  -- queries settle, and then look alone
+  query_stays : {X : Type 0} {answer : Result X Refusal} → ComesTo X old.device new.device answer
+      → StaysSteady old.device new.device
+  query_stays (settling refusal is settles) = stays_steady old.device new.device device begins.steady
+      settles.called.cells
+      (settling_left old.device new.device (Err refusal) device begins.tells settles begins.alone begins.steady)
+  query_stays (settled r has) =
+      looking_steady old.device new.device r begins.tells has begins.alone device device_new begins.steady
+
+  query_names : {X : Type 0} {answer : Result X Refusal} → ComesTo X old.device new.device answer → (e : Evidence)
+      → answer ≡ Err (refusals.Tampered e) → IsFound IsQueryRule old.device new.device e → ⊥
+  query_names {X} {answer} (settling refusal is settles) e named found =
+      let same : refusal ≡ refusals.Tampered e = one_refusal answer refusal (refusals.Tampered e) is named in
+      settling_named old.device new.device e device begins.tells
+      (subst (λ (r : Refusal). Settles old.device new.device (Err r)) same settles) begins.alone begins.steady
+  query_names (settled r has) e named found =
+      looked_unbroken old.device new.device r e.rule e.cell device device_new begins.tells has begins.alone
+      begins.steady (found.licensed.broken begins.alone)
+
+  find_adds : (asked : List (List ℕ)) (result : Result Unit Refusal) → DoesFind asked old new result
+      → AddsNone old new result
+  find_adds asked result (misworded i bad is same) = record {
+    stays = unused_steady old.device new.device device begins.steady (ap (λ (p : Ports). p.device) same);
+    no_alarm = λ e named. no_word result i e is named;
+  }
+    where
+      no_word : (r : Result Unit Refusal) (n : ℕ) (e : Evidence) → r ≡ Err (refusals.BadWord n)
+          → r ≡ Err (refusals.Tampered e) → ⊥
+      no_word r n e p q = absurd cc
+  find_adds asked result (unread is same) = record {
+    stays = unused_steady old.device new.device device begins.steady (ap (λ (p : Ports). p.device) same);
+    no_alarm = λ e named. no_lack result e is named;
+  }
+    where
+      no_lack : (r : Result Unit Refusal) (e : Evidence) → r ≡ Err refusals.NoMemory → r ≡ Err (refusals.Tampered e)
+          → ⊥
+      no_lack r e p q = absurd cc
+  find_adds asked result (searched terms answer are searches source tells) = record {
+    stays = query_stays searches.comes;
+    no_alarm = λ e named. told answer searches.comes searches.ends e
+        (subst (TellsFromMemory found_text answer old new) named tells);
+  }
+    where
+      told : (a : Result (Vec Match) Refusal) → ComesTo (Vec Match) old.device new.device a
+          → FindEnds terms old.device new.device a → (e : Evidence)
+          → TellsFromMemory found_text a old new (Err (refusals.Tampered e)) → ⊥
+      told (Ok matches) comes ends e tells = tells
+      told (Err refused) comes ends e tells = query_names comes e (ap Err (sym tells.0))
+          ((subst (λ (r : Refusal). FindEnds terms old.device new.device (Err r)) (sym tells.0) ends) begins.tells)
+
+  look_up_adds : (id : List ℕ) (result : Result Unit Refusal) → DoesLookUp id old new result → AddsNone old new result
+  look_up_adds id result (misnamed bad is same) = record {
+    stays = unused_steady old.device new.device device begins.steady (ap (λ (p : Ports). p.device) same);
+    no_alarm = λ e named. no_name result e is named;
+  }
+    where
+      no_name : (r : Result Unit Refusal) (e : Evidence) → r ≡ Err refusals.BadIdentifier
+          → r ≡ Err (refusals.Tampered e) → ⊥
+      no_name r e p q = absurd cc
+  look_up_adds id result (looked answer name looks source answers) = record {
+    stays = query_stays looks.comes;
+    no_alarm = λ e named. told answer looks.comes looks.ends e (subst (Answers answer) named answers);
+  }
+    where
+      no_answer : (r : Result Unit Refusal) (e : Evidence) → r ≡ Err (refusals.Tampered e) → r ≡ Ok tt → ⊥
+      no_answer r e p q = absurd cc
+
+      told : (a : Result Found Refusal) → ComesTo Found old.device new.device a
+          → LookUpEnds id old.device new.device old.sink new.sink a → (e : Evidence)
+          → Answers a (Err (refusals.Tampered e)) → ⊥
+      told (Ok found) comes ends e answered = no_answer (Err (refusals.Tampered e)) e refl answered
+      told (Err refused) comes ends e answered =
+          let same : refusals.Tampered e ≡ refused = one_refusal (Err (refusals.Tampered e))
+          (refusals.Tampered e) refused refl answered in
+          query_names comes e (ap Err (sym same))
+          (((subst (λ (r : Refusal). LookUpEnds id old.device new.device old.sink new.sink (Err r)) (sym same) ends).1
+          begins.tells).1)
+
+  -- whatever was asked for
+  pub leaves_whole : (request : Request) (result : Result Unit Refusal) → Does request old new result
+      → LeavesWhole request old new result
+  leaves_whole (ToFormat slots lists) result does =
+      format_adds (layout_on old slots lists) result refl does
+  leaves_whole (ToIngest id) result does = tt
+  leaves_whole (ToFind asked) result does = find_adds asked result does
+  leaves_whole (ToLookUp id) result does = look_up_adds id result does
+  leaves_whole ToRecover result does = recover_adds result does

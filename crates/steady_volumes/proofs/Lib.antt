@@ -1,0 +1,6 @@
+pub mod Alarms
+pub mod EndedAs
+pub mod LeftWhole
+pub mod LookedAt
+pub mod PutCells
+pub mod SoundRules
