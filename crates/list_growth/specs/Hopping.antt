@@ -45,6 +45,7 @@ pub record IsHop (s : ViewState) (head floor next key block : ℕ) (span : Span)
   pub pointer : IsListCell s head floor next key (pointer_at block span.level span.digit) block
       ⊎ IsOldHop s head floor block (pointer_at block span.level span.digit) target
 
+-- the target lies in the pool, and an insertion may go on there; or the pointer is evidence
 abbrev pub CheckEnds : ℕ → ℕ → ℕ → ℕ → ℕ → Span → ℕ → ViewState → Result Unit Fault → Type 0
 CheckEnds head floor next key block span target s (Ok done) =
     (floor ≤ target) × (target + 256 ≤ next)
@@ -81,6 +82,7 @@ pub record IsNoPointer (block : ℕ) (new : ViewState) (cell : ℕ) (found : Lis
   pub at : cell ≡ pointer_at block level digit
   pub bad : IsNoJump new.image (pointer_at block level digit) found
 
+-- the greatest written pointer, or none below the bound; or a written one that is no jump cell
 abbrev pub GreatestEnds : ℕ → ℕ → ℕ → ViewState → ViewState → Result (Option (Span × ℕ)) Fault → Type 0
 GreatestEnds block l bound old new (Ok (Some found)) = IsGreatestPointer block l bound old new found.0 found.1
 GreatestEnds block l bound old new (Ok None) = IsTrue old.base.tells → BlankFrom old.image block l 0 bound
@@ -88,6 +90,7 @@ GreatestEnds block l bound old new (Err ReadFault) = Rose old.base.faults new.ba
 GreatestEnds block l bound old new (Err (Tampered e)) =
     (e.rule ≡ LOST_POINTER) × (IsTrue old.base.tells → IsNoPointer block new e.cell e.found)
 
+-- the search for the greatest pointer of a block
 pub record FindsGreatest (block l bound : ℕ) (old new : ViewState) (result : Result (Option (Span × ℕ)) Fault)
     : Type 0 where
   pub viewed : Viewed old new
@@ -110,6 +113,7 @@ TailEnds head floor next key home old new (Ok (Some spot)) =
     × (IsTrue old.base.tells → IsSpot new head floor key home spot.block spot.place)
 TailEnds head floor next key home old new (Err fault) = FaultEnds head floor key old new fault
 
+-- the search for a list's tail
 pub record FindsTail (head floor next key home : ℕ) (old new : ViewState) (result : Result (Option Spot) Fault)
     : Type 0 where
   pub viewed : Viewed old new

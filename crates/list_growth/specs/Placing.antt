@@ -35,6 +35,7 @@ PlaceEnds head floor to block p low bound old new (Ok None) =
 PlaceEnds head floor to block p low bound old new (Err (Fault fault)) = FaultEnds head floor p.key old new fault
 PlaceEnds head floor to block p low bound old new (Err NoMemory) = ⊤
 
+-- inserting a posting in or behind a block, where the pool's next cell is that one then
 pub record PlacesPosting (head floor to block : ℕ) (p : PostingFields) (low bound : ℕ) (old new : ViewState)
     (result : Result (Option Spot) GrowthFault) : Type 0 where
   pub called : Called old.base new.base
@@ -44,13 +45,14 @@ pub record PlacesPosting (head floor to block : ℕ) (p : PostingFields) (low bo
   pub lower : Extends old.lower new.lower
   pub ends : PlaceEnds head floor to block p low bound old new result
 
--- which cells an insertion planned
+-- The posting is planned at this place, and at most a pointer besides; nothing is planned from the pool's next cell on.
 pub record HasPlanned (head floor to : ℕ) (p : PostingFields) (spot : Spot) (old new : ViewState) : Type 0 where
   pub in_places : spot.place < 128
   pub before : spot.block + 256 ≤ to
   pub planned : PlansEntry head floor p (spot.block + spot.place) old new
   pub free : (cell : ℕ) → to ≤ cell → new.planned cell ≡ None
 
+-- which cells are planned where the posting is inserted
 abbrev pub PlannedEnds : ℕ → ℕ → ℕ → PostingFields → ViewState → ViewState → Result (Option Spot) GrowthFault → Type 0
 PlannedEnds head floor to p old new (Ok (Some spot)) = HasPlanned head floor to p spot old new
 PlannedEnds head floor to p old new (Ok None) = ⊤

@@ -48,6 +48,7 @@ BothEnds spot pointer p owner home_owner old new (Err (Fault (Tampered e))) =
     old.planned (spot.block + spot.place) ≡ None → old.planned pointer ≡ None → spot.block + spot.place ≢ pointer → ⊥
 BothEnds spot pointer p owner home_owner old new (Err NoMemory) = ⊤
 
+-- planning a posting and a pointer to its block leaves what stands below
 pub record PutsBoth (spot : Spot) (pointer : ℕ) (p : PostingFields) (owner home_owner : Owner) (old new : ViewState)
     (result : Result (Option Spot) GrowthFault) : Type 0 where
   pub cells : new.cells ≡ old.cells

@@ -37,6 +37,7 @@ pub(crate) fn check_target<V: View>(
         HasPointer (of_overlay V.seen overlay.now).image block span.now.level span.now.digit target }
     ensures { CheckEnds head floor next key block span.now target (of_overlay V.seen overlay.now) result }
 {
+    // The key is for the contract: what is planned in the list has smaller ones.
     let _key = key;
     if target < floor || u64::from(target) + 256 > u64::from(next) {
         return Err(leads_nowhere(block, span, target));

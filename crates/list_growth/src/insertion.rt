@@ -96,6 +96,7 @@ fn insert_from<V: View>(
     ensures planned { PlannedEnds head floor pool.new.next (fields_of entry)
         (of_overlay V.seen overlay.old) (of_overlay V.seen overlay.new) result }
 {
+    // That the pool lies within an overlay's cells is known once its end is read.
     let _end = pool.end;
     let first = match first_at_least(overlay, block, entry.key) {
         Ok(first) => first,
@@ -176,6 +177,7 @@ fn insert_behind<V: View>(
     ensures planned { PlannedEnds head floor pool.new.next (fields_of entry)
         (of_overlay V.seen overlay.old) (of_overlay V.seen overlay.new) result }
 {
+    // That the pool lies within an overlay's cells is known once its end is read.
     let _end = pool.end;
     let found = match tail(
         overlay,
@@ -194,6 +196,7 @@ fn insert_behind<V: View>(
     };
     let Some(spot) = found else {
         let Some(target) = pool.grant(256) else {
+            // There is room for a block, so this is never so.
             return Err(GrowthFault::NoMemory);
         };
         let spot = Spot {
