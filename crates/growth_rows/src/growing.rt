@@ -39,12 +39,17 @@ fn each_key_costs_a_block_at_most_and_is_found_again(rt: HostRuntime) -> Result<
     let mut device = new_device(rt.alloc())?;
     let mut next = FLOOR;
     let mut cells = Range::new();
-    let mut reads = Range::new();
+    let mut early = Range::new();
+    let mut late = Range::new();
     for slot in 0..KEYS {
         let inserted = insert_key(rt.alloc(), &mut device, key_of(slot), next)?;
         next = inserted.next;
         cells.take(inserted.cells);
-        reads.take(inserted.reads);
+        if slot < KEYS / 2 {
+            early.take(inserted.reads);
+        } else {
+            late.take(inserted.reads);
+        }
     }
     assert_eq!(rt; next, FLOOR + 256 * BLOCKS_BEHIND);
     assert!(rt;
@@ -54,7 +59,11 @@ fn each_key_costs_a_block_at_most_and_is_found_again(rt: HostRuntime) -> Result<
     // A posting alone; or with its jump cell and its block.
     assert_eq!(rt; cells.least, 1);
     assert_eq!(rt; cells.most, 258);
-    println!(rt; "cells {cells:?} reads {reads:?}")?;
+    // A full block costs 128 reads and its pointers; a list twice as long is at most one block deeper.
+    assert!(rt;
+        late.most <= early.most + 129 + 120,
+        "{early:?}, then {late:?}"
+    );
     Ok(())
 }
 
