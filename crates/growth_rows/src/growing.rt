@@ -61,7 +61,7 @@ fn each_key_costs_a_block_at_most_and_is_found_again(rt: HostRuntime) -> Result<
     assert_eq!(rt; cells.most, 258);
     // A full block costs 128 reads and its pointers; a list twice as long is at most one block deeper.
     assert!(rt;
-        late.most <= early.most + 129 + 120,
+        late.most <= early.most.saturating_add(129 + 120),
         "{early:?}, then {late:?}"
     );
     Ok(())
