@@ -227,7 +227,8 @@ returns-in_default-clause-planned g c =
     (fields_of c.args.entry)
     (of_overlay g.V.View.seen c.args.overlay.now) (of_overlay g.V.View.seen c.tail.new.overlay)
     (of_overlay g.V.View.seen c.put_both.new.overlay) (record { block = c.in-Some-grant.target; place = 0 }) viewed
-    (inr (granted.first, granted.next)) (omega arith) (omega (arith, granted.first, granted.next)) (omega (arith, c.requires.before, granted.next))
+    (inr (granted.first, granted.next)) (omega arith) (omega (arith, granted.first, granted.next))
+    (omega (arith, c.requires.before, granted.next))
     c.requires.span.levels c.requires.span.digits (omega (arith, c.requires.floor, granted.first)) c.requires.lies
     (λ tells. blank_before viewed.image (view.beyond (c.in-Some-grant.target + 0)
     (ap (λ (f : Image). f (c.in-Some-grant.target + 0)) viewed.planned
