@@ -8,11 +8,12 @@ use Rattle.cell_types.specs.Image.{Image, Extends}
 use Rattle.cell_types.specs.Layout.{Layout, list_at, pool_at, root_at}
 use Rattle.cell_types.specs.Records.{IsRecordCell}
 use Rattle.cell_types.specs.declared.record_cell.RecordCell.{RecordCell}
-use Rattle.cell_types.specs.declared.record_cell.RecordCell.TheVariants.{Jump}
+use Rattle.cell_types.specs.declared.record_cell.RecordCell.TheVariants.{Jump, Child}
 use Rattle.cell_types.specs.declared.refusal.Fault.TheVariants as faults
 use Rattle.index_paths.specs.Blocks.{posting_record}
 use Rattle.index_paths.specs.HashPaths.{nibble}
 use Rattle.index_paths.proofs.Trails.{trail_on}
+use Rattle.stored_documents.specs.Volumes.{Holds}
 use Rattle.tamper_rules.specs.Journals.{IsIndexRecord}
 use Rattle.cell_pool.specs.declared.pool.Pool.{Pool}
 use Rattle.hash_tree.specs.Levels.{IsLed, IsWithin, bucket_at, child_at, node_of}
@@ -34,8 +35,10 @@ use Rattle.worm_device.specs.Views.{IsView, ViewState}
 use Rattle.worm_device.specs.declared.owner.Owner.{Owner}
 use Rattle.tree_growth.specs.Inserting.{InsertsEntry, IsInserted, IsTaken, PlansBucket, alone, with_node}
 use Rattle.tree_growth.specs.Readiness.{IsReady, blank_in, blank_of, owner_in}
+use Rattle.index_growth.specs.Granting.{GivesWhatIsLedTo, to_node}
 use Rattle.index_growth.specs.Indexes.{IndexEnds, Indexes, IsIndexCell, IsIndexed, in_list, in_tree}
 use Rattle.index_growth.specs.Rows.{AreInOrder, AreInserted, InsertsRow, IsRowCell, of_posting, of_pointer, LiesInLists, in_first, in_pool}
+use Rattle.index_growth.proofs.Granted.{StaysQuiet, gives_more, gives_on}
 
 -- a place of a level lies in the level's node
 place_within : (g : Layout) (level : Level) (bucket : ℕ) (child : Option ℕ) → nibble level.digest level.number < 16
@@ -56,14 +59,14 @@ not_in_root : (g : Layout) (cell : ℕ) → root_at g ≤ cell → cell < root_a
 not_in_root g cell from to (in_first l less low high) = omega (arith, less, high, from)
 not_in_root g cell from to (in_pool low) = omega (arith, low, to)
 
-module _ (g : Layout) (n : ℕ) (rows : List Posting) (level : Level) (place : Open) (next : ℕ) (old mid : ViewState)
+module _ (g : Layout) (n : ℕ) (rows : List Posting) (level : Level) (place : Open) (from next : ℕ) (old mid : ViewState)
     (order : AreInOrder g.lists n rows)
     (nothing : (cell : ℕ) → old.planned cell ≡ None) (unowned : (cell : ℕ) → old.owners cell ≡ None)
     (half : nibble level.digest level.number < 16) (number : level.number < 64) (open_at : IsOpenOf g level place)
     (floor : pool_at g ≤ old.fresh) (fresh : old.fresh ≤ next) (within : IsWithin g old.fresh level.led_by)
     (led : IsTrue old.base.tells → IsLed old.lower level.led_by)
     (called : Called old.base mid.base) (same : mid.fresh ≡ old.fresh) (lower : Extends old.lower mid.lower)
-    (row : AreInserted g n rows (length rows) next old mid) where
+    (row : AreInserted g n rows (length rows) from next old mid) where
   -- nothing is planned in the root
   root_free : (held : Option (List ℕ)) → mid.planned (blank_of place) ≡ held → level.led_by ≡ None
       → mid.planned (blank_of place) ≡ None
@@ -176,10 +179,22 @@ module _ (g : Layout) (n : ℕ) (rows : List Posting) (level : Level) (place : O
           (cases_eq cell child);
     }
 
-    pub index_is_done : IsView mid → new.lower ≡ mid.lower → next ≤ rest.next → IsIndexed g n rows level place rest.next old new
+    -- a node that the pool gave is one that the child cell leads to
+    given_now : PlansBucket g level place n at pool rest mid new → GivesWhatIsLedTo new.planned from rest.next
+    given_now (alone none same_at holds others small same_pool) =
+        gives_on (kept_now (alone none same_at holds others small same_pool))
+        (ap (λ (p : Pool). p.next) same_pool ∙ from_pool) row.grants
+    given_now (with_node child is_child child_is less leads at_is holds others small below takes) =
+        gives_more next 32
+        (kept_now (with_node child is_child child_is less leads at_is holds others small below takes))
+        (takes.next ∙ ap (λ (n : ℕ). n + 32) from_pool)
+        (to_node child (subst (λ (n : ℕ). Holds new.planned child (Child n)) from_pool leads.planned) refl) row.grants
+
+    pub index_is_done : IsView mid → new.lower ≡ mid.lower → next ≤ rest.next → IsIndexed g n rows level place from rest.next old new
     index_is_done view below further = record {
       only = only_now inserted.plans;
       before = inserted.beyond;
+      grants = given_now inserted.plans;
       trails = λ tells image has_lower has_planned i p is.
           let stands = row.stand tells i p (slice_get_within rows i p is) is in
           let lower_there : Extends mid.lower image = subst (λ (l : Image). Extends l image) below has_lower in
@@ -213,44 +228,48 @@ taken_still g level place mid new e same lower base t = record {
 }
 
 -- the postings were refused
-pub row_ends : (g : Layout) (n : ℕ) (rows : List Posting) (level : Level) (place : Open) (to : ℕ) (old new : ViewState)
-    (fault : GrowthFault) → InsertsRow g n rows to old new (Err fault) → Indexes g n rows level place to old new (Err fault)
-row_ends g n rows level place to old new fault inserts = record {
+pub row_ends : (g : Layout) (n : ℕ) (rows : List Posting) (level : Level) (place : Open) (from to : ℕ)
+    (old new : ViewState) (fault : GrowthFault) → InsertsRow g n rows from to old new (Err fault)
+    → Indexes g n rows level place from to old new (Err fault)
+row_ends g n rows level place from to old new fault inserts = record {
   called = inserts.called;
   cells = inserts.cells;
   fresh = inserts.fresh;
   loans = inserts.loans;
   lower = inserts.lower;
+  quiet = inserts.quiet;
   ends = why fault inserts;
 } where
-  why : (fault : GrowthFault) → InsertsRow g n rows to old new (Err fault)
-      → IndexEnds g n rows level place to old new (Err fault)
+  why : (fault : GrowthFault) → InsertsRow g n rows from to old new (Err fault)
+      → IndexEnds g n rows level place from to old new (Err fault)
   why (Fault faults.ReadFault) inserts = inserts.ends
   why (Fault (faults.Tampered e)) inserts = λ tells. let h = inserts.ends tells in in_list h.0 h.1 h.2 h.3
   why NoMemory inserts = tt
 
 -- the postings were inserted, and then the bucket was planned or refused
-pub entry_ends : (g : Layout) (n : ℕ) (rows : List Posting) (level : Level) (place : Open) (next : ℕ) (pool rest : Pool)
-    (old mid new : ViewState) (result : Result ℕ GrowthFault) (answer : Result Unit GrowthFault)
-    → InsertsRow g n rows next old mid (Ok tt) → InsertsEntry g level place n pool rest mid new result
-    → IndexEnds g n rows level place rest.next old new answer
-    → Indexes g n rows level place rest.next old new answer
-entry_ends g n rows level place next pool rest old mid new result answer row entry ends = record {
+pub entry_ends : (g : Layout) (n : ℕ) (rows : List Posting) (level : Level) (place : Open) (from next : ℕ)
+    (pool rest : Pool) (old mid new : ViewState) (result : Result ℕ GrowthFault) (answer : Result Unit GrowthFault)
+    → InsertsRow g n rows from next old mid (Ok tt) → InsertsEntry g level place n pool rest mid new result
+    → IndexEnds g n rows level place from rest.next old new answer
+    → Indexes g n rows level place from rest.next old new answer
+entry_ends g n rows level place from next pool rest old mid new result answer row entry ends = record {
   called = subst (λ (b : DeviceState). Called old.base b) (sym entry.base) row.called;
   cells = entry.cells ∙ row.cells;
   fresh = entry.fresh ∙ row.fresh;
   loans = entry.loans ∙ row.loans;
   lower = subst (λ (l : Image). Extends old.lower l) (sym entry.lower) row.lower;
+  quiet = subst (λ (b : DeviceState). StaysQuiet old.base b) (sym entry.base) row.quiet;
   ends = ends;
 }
 
-pub entry_refused : (g : Layout) (n : ℕ) (rows : List Posting) (level : Level) (place : Open) (pool rest : Pool)
-    (old mid new : ViewState) (fault : GrowthFault) → InsertsEntry g level place n pool rest mid new (Err fault)
-    → IndexEnds g n rows level place rest.next old new (Err fault)
-entry_refused g n rows level place pool rest old mid new (Fault faults.ReadFault) entry = absurd entry.ends
-entry_refused g n rows level place pool rest old mid new (Fault (faults.Tampered e)) entry =
+pub entry_refused : (g : Layout) (n : ℕ) (rows : List Posting) (level : Level) (place : Open) (from : ℕ)
+    (pool rest : Pool) (old mid new : ViewState) (fault : GrowthFault)
+    → InsertsEntry g level place n pool rest mid new (Err fault)
+    → IndexEnds g n rows level place from rest.next old new (Err fault)
+entry_refused g n rows level place from pool rest old mid new (Fault faults.ReadFault) entry = absurd entry.ends
+entry_refused g n rows level place from pool rest old mid new (Fault (faults.Tampered e)) entry =
     λ tells. in_tree (taken_still g level place mid new e entry.ends.2 entry.lower entry.base entry.ends.0)
-entry_refused g n rows level place pool rest old mid new NoMemory entry = tt
+entry_refused g n rows level place from pool rest old mid new NoMemory entry = tt
 
 -- the pool has given cells, or none
 pub taken_on : (g : Layout) (level : Level) (place : Open) (n at : ℕ) (pool rest : Pool) (mid new : ViewState)

@@ -60,13 +60,13 @@ owned_anew {head} {floor} {at} {r} {old} {new} one cell owner same is =
     anew (ap (λ (o : Owner). o.head) e) (omega (arith, base, same, one.from)) (omega (arith, base, same, one.to))
     (⊎_elim (λ first. inl (base ∙ first)) (λ past. inr (omega (arith, past, base))) one.where_blocks_lie)
 
-pub owned_in : {head floor at : ℕ} {p : PostingFields} {old new : ViewState} → PlansEntry head floor p at old new
+pub owned_in : {head floor next to at : ℕ} {p : PostingFields} {old new : ViewState} → PlansEntry head floor next to p at old new
     → (cell : ℕ) (owner : Owner) → new.owners cell ≡ Some owner → IsOwned head floor old cell owner
-owned_in {head} {floor} {at} (alone one rest) cell owner is = ⊎_elim
+owned_in {head} {floor} {at} (alone one rest same_next) cell owner is = ⊎_elim
     (λ same. owned_anew one cell owner same is)
     (λ differs. as_before (sym (rest cell differs).owners ∙ is))
     (cases_eq cell at)
-owned_in {head} {floor} {at} (with_pointer pointer target one other apart rest) cell owner is = ⊎_elim
+owned_in {head} {floor} {at} (with_pointer pointer target one other apart rest taken) cell owner is = ⊎_elim
     (λ same. owned_anew one cell owner same is)
     (λ differs. ⊎_elim
     (λ same. owned_anew other cell owner same is)
@@ -95,13 +95,13 @@ near_there one cell same = record {
   where_blocks_lie = one.where_blocks_lie;
 }
 
-pub held_in : {head floor at : ℕ} {p : PostingFields} {old new : ViewState} → PlansEntry head floor p at old new
+pub held_in : {head floor next to at : ℕ} {p : PostingFields} {old new : ViewState} → PlansEntry head floor next to p at old new
     → (cell : ℕ) (value : List ℕ) → new.planned cell ≡ Some value → IsHeld head floor p old cell value
-held_in {head} {floor} {at} (alone one rest) cell value is = ⊎_elim
+held_in {head} {floor} {at} (alone one rest same_next) cell value is = ⊎_elim
     (λ same. held_posting (free_there one cell same) (near_there one cell same) (record_there one cell value same is))
     (λ differs. held_before (sym (rest cell differs).planned ∙ is))
     (cases_eq cell at)
-held_in {head} {floor} {at} (with_pointer pointer target one other apart rest) cell value is = ⊎_elim
+held_in {head} {floor} {at} (with_pointer pointer target one other apart rest taken) cell value is = ⊎_elim
     (λ same. held_posting (free_there one cell same) (near_there one cell same) (record_there one cell value same is))
     (λ differs. ⊎_elim
     (λ same. held_pointer target (free_there other cell same) (near_there other cell same) (record_there other cell value same is))
@@ -110,14 +110,14 @@ held_in {head} {floor} {at} (with_pointer pointer target one other apart rest) c
     (cases_eq cell at)
 
 -- what was planned is planned still
-pub plans_keep : {head floor at : ℕ} {p : PostingFields} {old new : ViewState} → PlansEntry head floor p at old new
+pub plans_keep : {head floor next to at : ℕ} {p : PostingFields} {old new : ViewState} → PlansEntry head floor next to p at old new
     → (cell : ℕ) (value : List ℕ) → old.planned cell ≡ Some value
     → (new.planned cell ≡ Some value) × (new.owners cell ≡ old.owners cell)
-plans_keep {head} {floor} {at} {p} {old} {new} (alone one rest) cell value is = ⊎_elim
+plans_keep {head} {floor} {at} {p} {old} {new} (alone one rest same_next) cell value is = ⊎_elim
     (λ same. absurd (none-some value (sym (free_there one cell same) ∙ is)))
     (λ differs. ((rest cell differs).planned ∙ is, (rest cell differs).owners))
     (cases_eq cell at)
-plans_keep {head} {floor} {at} {p} {old} {new} (with_pointer pointer target one other apart rest) cell value is = ⊎_elim
+plans_keep {head} {floor} {at} {p} {old} {new} (with_pointer pointer target one other apart rest taken) cell value is = ⊎_elim
     (λ same. absurd (none-some value (sym (free_there one cell same) ∙ is)))
     (λ differs. ⊎_elim
     (λ same. absurd (none-some value (sym (free_there other cell same) ∙ is)))
@@ -126,14 +126,14 @@ plans_keep {head} {floor} {at} {p} {old} {new} (with_pointer pointer target one 
     (cases_eq cell at)
 
 -- a cell that is planned anew read blank
-pub plans_blank : {head floor at : ℕ} {p : PostingFields} {old new : ViewState} → PlansEntry head floor p at old new
+pub plans_blank : {head floor next to at : ℕ} {p : PostingFields} {old new : ViewState} → PlansEntry head floor next to p at old new
     → Rattle.std.specs.Prelude.IsTrue old.base.tells → (cell : ℕ) (value : List ℕ) → old.planned cell ≡ None → new.planned cell ≡ Some value
     → old.image cell ≡ None
-plans_blank {head} {floor} {at} {p} {old} {new} (alone one rest) tells cell value free is = ⊎_elim
+plans_blank {head} {floor} {at} {p} {old} {new} (alone one rest same_next) tells cell value free is = ⊎_elim
     (λ same. subst (λ (n : ℕ). old.image n ≡ None) (sym same) (one.blank tells))
     (λ differs. absurd (none-some value (sym free ∙ sym (rest cell differs).planned ∙ is)))
     (cases_eq cell at)
-plans_blank {head} {floor} {at} {p} {old} {new} (with_pointer pointer target one other apart rest) tells cell value free is = ⊎_elim
+plans_blank {head} {floor} {at} {p} {old} {new} (with_pointer pointer target one other apart rest taken) tells cell value free is = ⊎_elim
     (λ same. subst (λ (n : ℕ). old.image n ≡ None) (sym same) (one.blank tells))
     (λ differs. ⊎_elim
     (λ same. subst (λ (n : ℕ). old.image n ≡ None) (sym same) (other.blank tells))
@@ -155,7 +155,7 @@ none_in_other cell owner (anew head low high place) apart before u from to = ⊎
     place
 
 -- another list stays untouched
-pub untouched_other : {head floor other at : ℕ} {p : PostingFields} {old new : ViewState} → PlansEntry head floor p at old new
+pub untouched_other : {head floor next to other at : ℕ} {p : PostingFields} {old new : ViewState} → PlansEntry head floor next to p at old new
     → other ≢ head → AreApart other 256 head 256 → other + 256 ≤ floor → IsUntouched old other → IsUntouched new other
 untouched_other plans differs apart before u = record {
   none = λ cell owner is mine. none_for_other cell owner (owned_in plans cell owner is) differs u mine;

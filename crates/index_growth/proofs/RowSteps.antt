@@ -6,6 +6,7 @@ use Rattle.std.proofs.lemmas.Option.{none-some}
 use Rattle.cell_types.specs.Image.{Extends}
 use Rattle.cell_types.specs.Layout.{Layout, list_at, pool_at}
 use Rattle.cell_types.specs.declared.refusal.Fault.TheVariants as faults
+use Rattle.cell_types.specs.declared.record_cell.RecordCell.TheVariants.{Jump}
 use Rattle.index_paths.specs.Postings.{ComesBefore, ListedPosting}
 use Rattle.index_paths.proofs.Trails.{trail_on, trail_wider}
 use Rattle.stored_documents.specs.Volumes.{Holds}
@@ -21,9 +22,11 @@ use Rattle.worm_device.proofs.Elapsing.{called_self, called_then}
 use Rattle.worm_device.proofs.Images.{extends_self, extends_then}
 use Rattle.worm_device.specs.Views.{ViewState}
 use Rattle.worm_device.specs.declared.owner.Owner.{Owner}
-use Rattle.list_growth.specs.Inserting.{InsertsPosting, PlansEntry}
+use Rattle.list_growth.specs.Inserting.{InsertsPosting, PlansEntry, alone, with_pointer}
 use Rattle.list_growth.specs.Readiness.{IsReady, IsUntouched}
 use Rattle.index_growth.specs.Rows.{AreInOrder, AreInserted, AreUntouched, InsertsRow, IsRowCell, of_posting, of_pointer, LiesInLists, in_first, in_pool, RowSoFar, StandsInList}
+use Rattle.index_growth.specs.Granting.{GivesWhatIsLedTo, to_block}
+use Rattle.index_growth.proofs.Granted.{gives_more, gives_nothing, gives_on, quiet_then}
 use Rattle.index_growth.proofs.Others.{IsNear, IsHeld, held_before, held_posting, held_pointer, IsOwned, as_before, anew, held_in, owned_in, plans_blank, plans_keep, ready_untouched, untouched_other}
 
 -- no posting is inserted yet
@@ -36,6 +39,7 @@ row_begins g n rows pool s free untouched = record {
   fresh = refl;
   loans = refl;
   lower = extends_self s.lower;
+  quiet = λ still cell. refl;
   from = omega arith;
   to = omega arith;
   end = refl;
@@ -46,6 +50,7 @@ row_begins g n rows pool s free untouched = record {
     lie = λ cell value is. inl is;
     for_lists = λ cell owner is. inl is;
     free = free;
+    grants = gives_nothing s.planned pool.next;
     shown = λ tells. extends_self s.image;
     blank = λ tells cell none value is. absurd (none-some value (sym none ∙ is));
     stand = λ tells i p less is. absurd (omega (arith, less));
@@ -75,7 +80,7 @@ module _ (g : Layout) (n : ℕ) (rows : List Posting) (i : ℕ) (first pool late
   in_list : p.list < g.lists
   in_list = order.lists_are i p here
 
-  plans : PlansEntry (list_at g p.list) (pool_at g) (listed n p).posting (cell_of e) mid new
+  plans : PlansEntry (list_at g p.list) (pool_at g) pool.next later.next (listed n p).posting (cell_of e) mid new
   plans = inserts.ends.3
 
   told : IsTrue old.base.tells → IsTrue mid.base.tells
@@ -154,10 +159,10 @@ module _ (g : Layout) (n : ℕ) (rows : List Posting) (i : ℕ) (first pool late
       })
       (cases_eq j i)
     where
-      planned_posting : PlansEntry (list_at g p.list) (pool_at g) (listed n p).posting (cell_of e) mid new
+      planned_posting : PlansEntry (list_at g p.list) (pool_at g) pool.next later.next (listed n p).posting (cell_of e) mid new
           → Holds new.planned (cell_of e) (Rattle.index_paths.specs.Blocks.posting_record (listed n p).posting)
-      planned_posting (Rattle.list_growth.specs.Inserting.alone one rest) = one.held
-      planned_posting (Rattle.list_growth.specs.Inserting.with_pointer pointer target one other apart rest) = one.held
+      planned_posting (alone one rest same) = one.held
+      planned_posting (with_pointer pointer target one other apart rest taken) = one.held
 
   untouched_now : IsTrue old.base.tells → (l : ℕ) → l < g.lists
       → ((j : ℕ) (q : Posting) → j < i + 1 → slice_get rows j ≡ Some q → q.list < l) → IsUntouched new (list_at g l)
@@ -186,6 +191,18 @@ module _ (g : Layout) (n : ℕ) (rows : List Posting) (i : ℕ) (first pool late
           (order.order j i q p (omega (arith, small, differs)) is here))
           (cases_eq j i)
 
+  -- a block that the pool gave is one that the pointer leads to
+  granted_now : PlansEntry (list_at g p.list) (pool_at g) pool.next later.next (listed n p).posting (cell_of e) mid new
+      → GivesWhatIsLedTo new.planned first.next later.next
+  granted_now (alone one rest same) = gives_on kept_here same so.inserted.grants
+  granted_now (with_pointer pointer target one other apart rest taken) = ⊎_elim
+      (λ same. gives_on kept_here same so.inserted.grants)
+      (λ (took : (target ≡ pool.next) × (later.next ≡ pool.next + 256)).
+      gives_more pool.next 256 kept_here took.1
+      (to_block pointer (subst (λ (n : ℕ). Holds new.planned pointer (Jump n)) took.0 other.held) refl)
+      so.inserted.grants)
+      taken
+
   pub row_next : RowSoFar g n rows (i + 1) first later old new
   row_next = record {
     called = called_then so.called inserts.called;
@@ -193,6 +210,7 @@ module _ (g : Layout) (n : ℕ) (rows : List Posting) (i : ℕ) (first pool late
     fresh = inserts.fresh ∙ so.fresh;
     loans = inserts.loans ∙ so.loans;
     lower = extends_then so.lower inserts.lower;
+    quiet = quiet_then so.called inserts.called so.quiet inserts.quiet;
     from = omega (arith, so.from, pool_on.0);
     to = omega (arith, so.to, pool_on.1);
     end = pool_on.2 ∙ so.end;
@@ -203,6 +221,7 @@ module _ (g : Layout) (n : ℕ) (rows : List Posting) (i : ℕ) (first pool late
       lie = λ cell value is. lies_now cell value (held_in plans cell value is);
       for_lists = λ cell owner is. for_now cell owner (owned_in plans cell owner is);
       free = inserts.ends.4;
+      grants = granted_now plans;
       shown = λ tells. extends_then (so.inserted.shown tells) (inserts.ends.5 (told tells)).shown;
       blank = λ tells cell none value is. blank_now tells cell none value is (mid.planned cell) refl;
       stand = stand_now;
@@ -215,17 +234,18 @@ module _ (g : Layout) (n : ℕ) (rows : List Posting) (i : ℕ) (first pool late
 pub row_refused : (g : Layout) (n : ℕ) (rows : List Posting) (i : ℕ) (first pool later : Pool) (old mid new : ViewState)
     (p : Posting) (fault : GrowthFault) → slice_get rows i ≡ Some p → RowSoFar g n rows i first pool old mid
     → InsertsPosting (list_at g p.list) (pool_at g) pool.next later.next (listed n p).posting mid new (Err fault)
-    → InsertsRow g n rows later.next old new (Err fault)
+    → InsertsRow g n rows first.next later.next old new (Err fault)
 row_refused g n rows i first pool later old mid new p fault here so inserts = record {
   called = called_then so.called inserts.called;
   cells = inserts.cells ∙ so.cells;
   fresh = inserts.fresh ∙ so.fresh;
   loans = inserts.loans ∙ so.loans;
   lower = extends_then so.lower inserts.lower;
+  quiet = quiet_then so.called inserts.called so.quiet inserts.quiet;
   ends = why fault inserts;
 } where
   why : (fault : GrowthFault) → InsertsPosting (list_at g p.list) (pool_at g) pool.next later.next (listed n p).posting mid new (Err fault)
-      → Rattle.index_growth.specs.Rows.RowEnds g n rows later.next old new (Err fault)
+      → Rattle.index_growth.specs.Rows.RowEnds g n rows first.next later.next old new (Err fault)
   why (Fault faults.ReadFault) inserts = omega (arith, inserts.ends, so.called.faults)
   why (Fault (faults.Tampered e)) inserts = λ tells. (i, p, here, (inserts.ends (subst IsTrue (sym so.called.tells) tells)).0)
   why NoMemory inserts = tt

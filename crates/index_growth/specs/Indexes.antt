@@ -1,6 +1,6 @@
 -- What planning the whole index of a document does: its postings, and its bucket.
 use Rattle.std.specs.Prelude.{◌≡◌, ◌≤◌, ℕ, List, slice_get, Some, None, Result, Ok, Err, IsTrue, ⊤}
-use Rattle.cell_types.specs.Image.{Image, Extends}
+use Rattle.cell_types.specs.Image.{Image, Extends, IsUnchanged}
 use Rattle.cell_types.specs.Layout.{Layout, list_at, pool_at}
 use Rattle.cell_types.specs.Records.{IsRecordCell}
 use Rattle.cell_types.specs.declared.record_cell.RecordCell.{RecordCell}
@@ -10,7 +10,7 @@ use Rattle.index_paths.specs.Blocks.{Trail}
 use Rattle.index_paths.specs.Postings.{ListedPosting}
 use Rattle.tamper_rules.specs.Journals.{IsIndexRecord}
 use Rattle.worm_device.specs.Calls.{Called}
-use Rattle.worm_device.specs.Counts.{Rose}
+use Rattle.worm_device.specs.Counts.{IsStill, Rose}
 use Rattle.worm_device.specs.Views.{ViewState}
 use Rattle.planned_cells.specs.declared.fault.GrowthFault.{GrowthFault}
 use Rattle.planned_cells.specs.declared.fault.GrowthFault.TheVariants.{Fault, NoMemory}
@@ -20,6 +20,7 @@ use Rattle.hash_tree.specs.declared.level.Level.{Level}
 use Rattle.hash_tree.specs.declared.path.Open.{Open}
 use Rattle.list_growth.specs.Evidence.{ShowsBelow}
 use Rattle.tree_growth.specs.Inserting as tree
+use Rattle.index_growth.specs.Granting.{GivesWhatIsLedTo}
 
 -- the cell of an index record, which is well-formed there, from the first list on
 pub record IsIndexCell (g : Layout) (cell : ℕ) (value : List ℕ) : Type 0 where
@@ -33,13 +34,15 @@ pub record HasTrailIn (g : Layout) (image : Image) (to : ℕ) (a : ListedPosting
   pub at : ℕ
   pub trail : Trail image (pool_at g) to at a.posting (list_at g a.list)
 
--- The index of slot n's document is planned, before this cell, and nothing but index cells is. In each image that has
+-- The index of slot n's document is planned, before the pool's next cell, and nothing but index cells is. What the pool
+-- gave, from its next cell before, are blocks and a node that planned cells lead to. In each image that has
 -- what stands below and what is planned each posting has its trail; and the slot has its hash trail in each image that
 -- has what is planned and in which the path is passed.
-pub record IsIndexed (g : Layout) (n : ℕ) (rows : List Posting) (level : Level) (place : Open) (to : ℕ)
+pub record IsIndexed (g : Layout) (n : ℕ) (rows : List Posting) (level : Level) (place : Open) (from to : ℕ)
     (old new : ViewState) : Type 0 where
   pub only : (cell : ℕ) (value : List ℕ) → new.planned cell ≡ Some value → IsIndexCell g cell value
   pub before : (cell : ℕ) → to ≤ cell → new.planned cell ≡ None
+  pub grants : GivesWhatIsLedTo new.planned from to
   pub trails : IsTrue old.base.tells → (image : Image) → Extends new.lower image → Extends new.planned image
       → (i : ℕ) (p : Posting) → slice_get rows i ≡ Some p → HasTrailIn g image to (listed n p)
   pub path : tree.HasTrail g level place n to new.planned
@@ -52,20 +55,22 @@ pub data IsNamed (g : Layout) (n : ℕ) (rows : List Posting) (level : Level) (p
   in_tree : tree.IsTaken g level place s e → IsNamed g n rows level place s e
 
 -- how planning the index may end, and why
-abbrev pub IndexEnds : Layout → ℕ → List Posting → Level → Open → ℕ → ViewState → ViewState → Result Unit GrowthFault
-    → Type 0
-IndexEnds g n rows level place to old new (Ok done) = IsIndexed g n rows level place to old new
-IndexEnds g n rows level place to old new (Err (Fault ReadFault)) = Rose old.base.faults new.base.faults
-IndexEnds g n rows level place to old new (Err (Fault (Tampered e))) =
+abbrev pub IndexEnds : Layout → ℕ → List Posting → Level → Open → ℕ → ℕ → ViewState → ViewState
+    → Result Unit GrowthFault → Type 0
+IndexEnds g n rows level place from to old new (Ok done) = IsIndexed g n rows level place from to old new
+IndexEnds g n rows level place from to old new (Err (Fault ReadFault)) = Rose old.base.faults new.base.faults
+IndexEnds g n rows level place from to old new (Err (Fault (Tampered e))) =
     IsTrue old.base.tells → IsNamed g n rows level place new e
-IndexEnds g n rows level place to old new (Err NoMemory) = ⊤
+IndexEnds g n rows level place from to old new (Err NoMemory) = ⊤
 
--- what planning the index of a document does
-pub record Indexes (g : Layout) (n : ℕ) (rows : List Posting) (level : Level) (place : Open) (to : ℕ)
+-- What planning the index of a document does, where the pool's next cell was this one and is that one. Where nobody else
+-- wrote, the device below stands as it did.
+pub record Indexes (g : Layout) (n : ℕ) (rows : List Posting) (level : Level) (place : Open) (from to : ℕ)
     (old new : ViewState) (result : Result Unit GrowthFault) : Type 0 where
   pub called : Called old.base new.base
   pub cells : new.cells ≡ old.cells
   pub fresh : new.fresh ≡ old.fresh
   pub loans : new.loans ≡ old.loans
   pub lower : Extends old.lower new.lower
-  pub ends : IndexEnds g n rows level place to old new result
+  pub quiet : IsStill old.base.foreign_writes new.base.foreign_writes → IsUnchanged old.base.image new.base.image
+  pub ends : IndexEnds g n rows level place from to old new result

@@ -1,6 +1,6 @@
 -- What inserting a row of postings does, each into its list.
 use Rattle.std.specs.Prelude.{◌≡◌, ◌<◌, ◌≤◌, ◌+◌, ◌*◌, ◌⊎◌, ℕ, List, length, slice_get, Some, None, Result, Ok, Err, IsTrue, ⊤}
-use Rattle.cell_types.specs.Image.{Extends}
+use Rattle.cell_types.specs.Image.{Extends, IsUnchanged}
 use Rattle.cell_types.specs.Layout.{Layout, list_at, pool_at}
 use Rattle.cell_types.specs.Records.{IsRecordCell}
 use Rattle.cell_types.specs.declared.refusal.Fault.TheVariants.{Tampered, ReadFault}
@@ -14,11 +14,12 @@ use Rattle.planned_cells.specs.declared.fault.GrowthFault.TheVariants.{Fault, No
 use Rattle.term_tags.specs.Listing.{listed}
 use Rattle.term_tags.specs.declared.rows.Posting.{Posting}
 use Rattle.worm_device.specs.Calls.{Called}
-use Rattle.worm_device.specs.Counts.{Rose}
+use Rattle.worm_device.specs.Counts.{IsStill, Rose}
 use Rattle.worm_device.specs.Views.{ViewState}
 use Rattle.worm_device.specs.declared.owner.Owner.{Owner}
 use Rattle.list_growth.specs.Evidence.{ShowsBelow}
 use Rattle.list_growth.specs.Readiness.{IsReady, IsUntouched}
+use Rattle.index_growth.specs.Granting.{GivesWhatIsLedTo}
 
 -- the postings are in lists of the volume, by list and key, and each of their ordinals is at most the last
 pub record AreInOrder (lists n : ℕ) (rows : List Posting) : Type 0 where
@@ -49,10 +50,11 @@ pub data IsRowCell (n : ℕ) (rows : List Posting) (count cell : ℕ) (value : L
   of_pointer : (target : ℕ) → IsRecordCell (Jump target) cell value → IsRowCell n rows count cell value
 
 -- The first so many postings of the row are inserted. What was planned is planned still, for whom it was; what is
--- planned besides are these postings, and pointers, for their lists, and lies before the pool's next cell. Where the
--- view tells its image, what was shown is shown still, what is planned besides read blank, and each of these postings
--- has its trail.
-pub record AreInserted (g : Layout) (n : ℕ) (rows : List Posting) (count to : ℕ) (old new : ViewState) : Type 0 where
+-- planned besides are these postings, and pointers, for their lists, and lies before the pool's next cell. What the pool
+-- gave are blocks that planned pointers lead to. Where the view tells its image, what was shown is shown still, what is
+-- planned besides read blank, and each of these postings has its trail.
+pub record AreInserted (g : Layout) (n : ℕ) (rows : List Posting) (count from to : ℕ) (old new : ViewState)
+    : Type 0 where
   pub kept : Extends old.planned new.planned
   pub owners : (cell : ℕ) (owner : Owner) → old.owners cell ≡ Some owner → new.owners cell ≡ Some owner
   pub added : (cell : ℕ) (value : List ℕ) → new.planned cell ≡ Some value
@@ -63,6 +65,7 @@ pub record AreInserted (g : Layout) (n : ℕ) (rows : List Posting) (count to : 
       → (old.owners cell ≡ Some owner)
       ⊎ ((i : ℕ) × (p : Posting) × (i < count) × (slice_get rows i ≡ Some p) × (owner.head ≡ list_at g p.list))
   pub free : (cell : ℕ) → to ≤ cell → new.planned cell ≡ None
+  pub grants : GivesWhatIsLedTo new.planned from to
   pub shown : IsTrue old.base.tells → Extends old.image new.image
   pub blank : IsTrue old.base.tells → (cell : ℕ) → old.planned cell ≡ None → (value : List ℕ)
       → new.planned cell ≡ Some value → old.image cell ≡ None
@@ -70,23 +73,25 @@ pub record AreInserted (g : Layout) (n : ℕ) (rows : List Posting) (count to : 
       → StandsInList g new to (listed n p)
 
 -- how inserting the row may end, and why
-abbrev pub RowEnds : Layout → ℕ → List Posting → ℕ → ViewState → ViewState → Result Unit GrowthFault → Type 0
-RowEnds g n rows to old new (Ok done) = AreInserted g n rows (length rows) to old new
-RowEnds g n rows to old new (Err (Fault ReadFault)) = Rose old.base.faults new.base.faults
-RowEnds g n rows to old new (Err (Fault (Tampered e))) =
+abbrev pub RowEnds : Layout → ℕ → List Posting → ℕ → ℕ → ViewState → ViewState → Result Unit GrowthFault → Type 0
+RowEnds g n rows from to old new (Ok done) = AreInserted g n rows (length rows) from to old new
+RowEnds g n rows from to old new (Err (Fault ReadFault)) = Rose old.base.faults new.base.faults
+RowEnds g n rows from to old new (Err (Fault (Tampered e))) =
     IsTrue old.base.tells → (i : ℕ) × (p : Posting) × (slice_get rows i ≡ Some p)
     × ShowsBelow new (list_at g p.list) (pool_at g) (listed n p).posting.key e
-RowEnds g n rows to old new (Err NoMemory) = ⊤
+RowEnds g n rows from to old new (Err NoMemory) = ⊤
 
--- what inserting a row of postings does
-pub record InsertsRow (g : Layout) (n : ℕ) (rows : List Posting) (to : ℕ) (old new : ViewState)
+-- What inserting a row of postings does, where the pool's next cell was this one and is that one. Where nobody else wrote,
+-- the device below stands as it did.
+pub record InsertsRow (g : Layout) (n : ℕ) (rows : List Posting) (from to : ℕ) (old new : ViewState)
     (result : Result Unit GrowthFault) : Type 0 where
   pub called : Called old.base new.base
   pub cells : new.cells ≡ old.cells
   pub fresh : new.fresh ≡ old.fresh
   pub loans : new.loans ≡ old.loans
   pub lower : Extends old.lower new.lower
-  pub ends : RowEnds g n rows to old new result
+  pub quiet : IsStill old.base.foreign_writes new.base.foreign_writes → IsUnchanged old.base.image new.base.image
+  pub ends : RowEnds g n rows from to old new result
 
 -- The first so many postings are inserted, and those that come behind them may be.
 pub record RowSoFar (g : Layout) (n : ℕ) (rows : List Posting) (count : ℕ) (first pool : Pool) (old new : ViewState)
@@ -96,10 +101,11 @@ pub record RowSoFar (g : Layout) (n : ℕ) (rows : List Posting) (count : ℕ) (
   pub fresh : new.fresh ≡ old.fresh
   pub loans : new.loans ≡ old.loans
   pub lower : Extends old.lower new.lower
+  pub quiet : IsStill old.base.foreign_writes new.base.foreign_writes → IsUnchanged old.base.image new.base.image
   pub from : first.next ≤ pool.next
   pub to : pool.next ≤ first.next + 256 * count
   pub end : pool.end ≡ first.end
-  pub inserted : AreInserted g n rows count pool.next old new
+  pub inserted : AreInserted g n rows count first.next pool.next old new
   pub untouched : IsTrue old.base.tells → (l : ℕ) → l < g.lists
       → ((i : ℕ) (p : Posting) → i < count → slice_get rows i ≡ Some p → p.list < l) → IsUntouched new (list_at g l)
   pub ready : IsTrue old.base.tells → (a : ListedPosting) → a.list < g.lists

@@ -39,8 +39,8 @@ pub fn insert_postings<V: View>(
     ensures from { pool.old.next ≤ pool.new.next }
     ensures to { pool.new.next ≤ pool.old.next + 256 * length rows.now }
     ensures end { pool.new.end ≡ pool.old.end }
-    ensures inserts { InsertsRow geometry.now slot rows.now pool.new.next (of_overlay V.seen overlay.old)
-        (of_overlay V.seen overlay.new) result }
+    ensures inserts { InsertsRow geometry.now slot rows.now pool.old.next pool.new.next
+        (of_overlay V.seen overlay.old) (of_overlay V.seen overlay.new) result }
 {
     for row in rows {
         if let Err(fault) = insert_one(overlay, pool, geometry, slot, row) {

@@ -43,7 +43,7 @@ pub fn insert_document<V: View>(
         IsLed (of_overlay V.seen overlay.old).lower level.now.led_by }
     ensures from { pool.old.next ≤ pool.new.next }
     ensures to { pool.new.next ≤ pool.old.next + 256 * length rows.now + 32 }
-    ensures indexes { Indexes volume.now.geometry slot rows.now level.now place pool.new.next
+    ensures indexes { Indexes volume.now.geometry slot rows.now level.now place pool.old.next pool.new.next
         (of_overlay V.seen overlay.old) (of_overlay V.seen overlay.new) result }
 {
     // Known of a half byte once it is asked for: it is below 16.

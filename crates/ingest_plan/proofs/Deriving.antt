@@ -20,6 +20,7 @@ use Rattle.hash_tree.specs.declared.level.Level.{Level}
 use Rattle.hash_tree.specs.declared.path.Open.{Open}
 use Rattle.index_growth.specs.Indexes.{IsIndexed}
 use Rattle.index_growth.specs.Journal.{IsJournal}
+use Rattle.index_growth.proofs.Granted.{StaysQuiet}
 use Rattle.ingest_plan.specs.Over.{IsPlannedOver, OverEnds, PlansOver}
 use Rattle.ingest_plan.specs.Planning.{KeepsDocument, PlanEnds, PlansIndex}
 use Rattle.ingest_plan.specs.declared.plan.PlannedIndex.{PlannedIndex}
@@ -30,8 +31,8 @@ posting_at : (n : ℕ) (l : ℕ) (q : PostingFields) (found : Option Posting) �
 posting_at n l q None is = absurd (none-some (record { list = l; posting = q }) is)
 posting_at n l q (Some p) is = (p, refl, (let k : Some (listed n p) ≡ Some (record { list = l; posting = q }) = is in cc))
 
-module _ (g : Layout) (n : ℕ) (body : List ℕ) (rows : List Posting) (level : Level) (place : Open) (to : ℕ) (old new : ViewState)
-    (are : ArePostings g.lists body n (map (listed n) rows)) (indexed : IsIndexed g n rows level place to old new) where
+module _ (g : Layout) (n : ℕ) (body : List ℕ) (rows : List Posting) (level : Level) (place : Open) (from to : ℕ) (old new : ViewState)
+    (are : ArePostings g.lists body n (map (listed n) rows)) (indexed : IsIndexed g n rows level place from to old new) where
   pub keeps : IsTrue old.base.tells → KeepsDocument g n body level place to new.lower new.planned
   keeps tells id image digest below planned room stands passed = record {
     stands = stands;
@@ -55,6 +56,8 @@ pub plans_index : (g : Layout) (n edge : ℕ) (body : List ℕ) (rows : List Pos
 plans_index g n edge body rows level place start old new result done are over begins ends below = record {
   called = subst (λ (d : DeviceState). Called start d) (sym ends)
       (subst (λ (d : DeviceState). Called d new.base) begins over.called);
+  quiet = subst (λ (d : DeviceState). StaysQuiet start d) (sym ends)
+      (subst (λ (d : DeviceState). StaysQuiet d new.base) begins over.quiet);
   ends = why result over.ends;
 } where
   told : IsTrue start.tells → IsTrue old.base.tells
@@ -68,8 +71,9 @@ plans_index g n edge body rows level place start old new result done are over be
   why (Ok p) h = record {
     planned = new.planned;
     journal = h.journal;
+    grants = h.indexed.grants;
     keeps = λ tells. subst (λ (i : Image). KeepsDocument g n body level place (edge + p.block_length) i new.planned) (sym there)
-        (keeps g n body rows level place (edge + p.block_length) old new are h.indexed (told tells));
+        (keeps g n body rows level place edge (edge + p.block_length) old new are h.indexed (told tells));
   }
   why (Err (refusals.Tampered e)) h = λ tells. record { rows = rows; view = new; over = sym there; is = h (told tells) }
   why (Err refusals.DeviceFault) h =
@@ -78,12 +82,13 @@ plans_index g n edge body rows level place start old new result done are over be
   why (Err refusal) h = absurd h
 
 -- what was planned, and its journal
-pub planned_over : (g : Layout) (n edge next : ℕ) (rows : List Posting) (level : Level) (place : Open) (p : PlannedIndex)
-    (old new : ViewState) (held : Image) → edge + p.block_length ≡ next → IsIndexed g n rows level place next old new
+pub planned_over : (g : Layout) (n edge from next : ℕ) (rows : List Posting) (level : Level) (place : Open) (p : PlannedIndex)
+    (old new : ViewState) (held : Image) → from ≡ edge → edge + p.block_length ≡ next → IsIndexed g n rows level place from next old new
     → ((cell : ℕ) → held cell ≡ new.planned cell) → IsJournal held p.journal.items
     → IsPlannedOver g n edge rows level place p old new
-planned_over g n edge next rows level place p old new held ends indexed same journal = record {
-  indexed = subst (λ (to : ℕ). IsIndexed g n rows level place to old new) (sym ends) indexed;
+planned_over g n edge from next rows level place p old new held begins ends indexed same journal = record {
+  indexed = subst (λ (to : ℕ). IsIndexed g n rows level place edge to old new) (sym ends)
+      (subst (λ (e : ℕ). IsIndexed g n rows level place e next old new) begins indexed);
   journal = record {
     is = record {
       numbers = journal.numbers;

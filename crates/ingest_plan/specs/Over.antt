@@ -8,7 +8,8 @@ use Rattle.planned_cells.specs.declared.fault.GrowthFault.{GrowthFault}
 use Rattle.planned_cells.specs.declared.fault.GrowthFault.TheVariants as growth
 use Rattle.term_tags.specs.declared.rows.Posting.{Posting}
 use Rattle.worm_device.specs.Calls.{Called}
-use Rattle.worm_device.specs.Counts.{Rose}
+use Rattle.cell_types.specs.Image.{IsUnchanged}
+use Rattle.worm_device.specs.Counts.{IsStill, Rose}
 use Rattle.worm_device.specs.Views.{ViewState}
 use Rattle.hash_tree.specs.declared.level.Level.{Level}
 use Rattle.hash_tree.specs.declared.path.Open.{Open}
@@ -25,7 +26,7 @@ IsRefusalOf growth.NoMemory refusal = refusal ≡ NoMemory
 -- the index is planned, and this is its journal
 pub record IsPlannedOver (g : Layout) (n edge : ℕ) (rows : List Posting) (level : Level) (place : Open) (p : PlannedIndex)
     (old new : ViewState) : Type 0 where
-  pub indexed : IsIndexed g n rows level place (edge + p.block_length) old new
+  pub indexed : IsIndexed g n rows level place edge (edge + p.block_length) old new
   pub journal : IsJournalBefore g (edge + p.block_length) new.planned p.journal.items
 
 -- how planning over a view may end, and why
@@ -38,8 +39,10 @@ OverEnds g n edge rows level place old new (Err DeviceFault) = Rose old.base.fau
 OverEnds g n edge rows level place old new (Err NoMemory) = ⊤
 OverEnds g n edge rows level place old new (Err refusal) = ⊥
 
+-- what planning over a view does: where nobody else wrote, the device below stands as it did
 pub record PlansOver (g : Layout) (n edge : ℕ) (rows : List Posting) (level : Level) (place : Open) (old new : ViewState)
     (result : Result PlannedIndex Refusal) : Type 0 where
   pub called : Called old.base new.base
+  pub quiet : IsStill old.base.foreign_writes new.base.foreign_writes → IsUnchanged old.base.image new.base.image
   pub loans : new.loans ≡ old.loans
   pub ends : OverEnds g n edge rows level place old new result

@@ -1,7 +1,7 @@
 -- What planning the index of a document says of it.
 use Rattle.std.specs.Prelude.{◌≡◌, ◌≤◌, ◌+◌, ℕ, List, Some, None, Result, Ok, Err, IsTrue, ⊤}
 use Rattle.sha2.specs.Sha256.{sha256}
-use Rattle.cell_types.specs.Image.{Image, Extends}
+use Rattle.cell_types.specs.Image.{Image, Extends, IsUnchanged}
 use Rattle.cell_types.specs.Layout.{Layout}
 use Rattle.cell_types.specs.declared.refusal.Evidence.{Evidence}
 use Rattle.cell_types.specs.declared.refusal.Refusal.{Refusal}
@@ -11,12 +11,13 @@ use Rattle.index_paths.specs.Keeping.{IsKept, sought_in}
 use Rattle.term_tags.specs.Listing.{GetsTooMany}
 use Rattle.term_tags.specs.declared.rows.Posting.{Posting}
 use Rattle.worm_device.specs.Calls.{Called}
-use Rattle.worm_device.specs.Counts.{Rose}
+use Rattle.worm_device.specs.Counts.{IsStill, Rose}
 use Rattle.worm_device.specs.State.{DeviceState}
 use Rattle.worm_device.specs.Views.{ViewState}
 use Rattle.hash_tree.specs.declared.level.Level.{Level}
 use Rattle.hash_tree.specs.declared.path.Open.{Open}
 use Rattle.tree_growth.specs.Readiness.{PassedDown}
+use Rattle.index_growth.specs.Granting.{GivesWhatIsLedTo}
 use Rattle.index_growth.specs.Indexes.{IsIndexCell, IsNamed}
 use Rattle.index_growth.specs.Journal.{IsJournal}
 use Rattle.ingest_plan.specs.declared.plan.PlannedIndex.{PlannedIndex}
@@ -36,11 +37,12 @@ KeepsDocument g n body level place to below planned =
     → PassedDown g image (sought_in g.cells g id) level place.child
     → IsKept g.cells image g (record { slot = n; id = id; body = body })
 
--- The index of a body is planned, in slot n, with its blocks from the edge on.
+-- The index of a body is planned, in slot n, with its blocks from the edge on: each of them is led to by a planned cell.
 pub record IsPlanned (g : Layout) (n edge : ℕ) (level : Level) (place : Open) (body : List ℕ) (p : PlannedIndex)
     (old new : DeviceState) : Type 0 where
   pub planned : Image
   pub journal : IsJournalBefore g (edge + p.block_length) planned p.journal.items
+  pub grants : GivesWhatIsLedTo planned edge (edge + p.block_length)
   pub keeps : IsTrue old.tells → KeepsDocument g n body level place (edge + p.block_length) new.image planned
 
 -- What is named, in a state of what was planned over the device: a cell of a list that one of the postings goes into, or
@@ -62,8 +64,9 @@ PlanEnds g n edge level place body old new (Err DeviceFault) = Rose old.faults n
 PlanEnds g n edge level place body old new (Err NoMemory) = ⊤
 PlanEnds g n edge level place body old new (Err refusal) = ⊥
 
--- what planning does: it reads alone
+-- What planning does: it reads alone, so that where nobody else wrote the device stands as it did.
 pub record PlansIndex (g : Layout) (n edge : ℕ) (level : Level) (place : Open) (body : List ℕ) (old new : DeviceState)
     (result : Result PlannedIndex Refusal) : Type 0 where
   pub called : Called old new
+  pub quiet : IsStill old.foreign_writes new.foreign_writes → IsUnchanged old.image new.image
   pub ends : PlanEnds g n edge level place body old new result

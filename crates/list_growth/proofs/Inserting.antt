@@ -29,7 +29,7 @@ entry_at spot p = record { block = spot.block; place = spot.place; key = p.key; 
 
 pub inserted : (head floor next to low bound : ℕ) (p : PostingFields) (old new : ViewState) (spot : Spot) → floor ≤ next
     → PlacesPosting head floor to head p low bound old new (Ok (Some spot))
-    → GrowEnds floor next to head p old new (Ok (Some spot)) → HasPlanned head floor to p spot old new
+    → GrowEnds floor next to head p old new (Ok (Some spot)) → HasPlanned head floor next to p spot old new
     → InsertsPosting head floor next to p old new (Ok (entry_at spot p))
 inserted head floor next to low bound p old new spot roomy placed grown planned = record {
   called = placed.called;
@@ -37,6 +37,7 @@ inserted head floor next to low bound p old new spot roomy placed grown planned 
   fresh = placed.fresh;
   loans = placed.loans;
   lower = placed.lower;
+  quiet = placed.quiet;
   ends = (
     refl,
     planned.in_places,
@@ -64,6 +65,7 @@ refused head floor next to low bound p old new (Fault ReadFault) view placed = r
   fresh = placed.fresh;
   loans = placed.loans;
   lower = placed.lower;
+  quiet = placed.quiet;
   ends = placed.ends;
 }
 refused head floor next to low bound p old new (Fault (Tampered e)) view placed = record {
@@ -72,6 +74,7 @@ refused head floor next to low bound p old new (Fault (Tampered e)) view placed 
   fresh = placed.fresh;
   loans = placed.loans;
   lower = placed.lower;
+  quiet = placed.quiet;
   ends = λ tells. (placed.ends tells, λ still below. not_shown new view head floor p.key below e (placed.ends tells));
 }
 refused head floor next to low bound p old new NoMemory view placed = record {
@@ -80,6 +83,7 @@ refused head floor next to low bound p old new NoMemory view placed = record {
   fresh = placed.fresh;
   loans = placed.loans;
   lower = placed.lower;
+  quiet = placed.quiet;
   ends = tt;
 }
 
@@ -93,5 +97,6 @@ never_none head floor next to low bound p old new placed = record {
   fresh = placed.fresh;
   loans = placed.loans;
   lower = placed.lower;
+  quiet = placed.quiet;
   ends = tt;
 }

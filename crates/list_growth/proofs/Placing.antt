@@ -15,7 +15,7 @@ use Rattle.worm_device.specs.Views.{ViewState, Viewed, IsView}
 use Rattle.worm_device.specs.declared.owner.Owner.{Owner}
 use Rattle.worm_device.proofs.Elapsing.{called_then}
 use Rattle.worm_device.proofs.Images.{extends_then, extends_self}
-use Rattle.worm_device.proofs.Resting.{viewed_then}
+use Rattle.worm_device.proofs.Resting.{rests_of, viewed_then}
 use Rattle.jump_block.specs.Fronts.{FirstEnds}
 use Rattle.jump_block.specs.Spans.{IsSpan}
 use Rattle.jump_block.specs.declared.known_front.Front.TheVariants.{Open}
@@ -34,7 +34,7 @@ use Rattle.list_growth.specs.declared.entries.Spot.{Spot}
 use Rattle.list_growth.proofs.Growing.{next_front}
 use Rattle.list_growth.proofs.Naming.{fault_then, full_at_most}
 use Rattle.list_growth.proofs.Readying.{ready_viewed, ready_same, ready_put, own_block_same, own_block_viewed, own_block_put, reached_viewed, reached_as, apart_from_head}
-use Rattle.list_growth.proofs.Showing.{blank_is_free, adding_extends, called_on, same_extends}
+use Rattle.list_growth.proofs.Showing.{blank_is_free, adding_extends, called_on, quiet_on, quiet_then, same_extends}
 
 pub span_holds : {l k : ℕ} {s : Span} → IsSpan l s → s.low ≤ k → k < s.high → InSpan l s.level s.digit k
 span_holds is low high = record {
@@ -102,6 +102,7 @@ into_open head floor next block low bound place greatest p old mid new view befo
       fresh = put.fresh ∙ viewed.fresh;
       loans = put.loans ∙ viewed.loans;
       lower = extends_then viewed.lower (same_extends mid.lower new.lower put.lower);
+      quiet = quiet_on viewed put.base;
       ends = λ tells.
           let open_ = read.1 tells in
           let blank : mid.image (block + place) ≡ None = open_.0 in
@@ -379,6 +380,7 @@ module _ (head floor next to block l : ℕ) (p : PostingFields) (s : Span) (low 
     fresh = both.fresh ∙ viewed.fresh;
     loans = both.loans ∙ viewed.loans;
     lower = extends_then viewed.lower (same_extends mid.lower new.lower both.lower);
+    quiet = quiet_on viewed both.base;
     ends = λ tells.
         let two = both.ends.1 in
         let owner : Owner = record { head = head; base = spot.block } in
@@ -402,6 +404,7 @@ module _ (head floor next to block l : ℕ) (p : PostingFields) (s : Span) (low 
     fresh = both.fresh ∙ viewed.fresh;
     loans = both.loans ∙ viewed.loans;
     lower = extends_then viewed.lower (same_extends mid.lower new.lower both.lower);
+    quiet = quiet_on viewed both.base;
     ends = λ tells. absurd (both.ends (spot_free tells) (pointer_free tells) (spot_differs tells));
   }
   both_places (Err NoMemory) both = record {
@@ -410,6 +413,7 @@ module _ (head floor next to block l : ℕ) (p : PostingFields) (s : Span) (low 
     fresh = both.fresh ∙ viewed.fresh;
     loans = both.loans ∙ viewed.loans;
     lower = extends_then viewed.lower (same_extends mid.lower new.lower both.lower);
+    quiet = quiet_on viewed both.base;
     ends = tt;
   }
 
@@ -442,6 +446,7 @@ into_target head floor to block l low bound target p s old mid new spot from les
       fresh = placed.fresh ∙ viewed.fresh;
       loans = placed.loans ∙ viewed.loans;
       lower = extends_then viewed.lower placed.lower;
+      quiet = quiet_then viewed placed.called placed.quiet;
       ends = λ tells.
           let done = placed.ends (subst IsTrue (sym viewed.called.tells) tells) in
           let full_new = key_on done.shown (full tells) in
@@ -467,6 +472,7 @@ place_then head floor to block p low bound old mid new viewed (Ok (Some spot)) p
   fresh = placed.fresh ∙ viewed.fresh;
   loans = placed.loans ∙ viewed.loans;
   lower = extends_then viewed.lower placed.lower;
+  quiet = quiet_then viewed placed.called placed.quiet;
   ends = λ tells.
       let done = placed.ends (subst IsTrue (sym viewed.called.tells) tells) in
       record { shown = extends_then viewed.image done.shown; trail = done.trail; has = done.has; ready = done.ready };
@@ -477,6 +483,7 @@ place_then head floor to block p low bound old mid new viewed (Ok None) placed =
   fresh = placed.fresh ∙ viewed.fresh;
   loans = placed.loans ∙ viewed.loans;
   lower = extends_then viewed.lower placed.lower;
+  quiet = quiet_then viewed placed.called placed.quiet;
   ends = (viewed_then viewed placed.ends.0, λ tells. placed.ends.1 (subst IsTrue (sym viewed.called.tells) tells));
 }
 place_then head floor to block p low bound old mid new viewed (Err (Fault fault)) placed = record {
@@ -485,6 +492,7 @@ place_then head floor to block p low bound old mid new viewed (Err (Fault fault)
   fresh = placed.fresh ∙ viewed.fresh;
   loans = placed.loans ∙ viewed.loans;
   lower = extends_then viewed.lower placed.lower;
+  quiet = quiet_then viewed placed.called placed.quiet;
   ends = fault_then head floor p.key old mid new viewed fault placed.ends;
 }
 place_then head floor to block p low bound old mid new viewed (Err NoMemory) placed = record {
@@ -493,6 +501,7 @@ place_then head floor to block p low bound old mid new viewed (Err NoMemory) pla
   fresh = placed.fresh ∙ viewed.fresh;
   loans = placed.loans ∙ viewed.loans;
   lower = extends_then viewed.lower placed.lower;
+  quiet = quiet_then viewed placed.called placed.quiet;
   ends = tt;
 }
 
@@ -507,6 +516,7 @@ refused_behind head floor to block target a b p low bound old new (Fault fault) 
   fresh = placed.fresh;
   loans = placed.loans;
   lower = placed.lower;
+  quiet = placed.quiet;
   ends = placed.ends;
 }
 refused_behind head floor to block target a b p low bound old new NoMemory placed = record {
@@ -515,6 +525,7 @@ refused_behind head floor to block target a b p low bound old new NoMemory place
   fresh = placed.fresh;
   loans = placed.loans;
   lower = placed.lower;
+  quiet = placed.quiet;
   ends = placed.ends;
 }
 
@@ -528,6 +539,7 @@ read_fault head floor to block p low bound old new f viewed ends = record {
   fresh = viewed.fresh;
   loans = viewed.loans;
   lower = viewed.lower;
+  quiet = (rests_of viewed).below;
   ends = ends;
 }
 
@@ -541,6 +553,7 @@ no_key_here head floor to block l p low bound old new viewed full less = record 
   fresh = viewed.fresh;
   loans = viewed.loans;
   lower = viewed.lower;
+  quiet = (rests_of viewed).below;
   ends = (viewed, λ tells place q below front. omega (arith, full_at_most (full tells) place q below front, less));
 }
 
@@ -557,6 +570,7 @@ one_refused head floor to block at p low bound old mid new owner (Fault (Tampere
   fresh = put.fresh ∙ viewed.fresh;
   loans = put.loans ∙ viewed.loans;
   lower = extends_then viewed.lower (same_extends mid.lower new.lower put.lower);
+  quiet = quiet_on viewed put.base;
   ends = λ tells. absurd (put.ends (free tells));
 }
 one_refused head floor to block at p low bound old mid new owner NoMemory viewed free put = record {
@@ -565,5 +579,6 @@ one_refused head floor to block at p low bound old mid new owner NoMemory viewed
   fresh = put.fresh ∙ viewed.fresh;
   loans = put.loans ∙ viewed.loans;
   lower = extends_then viewed.lower (same_extends mid.lower new.lower put.lower);
+  quiet = quiet_on viewed put.base;
   ends = tt;
 }

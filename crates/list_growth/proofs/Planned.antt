@@ -1,5 +1,5 @@
 -- Which cells an insertion plans.
-use Rattle.std.proofs.Common.{◌≡◌, ◌≢◌, ◌<◌, ◌≤◌, ◌+◌, ◌⊎◌, ⊎_elim, inr, ℕ, Option, Some, None, Result, Ok, Err, ap, sym, subst, arith, ◌∙◌}
+use Rattle.std.proofs.Common.{◌≡◌, ◌≢◌, ◌<◌, ◌≤◌, ◌+◌, ◌⊎◌, ⊎_elim, inr, ℕ, Option, Some, None, Result, Ok, Err, refl, ap, sym, subst, arith, ◌∙◌}
 use Rattle.std.specs.Prelude.{IsTrue}
 use Rattle.cell_types.specs.Image.{Image}
 use Rattle.cell_types.specs.declared.record_cell.RecordCell.{RecordCell}
@@ -48,23 +48,24 @@ module _ (old mid new : ViewState) (viewed : Viewed old mid) where
     owners = h.owners ∙ owners_before viewed cell;
   }
 
-  plans_then : {head floor at : ℕ} {p : PostingFields} → PlansEntry head floor p at mid new
-      → PlansEntry head floor p at old new
-  plans_then (alone posting others) = alone (planned_for_then posting) (λ c differ. as_planned_then (others c differ))
-  plans_then (with_pointer pointer target posting jump apart others) =
+  plans_then : {head floor next to at : ℕ} {p : PostingFields} → PlansEntry head floor next to p at mid new
+      → PlansEntry head floor next to p at old new
+  plans_then (alone posting others same) =
+      alone (planned_for_then posting) (λ c differ. as_planned_then (others c differ)) same
+  plans_then (with_pointer pointer target posting jump apart others taken) =
       with_pointer pointer target (planned_for_then posting) (planned_for_then jump) apart
-      (λ c differ also. as_planned_then (others c differ also))
+      (λ c differ also. as_planned_then (others c differ also)) taken
 
-  pub has_planned_then : (head floor to : ℕ) (p : PostingFields) (result : Result (Option Spot) GrowthFault)
-      → PlannedEnds head floor to p mid new result → PlannedEnds head floor to p old new result
-  has_planned_then head floor to p (Ok (Some spot)) h = record {
+  pub has_planned_then : (head floor next to : ℕ) (p : PostingFields) (result : Result (Option Spot) GrowthFault)
+      → PlannedEnds head floor next to p mid new result → PlannedEnds head floor next to p old new result
+  has_planned_then head floor next to p (Ok (Some spot)) h = record {
     in_places = h.in_places;
     before = h.before;
     planned = plans_then h.planned;
     free = h.free;
   }
-  has_planned_then head floor to p (Ok None) h = tt
-  has_planned_then head floor to p (Err fault) h = tt
+  has_planned_then head floor next to p (Ok None) h = tt
+  has_planned_then head floor next to p (Err fault) h = tt
 
 -- the posting alone
 pub planned_alone : (head floor to : ℕ) (p : PostingFields) (old new : ViewState) (spot : Spot) → spot.place < 128
@@ -73,7 +74,7 @@ pub planned_alone : (head floor to : ℕ) (p : PostingFields) (old new : ViewSta
     → ((cell : ℕ) → to ≤ cell → old.planned cell ≡ None)
     → PutsRecord (spot.block + spot.place) (posting_record p) (record { head = head; base = spot.block }) old new
     (Ok tt)
-    → HasPlanned head floor to p spot old new
+    → HasPlanned head floor to to p spot old new
 planned_alone head floor to p old new spot in_places before lies blank free put = record {
   in_places = in_places;
   before = before;
@@ -89,14 +90,15 @@ planned_alone head floor to p old new spot in_places before lies blank free put 
         to = omega (arith, in_places);
         where_blocks_lie = lies;
       })
-      (λ c differ. record { planned = (put.others c differ).1; owners = (put.others c differ).2 });
+      (λ c differ. record { planned = (put.others c differ).1; owners = (put.others c differ).2 })
+      refl;
   free = λ c past.
       (put.others c (λ (e : c ≡ spot.block + spot.place). omega (arith, e, past, before, in_places))).1 ∙ free c past;
 }
 
 -- the posting and a pointer to its block
-module _ (head floor to home level digit : ℕ) (p : PostingFields) (old mid new : ViewState) (spot : Spot)
-    (viewed : Viewed old mid)
+module _ (head floor next to home level digit : ℕ) (p : PostingFields) (old mid new : ViewState) (spot : Spot)
+    (viewed : Viewed old mid) (taken : (to ≡ next) ⊎ ((spot.block ≡ next) × (to ≡ next + 256)))
     (in_places : spot.place < 128) (before : spot.block + 256 ≤ to) (home_before : home + 256 ≤ to)
     (levels : level < 8) (digits : digit ≤ 15) (from : floor ≤ spot.block) (lies : (home ≡ head) ⊎ (floor ≤ home))
     (blank : IsTrue old.base.tells → old.image (spot.block + spot.place) ≡ None)
@@ -119,7 +121,7 @@ module _ (head floor to home level digit : ℕ) (p : PostingFields) (old mid new
           owners = led.2 ∙ put.2 ∙ owners_before viewed cell;
         }
 
-    has_both : HasPlanned head floor to p spot old new
+    has_both : HasPlanned head floor next to p spot old new
     has_both =
         let at : ℕ = spot.block + spot.place in
         let pointer : ℕ = pointer_at home level digit in
@@ -151,7 +153,7 @@ module _ (head floor to home level digit : ℕ) (p : PostingFields) (old mid new
                 to = omega (arith, levels, digits);
                 where_blocks_lie = lies;
               })
-              (λ e. differ (sym e)) as_planned;
+              (λ e. differ (sym e)) as_planned taken;
           free = λ cell past.
               (as_planned cell (λ (e : cell ≡ spot.block + spot.place). omega (arith, e, past, before, in_places))
               (λ (e : cell ≡ pointer_at home level digit). omega (arith, e, past, home_before, levels, digits))).planned
@@ -161,9 +163,9 @@ module _ (head floor to home level digit : ℕ) (p : PostingFields) (old mid new
   pub planned_both : (result : Result (Option Spot) GrowthFault)
       → PutsBoth spot (pointer_at home level digit) p (record { head = head; base = spot.block })
       (record { head = head; base = home }) mid new result
-      → PlannedEnds head floor to p old new result
+      → PlannedEnds head floor next to p old new result
   planned_both (Ok (Some found)) both =
-      let P : Spot → Type 0 = λ x. HasPlanned head floor to p x old new in subst P (sym both.ends.0)
+      let P : Spot → Type 0 = λ x. HasPlanned head floor next to p x old new in subst P (sym both.ends.0)
       (has_both both.ends.1)
   planned_both (Ok None) both = tt
   planned_both (Err fault) both = tt

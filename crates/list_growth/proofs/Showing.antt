@@ -2,7 +2,7 @@
 use Rattle.std.proofs.Common.{◌≡◌, ◌≢◌, ◌≤◌, ◌⊎◌, ⊎_elim, inl, inr, ℕ, List, Option, Some, None, refl, ap, sym, subst, ◌∙◌}
 use Rattle.std.proofs.lemmas.Bool.{cases_eq}
 use Rattle.std.proofs.lemmas.Option.{none-some}
-use Rattle.cell_types.specs.Image.{Image, Extends}
+use Rattle.cell_types.specs.Image.{Image, Extends, IsUnchanged}
 use Rattle.index_paths.specs.Blocks.{Leads, arrived, onwards}
 use Rattle.index_paths.proofs.Fronts.{front_on}
 use Rattle.stored_documents.proofs.Extending.{holds_on}
@@ -13,7 +13,8 @@ use Rattle.worm_device.specs.Overlaying.{overlay_shows}
 use Rattle.worm_device.specs.Overlays.{of_overlay}
 use Rattle.worm_device.specs.State.{DeviceState}
 use Rattle.worm_device.specs.Views.{ViewState, Viewed, IsView}
-use Rattle.worm_device.proofs.Counting.{still_first}
+use Rattle.worm_device.proofs.Counting.{still_first, still_second}
+use Rattle.worm_device.proofs.Images.{unchanged_then}
 use Rattle.worm_device.proofs.Resting.{rests_of}
 use Rattle.worm_device.specs.declared.overlay.Overlay.{Overlay}
 use Rattle.jump_index.specs.Looking.{HasKeyIn}
@@ -76,3 +77,19 @@ pub quiet_image : {a b : ViewState} → Viewed a b → (count : ℕ) → b.base.
     → IsStill a.base.foreign_writes count → b.image ≡ a.image
 quiet_image viewed count later still =
     same_image ((rests_of viewed).shown (still_first viewed.called.foreign_writes later still))
+
+-- where nobody else wrote, the device stands as it did
+abbrev pub StaysQuiet : DeviceState → DeviceState → Type 0
+StaysQuiet old new = IsStill old.foreign_writes new.foreign_writes → IsUnchanged old.image new.image
+
+-- planning after reads leaves the device
+pub quiet_on : {a b : ViewState} {c : DeviceState} → Viewed a b → c ≡ b.base → StaysQuiet a.base c
+quiet_on {a} viewed same = subst (λ (s : DeviceState). StaysQuiet a.base s) (sym same) (rests_of viewed).below
+
+-- calls after reads
+pub quiet_then : {a b : ViewState} {c : DeviceState} → Viewed a b → Called b.base c → StaysQuiet b.base c
+    → StaysQuiet a.base c
+quiet_then viewed called quiet = λ still.
+    let earlier = viewed.called.foreign_writes in
+    let later = called.foreign_writes in
+    unchanged_then ((rests_of viewed).below (still_first earlier later still)) (quiet (still_second earlier later still))

@@ -52,9 +52,9 @@ module _ (head floor : ℕ) (old new : ViewState) (other : ℕ) (differ : other 
       (λ (past : floor ≤ planned.block). omega (arith, past, planned.from, same, to, before))
       planned.where_blocks_lie
 
-  pub stays_untouched : (p : PostingFields) (at : ℕ) → PlansEntry head floor p at old new → IsUntouched old other
-      → IsUntouched new other
-  stays_untouched p at (alone posting others) untouched = record {
+  pub stays_untouched : (next to : ℕ) (p : PostingFields) (at : ℕ) → PlansEntry head floor next to p at old new
+      → IsUntouched old other → IsUntouched new other
+  stays_untouched next to p at (alone posting others same_next) untouched = record {
     none = λ cell owner is same. ⊎_elim
         (λ here. not_mine posting cell owner here is same)
         (λ elsewhere. untouched.none cell owner (sym (others cell elsewhere).owners ∙ is) same)
@@ -64,7 +64,7 @@ module _ (head floor : ℕ) (old new : ViewState) (other : ℕ) (differ : other 
         (λ elsewhere. untouched.first cell owner (sym (others cell elsewhere).owners ∙ is) from to)
         (cases_eq cell at);
   }
-  stays_untouched p at (with_pointer pointer target posting jump parted others) untouched = record {
+  stays_untouched next to p at (with_pointer pointer target posting jump parted others taken) untouched = record {
     none = λ cell owner is same. ⊎_elim
         (λ here. not_mine posting cell owner here is same)
         (λ elsewhere. ⊎_elim

@@ -19,8 +19,8 @@ UntouchedIsReady = (s : ViewState) (head floor next key : ℕ) → IsUntouched s
 -- what one insertion plans leaves another list untouched, whose first block lies apart
 abbrev pub OthersStayUntouched : Type 0
 OthersStayUntouched =
-    (head floor : ℕ) (p : PostingFields) (at : ℕ) (old new : ViewState) (other : ℕ)
-    → PlansEntry head floor p at old new → other ≢ head → AreApart other 256 head 256 → other + 256 ≤ floor
+    (head floor next to : ℕ) (p : PostingFields) (at : ℕ) (old new : ViewState) (other : ℕ)
+    → PlansEntry head floor next to p at old new → other ≢ head → AreApart other 256 head 256 → other + 256 ≤ floor
     → IsUntouched old other → IsUntouched new other
 
 -- the trail of a posting goes on where cells are added, and where the pool's next cell is a later one

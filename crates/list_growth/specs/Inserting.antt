@@ -1,6 +1,6 @@
 -- What inserting a posting into a list does.
 use Rattle.std.specs.Prelude.{◌≡◌, ◌≢◌, ◌<◌, ◌≤◌, ◌+◌, ◌⊎◌, ℕ, Some, None, Result, Ok, Err, IsTrue, ⊤}
-use Rattle.cell_types.specs.Image.{Extends}
+use Rattle.cell_types.specs.Image.{Extends, IsUnchanged}
 use Rattle.cell_types.specs.declared.record_cell.RecordCell.{RecordCell}
 use Rattle.cell_types.specs.declared.record_cell.RecordCell.TheVariants.{Jump}
 use Rattle.cell_types.specs.declared.refusal.Fault.TheVariants.{Tampered, ReadFault}
@@ -41,13 +41,15 @@ pub record IsAsPlanned (old new : ViewState) (cell : ℕ) : Type 0 where
   pub planned : new.planned cell ≡ old.planned cell
   pub owners : new.owners cell ≡ old.owners cell
 
--- What one insertion plans: the posting in this cell, and at most one pointer besides.
-pub data PlansEntry (head floor : ℕ) (p : PostingFields) (at : ℕ) (old new : ViewState) : Type 0 where
+-- What one insertion plans: the posting in this cell, and at most one pointer besides. The pool's next cell was `next`
+-- and is `to`: a block is taken only where the pointer leads to it.
+pub data PlansEntry (head floor next to : ℕ) (p : PostingFields) (at : ℕ) (old new : ViewState) : Type 0 where
   alone : IsPlannedFor head floor (posting_record p) at old new
-      → ((cell : ℕ) → cell ≢ at → IsAsPlanned old new cell) → PlansEntry head floor p at old new
+      → ((cell : ℕ) → cell ≢ at → IsAsPlanned old new cell) → to ≡ next → PlansEntry head floor next to p at old new
   with_pointer : (pointer target : ℕ) → IsPlannedFor head floor (posting_record p) at old new
       → IsPlannedFor head floor (Jump target) pointer old new → pointer ≢ at
-      → ((cell : ℕ) → cell ≢ at → cell ≢ pointer → IsAsPlanned old new cell) → PlansEntry head floor p at old new
+      → ((cell : ℕ) → cell ≢ at → cell ≢ pointer → IsAsPlanned old new cell)
+      → (to ≡ next) ⊎ ((target ≡ next) × (to ≡ next + 256)) → PlansEntry head floor next to p at old new
 
 -- The posting is in the list: what was shown is shown still, the posting has a trail from the list's first block, and
 -- postings with greater keys may be inserted. Where nobody else wrote, a list that kept its shape keeps it, and the
@@ -63,7 +65,8 @@ pub record IsInserted (head floor next to : ℕ) (p : PostingFields) (e : Entry)
 -- is named in a list that stands as it should.
 abbrev pub InsertEnds : ℕ → ℕ → ℕ → ℕ → PostingFields → ViewState → ViewState → Result Entry GrowthFault → Type 0
 InsertEnds head floor next to p old new (Ok e) =
-    (posting_of e ≡ p) × (e.place < 128) × (e.block + 256 ≤ to) × PlansEntry head floor p (cell_of e) old new
+    (posting_of e ≡ p) × (e.place < 128) × (e.block + 256 ≤ to)
+    × PlansEntry head floor next to p (cell_of e) old new
     × ((cell : ℕ) → to ≤ cell → new.planned cell ≡ None)
     × (IsTrue old.base.tells → IsInserted head floor next to p e old new)
 InsertEnds head floor next to p old new (Err (Fault ReadFault)) = Rose old.base.faults new.base.faults
@@ -72,7 +75,8 @@ InsertEnds head floor next to p old new (Err (Fault (Tampered e))) =
     × (IsStill old.base.foreign_writes new.base.foreign_writes → ListBelow new floor head p.key → ⊥)
 InsertEnds head floor next to p old new (Err NoMemory) = ⊤
 
--- inserting a posting, where the pool's next cell was this one and is that one
+-- Inserting a posting, where the pool's next cell was this one and is that one. Where nobody else wrote, the device below
+-- stands as it did.
 pub record InsertsPosting (head floor next to : ℕ) (p : PostingFields) (old new : ViewState)
     (result : Result Entry GrowthFault) : Type 0 where
   pub called : Called old.base new.base
@@ -80,4 +84,5 @@ pub record InsertsPosting (head floor next to : ℕ) (p : PostingFields) (old ne
   pub fresh : new.fresh ≡ old.fresh
   pub loans : new.loans ≡ old.loans
   pub lower : Extends old.lower new.lower
+  pub quiet : IsStill old.base.foreign_writes new.base.foreign_writes → IsUnchanged old.base.image new.base.image
   pub ends : InsertEnds head floor next to p old new result

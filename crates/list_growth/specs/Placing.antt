@@ -1,6 +1,6 @@
 -- What an insertion in or behind one block does.
 use Rattle.std.specs.Prelude.{◌≡◌, ◌<◌, ◌≤◌, ◌+◌, ℕ, Option, Some, None, Result, Ok, Err, IsTrue, ⊤}
-use Rattle.cell_types.specs.Image.{Extends}
+use Rattle.cell_types.specs.Image.{Extends, IsUnchanged}
 use Rattle.index_paths.specs.Blocks.{PostingFields, InFront, Trail}
 use Rattle.jump_index.specs.Looking.{HasKeyIn}
 use Rattle.planned_cells.specs.declared.fault.GrowthFault.{GrowthFault}
@@ -43,20 +43,22 @@ pub record PlacesPosting (head floor to block : ℕ) (p : PostingFields) (low bo
   pub fresh : new.fresh ≡ old.fresh
   pub loans : new.loans ≡ old.loans
   pub lower : Extends old.lower new.lower
+  pub quiet : IsStill old.base.foreign_writes new.base.foreign_writes → IsUnchanged old.base.image new.base.image
   pub ends : PlaceEnds head floor to block p low bound old new result
 
 -- The posting is planned at this place, and at most a pointer besides; nothing is planned from the pool's next cell on.
-pub record HasPlanned (head floor to : ℕ) (p : PostingFields) (spot : Spot) (old new : ViewState) : Type 0 where
+pub record HasPlanned (head floor next to : ℕ) (p : PostingFields) (spot : Spot) (old new : ViewState) : Type 0 where
   pub in_places : spot.place < 128
   pub before : spot.block + 256 ≤ to
-  pub planned : PlansEntry head floor p (spot.block + spot.place) old new
+  pub planned : PlansEntry head floor next to p (spot.block + spot.place) old new
   pub free : (cell : ℕ) → to ≤ cell → new.planned cell ≡ None
 
 -- which cells are planned where the posting is inserted
-abbrev pub PlannedEnds : ℕ → ℕ → ℕ → PostingFields → ViewState → ViewState → Result (Option Spot) GrowthFault → Type 0
-PlannedEnds head floor to p old new (Ok (Some spot)) = HasPlanned head floor to p spot old new
-PlannedEnds head floor to p old new (Ok None) = ⊤
-PlannedEnds head floor to p old new (Err fault) = ⊤
+abbrev pub PlannedEnds : ℕ → ℕ → ℕ → ℕ → PostingFields → ViewState → ViewState → Result (Option Spot) GrowthFault
+    → Type 0
+PlannedEnds head floor next to p old new (Ok (Some spot)) = HasPlanned head floor next to p spot old new
+PlannedEnds head floor next to p old new (Ok None) = ⊤
+PlannedEnds head floor next to p old new (Err fault) = ⊤
 
 -- what an insertion from a block adds where nobody else wrote
 abbrev pub GrowEnds : ℕ → ℕ → ℕ → ℕ → PostingFields → ViewState → ViewState → Result (Option Spot) GrowthFault → Type 0

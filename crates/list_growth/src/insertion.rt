@@ -93,7 +93,7 @@ fn insert_from<V: View>(
         (of_overlay V.seen overlay.old) (of_overlay V.seen overlay.new) result }
     ensures grows { GrowEnds floor pool.old.next pool.new.next block (fields_of entry)
         (of_overlay V.seen overlay.old) (of_overlay V.seen overlay.new) result }
-    ensures planned { PlannedEnds head floor pool.new.next (fields_of entry)
+    ensures planned { PlannedEnds head floor pool.old.next pool.new.next (fields_of entry)
         (of_overlay V.seen overlay.old) (of_overlay V.seen overlay.new) result }
 {
     // That the pool lies within an overlay's cells is known once its end is read.
@@ -174,7 +174,7 @@ fn insert_behind<V: View>(
         (of_overlay V.seen overlay.old) (of_overlay V.seen overlay.new) result }
     ensures grows { GrowEnds floor pool.old.next pool.new.next block (fields_of entry)
         (of_overlay V.seen overlay.old) (of_overlay V.seen overlay.new) result }
-    ensures planned { PlannedEnds head floor pool.new.next (fields_of entry)
+    ensures planned { PlannedEnds head floor pool.old.next pool.new.next (fields_of entry)
         (of_overlay V.seen overlay.old) (of_overlay V.seen overlay.new) result }
 {
     // That the pool lies within an overlay's cells is known once its end is read.

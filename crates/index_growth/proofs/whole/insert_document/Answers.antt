@@ -8,7 +8,8 @@ use Rattle.index_growth.proofs.whole.insert_document.Goals as goal
 pub insert-requires-clause-ready : goal.insert-requires-clause-ready
 insert-requires-clause-ready g c =
     let row = rw c.in_default.is at c.insert_postings.ensures.inserts in
-    tree_is_ready c.args.volume.now.geometry c.args.slot c.args.rows.now c.args.level.now c.args.place c.insert_postings.new.pool.next
+    tree_is_ready c.args.volume.now.geometry c.args.slot c.args.rows.now c.args.level.now c.args.place c.args.pool.now.next
+    c.insert_postings.new.pool.next
     (of_overlay g.V.View.seen c.args.overlay.now) (of_overlay g.V.View.seen c.insert_postings.new.overlay) c.requires.order
     c.requires.nothing (λ cell. c.args.overlay.now.own.now.owned.unowned cell (c.requires.nothing cell))
     (omega (arith, c.nibble_of-half.ensures.same, c.nibble_of-half.ensures.below)) c.requires.number c.requires.open_at
@@ -17,7 +18,8 @@ insert-requires-clause-ready g c =
 
 pub returns-in-Err-clause-indexes : goal.returns-in-Err-clause-indexes
 returns-in-Err-clause-indexes g c =
-    row_ends c.args.volume.now.geometry c.args.slot c.args.rows.now c.args.level.now c.args.place c.insert_postings.new.pool.next
+    row_ends c.args.volume.now.geometry c.args.slot c.args.rows.now c.args.level.now c.args.place c.args.pool.now.next
+    c.insert_postings.new.pool.next
     (of_overlay g.V.View.seen c.args.overlay.now) (of_overlay g.V.View.seen c.insert_postings.new.overlay) c.in-Err.fault
     (rw c.in-Err.is at c.insert_postings.ensures.inserts)
 
@@ -25,11 +27,13 @@ pub returns-in-Ok-clause-indexes : goal.returns-in-Ok-clause-indexes
 returns-in-Ok-clause-indexes g c =
     let row = rw c.in_default.is at c.insert_postings.ensures.inserts in
     let entry = rw c.in-Ok.is at c.insert.ensures in
-    entry_ends c.args.volume.now.geometry c.args.slot c.args.rows.now c.args.level.now c.args.place c.insert_postings.new.pool.next
+    entry_ends c.args.volume.now.geometry c.args.slot c.args.rows.now c.args.level.now c.args.place c.args.pool.now.next
+    c.insert_postings.new.pool.next
     c.insert_postings.new.pool c.insert.new.pool
     (of_overlay g.V.View.seen c.args.overlay.now) (of_overlay g.V.View.seen c.insert_postings.new.overlay)
     (of_overlay g.V.View.seen c.insert.new.overlay) _ _ row entry
-    (index_is_done c.args.volume.now.geometry c.args.slot c.args.rows.now c.args.level.now c.args.place c.insert_postings.new.pool.next
+    (index_is_done c.args.volume.now.geometry c.args.slot c.args.rows.now c.args.level.now c.args.place c.args.pool.now.next
+    c.insert_postings.new.pool.next
     (of_overlay g.V.View.seen c.args.overlay.now) (of_overlay g.V.View.seen c.insert_postings.new.overlay) c.requires.order
     c.requires.nothing (λ cell. c.args.overlay.now.own.now.owned.unowned cell (c.requires.nothing cell))
     (omega (arith, c.nibble_of-half.ensures.same, c.nibble_of-half.ensures.below)) c.requires.number c.requires.open_at
@@ -44,10 +48,11 @@ pub returns-in-Err-insert-clause-indexes : goal.returns-in-Err-insert-clause-ind
 returns-in-Err-insert-clause-indexes g c =
     let row = rw c.in_default.is at c.insert_postings.ensures.inserts in
     let entry = rw c.in-Err-insert.is at c.insert.ensures in
-    entry_ends c.args.volume.now.geometry c.args.slot c.args.rows.now c.args.level.now c.args.place c.insert_postings.new.pool.next
+    entry_ends c.args.volume.now.geometry c.args.slot c.args.rows.now c.args.level.now c.args.place c.args.pool.now.next
+    c.insert_postings.new.pool.next
     c.insert_postings.new.pool c.insert.new.pool
     (of_overlay g.V.View.seen c.args.overlay.now) (of_overlay g.V.View.seen c.insert_postings.new.overlay)
     (of_overlay g.V.View.seen c.insert.new.overlay) _ _ row entry
-    (entry_refused c.args.volume.now.geometry c.args.slot c.args.rows.now c.args.level.now c.args.place c.insert_postings.new.pool
+    (entry_refused c.args.volume.now.geometry c.args.slot c.args.rows.now c.args.level.now c.args.place c.args.pool.now.next c.insert_postings.new.pool
     c.insert.new.pool (of_overlay g.V.View.seen c.args.overlay.now) (of_overlay g.V.View.seen c.insert_postings.new.overlay)
     (of_overlay g.V.View.seen c.insert.new.overlay) c.in-Err-insert.fault entry)

@@ -9,9 +9,10 @@ returns-in-Ok g c =
     let indexes = rw c.in_default.is at c.insert_document.ensures.indexes in
     record {
       called = indexes.called;
+      quiet = indexes.quiet;
       loans = indexes.loans;
-      ends = planned_over c.args.volume.now.geometry c.args.slot c.args.edge c.insert_document.new.pool.next c.args.rows.now c.args.level.now c.args.place
+      ends = planned_over c.args.volume.now.geometry c.args.slot c.args.edge c.over-pool.result.next c.insert_document.new.pool.next c.args.rows.now c.args.level.now c.args.place
           (record { block_length = c.next.result - c.args.edge; journal = c.in-Ok.journal })
           (of_overlay g.V.View.seen c.args.overlay.now) (of_overlay g.V.View.seen c.insert_document.new.overlay) _
-          (omega (arith, c.next.ensures, c.insert_document.ensures.from, c.over-pool.ensures.next)) indexes.ends c.planned.ensures (rw c.in-Ok.is at c.copies_of.ensures);
+          c.over-pool.ensures.next (omega (arith, c.next.ensures, c.insert_document.ensures.from, c.over-pool.ensures.next)) indexes.ends c.planned.ensures (rw c.in-Ok.is at c.copies_of.ensures);
     }

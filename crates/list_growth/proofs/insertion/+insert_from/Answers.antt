@@ -298,7 +298,7 @@ returns-in-Ok-put_posting-clause-planned g t c =
     has_planned_then (of_overlay g.V.View.seen c.args.overlay.now)
     (of_overlay g.V.View.seen c.first_at_least.new.view)
     (of_overlay g.V.View.seen c.put_posting.new.overlay) viewed c.args.head c.args.floor c.args.pool.now.next
-    (fields_of c.args.entry) (Ok (Some (record { block = c.args.block; place = c.in-Open.place })))
+    c.args.pool.now.next (fields_of c.args.entry) (Ok (Some (record { block = c.args.block; place = c.in-Open.place })))
     (planned_alone c.args.head c.args.floor c.args.pool.now.next (fields_of c.args.entry)
     (of_overlay g.V.View.seen c.first_at_least.new.view) (of_overlay g.V.View.seen c.put_posting.new.overlay)
     (record { block = c.args.block; place = c.in-Open.place }) read.0 c.requires.before c.requires.lies
@@ -310,7 +310,7 @@ returns-in_default-clause-planned g t c =
     has_planned_then (of_overlay g.V.View.seen c.args.overlay.now) (of_overlay g.V.View.seen c.pointer.new.view)
     (of_overlay g.V.View.seen c.insert_behind.new.overlay)
     (viewed_then c.first_at_least.ensures.viewed c.pointer.ensures.viewed)
-    c.args.head c.args.floor c.insert_behind.new.pool.next
+    c.args.head c.args.floor c.args.pool.now.next c.insert_behind.new.pool.next
     (fields_of c.args.entry) c.insert_behind.result c.insert_behind.ensures.planned
 
 pub returns-in-Ok-Some-clause-planned : goal.returns-in-Ok-Some-clause-planned
@@ -318,5 +318,6 @@ returns-in-Ok-Some-clause-planned g t c =
     has_planned_then (of_overlay g.V.View.seen c.args.overlay.now) (of_overlay g.V.View.seen c.pointer.new.view)
     (of_overlay g.V.View.seen c.insert_from.new.overlay)
     (viewed_then c.first_at_least.ensures.viewed c.pointer.ensures.viewed)
-    c.args.head c.args.floor c.insert_from.new.pool.next (fields_of c.args.entry) (Ok (Some c.in-Ok-Some.spot))
+    c.args.head c.args.floor c.args.pool.now.next c.insert_from.new.pool.next (fields_of c.args.entry)
+    (Ok (Some c.in-Ok-Some.spot))
     (rw c.in-Ok-Some.field-0-is at c.in-Ok-Some.ensures.planned)

@@ -1,5 +1,5 @@
 -- Each ending, by the lemma of its kind.
-use Rattle.std.proofs.Common.{◌+◌, arith, sym, ap, ◌∙◌, subst}
+use Rattle.std.proofs.Common.{◌+◌, arith, inl, inr, refl, sym, ap, ◌∙◌, subst}
 use Rattle.std.specs.Prelude.{IsTrue}
 use Rattle.cell_types.specs.Image.{Image}
 use Rattle.stored_documents.proofs.Extending.{blank_before}
@@ -9,11 +9,19 @@ use Rattle.list_growth.specs.Inserting.{fields_of}
 use Rattle.list_growth.specs.declared.entries.Spot.{Spot}
 use Rattle.list_growth.proofs.Adding.{grows_both, grown_in_tail, grown_in_new}
 use Rattle.list_growth.proofs.Lasting.{is_last, is_last_full}
-use Rattle.list_growth.proofs.Placing.{IsHome, IsTarget, both_places, new_spot}
+use Rattle.list_growth.proofs.Placing.{IsHome, IsTarget, both_places, new_spot, read_fault}
 use Rattle.list_growth.proofs.Planned.{planned_both}
 use Rattle.list_growth.proofs.Readying.{ready_viewed}
 use Rattle.list_growth.proofs.Showing.{is_view}
 use Rattle.list_growth.proofs.insertion.insert_behind.Goals as goal
+
+-- a fault of the search for the tail
+pub returns-in-Err-clause-places : goal.returns-in-Err-clause-places
+returns-in-Err-clause-places g c =
+    read_fault c.args.head c.args.floor c.args.pool.now.next c.args.block
+    (fields_of c.args.entry) c.args.within.low c.args.within.high (of_overlay g.V.View.seen c.args.overlay.now)
+    (of_overlay g.V.View.seen c.tail.new.overlay) c.in-Err.fault c.in-Err.ensures.finds.viewed
+    c.in-Err.ensures.finds.ends
 
 -- a new block
 pub returns-in_default-clause-places : goal.returns-in_default-clause-places
@@ -214,11 +222,13 @@ returns-in_default-clause-planned g c =
     let viewed = c.tail.ensures.finds.viewed in
     let granted = c.in-Some-grant.ensures.granted in
     let view = is_view g.V.View.seen g.met.V.View.proper c.tail.new.overlay in
-    planned_both c.args.head c.args.floor c.grant.new.self.next c.args.block c.args.to.level c.args.to.digit
+    planned_both c.args.head c.args.floor c.args.pool.now.next c.grant.new.self.next c.args.block c.args.to.level
+    c.args.to.digit
     (fields_of c.args.entry)
     (of_overlay g.V.View.seen c.args.overlay.now) (of_overlay g.V.View.seen c.tail.new.overlay)
     (of_overlay g.V.View.seen c.put_both.new.overlay) (record { block = c.in-Some-grant.target; place = 0 }) viewed
-    (omega arith) (omega (arith, granted.first, granted.next)) (omega (arith, c.requires.before, granted.next))
+    (inr (granted.first, granted.next)) (omega arith) (omega (arith, granted.first, granted.next))
+    (omega (arith, c.requires.before, granted.next))
     c.requires.span.levels c.requires.span.digits (omega (arith, c.requires.floor, granted.first)) c.requires.lies
     (λ tells. blank_before viewed.image (view.beyond (c.in-Some-grant.target + 0)
     (ap (λ (f : Image). f (c.in-Some-grant.target + 0)) viewed.planned
@@ -231,10 +241,11 @@ pub returns-clause-planned : goal.returns-clause-planned
 returns-clause-planned g c =
     let viewed = c.tail.ensures.finds.viewed in
     let found = (rw c.in-Some.is at c.in-Ok.ensures.finds).ends in
-    planned_both c.args.head c.args.floor c.args.pool.now.next c.args.block c.args.to.level c.args.to.digit
+    planned_both c.args.head c.args.floor c.args.pool.now.next c.args.pool.now.next c.args.block c.args.to.level
+    c.args.to.digit
     (fields_of c.args.entry)
     (of_overlay g.V.View.seen c.args.overlay.now) (of_overlay g.V.View.seen c.tail.new.overlay)
     (of_overlay g.V.View.seen c.put_both-2.new.overlay) c.in-Some.spot viewed
-    found.0 found.2 c.requires.before c.requires.span.levels c.requires.span.digits found.1 c.requires.lies
+    (inl refl) found.0 found.2 c.requires.before c.requires.span.levels c.requires.span.digits found.1 c.requires.lies
     (λ tells. blank_before viewed.image (found.3 tells).blank)
     c.requires.blank c.requires.free c.put_both-2.result c.put_both-2.ensures

@@ -3,5 +3,5 @@ use Rattle.list_growth.proofs.Untouched.{stays_untouched}
 use Rattle.list_growth.proofs.readiness.others_stay_untouched.Goals as goal
 
 pub returns : goal.returns
-returns c = λ head floor p at old new other planned differ apart before.
-    stays_untouched head floor old new other differ apart before p at planned
+returns c = λ head floor next to p at old new other planned differ apart before.
+    stays_untouched head floor old new other differ apart before next to p at planned
