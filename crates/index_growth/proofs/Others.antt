@@ -1,29 +1,14 @@
 -- What one insertion leaves of other lists, and for whom what it plans is.
-use Rattle.std.proofs.Common.{◌≡◌, ◌≢◌, ◌<◌, ◌≤◌, ◌+◌, ◌⊎◌, ⊎_elim, inl, inr, ℕ, List, Option, Some, None, ap, sym, subst, arith, ◌∙◌}
+use Rattle.std.proofs.Common.{◌≡◌, ◌<◌, ◌≤◌, ◌+◌, ◌⊎◌, ⊎_elim, inl, inr, ℕ, List, Option, Some, None, ap, sym, subst, arith, ◌∙◌}
 use Rattle.std.proofs.lemmas.Bool.{cases_eq}
 use Rattle.std.proofs.lemmas.Option.{none-some}
 use Rattle.cell_types.specs.Records.{IsRecordCell}
 use Rattle.cell_types.specs.declared.record_cell.RecordCell.{RecordCell}
 use Rattle.cell_types.specs.declared.record_cell.RecordCell.TheVariants.{Jump}
 use Rattle.index_paths.specs.Blocks.{PostingFields, posting_record}
-use Rattle.index_paths.specs.Nodes.{AreApart}
 use Rattle.worm_device.specs.Views.{ViewState}
 use Rattle.worm_device.specs.declared.owner.Owner.{Owner}
 use Rattle.list_growth.specs.Inserting.{IsPlannedFor, PlansEntry, alone, with_pointer}
-use Rattle.list_growth.specs.Readiness.{IsReady, IsUntouched}
-
--- into a list for which nothing is planned each posting may go
-pub ready_untouched : {s : ViewState} {head : ℕ} (floor next key : ℕ) → IsUntouched s head → IsReady s head floor next key
-ready_untouched floor next key u = record {
-  first = record {
-    inside = λ cell owner is from to. absurd (u.first cell owner is from to);
-    apart = λ cell owner is mine. absurd (u.none cell owner is mine);
-  };
-  mine = λ cell owner is mine. absurd (u.none cell owner is mine);
-  named = λ cell owner is mine. absurd (u.none cell owner is mine);
-  reached = λ cell owner is mine. absurd (u.none cell owner is mine);
-  inside = λ cell owner is mine. absurd (u.none cell owner is mine);
-}
 
 -- a planned cell is for whom it was, or is new and lies in a block of this list
 pub data IsOwned (head floor : ℕ) (old : ViewState) (cell : ℕ) (owner : Owner) : Type 0 where
@@ -140,24 +125,3 @@ plans_blank {head} {floor} {at} {p} {old} {new} (with_pointer pointer target one
     (λ differs_too. absurd (none-some value (sym free ∙ sym (rest cell differs differs_too).planned ∙ is)))
     (cases_eq cell pointer))
     (cases_eq cell at)
-
-none_for_other : {head floor other : ℕ} {old : ViewState} (cell : ℕ) (owner : Owner) → IsOwned head floor old cell owner
-    → other ≢ head → IsUntouched old other → owner.head ≡ other → ⊥
-none_for_other cell owner (as_before is) differs u mine = u.none cell owner is mine
-none_for_other cell owner (anew head from to place) differs u mine = differs (sym mine ∙ head)
-
-none_in_other : {head floor other : ℕ} {old : ViewState} (cell : ℕ) (owner : Owner) → IsOwned head floor old cell owner
-    → AreApart other 256 head 256 → other + 256 ≤ floor → IsUntouched old other → other ≤ cell → cell < other + 256 → ⊥
-none_in_other cell owner (as_before is) apart before u from to = u.first cell owner is from to
-none_in_other cell owner (anew head low high place) apart before u from to = ⊎_elim
-    (λ first. ⊎_elim (λ x. omega (arith, x, first, low, to)) (λ y. omega (arith, y, first, high, from)) apart)
-    (λ past. omega (arith, past, before, low, to))
-    place
-
--- another list stays untouched
-pub untouched_other : {head floor next to other at : ℕ} {p : PostingFields} {old new : ViewState} → PlansEntry head floor next to p at old new
-    → other ≢ head → AreApart other 256 head 256 → other + 256 ≤ floor → IsUntouched old other → IsUntouched new other
-untouched_other plans differs apart before u = record {
-  none = λ cell owner is mine. none_for_other cell owner (owned_in plans cell owner is) differs u mine;
-  first = λ cell owner is from to. none_in_other cell owner (owned_in plans cell owner is) apart before u from to;
-}

@@ -27,7 +27,8 @@ use Rattle.list_growth.specs.Readiness.{IsReady, IsUntouched}
 use Rattle.index_growth.specs.Rows.{AreInOrder, AreInserted, AreUntouched, InsertsRow, IsRowCell, of_posting, of_pointer, LiesInLists, in_first, in_pool, RowSoFar, StandsInList}
 use Rattle.index_growth.specs.Granting.{GivesWhatIsLedTo, to_block}
 use Rattle.index_growth.proofs.Granted.{gives_more, gives_nothing, gives_on, quiet_then}
-use Rattle.index_growth.proofs.Others.{IsNear, IsHeld, held_before, held_posting, held_pointer, IsOwned, as_before, anew, held_in, owned_in, plans_blank, plans_keep, ready_untouched, untouched_other}
+use Rattle.list_growth.proofs.Untouched.{stays_untouched, untouched_ready}
+use Rattle.index_growth.proofs.Others.{IsNear, IsHeld, held_before, held_posting, held_pointer, IsOwned, as_before, anew, held_in, owned_in, plans_blank, plans_keep}
 
 -- no posting is inserted yet
 pub row_begins : (g : Layout) (n : ℕ) (rows : List Posting) (pool : Pool) (s : ViewState)
@@ -56,7 +57,7 @@ row_begins g n rows pool s free untouched = record {
     stand = λ tells i p less is. absurd (omega (arith, less));
   };
   untouched = λ tells l less before. untouched tells l less;
-  ready = λ tells a less before. ready_untouched (pool_at g) pool.next a.posting.key (untouched tells a.list less);
+  ready = λ tells a less before. untouched_ready s (list_at g a.list) (pool_at g) pool.next a.posting.key (untouched tells a.list less);
 }
 
 lists_apart : (g : Layout) (l k : ℕ) → l ≢ k
@@ -168,15 +169,16 @@ module _ (g : Layout) (n : ℕ) (rows : List Posting) (i : ℕ) (first pool late
       → ((j : ℕ) (q : Posting) → j < i + 1 → slice_get rows j ≡ Some q → q.list < l) → IsUntouched new (list_at g l)
   untouched_now tells l less before =
       let behind : p.list < l = before i p (omega arith) here in
-      untouched_other plans (λ same. omega (arith, same, behind)) (lists_apart g l p.list (λ same. omega (arith, same, behind)))
-      (list_below g l less) (so.untouched tells l less (λ j q small is. before j q (omega (arith, small)) is))
+      stays_untouched (list_at g p.list) (pool_at g) mid new (list_at g l) (λ same. omega (arith, same, behind))
+      (lists_apart g l p.list (λ same. omega (arith, same, behind))) (list_below g l less) pool.next later.next
+      (listed n p).posting (cell_of e) plans (so.untouched tells l less (λ j q small is. before j q (omega (arith, small)) is))
 
   ready_now : IsTrue old.base.tells → (a : ListedPosting) → a.list < g.lists
       → ((j : ℕ) (q : Posting) → j < i + 1 → slice_get rows j ≡ Some q → ComesBefore (listed n q) a)
       → IsReady new (list_at g a.list) (pool_at g) later.next a.posting.key
   ready_now tells a less before = ⊎_elim
       (λ (behind : p.list < a.list).
-      ready_untouched (pool_at g) later.next a.posting.key
+      untouched_ready new (list_at g a.list) (pool_at g) later.next a.posting.key
       (untouched_now tells a.list less (λ j q small is. all_behind behind j q small is)))
       (λ (same : (p.list ≡ a.list) × ((listed n p).posting.key < a.posting.key)).
       subst (λ (l : ℕ). IsReady new (list_at g l) (pool_at g) later.next a.posting.key) same.0

@@ -48,7 +48,8 @@ pub fn plan_index<D: Device>(
     requires open_at { IsOpenOf volume.now.geometry level.now place }
     requires within { IsWithin volume.now.geometry edge level.now.led_by }
     requires led { IsTrue (D.state device.old).tells → IsLed (D.state device.old).image level.now.led_by }
-    ensures { PlansIndex volume.now.geometry slot edge level.now place body.now (D.state device.old) (D.state device.new) result }
+    ensures { PlansIndex volume.now.geometry slot edge level.now place body.now (D.state device.old)
+        (D.state device.new) result }
 {
     let Ok(terms) = words(alloc, body) else {
         return Err(Refusal::NoMemory);

@@ -47,7 +47,7 @@ in_place g image l from to head at off cell list first pool edge leads inside is
     (leads_within leads)
 
 -- what is no posting, or does not rise, is not in order
-not_in_order : (image : Image) (block place : ℕ) (found : List ℕ) → IsBadEntry image block place found
+pub not_in_order : (image : Image) (block place : ℕ) (found : List ℕ) → IsBadEntry image block place found
     → HoldsInOrder image block place → ⊥
 not_in_order image block place found (no_posting bad) order =
     let same : order.holds.cell ≡ found = some_is order.holds.cell found (sym order.holds.stands ∙ bad.stands) in

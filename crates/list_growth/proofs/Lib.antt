@@ -17,4 +17,4 @@ mod Searching
 mod Showing
 mod Tailing
 mod Unshown
-mod Untouched
+pub mod Untouched

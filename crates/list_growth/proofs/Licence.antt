@@ -8,39 +8,15 @@ use Rattle.cell_types.specs.declared.refusal.Evidence.{Evidence}
 use Rattle.stored_documents.specs.Slots.{IsEdge, Reserves}
 use Rattle.stored_documents.specs.Volumes.{Holds}
 use Rattle.stored_documents.proofs.Holding.{one_record_holds, some_is}
-use Rattle.index_paths.specs.Blocks.{PostingFields, posting_record, InFront, InSpan, Leads, arrived, onwards, pointer_at}
+use Rattle.index_paths.specs.Blocks.{InFront, InSpan, Leads, arrived, onwards, pointer_at}
 use Rattle.index_paths.specs.Nodes.{IsBlockOf}
-use Rattle.index_paths.proofs.Fronts.{front_holds, one_posting}
-use Rattle.tamper_rules.specs.Rules.{Entries, HoldsInOrder, IsOfPool, LeadsWell, Pointers, Postings}
-use Rattle.jump_block.specs.Fronts.{IsBadEntry, no_posting, does_not_rise}
+use Rattle.tamper_rules.specs.Rules.{Entries, IsOfPool, LeadsWell, Pointers, Postings}
 use Rattle.jump_index.proofs.Behind.{jump_target}
-use Rattle.jump_index.proofs.Licence.{in_place, leads_wider}
+use Rattle.jump_index.proofs.Licence.{in_place, leads_wider, not_in_order}
 use Rattle.worm_device.specs.Views.{ViewState, IsView}
 use Rattle.list_growth.specs.Evidence.{StandsBelow, IsMet, IsBadHop, no_jump, outside, no_key, meets, meets_block, ShowsBelow, bad_entry, bad_pointer, late, IsInItsPlace, of_new, of_list, of_tree, AreInTheirPlaces, IsLicensedBelow}
 use Rattle.list_growth.specs.Readiness.{IsReached, is_new, stands_below}
 use Rattle.list_growth.proofs.BelowPlans.{IsShown, is_shown, front_shown, order_shown, greatest_shown}
-
--- what is no posting, or does not rise, is not in order
-not_in_order : (image : Image) (block place : ℕ) (found : List ℕ) → IsBadEntry image block place found
-    → HoldsInOrder image block place → ⊥
-not_in_order image block place found (no_posting bad) order =
-    let same : order.holds.cell ≡ found = some_is order.holds.cell found (sym order.holds.stands ∙ bad.stands) in
-    bad.none order.p (subst (λ (c : List ℕ). IsRecordCell (posting_record order.p) (block + place) c) same
-    order.holds.is)
-not_in_order image block place found (does_not_rise before key p is has stands holds le) order =
-    let one : order.p.key ≡ p.key = ap (λ (q : PostingFields). q.key)
-    (one_posting image (block + place) order.p p order.holds holds) in
-    ⊎_elim
-    (λ first. omega arith)
-    (λ (r : (b : ℕ) × (q : PostingFields) × (place ≡ b + 1) × Holds image (block + b) (posting_record q)
-    × (q.key < order.p.key)).
-    let at : r.0 ≡ before = omega (arith, r.2) in
-    let held : Holds image (block + before) (posting_record r.1) = subst
-    (λ (n : ℕ). Holds image (block + n) (posting_record r.1)) at r.3 in
-    let same : r.1.key ≡ has.p.key = ap (λ (q : PostingFields). q.key)
-    (one_posting image (block + before) r.1 has.p held (front_holds has.in_front)) in
-    omega (arith, r.4, has.same))
-    order.rises
 
 -- an edge lies at the pool's start or behind
 edge_from : (g : Layout) (image : Image) (at : ℕ) → IsEdge g image image at → pool_at g ≤ at

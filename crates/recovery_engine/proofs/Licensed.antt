@@ -449,7 +449,7 @@ module _ (g : Layout) (n : ℕ) (s0 s3 s4 s5 : DeviceState) (c03 : Called s0 s3)
         let t = phases.puts.ends tells in
         own_held (IsInFirst (end_plan s4.image n (Reserved s l)) 1) OUTCOME_CELL (outcome_at n) _ t
         (abandon t.put t.planned) (OutcomeCells, refl, (n, last.is.reserves.slot, refl))
-            (inl (inr (inl refl))) last.is.outcome
+        (inl (inr (inl refl))) last.is.outcome
         (λ other h here. ap (λ (x : Put). x.value) (abandon other h))
       where
         abandon : (put : Put) → IsInFirst (end_plan s4.image n (Reserved s l)) 1 put → put ≡ abandon_put n

@@ -1,11 +1,10 @@
 -- Nothing is planned, so the list is untouched.
-use Rattle.std.proofs.Common.{sym, ◌∙◌}
-use Rattle.std.proofs.lemmas.Option.{none-some}
-use Rattle.index_growth.proofs.Others.{ready_untouched}
+use Rattle.worm_device.specs.Overlaying.{overlay_shows}
+use Rattle.worm_device.specs.Overlays.{of_overlay}
+use Rattle.list_growth.proofs.Untouched.{nothing_touched, untouched_ready}
 use Rattle.growth_rows.proofs.lists.plan_over.Goals as goal
 
 pub insert-requires-clause-ready : goal.insert-requires-clause-ready
-insert-requires-clause-ready g c = λ tells. ready_untouched _ _ _ (record {
-  none = λ cell owner is mine. none-some owner (sym (c.args.overlay.now.own.now.owned.unowned cell (c.requires.nothing cell)) ∙ is);
-  first = λ cell owner is from to. none-some owner (sym (c.args.overlay.now.own.now.owned.unowned cell (c.requires.nothing cell)) ∙ is);
-})
+insert-requires-clause-ready g c = λ tells. untouched_ready _ _ _ _ _
+    (nothing_touched (of_overlay g.V.View.seen c.args.overlay.now) _
+    (overlay_shows g.V.View.seen g.met.V.View.proper c.args.overlay.now) c.requires.nothing)

@@ -98,7 +98,7 @@ returns-in_err-state g c =
     c.from_residual-in_err-state.ensures.1)
     (settled_looked s0 s4 _ l4 tt
     (λ tells. last_names volume.geometry n s0 s3 s4 c.in_err-state.field-0.0
-        (tells_3 tells) c.in_err-state.ensures.ends)
+    (tells_3 tells) c.in_err-state.ensures.ends)
     (last_refused volume.geometry n s0 s3 s4 c.in_err-state.field-0.0 l3.called c.last_slot_of_device.ensures.called
     l4.quiet
     (λ tells. volume_later s2 s4 volume.geometry c24 (opened.4 (tells_1 tells))) c.in_err-state.ensures.ends))
