@@ -70,7 +70,8 @@ fn insert_one<V: View>(
         (listed slot row.now).posting.key }
     ensures pool { (pool.new ≡ pool.old) ⊎ TakesFront pool.old pool.new 256 pool.old.next }
     ensures inserts { InsertsPosting (list_at geometry.now row.now.list) (pool_at geometry.now)
-        pool.old.next pool.new.next (listed slot row.now).posting (of_overlay V.seen overlay.old) (of_overlay V.seen overlay.new) result }
+        pool.old.next pool.new.next (listed slot row.now).posting
+        (of_overlay V.seen overlay.old) (of_overlay V.seen overlay.new) result }
 {
     let entry = NewEntry {
         key: 256 * slot + u32::from(row.ordinal),
