@@ -1,12 +1,14 @@
 -- All lists stand as they should behind one posting more of a row.
 use Rattle.std.proofs.Common.{◌≡◌, ◌≢◌, ◌<◌, ◌≤◌, ◌+◌, ◌*◌, ◌++◌, ⊎_elim, inl, inr, ℕ, zero, suc, List, [], ◌∷◌, Some, refl, ap, sym, subst, arith, take}
-use Rattle.std.specs.Prelude.{map, slice_get}
+use Rattle.std.specs.Prelude.{map, slice_get, length}
+use Rattle.std.proofs.Math.Seq.{take-length}
 use Rattle.std.proofs.lemmas.Bool.{cases_eq}
 use Rattle.std.proofs.lemmas.Option.{none-some}
 use Rattle.cell_types.specs.Image.{Image}
 use Rattle.cell_types.specs.Layout.{Layout, list_at, pool_at}
+use Rattle.index_paths.specs.Blocks.{Leads}
 use Rattle.index_paths.specs.Nodes.{AreApart}
-use Rattle.index_paths.specs.Postings.{ComesBefore, ListedPosting}
+use Rattle.index_paths.specs.Postings.{ListedPosting}
 use Rattle.volume_growth.specs.ListShapes.{IsWellListed}
 use Rattle.volume_growth.specs.Needs.{PostingCosts, PostingsCost, none, one}
 use Rattle.term_tags.specs.Listing.{listed}
@@ -107,7 +109,7 @@ module _ {g : Layout} {n : ℕ} {rows : List Posting} {i from next to cost : ℕ
       (λ other. ⊎_elim
       (λ (same : k ≡ p.list). λ a b x y.
       swapped ((aside l less other).apart b a
-      (subst (λ (m : ℕ). Rattle.index_paths.specs.Blocks.Leads new (pool_at g) to b (list_at g m)) same y) x))
+      (subst (λ (m : ℕ). Leads new (pool_at g) to b (list_at g m)) same y) x))
       (λ another. λ a b x y.
       s.lists.apart l k less small differ a b ((aside l less other).blocks a x) ((aside k small another).blocks b y))
       (cases_eq k p.list))
@@ -152,3 +154,10 @@ module _ {g : Layout} {n : ℕ} {rows : List Posting} {i from next to cost : ℕ
       (aside l less differ).keys key
       (keys l key less slot (λ j q small is same. before j q (omega (arith, small)) is same)))
       (cases_eq l p.list)
+
+-- behind the whole row, all its postings
+pub costs_of_row : {g : Layout} {n : ℕ} {rows : List Posting} {from to : ℕ} {old new : Image}
+    → (s : RowStands g n rows (length rows) from to old new)
+    → PostingsCost g new to (map (listed n) rows) old from s.cost
+costs_of_row {g} {n} {rows} {from} {to} {old} {new} s =
+    subst (λ (l : List Posting). PostingsCost g new to (map (listed n) l) old from s.cost) (take-length rows) s.costs
