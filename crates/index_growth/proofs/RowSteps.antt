@@ -213,19 +213,22 @@ module _ (g : Layout) (n : ℕ) (rows : List Posting) (i : ℕ) (first pool late
       taken
 
   -- the list grew by the posting where nobody else wrote
-  still_before : IsStill old.base.foreign_writes new.base.foreign_writes → IsStill old.base.foreign_writes mid.base.foreign_writes
+  still_before : IsStill old.base.foreign_writes new.base.foreign_writes
+      → IsStill old.base.foreign_writes mid.base.foreign_writes
   still_before still = still_first so.called.foreign_writes inserts.called.foreign_writes still
 
   grew : IsTrue old.base.tells → IsStill old.base.foreign_writes new.base.foreign_writes
       → RowStands g n rows i first.next pool.next old.image mid.image
       → IsWellListed new.image (pool_at g) later.next (list_at g p.list)
-      × ((cost : ℕ) × Grows mid.image new.image (pool_at g) pool.next later.next (list_at g p.list) (listed n p).posting cost)
+      × ((cost : ℕ) × Grows mid.image new.image (pool_at g) pool.next later.next (list_at g p.list)
+      (listed n p).posting cost)
   grew tells still s = (inserts.ends.5 (told tells)).grows
       (still_second so.called.foreign_writes inserts.called.foreign_writes still)
       (s.lists.well p.list in_list)
 
   lists_now : IsTrue old.base.tells → IsStill old.base.foreign_writes new.base.foreign_writes
-      → ListsStand g old.image first.next (256 * n) → RowStands g n rows (i + 1) first.next later.next old.image new.image
+      → ListsStand g old.image first.next (256 * n)
+      → RowStands g n rows (i + 1) first.next later.next old.image new.image
   lists_now tells still lists =
       let s = so.inserted.lists tells (still_before still) lists in
       let h = grew tells still s in

@@ -41,8 +41,8 @@ costs_more {g} {mid} {new} {next} {to} a more (none old from cost same here is) 
     subst (λ (n : ℕ). PostingCosts (pool_at g) (list_at g a.list) a.posting old new n to more) (sym here) at_old in
     one a [] old new from to (cost + more) more 0 from_old (none new to 0 refl refl refl) (omega (arith, is))
 costs_more a more (one b rows old then_image from then cost first rest costs others is) last =
-    one b (rows ++ (a ∷ [])) old then_image from then (cost + more) first (rest + more) costs (costs_more a more others last)
-    (omega (arith, is))
+    one b (rows ++ (a ∷ [])) old then_image from then (cost + more) first (rest + more) costs
+    (costs_more a more others last) (omega (arith, is))
 
 -- keys below one are below a greater
 keys_below : {image : Image} {floor next head less key : ℕ} → less ≤ key → HaveKeysBelow image floor next head less

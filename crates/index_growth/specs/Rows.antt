@@ -53,8 +53,8 @@ pub data IsRowCell (n : ℕ) (rows : List Posting) (count cell : ℕ) (value : L
 -- The first so many postings of the row are inserted. What was planned is planned still, for whom it was; what is
 -- planned besides are these postings, and pointers, for their lists, and lies before the pool's next cell. What the pool
 -- gave are blocks that planned pointers lead to. Where the view tells its image, what was shown is shown still, what is
--- planned besides read blank, and each of these postings has its trail; and where nobody else wrote, and all lists stood
--- as they should with keys of earlier slots, they do so still, and these postings cost what they must.
+-- planned besides read blank, and each of these postings has its trail. Where nobody else wrote, too, and all lists
+-- stood as they should with keys of earlier slots, they stand so still, and these postings cost what they must.
 pub record AreInserted (g : Layout) (n : ℕ) (rows : List Posting) (count from to : ℕ) (old new : ViewState)
     : Type 0 where
   pub kept : Extends old.planned new.planned

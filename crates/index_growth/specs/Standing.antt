@@ -9,7 +9,7 @@ use Rattle.term_tags.specs.declared.rows.Posting.{Posting}
 use Rattle.list_growth.specs.Costs.{HaveTrails, HaveKeysBelow}
 use Rattle.list_growth.specs.Others.{ListsAreApart}
 
--- Each list of the volume has its shape, with blocks before this cell, and its postings have trails, and keys below this
+-- Each list of the volume has its shape, with blocks before this cell, and its postings have trails and keys below this
 -- one; and no block of a list meets one of another.
 pub record ListsStand (g : Layout) (image : Image) (next key : ℕ) : Type 0 where
   pub well : (l : ℕ) → l < g.lists → IsWellListed image (pool_at g) next (list_at g l)
@@ -25,8 +25,8 @@ pub record RowStands (g : Layout) (n : ℕ) (rows : List Posting) (count from to
   pub cost : ℕ
   pub costs : PostingsCost g new to (map (listed n) (take count rows)) old from cost
 
--- Behind the first so many postings of slot n's row each list has keys below any that is one of the slot's or later, and
--- greater than these postings' keys in the list.
+-- Behind the first so many postings of slot n's row each list has keys below any that is one of the slot's or a later
+-- one, and greater than these postings' keys in the list.
 abbrev pub KeysSoFar : Layout → ℕ → List Posting → ℕ → Image → ℕ → Type 0
 KeysSoFar g n rows count image next =
     (l key : ℕ) → l < g.lists → 256 * n ≤ key

@@ -71,14 +71,16 @@ new_in_front {old} {new} {block} {place} {p} adds holds rises = ⊎_elim
 
 -- a cell of a block is none that lies apart from it
 far_from : {block i cell : ℕ} → i < 256 → AreApart block 256 cell 1 → cell ≡ block + i → ⊥
-far_from less apart same = ⊎_elim (λ low. omega (arith, less, low, same)) (λ high. omega (arith, less, high, same)) apart
+far_from less apart same =
+    ⊎_elim (λ low. omega (arith, less, low, same)) (λ high. omega (arith, less, high, same)) apart
 
 -- a pointer lies in its block
 pointer_within : {l level digit key : ℕ} → InSpan l level digit key → 127 + 15 * level + digit < 256
 pointer_within span = omega (arith, span.levels, span.digits)
 
--- The list grew by a posting: what was written stays, and what lies outside the list's blocks and the new one is as it
--- was; each block was one before or is new; each posting is the new one or stood in the list; and the new one has a trail.
+-- The list grew by a posting: what was written stays, and what lies outside the list's blocks and before the new ones is
+-- as it was; each block was one before or is new; each posting is the new one or stood in the list; and the new one has
+-- a trail.
 pub record IsGrown (old new : Image) (floor next to head : ℕ) (p : PostingFields) : Type 0 where
   pub extends : Extends old new
   pub more : next ≤ to

@@ -14,7 +14,8 @@ cell_apart : {a b i : ℕ} → i < 256 → AreApart a 256 b 256 → AreApart a 2
 cell_apart less apart = ⊎_elim (λ low. inl (omega (arith, low))) (λ high. inr (omega (arith, high, less))) apart
 
 module _ {old new : Image} {floor next to head other : ℕ} {p : PostingFields} (g : IsGrown old new floor next to head p)
-    (roomy : floor ≤ next) (v : IsWellListed old floor next other) (apart : ListsAreApart old floor next head other) where
+    (roomy : floor ≤ next) (v : IsWellListed old floor next other)
+    (apart : ListsAreApart old floor next head other) where
   below : {b : ℕ} → Leads old floor next b other → b + 256 ≤ next
   below l = leads_below l (omega (arith, v.before, roomy))
 
