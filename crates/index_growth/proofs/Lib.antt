@@ -3,3 +3,4 @@ pub mod Indexing
 pub mod Journals
 pub mod Others
 pub mod RowSteps
+pub mod Standing

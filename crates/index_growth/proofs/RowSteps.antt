@@ -1,5 +1,5 @@
 -- One posting of the row after another.
-use Rattle.std.proofs.Common.{◌≡◌, ◌≢◌, ◌<◌, ◌≤◌, ◌+◌, ◌⊎◌, ⊎_elim, inl, inr, ℕ, List, Option, Some, None, Ok, Err, refl, ap, sym, subst, arith, ◌∙◌}
+use Rattle.std.proofs.Common.{◌≡◌, ◌≢◌, ◌<◌, ◌≤◌, ◌+◌, ◌*◌, ◌⊎◌, ⊎_elim, inl, inr, ℕ, List, Option, Some, None, Ok, Err, refl, ap, sym, subst, arith, ◌∙◌}
 use Rattle.std.specs.Prelude.{IsTrue, slice_get}
 use Rattle.std.proofs.lemmas.Bool.{cases_eq, cases_lt}
 use Rattle.std.proofs.lemmas.Option.{none-some}
@@ -18,10 +18,14 @@ use Rattle.planned_cells.specs.declared.fault.GrowthFault.{GrowthFault}
 use Rattle.planned_cells.specs.declared.fault.GrowthFault.TheVariants.{Fault, NoMemory}
 use Rattle.term_tags.specs.Listing.{listed}
 use Rattle.term_tags.specs.declared.rows.Posting.{Posting}
+use Rattle.volume_growth.specs.ListShapes.{IsWellListed}
+use Rattle.worm_device.specs.Counts.{IsStill}
+use Rattle.worm_device.proofs.Counting.{still_first, still_second}
 use Rattle.worm_device.proofs.Elapsing.{called_self, called_then}
 use Rattle.worm_device.proofs.Images.{extends_self, extends_then}
 use Rattle.worm_device.specs.Views.{ViewState}
 use Rattle.worm_device.specs.declared.owner.Owner.{Owner}
+use Rattle.list_growth.specs.Growing.{Grows}
 use Rattle.list_growth.specs.Inserting.{InsertsPosting, PlansEntry, alone, with_pointer}
 use Rattle.list_growth.specs.Readiness.{IsReady, IsUntouched}
 use Rattle.index_growth.specs.Rows.{AreInOrder, AreInserted, AreUntouched, InsertsRow, IsRowCell, of_posting, of_pointer, LiesInLists, in_first, in_pool, RowSoFar, StandsInList}
@@ -29,6 +33,8 @@ use Rattle.index_growth.specs.Granting.{GivesWhatIsLedTo, to_block}
 use Rattle.index_growth.proofs.Granted.{gives_more, gives_nothing, gives_on, quiet_then}
 use Rattle.list_growth.proofs.Untouched.{stays_untouched, untouched_ready}
 use Rattle.index_growth.proofs.Others.{IsNear, IsHeld, held_before, held_posting, held_pointer, IsOwned, as_before, anew, held_in, owned_in, plans_blank, plans_keep}
+use Rattle.index_growth.specs.Standing.{KeysSoFar, ListsStand, RowStands}
+use Rattle.index_growth.proofs.Standing.{keys_first, keys_next, stands_first, stands_next}
 
 -- no posting is inserted yet
 pub row_begins : (g : Layout) (n : ℕ) (rows : List Posting) (pool : Pool) (s : ViewState)
@@ -55,9 +61,11 @@ row_begins g n rows pool s free untouched = record {
     shown = λ tells. extends_self s.image;
     blank = λ tells cell none value is. absurd (none-some value (sym none ∙ is));
     stand = λ tells i p less is. absurd (omega (arith, less));
+    lists = λ tells still lists. stands_first lists;
   };
   untouched = λ tells l less before. untouched tells l less;
   ready = λ tells a less before. untouched_ready s (list_at g a.list) (pool_at g) pool.next a.posting.key (untouched tells a.list less);
+  keys = λ tells still lists. keys_first n rows lists;
 }
 
 lists_apart : (g : Layout) (l k : ℕ) → l ≢ k
@@ -74,7 +82,8 @@ more n rows count cell value (of_posting i p less is holds) = of_posting i p (om
 more n rows count cell value (of_pointer target holds) = of_pointer target holds
 
 module _ (g : Layout) (n : ℕ) (rows : List Posting) (i : ℕ) (first pool later : Pool) (old mid new : ViewState) (p : Posting)
-    (e : Entry) (order : AreInOrder g.lists n rows) (here : slice_get rows i ≡ Some p) (so : RowSoFar g n rows i first pool old mid)
+    (e : Entry) (order : AreInOrder g.lists n rows) (here : slice_get rows i ≡ Some p) (byte : p.ordinal < 256)
+    (roomy : pool_at g ≤ first.next) (so : RowSoFar g n rows i first pool old mid)
     (unowned : (cell : ℕ) → mid.planned cell ≡ None → mid.owners cell ≡ None)
     (takes : (later ≡ pool) ⊎ TakesFront pool later 256 pool.next)
     (inserts : InsertsPosting (list_at g p.list) (pool_at g) pool.next later.next (listed n p).posting mid new (Ok e)) where
@@ -205,6 +214,35 @@ module _ (g : Layout) (n : ℕ) (rows : List Posting) (i : ℕ) (first pool late
       so.inserted.grants)
       taken
 
+  -- the list grew by the posting where nobody else wrote
+  still_before : IsStill old.base.foreign_writes new.base.foreign_writes
+      → IsStill old.base.foreign_writes mid.base.foreign_writes
+  still_before still = still_first so.called.foreign_writes inserts.called.foreign_writes still
+
+  grew : IsTrue old.base.tells → IsStill old.base.foreign_writes new.base.foreign_writes
+      → RowStands g n rows i first.next pool.next old.image mid.image
+      → IsWellListed new.image (pool_at g) later.next (list_at g p.list)
+      × ((cost : ℕ) × Grows mid.image new.image (pool_at g) pool.next later.next (list_at g p.list)
+      (listed n p).posting cost)
+  grew tells still s = (inserts.ends.5 (told tells)).grows
+      (still_second so.called.foreign_writes inserts.called.foreign_writes still)
+      (s.lists.well p.list in_list)
+
+  lists_now : IsTrue old.base.tells → IsStill old.base.foreign_writes new.base.foreign_writes
+      → ListsStand g old.image first.next (256 * n)
+      → RowStands g n rows (i + 1) first.next later.next old.image new.image
+  lists_now tells still lists =
+      let s = so.inserted.lists tells (still_before still) lists in
+      let h = grew tells still s in
+      stands_next order here byte (omega (arith, roomy, so.from)) s (so.keys tells (still_before still) lists) h.0 h.1.1
+
+  keys_now : IsTrue old.base.tells → IsStill old.base.foreign_writes new.base.foreign_writes
+      → ListsStand g old.image first.next (256 * n) → KeysSoFar g n rows (i + 1) new.image later.next
+  keys_now tells still lists =
+      let s = so.inserted.lists tells (still_before still) lists in
+      let h = grew tells still s in
+      keys_next order here byte (omega (arith, roomy, so.from)) s (so.keys tells (still_before still) lists) h.0 h.1.1
+
   pub row_next : RowSoFar g n rows (i + 1) first later old new
   row_next = record {
     called = called_then so.called inserts.called;
@@ -227,9 +265,11 @@ module _ (g : Layout) (n : ℕ) (rows : List Posting) (i : ℕ) (first pool late
       shown = λ tells. extends_then (so.inserted.shown tells) (inserts.ends.5 (told tells)).shown;
       blank = λ tells cell none value is. blank_now tells cell none value is (mid.planned cell) refl;
       stand = stand_now;
+      lists = lists_now;
     };
     untouched = untouched_now;
     ready = ready_now;
+    keys = keys_now;
   }
 
 -- a posting was refused

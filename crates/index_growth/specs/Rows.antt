@@ -20,6 +20,7 @@ use Rattle.worm_device.specs.declared.owner.Owner.{Owner}
 use Rattle.list_growth.specs.Evidence.{ShowsBelow}
 use Rattle.list_growth.specs.Readiness.{IsReady, IsUntouched}
 use Rattle.index_growth.specs.Granting.{GivesWhatIsLedTo}
+use Rattle.index_growth.specs.Standing.{KeysSoFar, ListsStand, RowStands}
 
 -- the postings are in lists of the volume, by list and key, and each of their ordinals is at most the last
 pub record AreInOrder (lists n : ℕ) (rows : List Posting) : Type 0 where
@@ -52,7 +53,8 @@ pub data IsRowCell (n : ℕ) (rows : List Posting) (count cell : ℕ) (value : L
 -- The first so many postings of the row are inserted. What was planned is planned still, for whom it was; what is
 -- planned besides are these postings, and pointers, for their lists, and lies before the pool's next cell. What the pool
 -- gave are blocks that planned pointers lead to. Where the view tells its image, what was shown is shown still, what is
--- planned besides read blank, and each of these postings has its trail.
+-- planned besides read blank, and each of these postings has its trail. Where nobody else wrote, too, and all lists
+-- stood as they should with keys of earlier slots, they stand so still, and these postings cost what they must.
 pub record AreInserted (g : Layout) (n : ℕ) (rows : List Posting) (count from to : ℕ) (old new : ViewState)
     : Type 0 where
   pub kept : Extends old.planned new.planned
@@ -71,6 +73,8 @@ pub record AreInserted (g : Layout) (n : ℕ) (rows : List Posting) (count from 
       → new.planned cell ≡ Some value → old.image cell ≡ None
   pub stand : IsTrue old.base.tells → (i : ℕ) (p : Posting) → i < count → slice_get rows i ≡ Some p
       → StandsInList g new to (listed n p)
+  pub lists : IsTrue old.base.tells → IsStill old.base.foreign_writes new.base.foreign_writes
+      → ListsStand g old.image from (256 * n) → RowStands g n rows count from to old.image new.image
 
 -- how inserting the row may end, and why
 abbrev pub RowEnds : Layout → ℕ → List Posting → ℕ → ℕ → ViewState → ViewState → Result Unit GrowthFault → Type 0
@@ -111,3 +115,5 @@ pub record RowSoFar (g : Layout) (n : ℕ) (rows : List Posting) (count : ℕ) (
   pub ready : IsTrue old.base.tells → (a : ListedPosting) → a.list < g.lists
       → ((i : ℕ) (p : Posting) → i < count → slice_get rows i ≡ Some p → ComesBefore (listed n p) a)
       → IsReady new (list_at g a.list) (pool_at g) pool.next a.posting.key
+  pub keys : IsTrue old.base.tells → IsStill old.base.foreign_writes new.base.foreign_writes
+      → ListsStand g old.image first.next (256 * n) → KeysSoFar g n rows count new.image pool.next

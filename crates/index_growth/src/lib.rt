@@ -11,7 +11,8 @@
 //! **One after another.** Each insertion finds what the ones before have planned, and their trails go on. So after a row
 //! of insertions over one view and one pool each posting has its trail, and what is planned is what was planned before
 //! and what the row has added (`AreInserted`). Postings come by list and ordinal, so that keys rise in each list; a list
-//! that no posting has gone into yet is as it was.
+//! that no posting has gone into yet is as it was. Where nobody else writes, and all lists stood as they should before,
+//! they do so behind the row, and its postings cost what they must (`specs/Standing.antt`).
 //!
 //! **The journal** of a plan is a copy of each planned cell, by rising numbers (`copies_of`).
 //!

@@ -68,6 +68,7 @@ fn insert_one<V: View>(
     requires ready { IsTrue (of_overlay V.seen overlay.old).base.tells →
         IsReady (of_overlay V.seen overlay.old) (list_at geometry.now row.now.list) (pool_at geometry.now) pool.old.next
         (listed slot row.now).posting.key }
+    ensures byte { row.now.ordinal < 256 }
     ensures pool { (pool.new ≡ pool.old) ⊎ TakesFront pool.old pool.new 256 pool.old.next }
     ensures inserts { InsertsPosting (list_at geometry.now row.now.list) (pool_at geometry.now)
         pool.old.next pool.new.next (listed slot row.now).posting

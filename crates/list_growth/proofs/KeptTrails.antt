@@ -1,5 +1,5 @@
 -- What an insertion keeps: each posting of the list is an old one or the new one, and has a trail.
-use Rattle.std.proofs.Common.{◌≡◌, ◌<◌, ◌≤◌, ◌+◌, ◌-◌, ◌⊎◌, ⊎_elim, inl, inr, ℕ, None, refl, ap, sym, subst, arith, ◌∙◌}
+use Rattle.std.proofs.Common.{◌≡◌, ◌<◌, ◌≤◌, ◌+◌, ◌-◌, ◌*◌, ◌⊎◌, ⊎_elim, inl, inr, ℕ, None, refl, ap, sym, subst, arith, ◌∙◌}
 use Rattle.std.proofs.lemmas.Bool.{cases_eq}
 use Rattle.std.proofs.lemmas.Option.{none-some}
 use Rattle.cell_types.specs.Image.{Image, Extends}
@@ -9,6 +9,7 @@ use Rattle.stored_documents.specs.Volumes.{Holds}
 use Rattle.stored_documents.proofs.Extending.{holds_on}
 use Rattle.stored_documents.proofs.Holding.{one_record_holds}
 use Rattle.index_paths.specs.Blocks.{PostingFields, posting_record, InFront, at_the_start, behind, InSpan, Hop, Trail, here, on, Leads, arrived, onwards, pointer_at}
+use Rattle.index_paths.specs.Nodes.{AreApart}
 use Rattle.index_paths.proofs.Fronts.{front_on, one_place, one_posting}
 use Rattle.index_paths.proofs.Trails.{hop_on, hop_wider, trail_on, trail_wider}
 use Rattle.tamper_rules.proofs.GivenUp.{jumps, leads_further}
@@ -38,7 +39,7 @@ leads_then (onwards mid level digit target l s d jump f t rest) there =
     leads_then rest (leads_further there level digit target l s d jump f t)
 
 -- a block of the list ends before the pool's next cell
-leads_below : {image : Image} {from to last head : ℕ} → Leads image from to last head → head + 256 ≤ to
+pub leads_below : {image : Image} {from to last head : ℕ} → Leads image from to last head → head + 256 ≤ to
     → last + 256 ≤ to
 leads_below (arrived head same) below = omega (arith, same, below)
 leads_below (onwards head level digit target l s d jump f t rest) below = leads_below rest t
@@ -68,11 +69,24 @@ new_in_front {old} {new} {block} {place} {p} adds holds rises = ⊎_elim
     behind place (place - 1) p h.0 is (front_on (adds_extends adds) h.1) h.2 holds)
     (cases_eq place 0)
 
--- The list grew by a posting: what was written stays, each posting is the new one or stood in the list, and the new
--- one has a trail.
+-- a cell of a block is none that lies apart from it
+far_from : {block i cell : ℕ} → i < 256 → AreApart block 256 cell 1 → cell ≡ block + i → ⊥
+far_from less apart same =
+    ⊎_elim (λ low. omega (arith, less, low, same)) (λ high. omega (arith, less, high, same)) apart
+
+-- a pointer lies in its block
+pointer_within : {l level digit key : ℕ} → InSpan l level digit key → 127 + 15 * level + digit < 256
+pointer_within span = omega (arith, span.levels, span.digits)
+
+-- The list grew by a posting: what was written stays, and what lies outside the list's blocks and before the new ones is
+-- as it was; each block was one before or is new; each posting is the new one or stood in the list; and the new one has
+-- a trail.
 pub record IsGrown (old new : Image) (floor next to head : ℕ) (p : PostingFields) : Type 0 where
   pub extends : Extends old new
   pub more : next ≤ to
+  pub outside : (cell : ℕ) → cell < next
+      → ((block : ℕ) → Leads old floor next block head → AreApart block 256 cell 1) → new cell ≡ old cell
+  pub blocks : (block : ℕ) → Leads new floor to block head → Leads old floor next block head ⊎ (next ≤ block)
   pub each : (block place : ℕ) (q : PostingFields) → Leads new floor to block head → place < 128
       → Holds new (block + place) (posting_record q)
       → (q ≡ p) ⊎ (Leads old floor next block head × Holds old (block + place) (posting_record q))
@@ -121,20 +135,23 @@ module _ {old new : Image} {floor next head : ℕ} {p : PostingFields} (w : IsWe
   in_a_block last place walk below adds holds rises = record {
     extends = adds_extends adds;
     more = omega arith;
+    outside = λ cell before apart.
+        adds.others cell (far_from (omega arith) (apart last (walk_leads walk (arrived head refl))));
+    blocks = λ b leads. inl (was_block leads);
     each = λ b i q leads less held. ⊎_elim
         (λ same. inl (one_posting new (last + place) q p (moved same held) holds))
-        (λ differ. inr (
-          leads_by (λ (c : ℕ). Leads old floor next c head)
-              (λ c level digit target there l s d jump f t. leads_further there level digit target l s d
-              (holds_back (adds.others (pointer_at c level digit) (λ same. not_both holds (moved same jump))) jump) f t)
-              leads (arrived head refl),
-          holds_back (adds.others (b + i) differ) held,
-        ))
+        (λ differ. inr (was_block leads, holds_back (adds.others (b + i) differ) held))
         (same_or_not (b + i) (last + place));
     at = last + place;
     trail = walk_trails w (adds_extends adds) (omega arith) walk (arrived head refl)
         (here last place refl below (new_in_front adds holds rises));
   }
+    where
+      was_block : {b : ℕ} → Leads new floor next b head → Leads old floor next b head
+      was_block {b} leads = leads_by (λ (c : ℕ). Leads old floor next c head)
+          (λ c level digit target there l s d jump f t. leads_further there level digit target l s d
+          (holds_back (adds.others (pointer_at c level digit) (λ same. not_both holds (moved same jump))) jump) f t)
+          leads (arrived head refl)
 
   -- what two added cells leave
   pub others_two : {home target place : ℕ} → (puts : PutsTwo old new home target place p) → (cell : ℕ)
@@ -204,21 +221,24 @@ module _ {old new : Image} {floor next head : ℕ} {p : PostingFields} (w : IsWe
       let there : Leads old floor next target head = leads_then led (walk_leads walk (arrived head refl)) in record {
         extends = extends_two puts;
         more = omega arith;
-        each = λ b i q leads less held. ⊎_elim inl
-            (λ was. inr (
-              leads_by (λ (c : ℕ). Leads old floor next c head)
-                  (λ c level digit to here l s d jump f t. ⊎_elim
-                  (λ (x : (pointer_at c level digit ≡ pointer_at home puts.level puts.digit) × (to ≡ target)).
-                  subst (λ (n : ℕ). Leads old floor next n head) (sym x.1) there)
-                  (λ kept. leads_further here level digit to l s d kept f t)
-                  (jump_before puts (pointer_at c level digit) to jump))
-                  leads (arrived head refl),
-              was,
-            ))
+        outside = λ cell before apart. others_two puts cell
+            (far_from (omega (arith, puts.in_places)) (apart target there))
+            (far_from (pointer_within puts.span) (apart home (walk_leads walk (arrived head refl))));
+        blocks = λ b leads. inl (was_block there leads);
+        each = λ b i q leads less held. ⊎_elim inl (λ was. inr (was_block there leads, was))
             (posting_before puts (b + i) q held);
         at = target + place;
         trail = trail_two puts walk (omega arith) from inside;
       }
+    where
+      was_block : {b : ℕ} → Leads old floor next target head → Leads new floor next b head → Leads old floor next b head
+      was_block {b} there leads = leads_by (λ (c : ℕ). Leads old floor next c head)
+          (λ c level digit to here l s d jump f t. ⊎_elim
+          (λ (x : (pointer_at c level digit ≡ pointer_at home puts.level puts.digit) × (to ≡ target)).
+          subst (λ (n : ℕ). Leads old floor next n head) (sym x.1) there)
+          (λ kept. leads_further here level digit to l s d kept f t)
+          (jump_before puts (pointer_at c level digit) to jump))
+          leads (arrived head refl)
 
   -- into a new block, with a pointer to it
   in_a_new_block : (home : ℕ) → floor ≤ next → Walks old floor next p.key home head → PutsTwo old new home next 0 p
@@ -226,11 +246,15 @@ module _ {old new : Image} {floor next head : ℕ} {p : PostingFields} (w : IsWe
   in_a_new_block home roomy walk puts blank = record {
     extends = extends_two puts;
     more = omega arith;
+    outside = λ cell before apart. others_two puts cell
+        (λ same. omega (arith, same, before))
+        (far_from (pointer_within puts.span) (apart home (walk_leads walk (arrived head refl))));
+    blocks = λ b leads. ⊎_elim inl (λ (is : b ≡ next). inr (omega (arith, is))) (was_or_new leads);
     each = λ b i q leads less held. ⊎_elim inl
         (λ was. ⊎_elim
         (λ (there : Leads old floor next b head). inr (there, was))
         (λ (is : b ≡ next). absurd (none-some was.cell (sym (blank (b + i) (omega (arith, is))) ∙ was.stands)))
-        (leads_by (λ (c : ℕ). Leads old floor next c head ⊎ (c ≡ next)) step leads (inl (arrived head refl))))
+        (was_or_new leads))
         (posting_before puts (b + i) q held);
     at = next + 0;
     trail = trail_two puts walk (omega arith) roomy (omega arith);
@@ -251,6 +275,10 @@ module _ {old new : Image} {floor next head : ℕ} {p : PostingFields} (w : IsWe
           absurd (none-some kept.cell (sym (blank (pointer_at c level digit) (omega (arith, is))) ∙ kept.stands)))
           at)
           (jump_before puts (pointer_at c level digit) to jump)
+
+      was_or_new : {b : ℕ} → Leads new floor (next + 256) b head → Leads old floor next b head ⊎ (b ≡ next)
+      was_or_new leads =
+          leads_by (λ (c : ℕ). Leads old floor next c head ⊎ (c ≡ next)) step leads (inl (arrived head refl))
 
 -- whichever way the list grew
 pub grown : {old new : Image} {floor next to head cost : ℕ} {p : PostingFields} → IsWellListed old floor next head

@@ -9,6 +9,7 @@ pub mod KeptTrails
 mod Lasting
 pub mod Licence
 mod Naming
+pub mod Others
 mod Placing
 mod Planned
 mod Readying

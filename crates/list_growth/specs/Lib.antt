@@ -6,6 +6,7 @@ pub mod Hopping
 pub mod Inserting
 pub mod Licences
 pub mod Meeting
+pub mod Others
 pub mod Placing
 pub mod Planning
 pub mod Readiness

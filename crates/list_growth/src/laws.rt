@@ -1,6 +1,7 @@
 //! Laws: what the definitions mean together. Each is a function that does nothing and whose contract is the law.
 ghost use Rattle.list_growth.specs.Costs.{InsertionsCost, InsertionsKeepTrails};
 ghost use Rattle.list_growth.specs.Licences.{EvidenceIsLicensed};
+ghost use Rattle.list_growth.specs.Others.{OthersStand};
 
 /// What an insertion shows is licensed over what stands below.
 pub fn evidence_is_licensed()
@@ -15,4 +16,9 @@ pub fn insertions_cost_their_need()
 /// Each posting of a list has a trail after an insertion too, and the new one has the greatest key.
 pub fn insertions_keep_trails()
     ensures { InsertionsKeepTrails }
+{}
+
+/// An insertion leaves another list, which is apart, as it should be.
+pub fn others_stand()
+    ensures { OthersStand }
 {}

@@ -43,5 +43,7 @@ mod tests;
 
 pub use entries::NewEntry;
 pub use insertion::insert;
-pub use laws::{evidence_is_licensed, insertions_cost_their_need, insertions_keep_trails};
+pub use laws::{
+    evidence_is_licensed, insertions_cost_their_need, insertions_keep_trails, others_stand,
+};
 pub use readiness::{nothing_is_touched, others_stay_untouched, trails_go_on, untouched_is_ready};

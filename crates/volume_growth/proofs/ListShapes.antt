@@ -72,7 +72,7 @@ module _ {old new : Image} {from to head : ℕ} (w : IsWellListed old from to he
       apart_back rest (leads_further there level digit target l s d
       (holds_back (same block (127 + 15 * level + digit) there (omega (arith, (pointer_in l s d).1))) jump) f t)
 
-  listed_back : {b : ℕ} → Leads new from to b head → Leads old from to b head
+  pub listed_back : {b : ℕ} → Leads new from to b head → Leads old from to b head
   listed_back b = apart_back b (arrived head refl)
 
   pub well_apart : IsWellListed new from to head
@@ -142,7 +142,7 @@ module _ {old new : Image} {from to head block place : ℕ} {p : PostingFields} 
       entry_back rest (leads_further there level digit target l s d
       (holds_back (far_cell there (omega (arith, (pointer_in l s d).0)) (omega (arith, (pointer_in l s d).1))) jump) f t)
 
-  entry_listed : {k : ℕ} → Leads new from to k head → Leads old from to k head
+  pub entry_listed : {k : ℕ} → Leads new from to k head → Leads old from to k head
   entry_listed k = entry_back k (arrived head refl)
 
   new_entry : HoldsInOrder new block place
@@ -239,7 +239,7 @@ module _ {old new : Image} {from to head block level digit target place : ℕ} {
   Listed k = Leads old from to k head ⊎ (k ≡ target)
 
   module _ (is_block : Leads old from to target head ⊎ IsNewBlock old from to head target) where
-    all_listed : {k : ℕ} → Leads new from to k head
+    pub all_listed : {k : ℕ} → Leads new from to k head
         → Leads old from to k head ⊎ ((k ≡ target) × IsNewBlock old from to head target)
     all_listed {k} l = ⊎_elim
         (λ listed. inl (jump_listed listed l))

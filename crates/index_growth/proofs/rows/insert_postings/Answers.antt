@@ -1,5 +1,5 @@
 -- One posting after another.
-use Rattle.std.proofs.Common.{subst}
+use Rattle.std.proofs.Common.{subst, arith}
 use Rattle.std.specs.Prelude.{IsTrue, slice_index_or}
 use Rattle.std.proofs.lemmas.Option.{slice_get-get_or}
 use Rattle.std.proofs.Common.{[]}
@@ -18,7 +18,8 @@ pub loop-row-preserved : goal.loop-row-preserved
 loop-row-preserved g c =
     row_next c.args.geometry.now c.args.slot c.args.rows.now c.loop-row.row-index c.args.pool.now c.loop-row.pool c.insert_one.new.pool
     (of_overlay g.V.View.seen c.args.overlay.now) (of_overlay g.V.View.seen c.loop-row.overlay) (of_overlay g.V.View.seen c.insert_one.new.overlay) _
-    c.in_default.field-0 c.requires.order (slice_get-get_or c.args.rows.now c.loop-row.row-index _ c.loop-row-test.true) c.loop-row.invariant
+    c.in_default.field-0 c.requires.order (slice_get-get_or c.args.rows.now c.loop-row.row-index _ c.loop-row-test.true)
+    c.insert_one.ensures.byte (omega (arith, c.requires.floor, c.requires.fresh)) c.loop-row.invariant
     c.loop-row.overlay.own.now.owned.unowned c.insert_one.ensures.pool (rw c.in_default.is at c.insert_one.ensures.inserts)
 
 pub returns-in-Err-clause-inserts : goal.returns-in-Err-clause-inserts

@@ -1,0 +1,163 @@
+-- All lists stand as they should behind one posting more of a row.
+use Rattle.std.proofs.Common.{◌≡◌, ◌≢◌, ◌<◌, ◌≤◌, ◌+◌, ◌*◌, ◌++◌, ⊎_elim, inl, inr, ℕ, zero, suc, List, [], ◌∷◌, Some, refl, ap, sym, subst, arith, take}
+use Rattle.std.specs.Prelude.{map, slice_get, length}
+use Rattle.std.proofs.Math.Seq.{take-length}
+use Rattle.std.proofs.lemmas.Bool.{cases_eq}
+use Rattle.std.proofs.lemmas.Option.{none-some}
+use Rattle.cell_types.specs.Image.{Image}
+use Rattle.cell_types.specs.Layout.{Layout, list_at, pool_at}
+use Rattle.index_paths.specs.Blocks.{Leads}
+use Rattle.index_paths.specs.Nodes.{AreApart}
+use Rattle.index_paths.specs.Postings.{ListedPosting}
+use Rattle.volume_growth.specs.ListShapes.{IsWellListed}
+use Rattle.volume_growth.specs.Needs.{PostingCosts, PostingsCost, none, one}
+use Rattle.term_tags.specs.Listing.{listed}
+use Rattle.term_tags.specs.declared.rows.Posting.{Posting}
+use Rattle.list_growth.specs.Costs.{HaveTrails, HaveKeysBelow}
+use Rattle.list_growth.specs.Growing.{Grows}
+use Rattle.list_growth.specs.Others.{ListsAreApart, StandsAside}
+use Rattle.list_growth.proofs.Costs.{posting_costs}
+use Rattle.list_growth.proofs.KeptTrails.{IsGrown, grown, keys_go_on, trails_go_on}
+use Rattle.list_growth.proofs.Others.{stands_aside}
+use Rattle.index_growth.specs.Rows.{AreInOrder}
+use Rattle.index_growth.specs.Standing.{KeysSoFar, ListsStand, RowStands}
+
+-- one more of a row
+mapped_more : {A B : Type 0} (f : A → B) (rows : List A) (i : ℕ) (row : A) → slice_get rows i ≡ Some row
+    → map f (take (suc i) rows) ≡ map f (take i rows) ++ (f row ∷ [])
+mapped_more f [] i row is = absurd (none-some row is)
+mapped_more f (other ∷ rows) zero row is = let same : other ≡ row = cc in ap (λ r. f r ∷ []) same
+mapped_more f (other ∷ rows) (suc i) row is = ap (λ l. f other ∷ l) (mapped_more f rows i row is)
+
+-- the postings cost what they must, and so does one more behind them
+costs_more : {g : Layout} {mid new : Image} {next to : ℕ} {rows : List ListedPosting} {old : Image} {from cost : ℕ}
+    (a : ListedPosting) (more : ℕ) → PostingsCost g mid next rows old from cost
+    → PostingCosts (pool_at g) (list_at g a.list) a.posting mid new next to more
+    → PostingsCost g new to (rows ++ (a ∷ [])) old from (cost + more)
+costs_more {g} {mid} {new} {next} {to} a more (none old from cost same here is) last =
+    let at_old : PostingCosts (pool_at g) (list_at g a.list) a.posting old new next to more =
+    subst (λ (i : Image). PostingCosts (pool_at g) (list_at g a.list) a.posting i new next to more) (sym same) last in
+    let from_old : PostingCosts (pool_at g) (list_at g a.list) a.posting old new from to more =
+    subst (λ (n : ℕ). PostingCosts (pool_at g) (list_at g a.list) a.posting old new n to more) (sym here) at_old in
+    one a [] old new from to (cost + more) more 0 from_old (none new to 0 refl refl refl) (omega (arith, is))
+costs_more a more (one b rows old then_image from then cost first rest costs others is) last =
+    one b (rows ++ (a ∷ [])) old then_image from then (cost + more) first (rest + more) costs
+    (costs_more a more others last) (omega (arith, is))
+
+-- keys below one are below a greater
+keys_below : {image : Image} {floor next head less key : ℕ} → less ≤ key → HaveKeysBelow image floor next head less
+    → HaveKeysBelow image floor next head key
+keys_below small keys block place q leads below holds = omega (arith, small, keys block place q leads below holds)
+
+-- before the first posting
+pub stands_first : {g : Layout} {n : ℕ} {rows : List Posting} {from : ℕ} {image : Image}
+    → ListsStand g image from (256 * n) → RowStands g n rows 0 from from image image
+stands_first s = record {
+  lists = record {
+    well = s.well;
+    trails = s.trails;
+    keys = λ l less. keys_below (omega arith) (s.keys l less);
+    apart = s.apart;
+  };
+  cost = 0;
+  costs = none _ _ 0 refl refl refl;
+}
+
+pub keys_first : {g : Layout} (n : ℕ) (rows : List Posting) {from : ℕ} {image : Image}
+    → ListsStand g image from (256 * n) → KeysSoFar g n rows 0 image from
+keys_first n rows s l key less slot before = keys_below slot (s.keys l less)
+
+-- one posting more
+module _ {g : Layout} {n : ℕ} {rows : List Posting} {i from next to cost : ℕ} {first old new : Image} {p : Posting}
+    (order : AreInOrder g.lists n rows) (here : slice_get rows i ≡ Some p) (byte : p.ordinal < 256)
+    (roomy : pool_at g ≤ next) (s : RowStands g n rows i from next first old) (keys : KeysSoFar g n rows i old next)
+    (w : IsWellListed new (pool_at g) to (list_at g p.list))
+    (grows : Grows old new (pool_at g) next to (list_at g p.list) (listed n p).posting cost) where
+  in_list : p.list < g.lists
+  in_list = order.lists_are i p here
+
+  grew : IsGrown old new (pool_at g) next to (list_at g p.list) (listed n p).posting
+  grew = grown (s.lists.well p.list in_list) roomy grows
+
+  -- keys of the slot rise in the posting's list
+  keys_here : HaveKeysBelow old (pool_at g) next (list_at g p.list) (256 * n + p.ordinal)
+  keys_here = keys p.list (256 * n + p.ordinal) in_list (omega arith)
+      (λ j q less is same. ⊎_elim
+      (λ (lower : q.list < p.list). omega (arith, lower, same))
+      (λ (equal : (q.list ≡ p.list) × (256 * n + q.ordinal < 256 * n + p.ordinal)). equal.1)
+      (order.order j i q p less is here))
+
+  aside : (l : ℕ) → l < g.lists → l ≢ p.list
+      → StandsAside old new (pool_at g) next to (list_at g p.list) (list_at g l)
+  aside l less differ = stands_aside grew roomy (s.lists.well l less)
+      (s.lists.apart p.list l in_list less (λ same. differ (sym same)))
+
+  own_keys : (key : ℕ) → 256 * n + p.ordinal < key → HaveKeysBelow new (pool_at g) to (list_at g p.list) key
+  own_keys key less = keys_go_on grew keys_here key less
+
+  -- what holds of the posting's list and of each other holds of all
+  each : (P : ℕ → Type 0) → P p.list → ((l : ℕ) → l < g.lists → l ≢ p.list → P l) → (l : ℕ) → l < g.lists → P l
+  each P own others l less =
+      ⊎_elim (λ same. subst P (sym same) own) (λ differ. others l less differ) (cases_eq l p.list)
+
+  apart_next : (l k : ℕ) → l < g.lists → k < g.lists → l ≢ k
+      → ListsAreApart new (pool_at g) to (list_at g l) (list_at g k)
+  apart_next l k less small differ = ⊎_elim
+      (λ (same : l ≡ p.list).
+      subst (λ (m : ℕ). ListsAreApart new (pool_at g) to (list_at g m) (list_at g k)) (sym same)
+      (aside k small (λ too. differ (omega (arith, same, too)))).apart)
+      (λ other. ⊎_elim
+      (λ (same : k ≡ p.list). λ a b x y.
+      swapped ((aside l less other).apart b a
+      (subst (λ (m : ℕ). Leads new (pool_at g) to b (list_at g m)) same y) x))
+      (λ another. λ a b x y.
+      s.lists.apart l k less small differ a b ((aside l less other).blocks a x) ((aside k small another).blocks b y))
+      (cases_eq k p.list))
+      (cases_eq l p.list)
+    where
+      swapped : {a b : ℕ} → AreApart a 256 b 256 → AreApart b 256 a 256
+      swapped h = ⊎_elim inr inl h
+
+  pub lists_next : ListsStand g new to (256 * (n + 1))
+  lists_next = record {
+    well = each (λ (l : ℕ). IsWellListed new (pool_at g) to (list_at g l)) w
+        (λ l less differ. (aside l less differ).well);
+    trails = each (λ (l : ℕ). HaveTrails new (pool_at g) to (list_at g l))
+        (trails_go_on grew (s.lists.trails p.list in_list))
+        (λ l less differ. (aside l less differ).trails (s.lists.trails l less));
+    keys = each (λ (l : ℕ). HaveKeysBelow new (pool_at g) to (list_at g l) (256 * (n + 1)))
+        (own_keys (256 * (n + 1)) (omega (arith, byte)))
+        (λ l less differ. (aside l less differ).keys (256 * (n + 1)) (s.lists.keys l less));
+    apart = apart_next;
+  }
+
+  pub stands_next : RowStands g n rows (i + 1) from to first new
+  stands_next = record {
+    lists = lists_next;
+    cost = s.cost + cost;
+    costs =
+        let next_place : suc i ≡ i + 1 = omega arith in
+        let more : map (listed n) (take (i + 1) rows) ≡ map (listed n) (take i rows) ++ (listed n p ∷ []) =
+        subst (λ (m : ℕ). map (listed n) (take m rows) ≡ map (listed n) (take i rows) ++ (listed n p ∷ []))
+        next_place (mapped_more (listed n) rows i p here) in
+        subst (λ (l : List ListedPosting). PostingsCost g new to l first from (s.cost + cost)) (sym more)
+        (costs_more (listed n p) cost s.costs
+        (posting_costs (s.lists.well p.list in_list) (s.lists.trails p.list in_list) keys_here grows));
+  }
+
+  pub keys_next : KeysSoFar g n rows (i + 1) new to
+  keys_next l key less slot before = ⊎_elim
+      (λ (same : l ≡ p.list).
+      subst (λ (m : ℕ). HaveKeysBelow new (pool_at g) to (list_at g m) key) (sym same)
+      (own_keys key (before i p (omega arith) here (sym same))))
+      (λ differ.
+      (aside l less differ).keys key
+      (keys l key less slot (λ j q small is same. before j q (omega (arith, small)) is same)))
+      (cases_eq l p.list)
+
+-- behind the whole row, all its postings
+pub costs_of_row : {g : Layout} {n : ℕ} {rows : List Posting} {from to : ℕ} {old new : Image}
+    → (s : RowStands g n rows (length rows) from to old new)
+    → PostingsCost g new to (map (listed n) rows) old from s.cost
+costs_of_row {g} {n} {rows} {from} {to} {old} {new} s =
+    subst (λ (l : List Posting). PostingsCost g new to (map (listed n) l) old from s.cost) (take-length rows) s.costs

@@ -1,0 +1,34 @@
+-- That all lists of a volume stand as they should, before a row of insertions and behind it.
+use Rattle.std.specs.Prelude.{◌≡◌, ◌≢◌, ◌<◌, ◌≤◌, ◌+◌, ◌*◌, ℕ, List, map, take, slice_get, Some}
+use Rattle.cell_types.specs.Image.{Image}
+use Rattle.cell_types.specs.Layout.{Layout, list_at, pool_at}
+use Rattle.volume_growth.specs.ListShapes.{IsWellListed}
+use Rattle.volume_growth.specs.Needs.{PostingsCost}
+use Rattle.term_tags.specs.Listing.{listed}
+use Rattle.term_tags.specs.declared.rows.Posting.{Posting}
+use Rattle.list_growth.specs.Costs.{HaveTrails, HaveKeysBelow}
+use Rattle.list_growth.specs.Others.{ListsAreApart}
+
+-- Each list of the volume has its shape, with blocks before this cell, and its postings have trails and keys below this
+-- one; and no block of a list meets one of another.
+pub record ListsStand (g : Layout) (image : Image) (next key : ℕ) : Type 0 where
+  pub well : (l : ℕ) → l < g.lists → IsWellListed image (pool_at g) next (list_at g l)
+  pub trails : (l : ℕ) → l < g.lists → HaveTrails image (pool_at g) next (list_at g l)
+  pub keys : (l : ℕ) → l < g.lists → HaveKeysBelow image (pool_at g) next (list_at g l) key
+  pub apart : (l k : ℕ) → l < g.lists → k < g.lists → l ≢ k
+      → ListsAreApart image (pool_at g) next (list_at g l) (list_at g k)
+
+-- Behind the first so many postings of slot n's row all lists stand as they should, with keys of slots up to n, and
+-- these postings cost what they must.
+pub record RowStands (g : Layout) (n : ℕ) (rows : List Posting) (count from to : ℕ) (old new : Image) : Type 0 where
+  pub lists : ListsStand g new to (256 * (n + 1))
+  pub cost : ℕ
+  pub costs : PostingsCost g new to (map (listed n) (take count rows)) old from cost
+
+-- Behind the first so many postings of slot n's row each list has keys below any that is one of the slot's or a later
+-- one, and greater than these postings' keys in the list.
+abbrev pub KeysSoFar : Layout → ℕ → List Posting → ℕ → Image → ℕ → Type 0
+KeysSoFar g n rows count image next =
+    (l key : ℕ) → l < g.lists → 256 * n ≤ key
+    → ((i : ℕ) (p : Posting) → i < count → slice_get rows i ≡ Some p → p.list ≡ l → 256 * n + p.ordinal < key)
+    → HaveKeysBelow image (pool_at g) next (list_at g l) key
