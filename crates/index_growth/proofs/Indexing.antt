@@ -1,5 +1,5 @@
 -- From the postings of a document to its whole index.
-use Rattle.std.proofs.Common.{◌≡◌, ◌≢◌, ◌<◌, ◌≤◌, ◌+◌, ⊎_elim, ℕ, List, Option, Some, None, Result, Ok, Err, refl, ap, sym, subst, arith, ◌∙◌}
+use Rattle.std.proofs.Common.{◌≡◌, ◌≢◌, ◌<◌, ◌≤◌, ◌+◌, ◌*◌, ⊎_elim, ℕ, List, Option, Some, None, Result, Ok, Err, refl, ap, sym, subst, arith, ◌∙◌}
 use Rattle.std.specs.Prelude.{IsTrue, length}
 use Rattle.std.proofs.lemmas.Bool.{cases_eq}
 use Rattle.std.proofs.lemmas.Option.{none-some}
@@ -29,15 +29,18 @@ use Rattle.term_tags.specs.declared.rows.Posting.{Posting}
 use Rattle.worm_device.proofs.Covering.{planned_show}
 use Rattle.worm_device.proofs.Images.{extends_then}
 use Rattle.worm_device.specs.Calls.{Called}
+use Rattle.worm_device.specs.Counts.{IsStill}
 use Rattle.worm_device.specs.Overlays.{PlansNothing}
 use Rattle.worm_device.specs.State.{DeviceState}
 use Rattle.worm_device.specs.Views.{IsView, ViewState}
 use Rattle.worm_device.specs.declared.owner.Owner.{Owner}
 use Rattle.tree_growth.specs.Inserting.{InsertsEntry, IsInserted, IsTaken, PlansBucket, alone, with_node}
 use Rattle.tree_growth.specs.Readiness.{IsReady, blank_in, blank_of, owner_in}
+use Rattle.tree_growth.specs.Rooting.{IsRooted, IsRootedBefore}
 use Rattle.index_growth.specs.Granting.{GivesWhatIsLedTo, to_node}
 use Rattle.index_growth.specs.Indexes.{IndexEnds, Indexes, IsIndexCell, IsIndexed, in_list, in_tree}
 use Rattle.index_growth.specs.Rows.{AreInOrder, AreInserted, InsertsRow, IsRowCell, of_posting, of_pointer, LiesInLists, in_first, in_pool}
+use Rattle.index_growth.specs.Standing.{IndexStands, ListsStand}
 use Rattle.index_growth.proofs.Granted.{StaysQuiet, gives_more, gives_on}
 
 -- a place of a level lies in the level's node
@@ -190,8 +193,23 @@ module _ (g : Layout) (n : ℕ) (rows : List Posting) (level : Level) (place : O
         (takes.next ∙ ap (λ (n : ℕ). n + 32) from_pool)
         (to_node child (subst (λ (n : ℕ). Holds new.planned child (Child n)) from_pool leads.planned) refl) row.grants
 
-    pub index_is_done : IsView mid → new.lower ≡ mid.lower → next ≤ rest.next → IsIndexed g n rows level place from rest.next old new
-    index_is_done view below further = record {
+    -- the lists behind the postings, and the tree behind the bucket
+    stands_now : new.base ≡ mid.base → IsTrue old.base.tells → IsStill old.base.foreign_writes new.base.foreign_writes
+        → ListsStand g old.image from (256 * n) → IndexStands g n rows level place from rest.next old.image new.image
+    stands_now same_base tells still lists = record {
+      between = mid.image;
+      next = next;
+      lists = row.lists tells
+          (subst (λ (b : DeviceState). IsStill old.base.foreign_writes b.foreign_writes) same_base still) lists;
+      tree = λ before.
+          subst (λ (m : ℕ). IsRooted g level place n m rest.next mid.image new.image) from_pool
+          (inserted.rooted (subst (λ (m : ℕ). IsRootedBefore g level place m mid.image) (sym from_pool) before));
+      need = inserted.need;
+    }
+
+    pub index_is_done : IsView mid → new.lower ≡ mid.lower → new.base ≡ mid.base → next ≤ rest.next
+        → IsIndexed g n rows level place from rest.next old new
+    index_is_done view below same_base further = record {
       only = only_now inserted.plans;
       before = inserted.beyond;
       grants = given_now inserted.plans;
@@ -205,6 +223,7 @@ module _ (g : Layout) (n : ℕ) (rows : List Posting) (level : Level) (place : O
                 (trail_on all stands.trail);
           };
       path = inserted.trail;
+      stands = stands_now same_base;
     }
 
 -- what is taken is taken still, where nothing was planned

@@ -1,5 +1,5 @@
 -- What planning the whole index of a document does: its postings, and its bucket.
-use Rattle.std.specs.Prelude.{◌≡◌, ◌≤◌, ℕ, List, slice_get, Some, None, Result, Ok, Err, IsTrue, ⊤}
+use Rattle.std.specs.Prelude.{◌≡◌, ◌≤◌, ◌*◌, ℕ, List, slice_get, Some, None, Result, Ok, Err, IsTrue, ⊤}
 use Rattle.cell_types.specs.Image.{Image, Extends, IsUnchanged}
 use Rattle.cell_types.specs.Layout.{Layout, list_at, pool_at}
 use Rattle.cell_types.specs.Records.{IsRecordCell}
@@ -21,6 +21,7 @@ use Rattle.hash_tree.specs.declared.path.Open.{Open}
 use Rattle.list_growth.specs.Evidence.{ShowsBelow}
 use Rattle.tree_growth.specs.Inserting as tree
 use Rattle.index_growth.specs.Granting.{GivesWhatIsLedTo}
+use Rattle.index_growth.specs.Standing.{IndexStands, ListsStand}
 
 -- the cell of an index record, which is well-formed there, from the first list on
 pub record IsIndexCell (g : Layout) (cell : ℕ) (value : List ℕ) : Type 0 where
@@ -37,7 +38,8 @@ pub record HasTrailIn (g : Layout) (image : Image) (to : ℕ) (a : ListedPosting
 -- The index of slot n's document is planned, before the pool's next cell, and nothing but index cells is. What the pool
 -- gave, from its next cell before, are blocks and a node that planned cells lead to. In each image that has
 -- what stands below and what is planned each posting has its trail; and the slot has its hash trail in each image that
--- has what is planned and in which the path is passed.
+-- has what is planned and in which the path is passed. Where nobody else wrote, and all lists stood as they should with
+-- keys of earlier slots, the whole index does, at the cost that it must have.
 pub record IsIndexed (g : Layout) (n : ℕ) (rows : List Posting) (level : Level) (place : Open) (from to : ℕ)
     (old new : ViewState) : Type 0 where
   pub only : (cell : ℕ) (value : List ℕ) → new.planned cell ≡ Some value → IsIndexCell g cell value
@@ -46,6 +48,8 @@ pub record IsIndexed (g : Layout) (n : ℕ) (rows : List Posting) (level : Level
   pub trails : IsTrue old.base.tells → (image : Image) → Extends new.lower image → Extends new.planned image
       → (i : ℕ) (p : Posting) → slice_get rows i ≡ Some p → HasTrailIn g image to (listed n p)
   pub path : tree.HasTrail g level place n to new.planned
+  pub stands : IsTrue old.base.tells → IsStill old.base.foreign_writes new.base.foreign_writes
+      → ListsStand g old.image from (256 * n) → IndexStands g n rows level place from to old.image new.image
 
 -- What is named: a cell of a list that one of the postings goes into, or the child cell that led to the level's node.
 pub data IsNamed (g : Layout) (n : ℕ) (rows : List Posting) (level : Level) (place : Open) (s : ViewState) (e : Evidence)

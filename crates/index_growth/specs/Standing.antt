@@ -1,13 +1,17 @@
--- That all lists of a volume stand as they should, before a row of insertions and behind it.
-use Rattle.std.specs.Prelude.{◌≡◌, ◌≢◌, ◌<◌, ◌≤◌, ◌+◌, ◌*◌, ℕ, List, map, take, slice_get, Some}
+-- That all lists of a volume stand as they should, before a row of insertions and behind it, and the tree behind its bucket.
+use Rattle.std.specs.Prelude.{◌≡◌, ◌≢◌, ◌<◌, ◌≤◌, ◌+◌, ◌*◌, ℕ, List, length, map, take, slice_get, Some}
 use Rattle.cell_types.specs.Image.{Image}
 use Rattle.cell_types.specs.Layout.{Layout, list_at, pool_at}
 use Rattle.volume_growth.specs.ListShapes.{IsWellListed}
 use Rattle.volume_growth.specs.Needs.{PostingsCost}
 use Rattle.term_tags.specs.Listing.{listed}
 use Rattle.term_tags.specs.declared.rows.Posting.{Posting}
+use Rattle.hash_tree.specs.declared.level.Level.{Level}
+use Rattle.hash_tree.specs.declared.path.Open.{Open}
 use Rattle.list_growth.specs.Costs.{HaveTrails, HaveKeysBelow}
 use Rattle.list_growth.specs.Others.{ListsAreApart}
+use Rattle.tree_growth.specs.Inserting.{TakesItsNeed}
+use Rattle.tree_growth.specs.Rooting.{IsRooted, IsRootedBefore}
 
 -- Each list of the volume has its shape, with blocks before this cell, and its postings have trails and keys below this
 -- one; and no block of a list meets one of another.
@@ -32,3 +36,13 @@ KeysSoFar g n rows count image next =
     (l key : ℕ) → l < g.lists → 256 * n ≤ key
     → ((i : ℕ) (p : Posting) → i < count → slice_get rows i ≡ Some p → p.list ≡ l → 256 * n + p.ordinal < key)
     → HaveKeysBelow image (pool_at g) next (list_at g l) key
+
+-- The row's postings leave this image between, in which all lists stand as they should, at the cost that they must have.
+-- Where the tree is well shaped in it the bucket leaves it so, and takes what its identifier needs there.
+pub record IndexStands (g : Layout) (n : ℕ) (rows : List Posting) (level : Level) (place : Open) (from to : ℕ)
+    (old new : Image) : Type 0 where
+  pub between : Image
+  pub next : ℕ
+  pub lists : RowStands g n rows (length rows) from next old between
+  pub tree : IsRootedBefore g level place next between → IsRooted g level place n next to between new
+  pub need : TakesItsNeed g level place between
