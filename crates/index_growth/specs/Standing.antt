@@ -1,4 +1,4 @@
--- That all lists of a volume stand as they should, before a row of insertions and behind it, and the tree behind its bucket.
+-- That all lists stand as they should, before a row of insertions and behind it, and the tree behind a bucket.
 use Rattle.std.specs.Prelude.{◌≡◌, ◌≢◌, ◌<◌, ◌≤◌, ◌+◌, ◌*◌, ℕ, List, length, map, take, slice_get, Some}
 use Rattle.cell_types.specs.Image.{Image}
 use Rattle.cell_types.specs.Layout.{Layout, list_at, pool_at}
@@ -37,8 +37,8 @@ KeysSoFar g n rows count image next =
     → ((i : ℕ) (p : Posting) → i < count → slice_get rows i ≡ Some p → p.list ≡ l → 256 * n + p.ordinal < key)
     → HaveKeysBelow image (pool_at g) next (list_at g l) key
 
--- The row's postings leave this image between, in which all lists stand as they should, at the cost that they must have.
--- Where the tree is well shaped in it the bucket leaves it so, and takes what its identifier needs there.
+-- The row's postings leave this image between, in which all lists stand as they should, at the cost that they must
+-- have. Where the tree is well shaped in it the bucket leaves it so, and takes what its identifier needs there.
 pub record IndexStands (g : Layout) (n : ℕ) (rows : List Posting) (level : Level) (place : Open) (from to : ℕ)
     (old new : Image) : Type 0 where
   pub between : Image
