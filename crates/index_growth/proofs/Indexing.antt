@@ -193,12 +193,21 @@ module _ (g : Layout) (n : ℕ) (rows : List Posting) (level : Level) (place : O
         (takes.next ∙ ap (λ (n : ℕ). n + 32) from_pool)
         (to_node child (subst (λ (n : ℕ). Holds new.planned child (Child n)) from_pool leads.planned) refl) row.grants
 
+    -- a node is taken under a child cell
+    node_taken : PlansBucket g level place n at pool rest mid new → (child : ℕ) → place.child ≡ Some child
+        → rest.next ≡ next + 32
+    node_taken (alone none same_at holds others small same_pool) child is = absurd (none-some child (sym none ∙ is))
+    node_taken (with_node child is_child child_is less leads at_is holds others small below takes) other is =
+        omega (arith, takes.next, from_pool)
+
     -- the lists behind the postings, and the tree behind the bucket
-    stands_now : new.base ≡ mid.base → IsTrue old.base.tells → IsStill old.base.foreign_writes new.base.foreign_writes
+    stands_now : new.base ≡ mid.base → next ≤ rest.next → IsTrue old.base.tells → IsStill old.base.foreign_writes new.base.foreign_writes
         → ListsStand g old.image from (256 * n) → IndexStands g n rows level place from rest.next old.image new.image
-    stands_now same_base tells still lists = record {
+    stands_now same_base further tells still lists = record {
       between = mid.image;
       next = next;
+      more = further;
+      node = node_taken inserted.plans;
       lists = row.lists tells
           (subst (λ (b : DeviceState). IsStill old.base.foreign_writes b.foreign_writes) same_base still) lists;
       tree = λ before.
@@ -223,7 +232,7 @@ module _ (g : Layout) (n : ℕ) (rows : List Posting) (level : Level) (place : O
                 (trail_on all stands.trail);
           };
       path = inserted.trail;
-      stands = stands_now same_base;
+      stands = stands_now same_base further;
     }
 
 -- what is taken is taken still, where nothing was planned

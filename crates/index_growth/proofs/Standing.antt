@@ -1,5 +1,5 @@
 -- All lists stand as they should behind one posting more of a row.
-use Rattle.std.proofs.Common.{◌≡◌, ◌≢◌, ◌<◌, ◌≤◌, ◌+◌, ◌*◌, ◌++◌, ⊎_elim, inl, inr, ℕ, zero, suc, List, [], ◌∷◌, Some, refl, ap, sym, subst, arith, take}
+use Rattle.std.proofs.Common.{◌≡◌, ◌≢◌, ◌<◌, ◌≤◌, ◌+◌, ◌*◌, ◌++◌, ◌⊎◌, ◌∙◌, ⊎_elim, inl, inr, ℕ, zero, suc, List, [], ◌∷◌, Some, refl, ap, sym, subst, arith, take}
 use Rattle.std.specs.Prelude.{map, slice_get, length}
 use Rattle.std.proofs.Math.Seq.{take-length}
 use Rattle.std.proofs.lemmas.Bool.{cases_eq}
@@ -11,6 +11,7 @@ use Rattle.index_paths.specs.Nodes.{AreApart}
 use Rattle.index_paths.specs.Postings.{ListedPosting}
 use Rattle.volume_growth.specs.ListShapes.{IsWellListed}
 use Rattle.volume_growth.specs.Needs.{PostingCosts, PostingsCost, none, one}
+use Rattle.worm_device.proofs.Images.{extends_self, extends_then}
 use Rattle.term_tags.specs.Listing.{listed}
 use Rattle.term_tags.specs.declared.rows.Posting.{Posting}
 use Rattle.list_growth.specs.Costs.{HaveTrails, HaveKeysBelow}
@@ -20,7 +21,7 @@ use Rattle.list_growth.proofs.Costs.{posting_costs}
 use Rattle.list_growth.proofs.KeptTrails.{IsGrown, grown, keys_go_on, trails_go_on}
 use Rattle.list_growth.proofs.Others.{stands_aside}
 use Rattle.index_growth.specs.Rows.{AreInOrder}
-use Rattle.index_growth.specs.Standing.{KeysSoFar, ListsStand, RowStands}
+use Rattle.index_growth.specs.Standing.{KeysSoFar, LiesOutside, ListsStand, RowStands}
 
 -- one more of a row
 mapped_more : {A B : Type 0} (f : A → B) (rows : List A) (i : ℕ) (row : A) → slice_get rows i ≡ Some row
@@ -59,6 +60,10 @@ stands_first s = record {
     keys = λ l less. keys_below (omega arith) (s.keys l less);
     apart = s.apart;
   };
+  extends = extends_self _;
+  more = omega arith;
+  blocks = λ l block less leads. inl leads;
+  outside = λ cell before apart. refl;
   cost = 0;
   costs = none _ _ 0 refl refl refl;
 }
@@ -131,9 +136,38 @@ module _ {g : Layout} {n : ℕ} {rows : List Posting} {i from next to cost : ℕ
     apart = apart_next;
   }
 
+  -- a block was one behind the posting before, or is new
+  block_now : (l block : ℕ) → l < g.lists → Leads new (pool_at g) to block (list_at g l)
+      → Leads old (pool_at g) next block (list_at g l) ⊎ (next ≤ block)
+  block_now l block = each
+      (λ (k : ℕ). Leads new (pool_at g) to block (list_at g k) → Leads old (pool_at g) next block (list_at g k) ⊎ (next ≤ block))
+      (grew.blocks block)
+      (λ k less differ leads. inl ((aside k less differ).blocks block leads))
+      l
+
+  blocks_next : (l block : ℕ) → l < g.lists → Leads new (pool_at g) to block (list_at g l)
+      → Leads first (pool_at g) from block (list_at g l) ⊎ (from ≤ block)
+  blocks_next l block less leads = ⊎_elim
+      (λ was. s.blocks l block less was)
+      (λ later. inr (omega (arith, later, s.more)))
+      (block_now l block less leads)
+
+  outside_next : (cell : ℕ) → cell < from → LiesOutside g first from cell → new cell ≡ first cell
+  outside_next cell before apart =
+      grew.outside cell (omega (arith, before, s.more))
+      (λ block leads. ⊎_elim
+      (λ was. apart p.list block in_list was)
+      (λ later. inr (omega (arith, before, later)))
+      (s.blocks p.list block in_list leads))
+      ∙ s.outside cell before apart
+
   pub stands_next : RowStands g n rows (i + 1) from to first new
   stands_next = record {
+    extends = extends_then s.extends grew.extends;
+    more = omega (arith, s.more, grew.more);
     lists = lists_next;
+    blocks = blocks_next;
+    outside = outside_next;
     cost = s.cost + cost;
     costs =
         let next_place : suc i ≡ i + 1 = omega arith in

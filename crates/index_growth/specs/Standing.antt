@@ -1,7 +1,9 @@
 -- That all lists stand as they should, before a row of insertions and behind it, and the tree behind a bucket.
-use Rattle.std.specs.Prelude.{◌≡◌, ◌≢◌, ◌<◌, ◌≤◌, ◌+◌, ◌*◌, ℕ, List, length, map, take, slice_get, Some}
-use Rattle.cell_types.specs.Image.{Image}
+use Rattle.std.specs.Prelude.{◌≡◌, ◌≢◌, ◌<◌, ◌≤◌, ◌+◌, ◌*◌, ◌⊎◌, ℕ, List, length, map, take, slice_get, Some}
+use Rattle.cell_types.specs.Image.{Image, Extends}
 use Rattle.cell_types.specs.Layout.{Layout, list_at, pool_at}
+use Rattle.index_paths.specs.Blocks.{Leads}
+use Rattle.index_paths.specs.Nodes.{AreApart}
 use Rattle.volume_growth.specs.ListShapes.{IsWellListed}
 use Rattle.volume_growth.specs.Needs.{PostingsCost}
 use Rattle.term_tags.specs.Listing.{listed}
@@ -22,10 +24,21 @@ pub record ListsStand (g : Layout) (image : Image) (next key : ℕ) : Type 0 whe
   pub apart : (l k : ℕ) → l < g.lists → k < g.lists → l ≢ k
       → ListsAreApart image (pool_at g) next (list_at g l) (list_at g k)
 
+-- the cell lies in no block of a list
+abbrev pub LiesOutside : Layout → Image → ℕ → ℕ → Type 0
+LiesOutside g image next cell =
+    (l block : ℕ) → l < g.lists → Leads image (pool_at g) next block (list_at g l) → AreApart block 256 cell 1
+
 -- Behind the first so many postings of slot n's row all lists stand as they should, with keys of slots up to n, and
--- these postings cost what they must.
+-- these postings cost what they must. What stood stands still, and nothing else has changed outside the blocks of
+-- before, and before the new ones.
 pub record RowStands (g : Layout) (n : ℕ) (rows : List Posting) (count from to : ℕ) (old new : Image) : Type 0 where
+  pub extends : Extends old new
+  pub more : from ≤ to
   pub lists : ListsStand g new to (256 * (n + 1))
+  pub blocks : (l block : ℕ) → l < g.lists → Leads new (pool_at g) to block (list_at g l)
+      → Leads old (pool_at g) from block (list_at g l) ⊎ (from ≤ block)
+  pub outside : (cell : ℕ) → cell < from → LiesOutside g old from cell → new cell ≡ old cell
   pub cost : ℕ
   pub costs : PostingsCost g new to (map (listed n) (take count rows)) old from cost
 
@@ -38,11 +51,14 @@ KeysSoFar g n rows count image next =
     → HaveKeysBelow image (pool_at g) next (list_at g l) key
 
 -- The row's postings leave this image between, in which all lists stand as they should, at the cost that they must
--- have. Where the tree is well shaped in it the bucket leaves it so, and takes what its identifier needs there.
+-- have. Where the tree is well shaped in it the bucket leaves it so, and takes what its identifier needs there, and
+-- under a child cell a node.
 pub record IndexStands (g : Layout) (n : ℕ) (rows : List Posting) (level : Level) (place : Open) (from to : ℕ)
     (old new : Image) : Type 0 where
   pub between : Image
   pub next : ℕ
   pub lists : RowStands g n rows (length rows) from next old between
+  pub more : next ≤ to
+  pub node : (child : ℕ) → place.child ≡ Some child → to ≡ next + 32
   pub tree : IsRootedBefore g level place next between → IsRooted g level place n next to between new
   pub need : TakesItsNeed g level place between

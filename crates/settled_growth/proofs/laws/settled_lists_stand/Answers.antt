@@ -1,6 +1,0 @@
--- The law, for all images.
-use Rattle.settled_growth.proofs.SettledLists.{settled_stand}
-use Rattle.settled_growth.proofs.laws.settled_lists_stand.Goals as goal
-
-pub returns : goal.returns
-returns c = λ g image edge n layout s e horizon free. settled_stand layout s e horizon free
