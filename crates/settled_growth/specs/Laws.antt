@@ -34,8 +34,8 @@ SettledIndexesStand =
     (g : Layout) (image : Image) (edge n : ℕ) → IsLayout g → IsSettled g image → IsEdge g image image edge
     → IsHorizon g image image n → n < g.slots → IndexesStand g image edge (256 * n)
 
--- The place is the end of a path of the image's tree: it is one of the level's node, which is a node of the tree; its blank
--- cell is blank, and a bucket above it is written.
+-- The place is the end of a path of the image's tree: it is one of the level's node, which is a node of the tree; its
+-- blank cell is blank, and a bucket above it is written.
 pub record EndsPath (g : Layout) (image : Image) (level : Level) (place : Open) : Type 0 where
   pub digest : AreBytes level.digest
   pub number : level.number < 64
@@ -44,8 +44,8 @@ pub record EndsPath (g : Layout) (image : Image) (level : Level) (place : Open) 
   pub blank : image (blank_of place) ≡ None
   pub bucket : (child : ℕ) → place.child ≡ Some child → IsWritten image place.bucket
 
--- where they stand before slot n's index is planned, at the end of a path and within the device, they do so behind it, with
--- keys of this slot too
+-- where they stand before slot n's index is planned, at the end of a path and within the device, they do so behind it,
+-- with keys of this slot, too
 abbrev pub IndexKeepsStanding : Type 0
 IndexKeepsStanding =
     (g : Layout) (n : ℕ) (rows : List Posting) (level : Level) (place : Open) (from to : ℕ) (old new : Image)
