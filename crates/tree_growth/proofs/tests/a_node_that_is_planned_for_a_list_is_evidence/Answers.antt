@@ -1,12 +1,15 @@
 -- The path ended in a node that lies before what is free, and only the list has planned there.
 use Rattle.std.proofs.Common.{rules, ◌≡◌, ◌≢◌, ◌<◌, ◌≤◌, ◌∙◌, ⊎_elim, ℕ, List, Some, None, Ok, sym, ap, subst, arith}
 use Rattle.std.specs.Prelude.{IsTrue}
+use Rattle.std.specs.Ordering.{nat_cmp}
+use Rattle.std.specs.BTreeMap.{get}
 use Rattle.std.proofs.lemmas.Option.{none-some}
 use Rattle.cell_types.specs.Image.{Extends}
 use Rattle.cell_types.specs.Layout.{Layout, pool_at, root_at}
 use Rattle.tamper_rules.proofs.Writing.{same_or_not}
 use Rattle.worm_device.specs.Overlays.{Plans}
 use Rattle.worm_device.specs.Views.{ViewState}
+use Rattle.worm_device.specs.declared.overlay.PlannedCells.{PlannedCells}
 use Rattle.worm_device.specs.declared.owner.Owner.{Owner}
 use Rattle.hash_tree.specs.Levels.{IsPlaced}
 use Rattle.hash_tree.specs.Steps.{IsOpenOf}
@@ -50,14 +53,16 @@ insert-done-requires-clause-ready g c =
     let at : IsOpenOf c.in_ok-geometry.geometry c.next_candidate-step.new.level c.in-End.place =
     (rw c.in-End.is at c.in-Ok.ensures).ends.0 in
     let from : pool_at c.in_ok-geometry.geometry ≤ 836 = rw geometry (omega arith) in
+    let nothing : (cell : ℕ) → get nat_cmp c.new-overlay.result.own.now.planned cell ≡ None =
+    λ cell. ap (λ (p : PlannedCells). get nat_cmp p.planned cell) c.new-overlay.ensures.same ∙ c.new-own.ensures cell in
     ready_beside c.next_candidate-step.ensures.placed at from (sym c.fresh.ensures ∙ c.if-fresh-ne836.false)
     (sym c.over-pool.ensures.next)
     (λ tells. (
       tells,
       record { keeps = λ cell value is. rw (c.new-overlay.ensures.view, c.new-4.ensures.same) (search rules) },
     ))
-    c.new-overlay.ensures.nothing
-    (λ cell. c.new-overlay.result.owned.unowned cell (c.new-overlay.ensures.nothing cell))
+    nothing
+    (λ cell. c.new-overlay.result.own.now.owned.unowned cell (nothing cell))
     (rw c.in_ok-plan.was at c.plan.ensures) c.if-place-ge836.false c.in-Some.is
     (λ same. let other : 292 ≡ root_at (record { slots = 8; lists = 2; cells = 1000 }) = same ∙ ap root_at geometry in
     omega (arith, other))
