@@ -44,12 +44,14 @@ Fits (Jump target) = target < 2 ^ 32
 Fits (Bucket slot fingerprint) = (slot < 2 ^ 32) × IsBytes 7 fingerprint
 Fits (Child target) = target < 2 ^ 32
 
--- A record may stand in the cell of this number. A commit cell counts any number of journal cells.
+-- A record may stand in the cell of this number. A commit cell counts at least one journal cell: that of the document's
+-- bucket.
 abbrev pub IsWellFormed : RecordCell → ℕ → Type 0
 IsWellFormed (Volume version slots lists cells) address =
     (version ≡ FORMAT_VERSION) × IsLayout (record { slots = slots; lists = lists; cells = cells }) × (address ≡ 0)
 IsWellFormed (Reserve start length) address = 1 ≤ length
-IsWellFormed (Commit bytes journal) address = (MIN_STORED_BYTES ≤ bytes) × (bytes ≤ MAX_STORED_BYTES)
+IsWellFormed (Commit bytes journal) address =
+    (MIN_STORED_BYTES ≤ bytes) × (bytes ≤ MAX_STORED_BYTES) × (1 ≤ journal)
 IsWellFormed Abandon address = ⊤
 IsWellFormed (Done slot) address = slot < MAX_SLOTS
 IsWellFormed (Posting key last tag) address = key % 256 ≤ last

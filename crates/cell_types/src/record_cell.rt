@@ -30,7 +30,7 @@ pub enum RecordCell {
         start: u32,
         length: u32,
     },
-    /// Kind 3: a slot's document has so many stored bytes, and its journal so many cells.
+    /// Kind 3: a slot's document has so many stored bytes, and its journal so many cells, at least one.
     Commit {
         bytes: u32,
         journal: u32,
@@ -77,8 +77,8 @@ pub fn is_well_formed(value: &RecordCell, address: u32) -> bool
             && address == 0
             && Geometry::new(slots, lists, cells).is_some(),
         RecordCell::Reserve { length, .. } => length >= 1,
-        RecordCell::Commit { bytes, .. } => {
-            MIN_STORED_BYTES <= bytes && bytes <= MAX_STORED_BYTES
+        RecordCell::Commit { bytes, journal } => {
+            MIN_STORED_BYTES <= bytes && bytes <= MAX_STORED_BYTES && journal >= 1
         }
         RecordCell::Done { slot } | RecordCell::Bucket { slot, .. } => slot < MAX_SLOTS,
         RecordCell::Posting { key, last, .. } => key % 256 <= u32::from(last),
