@@ -8,7 +8,7 @@ use Rattle.index_paths.specs.HashPaths.{Sought}
 use Rattle.index_paths.specs.Nodes.{IsNode, root, under}
 use Rattle.index_paths.proofs.HashTrails.{passed_on, passed_to_on}
 use Rattle.worm_device.specs.Views.{ViewState, Viewed}
-use Rattle.hash_tree.specs.Levels.{IsLed, IsPlaced, IsReached}
+use Rattle.hash_tree.specs.Levels.{IsLed, IsLedWithin, IsPlaced, IsReached}
 use Rattle.hash_tree.specs.Steps.{IsPassedUpTo}
 use Rattle.hash_tree.specs.declared.level.ChildCell.{ChildCell}
 use Rattle.hash_tree.specs.declared.level.Level.{Level}
@@ -38,6 +38,19 @@ node_on e (under level node v above x is rest half less child from to) =
 pub reached_on : {g : Layout} {old new : Image} (level : Level) → Extends old new → IsReached g old level
     → IsReached g new level
 reached_on level e reached = node_on e reached
+
+-- and so does a child cell that is one of a node
+pub led_within_on : (g : Layout) {old new : Image} (led : Option ChildCell) → Extends old new → IsLedWithin g old led
+    → IsLedWithin g new led
+led_within_on g None e within = tt
+led_within_on g (Some child) e within = record {
+  level = within.level;
+  node = within.node;
+  half_byte = within.half_byte;
+  is_node = node_on e within.is_node;
+  below = within.below;
+  at = within.at;
+}
 
 -- and a path that is passed
 pub passed_up_to_on : {g : Layout} {edge from : ℕ} {old new : Image} {s : Sought} {level : Level} → Extends old new

@@ -16,7 +16,7 @@ use Rattle.tamper_rules.specs.declared.numbers.TheConstants.{FAKE_BUCKET, LOST_C
 use Rattle.worm_device.specs.Views.{IsView, ViewState, Viewed}
 use Rattle.worm_device.proofs.Counting.{rose_from}
 use Rattle.worm_device.proofs.Resting.{viewed_self, viewed_then}
-use Rattle.hash_tree.specs.Levels.{AreBounds, IsPlaced, IsReached, bucket_at, child_at, level_below, node_of}
+use Rattle.hash_tree.specs.Levels.{AreBounds, IsLedWithin, IsPlaced, IsReached, bucket_at, child_at, level_below, node_of}
 use Rattle.hash_tree.specs.Licences.{AsksBelow}
 use Rattle.hash_tree.specs.Looking.{IsBlankAt, LooksHere}
 use Rattle.hash_tree.specs.Steps.{ComesTo, here, HasNoneLeft, IsNoBucket, IsNoChild, LeadsBy, EndsAt, IsOpenAt, PassesAbove, StepEnds, Steps, answered_level, candidate, blank_bucket, blank_child, full, no_bucket, no_child}
@@ -35,10 +35,12 @@ abbrev pub KeepsChildren : ℕ → Image → Image → Type 0
 KeepsChildren edge shown image =
     (at target : ℕ) → at < edge → Holds shown at (Child target) → Holds image at (Child target)
 
--- where the first level is reached in an image that has the child cells shown, this level is
+-- where the first level is reached in an image that has the child cells shown, this level is; and the child cell that
+-- led to it is one of a node, if that which led to the first level was
 abbrev pub LeadsDownTo : Layout → ℕ → Image → Level → Level → Type 0
 LeadsDownTo g edge shown first level =
-    (image : Image) → KeepsChildren edge shown image → IsReached g image first → IsReached g image level
+    (image : Image) → KeepsChildren edge shown image → IsReached g image first
+    → IsReached g image level × (IsLedWithin g image first.led_by → IsLedWithin g image level.led_by)
 
 -- the path comes down from the first level to this one
 pub record WalksTo (g : Layout) (edge : ℕ) (old mid : ViewState) (first level : Level) : Type 0 where
@@ -73,7 +75,7 @@ walks_none g edge old first placed = record {
   reads = omega arith;
   placed = placed;
   comes = λ tells. here first refl;
-  leads = λ tells image keeps reached. reached;
+  leads = λ tells image keeps reached. (reached, λ within. within);
 }
 
 -- a child cell that is shown is not planned, where none is planned, and stands below
@@ -133,15 +135,19 @@ module _ (g : Layout) (edge : ℕ) (old mid new : ViewState) (first level : Leve
       walk.leads tells image (λ at target before held. keeps at target before (holds_on viewed.image held))
 
   reached_now : Viewed mid new → IsTrue old.base.tells → IsReached g new.image first → IsReached g new.image level
-  reached_now viewed tells = leads_now viewed tells new.image (λ at target before held. held)
+  reached_now viewed tells reached = (leads_now viewed tells new.image (λ at target before held. held) reached).0
+
+  led_now : Viewed mid new → IsTrue old.base.tells → IsReached g new.image first → IsLedWithin g new.image first.led_by
+      → IsLedWithin g new.image level.led_by
+  led_now viewed tells reached = (leads_now viewed tells new.image (λ at target before held. held) reached).1
 
   reached_under : Viewed mid new → IsTrue old.base.tells → AsksBelow edge old → IsReached g new.lower first
       → IsReached g new.lower level
-  reached_under viewed tells asks =
+  reached_under viewed tells asks reached =
       let whole = viewed_then walk.viewed viewed in
-      leads_now viewed tells new.lower (child_below edge new proper
+      (leads_now viewed tells new.lower (child_below edge new proper
       (subst (λ (p : Image). (at target : ℕ) → Holds p at (Child target) → ⊥) (sym whole.planned) asks.children)
-      (omega (arith, whole.fresh, asks.fresh)))
+      (omega (arith, whole.fresh, asks.fresh))) reached).0
 
   -- what a step keeps, whatever it answers
   ends_so : (answered : Bool) (result : Result PathStep Fault) → Viewed mid new
@@ -158,6 +164,7 @@ module _ (g : Layout) (edge : ℕ) (old mid new : ViewState) (first level : Leve
         placed = record { number = placed.number; within = placed.within; led = placed.led };
         goes_on = λ tells. goes_on (comes_now viewed tells);
         reached = reached_now viewed;
+        led_within = led_now viewed;
         reached_below = reached_under viewed;
         ends = ends;
       }
@@ -327,12 +334,21 @@ module _ (g : Layout) (edge : ℕ) (old mid new : ViewState) (first level : Leve
         };
         comes = λ tells. comes_below child (comes_now look.viewed tells) ((look.ends.2 (told tells)).0) (led tells);
         leads = λ tells image keeps reached.
-            let above = leads_now look.viewed tells image keeps reached in
+            let above = (leads_now look.viewed tells image keeps reached).0 in
             let held : Holds new.image (child_at g level) (Child child.target) =
-            record { cell = child.found; stands = (look.ends.2 (told tells)).1; is = good.is } in
-            under (level.number + 1) child.target level.number (node_of g level) (nibble level.digest level.number) refl
-            above look.half_byte look.ends.0.0
-            (keeps (child_at g level) child.target
-            (child_before g edge level bounds walk.placed.within look.half_byte) held)
-            good.from (omega (arith, good.to, bounds.to));
+            record { cell = child.found; stands = (look.ends.2 (told tells)).1; is = good.is } in (
+              under (level.number + 1) child.target level.number (node_of g level) (nibble level.digest level.number) refl
+                  above look.half_byte look.ends.0.0
+                  (keeps (child_at g level) child.target
+                  (child_before g edge level bounds walk.placed.within look.half_byte) held)
+                  good.from (omega (arith, good.to, bounds.to)),
+              λ within. record {
+                level = level.number;
+                node = node_of g level;
+                half_byte = nibble level.digest level.number;
+                is_node = above;
+                below = look.half_byte;
+                at = good.same;
+              },
+            );
       }

@@ -65,3 +65,17 @@ pub record IsPlaced (g : Layout) (edge : ℕ) (view : ViewState) (level : Level)
 -- the level's node is one of the volume's in this image: the root, or reached from there
 abbrev pub IsReached : Layout → Image → Level → Type 0
 IsReached g image level = IsNode g image level.number (node_of g level)
+
+-- the cell is a child cell of a node of the volume
+pub record IsChildPlace (g : Layout) (image : Image) (cell : ℕ) : Type 0 where
+  pub level : ℕ
+  pub node : ℕ
+  pub half_byte : ℕ
+  pub is_node : IsNode g image level node
+  pub below : half_byte < 16
+  pub at : cell ≡ node + 16 + half_byte
+
+-- the child cell that led to a level is one of a node of the volume
+abbrev pub IsLedWithin : Layout → Image → Option ChildCell → Type 0
+IsLedWithin g image None = ⊤
+IsLedWithin g image (Some child) = IsChildPlace g image child.cell

@@ -13,7 +13,7 @@ use Rattle.tamper_rules.specs.Rules.{IsPlaceOf}
 use Rattle.tamper_rules.specs.declared.numbers.TheConstants.{FAKE_BUCKET, LOST_CHILD}
 use Rattle.worm_device.specs.Counts.{Rose}
 use Rattle.worm_device.specs.Views.{ViewState, Viewed}
-use Rattle.hash_tree.specs.Levels.{IsPlaced, IsReached, bucket_at, child_at, level_below, node_of}
+use Rattle.hash_tree.specs.Levels.{IsLedWithin, IsPlaced, IsReached, bucket_at, child_at, level_below, node_of}
 use Rattle.hash_tree.specs.Licences.{AsksBelow, IsLicensedBoth}
 use Rattle.hash_tree.specs.declared.level.ChildCell.{ChildCell}
 use Rattle.hash_tree.specs.declared.level.Level.{Level}
@@ -162,7 +162,8 @@ StepEnds g edge old new first last (Err (Tampered e)) =
     × (IsTrue old.base.tells → IsStep g edge new.image first last (Err e) × IsLicensedBoth g edge first old new e)
 
 -- What a step does, also where it fails: it costs two reads a level at most, and leaves the level further down on the
--- same path. Where its node was reached from the root, in what is shown or in what stands below, it is still.
+-- same path. Where its node was reached from the root, in what is shown or in what stands below, it is still; and the
+-- child cell that led there is one of a node, if that which led to the first level was.
 pub record Steps (g : Layout) (edge : ℕ) (old new : ViewState) (first last : Level) (result : Result PathStep Fault)
     : Type 0 where
   pub viewed : Viewed old new
@@ -172,6 +173,8 @@ pub record Steps (g : Layout) (edge : ℕ) (old new : ViewState) (first last : L
   pub placed : IsPlaced g edge new last
   pub goes_on : IsTrue old.base.tells → GoesOn g edge new.image first last
   pub reached : IsTrue old.base.tells → IsReached g new.image first → IsReached g new.image last
+  pub led_within : IsTrue old.base.tells → IsReached g new.image first → IsLedWithin g new.image first.led_by
+      → IsLedWithin g new.image last.led_by
   pub reached_below : IsTrue old.base.tells → AsksBelow edge old → IsReached g new.lower first
       → IsReached g new.lower last
   pub ends : StepEnds g edge old new first last result

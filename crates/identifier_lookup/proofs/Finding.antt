@@ -20,13 +20,13 @@ use Rattle.worm_device.proofs.Resting.{viewed_self, viewed_then}
 use Rattle.document_store.specs.Looks.{HoldsIdentifier, IsSame, LookFails}
 use Rattle.document_store.proofs.Holding.{held_stands}
 use Rattle.document_store.proofs.Naming.{fails_from}
-use Rattle.hash_tree.specs.Levels.{AreBounds, IsPlaced, IsReached, bucket_at, child_at, first_level, node_of}
+use Rattle.hash_tree.specs.Levels.{AreBounds, IsLedWithin, IsPlaced, IsReached, bucket_at, child_at, first_level, node_of}
 use Rattle.hash_tree.specs.Steps.{EndsAt, IsOpenAt, IsPassedUpTo, PassesAbove, Steps, blank_bucket, blank_child, candidate, full, no_bucket, no_child}
 use Rattle.hash_tree.specs.declared.level.Level.{Level}
 use Rattle.hash_tree.specs.declared.path.Open.{Open}
 use Rattle.hash_tree.specs.declared.path.PathStep.{PathStep}
 use Rattle.hash_tree.specs.declared.path.PathStep.TheVariants.{Candidate, End, PathFull}
-use Rattle.hash_tree.proofs.Growing.{passed_up_to_on, placed_on, reached_on}
+use Rattle.hash_tree.proofs.Growing.{led_within_on, passed_up_to_on, placed_on, reached_on}
 use Rattle.hash_tree.proofs.Licence.{bucket_place}
 use Rattle.hash_tree.proofs.Paths.{false_never}
 use Rattle.identifier_lookup.specs.Candidates.{Compares, HoldsNamed, NamesBucket}
@@ -42,6 +42,7 @@ pub record WalkSoFar (g : Layout) (edge : ℕ) (id : List ℕ) (old now : ViewSt
   pub digest : level.digest ≡ sha256 id
   pub placed : IsPlaced g edge now level
   pub reached : IsTrue old.base.tells → IsReached g now.image level
+  pub led_within : IsTrue old.base.tells → IsLedWithin g now.image level.led_by
   pub passed : IsTrue old.base.tells → IsVolume old.cells old.image g
       → IsPassedUpTo g edge now.image (root_at g) (sought_in old.cells g id) level
 
@@ -56,6 +57,7 @@ walk_begins g edge id old level size bounds is =
       digest = refl;
       placed = record { number = omega arith; within = tt; led = λ tells. tt };
       reached = λ tells. nodes.IsNode.root 0 (root_at g) refl refl;
+      led_within = λ tells. tt;
       passed = λ tells volume. record {
         digest = refl;
         pool = refl;
@@ -147,6 +149,10 @@ module _ (g : Layout) (horizon edge : ℕ) (id : List ℕ) (old now mid : ViewSt
     reached_here : IsTrue old.base.tells → IsReached g mid.image next
     reached_here tells = step.reached (told tells) (reached_on level step.viewed.image (so_far.reached tells))
 
+    led_here : IsTrue old.base.tells → IsLedWithin g mid.image next.led_by
+    led_here tells = step.led_within (told tells) (reached_on level step.viewed.image (so_far.reached tells))
+        (led_within_on g level.led_by step.viewed.image (so_far.led_within tells))
+
     -- a hash trail at entry goes on from there
     trail_here : IsTrue old.base.tells → IsVolume old.cells old.image g → (n : ℕ)
         → (t : HasTrail g old.cells old.image id n) → HashTrail mid.image s n (node_of g next) next.number
@@ -228,6 +234,7 @@ module _ (g : Layout) (horizon edge : ℕ) (id : List ℕ) (old now mid : ViewSt
             record {
               blank = blank;
               reached = reached_here ended step tells;
+              led_within = led_here ended step tells;
               passed = λ volume. record {
                 passed = subst
                     (λ (c : ℕ). PassedTo mid.image (sought_in c g id) (root_at g) (node_of g next) next.number)
@@ -389,6 +396,7 @@ module _ (g : Layout) (horizon edge : ℕ) (id : List ℕ) (old now mid : ViewSt
         digest = digest_is offered step;
         placed = placed_on compared.viewed step.placed;
         reached = λ tells. reached_on next compared.viewed.image (reached_here offered step tells);
+        led_within = λ tells. led_within_on g next.led_by compared.viewed.image (led_here offered step tells);
         passed = λ tells volume.
             let same = compared.ends.2 (named_later tells) in
             let before = so_far.passed tells volume in

@@ -17,7 +17,7 @@ use Rattle.tamper_rules.specs.declared.numbers.TheConstants.{BROKEN_DOCUMENT, DO
 use Rattle.worm_device.specs.Counts.{IsStill, Rose}
 use Rattle.worm_device.specs.Views.{ViewState, Viewed}
 use Rattle.document_store.specs.Looks.{HoldsIdentifier}
-use Rattle.hash_tree.specs.Levels.{IsPlaced, IsReached, node_of}
+use Rattle.hash_tree.specs.Levels.{IsLedWithin, IsPlaced, IsReached, node_of}
 use Rattle.hash_tree.specs.Steps.{IsHashRule, IsOpenOf}
 use Rattle.hash_tree.specs.declared.level.Level.{Level}
 use Rattle.hash_tree.specs.declared.path.Open.{Open}
@@ -73,11 +73,13 @@ pub record IsPassedUpToPlace (g : Layout) (cells : ℕ) (image : Image) (id : Li
   pub passed : IsPassedTo g cells image id (node_of g level) level.number
   pub above : IsPassedAbove g cells image id place.bucket place.child
 
--- The path ends at this place: it is blank, and its node is one of the volume's. Where cell 0 stated this volume at
+-- The path ends at this place: it is blank, its node is one of the volume's, and the child cell that led there is one of
+-- a node. Where cell 0 stated this volume at
 -- entry, the path is passed up to there, and no slot that stood with the identifier had a hash trail.
 pub record EndsThere (g : Layout) (id : List ℕ) (old new : ViewState) (place : Open) (level : Level) : Type 0 where
   pub blank : IsBlankIn new.image place.bucket place.child
   pub reached : IsReached g new.image level
+  pub led_within : IsLedWithin g new.image level.led_by
   pub passed : IsVolume old.cells old.image g → IsPassedUpToPlace g new.cells new.image id place level
   pub none : IsVolume old.cells old.image g → NoneHasTrail g old.cells old.image id
 

@@ -1,32 +1,26 @@
 -- A node with a cell that is planned for somebody else breaks the rule of child cells.
-use Rattle.std.proofs.Common.{◌≡◌, ◌<◌, ◌≤◌, ◌+◌, ◌∙◌, ◌⊎◌, ⊎_elim, inl, inr, ℕ, List, Option, Some, None, refl, sym, subst, arith}
+use Rattle.std.proofs.Common.{◌≡◌, ◌<◌, ◌≤◌, ◌+◌, ◌∙◌, ◌⊎◌, ⊎_elim, inl, inr, ℕ, Option, Some, refl, sym, subst, arith}
 use Rattle.std.specs.Prelude.{IsTrue}
 use Rattle.cell_types.specs.Image.{Image}
-use Rattle.cell_types.specs.Records.{IsRecordCell}
 use Rattle.cell_types.specs.Layout.{Layout, LiesIn, Root, root_at}
 use Rattle.cell_types.specs.declared.record_cell.RecordCell.TheVariants.{Child}
 use Rattle.cell_types.specs.declared.refusal.Evidence.{Evidence}
 use Rattle.stored_documents.specs.Slots.{IsEdge}
 use Rattle.stored_documents.specs.Volumes.{Holds, IsVolume}
-use Rattle.stored_documents.proofs.Holding.{one_record_holds, some_is}
+use Rattle.stored_documents.proofs.Holding.{one_record_holds}
 use Rattle.index_paths.specs.Nodes.{AreApart, IsNode}
-use Rattle.index_paths.specs.HashPaths.{nibble}
 use Rattle.index_paths.specs.Nodes as nodes
 use Rattle.tamper_rules.specs.Rules.{Children, IsBroken, IsMet, IsOfPool, LeadsDownWell}
 use Rattle.tamper_rules.proofs.GivenUp.{children}
-use Rattle.worm_device.specs.Views.{ViewState, IsView}
+use Rattle.worm_device.specs.Views.{ViewState}
 use Rattle.worm_device.specs.declared.owner.Owner.{Owner}
-use Rattle.hash_tree.specs.Levels.{AreBounds, IsReached, IsWithin, node_of}
-use Rattle.hash_tree.specs.Licences.{AsksBelow}
-use Rattle.hash_tree.specs.Steps.{ComesTo, here, further}
+use Rattle.hash_tree.specs.Levels.{IsChildPlace, IsLedWithin, node_of}
 use Rattle.hash_tree.specs.declared.level.ChildCell.{ChildCell}
 use Rattle.hash_tree.specs.declared.level.Level.{Level}
 use Rattle.hash_tree.specs.declared.path.Open.{Open}
 use Rattle.tree_growth.specs.Inserting.{IsTaken}
-use Rattle.tree_growth.specs.Laws.{IsChildPlace, IsLedWithin, PathsLeadWithin, LiesByOwner, in_block, in_node, in_new}
+use Rattle.tree_growth.specs.Laws.{LiesByOwner, in_block, in_node, in_new}
 use Rattle.tree_growth.specs.Readiness.{blank_of, owner_in}
-use Rattle.tree_growth.proofs.Inserting.{node_before}
-use Rattle.tree_growth.proofs.Paths.{nibble_low}
 
 -- where a child cell of a node leads to this target, the rule of child cells says so of it
 leads_well : {g : Layout} {image : Image} {cell target : ℕ} → IsChildPlace g image cell → IsMet g image Children cell
@@ -101,67 +95,3 @@ module _ (g : Layout) (level : Level) (place : Open) (view : ViewState) (e : Evi
         record { cell = e.found; stands = taken.stands tells; is = taken.leads tells } in h) in
         not_others edge it.3 it.4 taken.from taken.to taken.another (lies (blank_of place) taken.owner taken.for_whom);
   }
-
--- The last child cell of a path is one of a node in an image that has each child cell of the path, where the first is.
-led_along : {g : Layout} {edge : ℕ} {shown image : Image} {last level : Level} → AreBounds g edge
-    → ((at target : ℕ) → at < edge → Holds shown at (Child target) → Holds image at (Child target))
-    → ((v : ℕ) → nibble level.digest v < 16) → ComesTo g edge shown last level → IsWithin g edge level.led_by
-    → IsReached g image level → IsLedWithin g image level.led_by
-    → IsReached g image last × IsLedWithin g image last.led_by
-led_along {g} {edge} {shown} {image} bounds keeps half (here level is) inside reached within = (
-  subst (λ (l : Level). IsReached g image l) is reached,
-  subst (λ (l : Level). IsLedWithin g image l.led_by) is within,
-)
-led_along {g} {edge} {shown} {image} bounds keeps half (further level child none leads rest) inside reached within =
-    let x : nibble level.digest level.number < 16 = half level.number in
-    let before : child.cell < edge =
-    omega (
-      arith,
-      leads.at,
-      x,
-      node_before g edge edge level.led_by inside bounds.from
-          (let h : edge ≤ edge = omega arith in h),
-    ) in
-    let held : Holds image child.cell (Child child.target) =
-    keeps child.cell child.target before (record { cell = child.found; stands = leads.stands; is = leads.is }) in
-    led_along bounds keeps half rest (leads.from, leads.to)
-    (nodes.IsNode.under (level.number + 1) child.target level.number (node_of g level)
-    (nibble level.digest level.number) refl reached x leads.levels
-    (subst (λ (c : ℕ). Holds image c (Child child.target)) leads.at held) leads.from
-    (omega (arith, leads.to, bounds.to)))
-    (record {
-      level = level.number;
-      node = node_of g level;
-      half_byte = nibble level.digest level.number;
-      is_node = reached;
-      below = x;
-      at = leads.at;
-    })
-
--- a child cell that is shown before the edge stands below, where none is planned
-child_below : {edge : ℕ} {view : ViewState} → IsView view → AsksBelow edge view → (at target : ℕ) → at < edge
-    → Holds view.image at (Child target) → Holds view.lower at (Child target)
-child_below {edge} {view} is asks at target before held =
-    let free : view.planned at ≡ None = not_planned (view.planned at) refl in
-    record {
-      cell = held.cell;
-      stands = sym (is.below at free (omega (arith, before, asks.fresh))) ∙ held.stands;
-      is = held.is;
-    }
-  where
-    not_planned : (found : Option (List ℕ)) → view.planned at ≡ found → view.planned at ≡ None
-    not_planned None same = same
-    not_planned (Some value) same =
-        let there : value ≡ held.cell = some_is value held.cell (sym (is.planned.keeps at value same) ∙ held.stands) in
-        absurd (asks.children at target (record {
-          cell = value;
-          stands = same;
-          is = subst (λ (v : List ℕ). IsRecordCell (Child target) at v) (sym there) held.is;
-        }))
-
-pub paths_lead : PathsLeadWithin
-paths_lead = λ g edge view first last is bounds asks bytes starts comes.
-    led_along bounds (child_below is asks) (λ v. nibble_low first.digest bytes v) comes
-    (subst (λ (l : Level). IsWithin g edge l.led_by) (sym starts) tt)
-    (subst (λ (l : Level). IsReached g view.lower l) (sym starts) (nodes.IsNode.root 0 (root_at g) refl refl))
-    (subst (λ (l : Level). IsLedWithin g view.lower l.led_by) (sym starts) tt)

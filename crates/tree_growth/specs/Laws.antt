@@ -1,5 +1,5 @@
 -- The licence of the evidence that a node is another's, and what paths are.
-use Rattle.std.specs.Prelude.{◌≡◌, ◌<◌, ◌≤◌, ◌+◌, ℕ, Option, Some, None, IsTrue, ⊤}
+use Rattle.std.specs.Prelude.{◌≡◌, ◌<◌, ◌≤◌, ◌+◌, ℕ, Some, IsTrue}
 use Rattle.cell_types.specs.Bytes.{AreBytes}
 use Rattle.cell_types.specs.Image.{Image}
 use Rattle.cell_types.specs.Layout.{Layout, list_at, root_at, pool_at}
@@ -9,29 +9,12 @@ use Rattle.stored_documents.specs.Volumes.{IsVolume}
 use Rattle.index_paths.specs.HashPaths.{Sought, PassedTo}
 use Rattle.index_paths.specs.Nodes.{IsBlockOf, IsNode, IsOnPath}
 use Rattle.tamper_rules.specs.Rules.{IsBroken}
-use Rattle.worm_device.specs.Views.{ViewState, IsView}
+use Rattle.worm_device.specs.Views.{ViewState}
 use Rattle.worm_device.specs.declared.owner.Owner.{Owner}
-use Rattle.hash_tree.specs.Levels.{AreBounds, IsReached, first_level}
-use Rattle.hash_tree.specs.Licences.{AsksBelow}
-use Rattle.hash_tree.specs.Steps.{ComesTo}
-use Rattle.hash_tree.specs.declared.level.ChildCell.{ChildCell}
+use Rattle.hash_tree.specs.Levels.{IsLedWithin}
 use Rattle.hash_tree.specs.declared.level.Level.{Level}
 use Rattle.hash_tree.specs.declared.path.Open.{Open}
 use Rattle.tree_growth.specs.Inserting.{IsTaken}
-
--- the cell is a child cell of a node of the volume
-pub record IsChildPlace (g : Layout) (image : Image) (cell : ℕ) : Type 0 where
-  pub level : ℕ
-  pub node : ℕ
-  pub half_byte : ℕ
-  pub is_node : IsNode g image level node
-  pub below : half_byte < 16
-  pub at : cell ≡ node + 16 + half_byte
-
--- the child cell that led to a level is one of a node of the volume
-abbrev pub IsLedWithin : Layout → Image → Option ChildCell → Type 0
-IsLedWithin g image None = ⊤
-IsLedWithin g image (Some child) = IsChildPlace g image child.cell
 
 -- Where a planned cell lies that is for this owner: in a block or a node of the lower image, of the owner's list or of
 -- the tree; or in one that begins where nothing below is asked.
@@ -53,14 +36,6 @@ TakenIsBroken =
     → IsLedWithin g view.lower level.led_by
     → ((cell : ℕ) (owner : Owner) → view.owners cell ≡ Some owner → LiesByOwner g view cell owner)
     → IsBroken g.cells view.lower e.rule e.cell
-
--- Where no child cell is planned, a level to which a path comes from the root was reached in the lower image, and the
--- child cell that led there is one of a node.
-abbrev pub PathsLeadWithin : Type 0
-PathsLeadWithin =
-    (g : Layout) (edge : ℕ) (view : ViewState) (first last : Level) → IsView view → AreBounds g edge
-    → AsksBelow edge view → AreBytes first.digest → first ≡ first_level first.digest
-    → ComesTo g edge view.image last first → IsReached g view.lower last × IsLedWithin g view.lower last.led_by
 
 -- a path that is passed down to a node goes by the digest's half bytes, and the node is one of the volume
 abbrev pub PassedIsOnPath : Type 0

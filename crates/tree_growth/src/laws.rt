@@ -1,15 +1,10 @@
 //! Laws: what the words of the contracts mean together. Each is a function that does nothing and whose contract is
 //! the law.
-ghost use Rattle.tree_growth.specs.Laws.{PassedIsOnPath, PathsLeadWithin, TakenIsBroken};
+ghost use Rattle.tree_growth.specs.Laws.{PassedIsOnPath, TakenIsBroken};
 
 /// A node with a cell that is planned for somebody else breaks the rule of child cells.
 pub fn taken_is_broken()
     ensures { TakenIsBroken }
-{}
-
-/// The child cell that led to a level of a path from the root is one of a node below what is planned.
-pub fn paths_lead_within()
-    ensures { PathsLeadWithin }
 {}
 
 /// A path that is passed goes by the digest's half bytes.

@@ -34,4 +34,4 @@ mod laws;
 mod tests;
 
 pub use insertion::insert;
-pub use laws::{passed_is_on_path, paths_lead_within, taken_is_broken};
+pub use laws::{passed_is_on_path, taken_is_broken};
