@@ -25,8 +25,8 @@ pub room : (g : Layout) (state : SlotState) → LiesInPool g state → HasRoom s
 room g Unused lies = tt
 room g (Reserved start length) lies = tt
 room g (Abandoned start length) lies = tt
-room g (Committed start length bytes journal) lies = (lies.1.2, lies.0.3)
-room g (Done start length bytes journal) lies = (lies.1.2, lies.0.3)
+room g (Committed start length bytes journal) lies = (lies.1.3, lies.0.3)
+room g (Done start length bytes journal) lies = (lies.1.3, lies.0.3)
 
 -- a look at a cell, wherever its number comes from
 pub look_at : (at number : ℕ) (old new : ViewState) (found : Found) → number ≡ at → LookEnds number old new

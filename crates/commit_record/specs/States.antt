@@ -31,10 +31,10 @@ abbrev pub AreOfPool : Layout → ℕ → ℕ → Type 0
 AreOfPool g start length =
     (1 ≤ length) × (pool_at g ≤ start) × (start + length ≤ g.cells) × (start + length ≤ MAX_CELLS)
 
--- so many stored bytes are those of a document, and it fits with its journal into so many cells
+-- so many stored bytes are those of a document, its journal has a cell at least, and both fit into so many cells
 abbrev pub FitsInto : ℕ → ℕ → ℕ → Type 0
 FitsInto length bytes journal =
-    (MIN_STORED_BYTES ≤ bytes) × (bytes ≤ MAX_STORED_BYTES) × (cells_for bytes + journal ≤ length)
+    (MIN_STORED_BYTES ≤ bytes) × (bytes ≤ MAX_STORED_BYTES) × (1 ≤ journal) × (cells_for bytes + journal ≤ length)
 
 -- the cells that the state names lie in the pool, and its document and journal fit into them
 abbrev pub LiesInPool : Layout → SlotState → Type 0

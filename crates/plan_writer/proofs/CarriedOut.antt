@@ -9,7 +9,7 @@ use Rattle.phase_writer.specs.Putting.{PutsPhases}
 use Rattle.recovery_engine.specs.Ending.{done_put}
 use Rattle.recovery_engine.specs.Entries.{target_of}
 use Rattle.stored_documents.specs.Documents.{Spells, Stands, content_at, document_at, stored_bytes}
-use Rattle.stored_documents.specs.Slots.{AreTaken, Commits, IsUnused, cells_for}
+use Rattle.stored_documents.specs.Slots.{AreTaken, IsDone, IsUnused, cells_for}
 use Rattle.stored_documents.specs.Volumes.{IsVolume}
 use Rattle.stored_documents.proofs.Extending.{taken_on, volume_on}
 use Rattle.tamper_rules.specs.declared.numbers.TheConstants.{STRAY_CELL}
@@ -30,10 +30,13 @@ module _ (g : Layout) (n : ℕ) (p : Plan) (old : Image) {s2 s4 : DeviceState} (
   up : Extends s2.image s4.sure
   up = (phases.sure tells).1 (omega arith)
 
-  commits : Commits g s4.sure n p.start (reserved_by p).length p.bytes (length p.journal.now)
-  commits = commits_by g n p layout less suits s4.sure
-      (put_sure 0 (reserve_put n (reserved_by p)) (omega arith) refl)
-      (put_sure 2 (commit_put n p.bytes (length p.journal.now)) (omega arith) refl)
+  is_done : IsDone g s4.sure n p.start (reserved_by p).length p.bytes (length p.journal.now)
+  is_done = record {
+    commits = commits_by g n p layout less suits s4.sure
+        (put_sure 0 (reserve_put n (reserved_by p)) (omega arith) refl)
+        (put_sure 2 (commit_put n p.bytes (length p.journal.now)) (omega arith) refl);
+    done = done_by g n p layout less suits s4.sure (put_sure 4 (done_put n) (omega arith) refl);
+  }
 
   stands : (id body : List ℕ) → PlansDocument p id body → Stands s4.cells s4.sure n id body
   stands id body d =
@@ -48,11 +51,8 @@ module _ (g : Layout) (n : ℕ) (p : Plan) (old : Image) {s2 s4 : DeviceState} (
         journal = length p.journal.now;
         volume = subst (λ (k : ℕ). IsVolume k s4.sure g) (sym phases.puts.called.cells) (volume_on up volume);
         slot = less;
-        done = record {
-          commits = subst (λ (b : ℕ). Commits g s4.sure n p.start (reserved_by p).length b (length p.journal.now))
-              d.bytes commits;
-          done = done_by g n p layout less suits s4.sure (put_sure 4 (done_put n) (omega arith) refl);
-        };
+        done = subst (λ (b : ℕ). IsDone g s4.sure n p.start (reserved_by p).length b (length p.journal.now))
+            d.bytes is_done;
         spells = subst (λ (a : ℕ). Spells s4.sure a (stored_bytes id body)) begins
             (λ k below. put_sure 1
             (record { at = document_from p + k; value = content_at (stored_bytes id body) k; blame = Rule STRAY_CELL })
@@ -61,13 +61,15 @@ module _ (g : Layout) (n : ℕ) (p : Plan) (old : Image) {s2 s4 : DeviceState} (
         is_body = d.is_body;
       }
 
-  -- the document is one of the volume's, the journal stands at its targets, and all that stood is sure
-  pub carried_out : IsCarriedOut g p n s4.cells old s4.sure
+  -- the slot is done, its document is one of the volume's, the journal stands at its targets, and all that stood is sure
+  pub carried_out : IsCarriedOut g p n s4.cells old s2.image s4.sure
   carried_out = record {
     unused = unused;
+    done = is_done;
     document = λ id body d. record { stands = stands id body d; taken = taken_on n up taken };
     journal = λ k value is. put_sure 3
         (record { at = target_of value; value = value; blame = Journal (journal_from p + k) })
         (omega arith) (record { k = k; value = is; at = refl; blame = refl });
     synced = extends_then synced phases.puts.called.sure;
+    stood = up;
   }

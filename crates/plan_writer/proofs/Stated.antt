@@ -30,7 +30,7 @@ module _ (g : Layout) (n : ℕ) (p : Plan) (layout : IsLayout g) (less : n < g.s
   }
     where
       some_cells : 1 ≤ (reserved_by p).length
-      some_cells = omega (arith, suits.fits.0, suits.fits.2)
+      some_cells = omega (arith, suits.fits.2, suits.fits.3)
 
   -- and states its document
   pub commits_by : image (reserve_at n) ≡ Some (reserve_put n (reserved_by p)).value
@@ -43,11 +43,11 @@ module _ (g : Layout) (n : ℕ) (p : Plan) (layout : IsLayout g) (less : n < g.s
       stands = here;
       is = record {
         fits = (omega (arith, suits.fits.1), omega (arith, suits.to, layout.cells));
-        well_formed = (suits.fits.0, suits.fits.1);
+        well_formed = (suits.fits.0, suits.fits.1, suits.fits.2);
         same = refl;
       };
     };
-    fits = suits.fits.2;
+    fits = suits.fits.3;
   }
 
   -- and is done

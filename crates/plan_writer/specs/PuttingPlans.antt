@@ -1,12 +1,12 @@
 -- What it means that a plan is put onto a volume that was settled, or that this was ended.
-use Rattle.std.specs.Prelude.{◌≡◌, ◌⊎◌, ℕ, List, slice_get, Some, None, Result, Ok, Err, IsTrue}
+use Rattle.std.specs.Prelude.{◌≡◌, ◌⊎◌, ℕ, List, length, slice_get, Some, None, Result, Ok, Err, IsTrue}
 use Rattle.cell_types.specs.Image.{Image, Extends}
 use Rattle.cell_types.specs.Layout.{Layout}
 use Rattle.cell_types.specs.declared.refusal.Evidence.{Evidence}
 use Rattle.cell_types.specs.declared.refusal.Fault.{Fault}
 use Rattle.cell_types.specs.declared.refusal.Fault.TheVariants.{Tampered, ReadFault}
 use Rattle.stored_documents.specs.Documents.{IsDocument}
-use Rattle.stored_documents.specs.Slots.{IsUnused}
+use Rattle.stored_documents.specs.Slots.{IsDone, IsUnused}
 use Rattle.tamper_rules.specs.Rules.{IsBroken}
 use Rattle.tamper_rules.specs.declared.numbers.TheConstants.{DONE_CELL, OTHER_TARGET, OUTCOME_CELL, RESERVE_CELL, STRAY_CELL}
 use Rattle.worm_device.specs.Calls.{Called}
@@ -15,7 +15,7 @@ use Rattle.worm_device.specs.State.{DeviceState}
 use Rattle.phase_writer.specs.Putting.{ChangesBy, CrashesLeavePhases, IsInFirst}
 use Rattle.commit_record.specs.Licences.{IsLicensed}
 use Rattle.recovery_engine.specs.Entries.{target_of}
-use Rattle.plan_writer.specs.Planned.{INGEST_PHASES, PlansDocument, ingest_phases}
+use Rattle.plan_writer.specs.Planned.{INGEST_PHASES, PlansDocument, ingest_phases, reserved_by}
 use Rattle.plan_writer.specs.declared.plan.Plan.{Plan}
 
 -- What putting a plan into slot n does, whatever it answers: where nobody else writes it puts no other cells, and a
@@ -26,14 +26,17 @@ pub record PutsPlan (n : ℕ) (p : Plan) (old new : DeviceState) : Type 0 where
       → ChangesBy (IsInFirst (ingest_phases n p) INGEST_PHASES) old.image new.image
   pub crashes : CrashesLeavePhases (ingest_phases n p) INGEST_PHASES old new
 
--- A plan is carried out: its document is one of the volume's, in slot n, which was unused; each cell of its journal
--- stands at its target; and all that stood goes on standing.
-pub record IsCarriedOut (g : Layout) (p : Plan) (n cells : ℕ) (old sure : Image) : Type 0 where
+-- A plan is carried out: slot n, which was unused, is done with the plan's cells; its document is one of the volume's;
+-- each cell of its journal stands at its target; and all that stood is sure, before the volume was settled and at the
+-- call's entry, which saw what settling and others had written by then.
+pub record IsCarriedOut (g : Layout) (p : Plan) (n cells : ℕ) (old entry sure : Image) : Type 0 where
   pub unused : IsUnused g old n
+  pub done : IsDone g sure n p.start (reserved_by p).length p.bytes (length p.journal.now)
   pub document : (id body : List ℕ) → PlansDocument p id body → IsDocument cells sure n id body
   pub journal : (k : ℕ) (value : List ℕ) → slice_get p.journal.now k ≡ Some value
       → sure (target_of value) ≡ Some value
   pub synced : Extends old sure
+  pub stood : Extends entry sure
 
 -- the cells that the plan's journal asks for are blank
 abbrev pub AsksForBlank : Plan → Image → Type 0
@@ -59,6 +62,6 @@ pub record IsFoundByPlan (p : Plan) (old entry new : DeviceState) (e : Evidence)
 -- how putting a plan may end, and why: from before the volume was settled, and from the call's entry
 abbrev pub PlanEnds : Layout → Plan → ℕ → DeviceState → DeviceState → DeviceState → Result ℕ Fault → Type 0
 PlanEnds g p n old entry new (Ok slot) =
-    (slot ≡ n) × (IsTrue old.tells → IsCarriedOut g p n new.cells old.image new.sure)
+    (slot ≡ n) × (IsTrue old.tells → IsCarriedOut g p n new.cells old.image entry.image new.sure)
 PlanEnds g p n old entry new (Err ReadFault) = Rose old.faults new.faults
 PlanEnds g p n old entry new (Err (Tampered e)) = IsTrue old.tells → IsFoundByPlan p old entry new e
