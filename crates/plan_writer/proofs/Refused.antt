@@ -69,6 +69,15 @@ module _ (p : Plan) {s0 s2 s3 : DeviceState} (r : Ready) (has : HasSettled s0 s2
           (same _ ∙ free_2 r has tells less still_2) ends_3 (record { found = e.found; stands = stands })
           (first_where s2.image s3.image r.horizon (reserved_by p) e (λ cell none. same cell ∙ none) first))
 
+      broken_2 : IsBroken s2.cells s2.image e.rule e.cell
+      broken_2 =
+          let volume = volume_2 r has tells in
+          subst (λ (k : ℕ). IsBroken k s2.image e.rule e.cell) volume.size
+          (first_breaks r.volume.geometry r.horizon (reserved_by p) less suits.from suits.to s2.image e
+          (record { volume = volume.volume; size = refl }) (free_2 r has tells less still_2)
+          (subst (EndsBelow r.volume.geometry s2.image r.horizon) (sym starts) (ends_2 r has tells))
+          (record { found = e.found; stands = sym (same e.cell) ∙ stands }) first)
+
       broken_0 : IsBroken s0.cells s0.image e.rule e.cell
       broken_0 =
           let volume = volume_0 r has tells less still_2 in
@@ -97,6 +106,7 @@ module _ (p : Plan) {s0 s2 s3 : DeviceState} (r : Ready) (has : HasSettled s0 s2
         place = first_place r.volume.geometry r.horizon (reserved_by p) less suits.from suits.to s2.image e first;
         broken = broken_3;
       };
+      at_entry = λ still asks. broken_2 still;
       before = λ still asks. broken_0 still;
     }
 

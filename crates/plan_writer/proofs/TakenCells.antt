@@ -1,5 +1,5 @@
 -- A cell of a plan was found taken.
-use Rattle.std.proofs.Common.{inl, ◌≡◌, ◌<◌, ◌+◌, ◌⊎◌, ℕ, zero, suc, List, Option, length, Some, None, refl, sym, ap, ◌∙◌, inr, ⊎_elim, subst, arith}
+use Rattle.std.proofs.Common.{inl, ◌≡◌, ◌<◌, ◌≤◌, ◌+◌, ◌⊎◌, ℕ, zero, suc, List, Option, length, Some, None, refl, sym, ap, ◌∙◌, inr, ⊎_elim, subst, arith}
 use Rattle.std.specs.Prelude.{slice_get}
 use Rattle.std.proofs.lemmas.Option.{none-some, slice_get_within}
 use Rattle.cell_types.specs.Image.{Extends}
@@ -25,7 +25,7 @@ use Rattle.worm_device.specs.Calls.{Called}
 use Rattle.worm_device.proofs.Counting.{still_first, still_second}
 use Rattle.plan_writer.specs.Blank.{IsFree}
 use Rattle.plan_writer.specs.Planned.{INGEST_PHASES, IsAskedPut, IsStoredPut, Suits, commit_put, document_from, ingest_phases, journal_from, reserve_put, reserved_by}
-use Rattle.plan_writer.specs.PuttingPlans.{IsFoundByPlan, IsPlanRule}
+use Rattle.plan_writer.specs.PuttingPlans.{AsksForBlank, IsFoundByPlan, IsPlanRule}
 use Rattle.plan_writer.specs.declared.plan.Plan.{Plan}
 use Rattle.plan_writer.proofs.LogCells.{commit_in, done_in, once_asked, once_stored, reserve_in, stored_from, stored_to}
 use Rattle.plan_writer.proofs.Stated.{commits_by, done_by}
@@ -34,6 +34,9 @@ use Rattle.plan_writer.proofs.Targets.{asked_below}
 by_cell : (R : Type 0) (found : Option (List ℕ)) → (found ≡ None → R) → ((v : List ℕ) → found ≡ Some v → R) → R
 by_cell R None none some = none refl
 by_cell R (Some v) none some = some v refl
+
+before_or : (a b : ℕ) → (a < b) ⊎ (b ≤ a)
+before_or a b = grind arith
 
 -- what is blamed by the number of a rule
 blames : (w : Blame) (number at : ℕ) (value found : List ℕ) (e : Evidence) → e ≡ blamed w at value found
@@ -86,6 +89,7 @@ module _ (g : Layout) (n : ℕ) (p : Plan) {s0 s2 s4 : DeviceState} (layout : Is
           place = place;
           broken = λ still. absurd (never still (blank (still_2 still)) once);
         };
+        at_entry = λ still asks. absurd (never still (blank (still_2 still)) once);
         before = λ still asks. absurd (never still (blank (still_2 still)) once);
       })
 
@@ -154,6 +158,16 @@ module _ (g : Layout) (n : ℕ) (p : Plan) {s0 s2 s4 : DeviceState} (layout : Is
             sym q.is ∙ ap (λ (x : Put). x.value) (done_in g n p less suits q.planned.0 q.put q.planned.2 q.here).1)
             (only (still_4 still) (done_at n) v done)
 
+    -- a target of the plan's own cells was looked at
+    target_blank : AsksForBlank p s2.image → s2.image (target_of t.taken.put.value) ≡ None
+    target_blank asks = ⊎_elim
+        (λ (low : target_of t.taken.put.value < p.start). asks a.k t.taken.put.value a.value low)
+        (λ (high : p.start ≤ target_of t.taken.put.value). free.reserved (target_of t.taken.put.value) (record {
+          from = high;
+          below = omega (arith, asked_below g p suits t.taken.put a, a.at);
+        }))
+        (before_or (target_of t.taken.put.value) p.start)
+
     target : IsFoundByPlan p s0 s2 s4 e
     target =
         subst (IsFoundByPlan p s0 s2 s4)
@@ -175,7 +189,9 @@ module _ (g : Layout) (n : ℕ) (p : Plan) {s0 s2 s4 : DeviceState} (layout : Is
               not_met = not_met still;
             };
           };
-          before = λ still asks. absurd (never still (ap s2.image a.at ∙ asks a.k t.taken.put.value a.value)
+          at_entry = λ still asks. absurd (never still (ap s2.image a.at ∙ target_blank asks)
+              (once_asked g n p less suits t.taken.put a));
+          before = λ still asks. absurd (never still (ap s2.image a.at ∙ target_blank asks)
               (once_asked g n p less suits t.taken.put a));
         })
 

@@ -1,5 +1,5 @@
 -- What it means that a plan is put onto a volume that was settled, or that this was ended.
-use Rattle.std.specs.Prelude.{◌≡◌, ◌⊎◌, ℕ, List, length, slice_get, Some, None, Result, Ok, Err, IsTrue}
+use Rattle.std.specs.Prelude.{◌≡◌, ◌<◌, ◌⊎◌, ℕ, List, length, slice_get, Some, None, Result, Ok, Err, IsTrue}
 use Rattle.cell_types.specs.Image.{Image, Extends}
 use Rattle.cell_types.specs.Layout.{Layout}
 use Rattle.cell_types.specs.declared.refusal.Evidence.{Evidence}
@@ -38,10 +38,11 @@ pub record IsCarriedOut (g : Layout) (p : Plan) (n cells : ℕ) (old entry sure 
   pub synced : Extends old sure
   pub stood : Extends entry sure
 
--- the cells that the plan's journal asks for are blank
+-- the cells that the plan's journal asks for before its own are blank
 abbrev pub AsksForBlank : Plan → Image → Type 0
 AsksForBlank p image =
-    (k : ℕ) (value : List ℕ) → slice_get p.journal.now k ≡ Some value → image (target_of value) ≡ None
+    (k : ℕ) (value : List ℕ) → slice_get p.journal.now k ≡ Some value → target_of value < p.start
+    → image (target_of value) ≡ None
 
 -- the rules that are named while a plan is put
 abbrev pub IsPlanRule : ℕ → Type 0
@@ -51,11 +52,13 @@ IsPlanRule number =
 
 -- Evidence that was found while a plan was put, from entry on, seen from before the volume was settled: it names one of
 -- these rules, and may be named; and where nobody else wrote, and the journal asked for cells that were blank at entry,
--- its rule was broken before, too. (Cells that were blank before settling would not do: it may have carried another
--- journal out into them.)
+-- its rule was broken at entry, and before settling, too. (Cells that were blank before settling would not do: it may have
+-- carried another journal out into them.)
 pub record IsFoundByPlan (p : Plan) (old entry new : DeviceState) (e : Evidence) : Type 0 where
   pub rule : IsPlanRule e.rule
   pub licensed : IsLicensed old new e
+  pub at_entry : IsStill old.foreign_writes new.foreign_writes → AsksForBlank p entry.image
+      → IsBroken entry.cells entry.image e.rule e.cell
   pub before : IsStill old.foreign_writes new.foreign_writes → AsksForBlank p entry.image
       → IsBroken old.cells old.image e.rule e.cell
 
