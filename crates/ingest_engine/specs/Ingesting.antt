@@ -1,23 +1,42 @@
 -- What it means that a document is ingested, or that this was ended.
-use Rattle.std.specs.Prelude.{◌≡◌, ◌≢◌, ◌<◌, ◌≤◌, ◌-◌, ◌⊎◌, ℕ, List, length, Result, Ok, Err, IsTrue}
-use Rattle.cell_types.specs.Image.{Image, Extends, IsUnchanged}
+use Rattle.std.specs.Prelude.{◌≡◌, ◌<◌, ◌≤◌, ◌+◌, ◌-◌, ◌⊎◌, ℕ, List, [], ◌∷◌, ◌++◌, length, Result, Ok, Err, IsTrue}
+use Rattle.cell_types.specs.Image.{Image, Extends}
 use Rattle.cell_types.specs.Layout.{Layout}
+use Rattle.cell_types.specs.declared.refusal.Evidence.{Evidence}
 use Rattle.cell_types.specs.declared.refusal.Refusal.{Refusal}
-use Rattle.cell_types.specs.declared.refusal.Refusal.TheVariants.{DeviceFault, Duplicate, Full, NoMemory, NotAVolume, NotFormatted, SlotsFull, Tampered, WrongSize}
-use Rattle.stored_documents.specs.Documents.{IsDocument, stored_bytes}
+use Rattle.cell_types.specs.declared.refusal.Refusal.TheVariants.{DeviceFault, Duplicate, Full, NoMemory, NotAVolume, NotFormatted, PathFull, SlotsFull, Tampered, TooManyTerms, WrongSize}
+use Rattle.stored_documents.specs.Documents.{Document, IsDocument, stored_bytes}
 use Rattle.stored_documents.specs.Slots.{IsUnused, cells_for}
 use Rattle.stored_documents.specs.Volumes.{IsVolume}
+use Rattle.index_paths.specs.Keeping.{IsKept, Kept}
+use Rattle.tamper_rules.specs.Rules.{IsBroken}
 use Rattle.tamper_rules.specs.declared.numbers.TheConstants.{STRAY_CELL}
+use Rattle.term_tags.specs.Listing.{GetsTooMany}
 use Rattle.worm_device.specs.Calls.{Called}
 use Rattle.worm_device.specs.Counts.{Rose, IsStill}
 use Rattle.worm_device.specs.State.{DeviceState, LeftSince}
-use Rattle.recovery_engine.specs.Settling.{HasSettled, IsFound, SettleEnds, Settles}
+use Rattle.commit_record.specs.Licences.{IsLicensed}
+use Rattle.document_store.specs.Looks.{HoldsIdentifier}
+use Rattle.recovery_engine.specs.Settling.{HasSettled, IsFound, IsSettlingRule, SettleEnds, Settles}
 use Rattle.recovery_engine.specs.declared.settling.Ready.{Ready}
-use Rattle.slot_walk.specs.Walks.{HasNone, IsFirstSlot, IsQueryRule, OfAll}
+use Rattle.identifier_lookup.specs.Walks.{HasTrail, IsFirstOnPath, IsPassedWhole, NoneHasTrail}
 use Rattle.plan_writer.specs.CrashLaws.{IsWholeOrUncommitted}
 use Rattle.plan_writer.specs.Planned.{PlansDocument, Suits}
 use Rattle.plan_writer.specs.PuttingPlans.{PutsPlan}
 use Rattle.plan_writer.specs.declared.plan.Plan.{Plan}
+use Rattle.ingest_plan.specs.declared.plan.PlannedIndex.{PlannedIndex}
+use Rattle.ingest_engine.specs.Indexing.{HasIndex, IsPathRule}
+
+-- The plan is of this document, and of its index, which was planned after settling: it has the index's blocks, and copies of
+-- its cells are the journal.
+pub record IsPlanFor (r : Ready) (id body : List ℕ) (settled looked : DeviceState) (p : Plan) : Type 0 where
+  pub starts : p.start ≡ r.edge
+  pub suits : Suits r.volume.geometry p
+  pub document : PlansDocument p id body
+  pub index : PlannedIndex
+  pub has : HasIndex r id body index settled looked
+  pub blocks : p.block_length ≡ index.block_length
+  pub journal : p.journal.now ≡ index.journal.items
 
 -- How far an ingest has come, whatever it answers.
 pub data ComesTo (id body : List ℕ) (old new : DeviceState) : Type 0 where
@@ -27,25 +46,32 @@ pub data ComesTo (id body : List ℕ) (old new : DeviceState) : Type 0 where
   settling : (refusal : Refusal) → Settles old new (Err refusal) → ComesTo id body old new
   -- the volume was settled, and then looked at alone
   settled : (r : Ready) → HasSettled old new r → ComesTo id body old new
-  -- no document of it had the identifier, and then a plan of this document was put into its first free slot, from its
-  -- edge on
-  put : (looked : DeviceState) (r : Ready) (p : Plan) → HasSettled old looked r
-      → (IsTrue old.tells → HasNone OfAll id old looked) → p.start ≡ r.edge → Suits r.volume.geometry p → PlansDocument p id body → PutsPlan r.horizon p looked new
+  -- a slot was free, the document and its index were planned, and the plan was put into that slot
+  put : (looked : DeviceState) (r : Ready) (p : Plan) (h : HasSettled old looked r)
+      → r.horizon < r.volume.geometry.slots → IsPlanFor r id body h.settled looked p → PutsPlan r.horizon p looked new
       → ComesTo id body old new
 
--- The document is one of the volume's now, in slot n, which was unused, and is sure; so is all that stood. No document
--- of the volume had its identifier.
+-- the document in this slot
+abbrev pub document_in : ℕ → List ℕ → List ℕ → Document
+document_in n id body = record { slot = n; id = id; body = body }
+
+-- The document is one of the volume's now, in slot n, which was unused, and is sure. It is kept: its index leads to it,
+-- and so it does in each image that extends this one. Whatever documents were kept are kept still, with this one behind
+-- them, and all that stood is sure. No document to which an index led had its identifier.
 pub record IsIngested (id body : List ℕ) (n : ℕ) (old new : DeviceState) : Type 0 where
   pub layout : Layout
   pub volume : IsVolume new.cells new.image layout
   pub unused : IsUnused layout old.image n
   pub document : IsDocument new.cells new.sure n id body
-  pub fresh : (m : ℕ) (other : List ℕ) → IsDocument old.cells old.image m id other → ⊥
+  pub kept : IsKept new.cells new.sure layout (document_in n id body)
+  pub keeps : (documents : List Document) → Kept old.cells old.image documents
+      → Kept new.cells new.sure (documents ++ document_in n id body ∷ [])
+  pub fresh : NoneHasTrail layout old.cells old.image id
   pub synced : Extends old.image new.sure
 
 -- how a look for a free slot of a settled volume may end, and why
 abbrev pub SlotsEnd : Ready → Result Unit Refusal → Type 0
-SlotsEnd r (Ok u) = r.horizon ≢ r.volume.geometry.slots
+SlotsEnd r (Ok u) = r.horizon < r.volume.geometry.slots
 SlotsEnd r (Err SlotsFull) = r.horizon ≡ r.volume.geometry.slots
 SlotsEnd r (Err refusal) = ⊥
 
@@ -56,21 +82,10 @@ RoomEnds r need (Err (Full needed free)) =
     (needed ≡ need) × (free ≡ r.volume.geometry.cells - r.edge) × (free < need)
 RoomEnds r need (Err refusal) = ⊥
 
--- how a look for a document with this identifier may end, and why, on a volume that was settled from old to entry
-abbrev pub IdentifierEnds : List ℕ → DeviceState → DeviceState → DeviceState → Result Unit Refusal → Type 0
-IdentifierEnds id old entry new (Ok u) =
-    (new.faults ≡ entry.faults) × (IsTrue old.tells → HasNone OfAll id old new)
-IdentifierEnds id old entry new (Err (Duplicate n)) = IsTrue old.tells → IsFirstSlot id n old new
-IdentifierEnds id old entry new (Err DeviceFault) = Rose entry.faults new.faults
-IdentifierEnds id old entry new (Err (Tampered e)) = IsTrue old.tells → IsFound IsQueryRule old new e
-IdentifierEnds id old entry new (Err refusal) = ⊥
-
--- such a look changes nothing
-pub record IdentifierChecks (r : Ready) (id : List ℕ) (entry new : DeviceState) (result : Result Unit Refusal)
-    : Type 0 where
-  pub called : Called entry new
-  pub quiet : IsStill entry.foreign_writes new.foreign_writes → IsUnchanged entry.image new.image
-  pub ends : (old : DeviceState) → Settles old entry (Ok r) → IdentifierEnds id old entry new result
+-- the volume was settled, and then only looked at; and it had a free slot
+pub record HasSlot (old new : DeviceState) (r : Ready) : Type 0 where
+  pub settled : HasSettled old new r
+  pub slot : r.horizon < r.volume.geometry.slots
 
 -- the volume was settled, and then each of its slots was taken
 pub record HasNoSlot (old new : DeviceState) : Type 0 where
@@ -78,21 +93,45 @@ pub record HasNoSlot (old new : DeviceState) : Type 0 where
   pub settled : HasSettled old new ready
   pub taken : ready.horizon ≡ ready.volume.geometry.slots
 
--- The volume was settled and had a free slot, and its first document with this identifier is in slot n.
+-- The volume was settled and had a free slot, and slot n has a document with this identifier: the path leads to it, past
+-- none with the identifier. It is the only slot of such a document to which the index led before.
 pub record IsTaken (id : List ℕ) (n : ℕ) (old new : DeviceState) : Type 0 where
   pub ready : Ready
-  pub settled : HasSettled old new ready
-  pub slot : ready.horizon ≢ ready.volume.geometry.slots
-  pub first : IsTrue old.tells → IsFirstSlot id n old new
+  pub settled : HasSlot old new ready
+  pub holds : IsTrue old.tells → HoldsIdentifier ready.volume.geometry new.image n id
+  pub first : IsTrue old.tells → IsFirstOnPath ready.volume.geometry new.cells new.image id n
+  pub alone : IsTrue old.tells → (m : ℕ) → HasTrail ready.volume.geometry old.cells old.image id m → m ≡ n
 
--- The volume was settled and had a free slot, and no document with this identifier; and the document needs more cells
--- than are free behind the edge.
+-- The volume was settled and had a free slot, and all 64 buckets of the identifier's path are written and passed. No
+-- document with the identifier had an index that led to it.
+pub record HasFullPath (id : List ℕ) (old new : DeviceState) : Type 0 where
+  pub ready : Ready
+  pub settled : HasSlot old new ready
+  pub passed : IsTrue old.tells → IsPassedWhole ready.volume.geometry new.cells new.image id
+  pub fresh : IsTrue old.tells → NoneHasTrail ready.volume.geometry old.cells old.image id
+
+-- The volume was settled and had a free slot, and no document with this identifier to which its index led; and a list of
+-- it, the lowest such, gets too many tags of the body.
+pub record IsTooMany (id body : List ℕ) (list count : ℕ) (old new : DeviceState) : Type 0 where
+  pub ready : Ready
+  pub settled : HasSlot old new ready
+  pub fresh : IsTrue old.tells → NoneHasTrail ready.volume.geometry old.cells old.image id
+  pub many : GetsTooMany ready.volume.geometry.lists body list count
+
+-- how many cells a document takes with this index of it: its own, those of its journal, and the index's new blocks
+abbrev pub need_with : List ℕ → List ℕ → PlannedIndex → ℕ
+need_with id body index =
+    cells_for (length (stored_bytes id body)) + length index.journal.items + index.block_length
+
+-- The volume was settled and had a free slot, and no document with this identifier to which its index led; and the
+-- document needs more cells, with its index as it was planned, than are free behind the edge.
 pub record HasNoRoom (id body : List ℕ) (need free : ℕ) (old new : DeviceState) : Type 0 where
   pub ready : Ready
-  pub settled : HasSettled old new ready
-  pub slot : ready.horizon ≢ ready.volume.geometry.slots
-  pub fresh : IsTrue old.tells → HasNone OfAll id old new
-  pub need_is : need ≡ cells_for (length (stored_bytes id body))
+  pub settled : HasSlot old new ready
+  pub fresh : IsTrue old.tells → NoneHasTrail ready.volume.geometry old.cells old.image id
+  pub index : PlannedIndex
+  pub has : HasIndex ready id body index settled.settled.settled new
+  pub need_is : need ≡ need_with id body index
   pub free_is : free ≡ ready.volume.geometry.cells - ready.edge
   pub less : free < need
 
@@ -100,17 +139,34 @@ pub record HasNoRoom (id body : List ℕ) (need free : ℕ) (old new : DeviceSta
 abbrev pub IsUnput : DeviceState → DeviceState → Type 0
 IsUnput old new = (new ≡ old) ⊎ ((r : Ready) × HasSettled old new r)
 
--- the rules that an ingest looks at: those of a query, and that nothing stands where it is to write
-abbrev pub IsIngestRule : ℕ → Type 0
-IsIngestRule number = IsQueryRule number ⊎ (number ≡ STRAY_CELL)
+-- the rules of the log that an ingest looks at: those of settling, and that nothing stands where it is to write
+abbrev pub IsLogRule : ℕ → Type 0
+IsLogRule number = IsSettlingRule number ⊎ (number ≡ STRAY_CELL)
+
+-- Evidence that was found behind settling, where the volume was only looked at: it may be named; and where nobody else
+-- wrote, its rule was broken there once the volume was settled.
+pub record IsFoundBehind (old new : DeviceState) (e : Evidence) : Type 0 where
+  pub ready : Ready
+  pub looked : DeviceState
+  pub settled : HasSettled old looked ready
+  pub broken : IsStill old.foreign_writes new.foreign_writes → IsBroken looked.cells looked.image e.rule e.cell
+
+-- How tampering is named: in the log, where nobody else wrote its rule was broken there before the command; or on the way
+-- through the index, as settling has left it.
+pub data IsNamed (old new : DeviceState) (e : Evidence) : Type 0 where
+  by_settling : Settles old new (Err (Tampered e)) → IsFound IsSettlingRule old new e → IsNamed old new e
+  by_plan : IsFound IsLogRule old new e → IsFoundBehind old new e → IsNamed old new e
+  in_index : IsPathRule e.rule → IsLicensed old new e → IsFoundBehind old new e → IsNamed old new e
 
 -- how an ingest may end, and why
 abbrev pub IngestEnds : List ℕ → List ℕ → DeviceState → DeviceState → Result ℕ Refusal → Type 0
 IngestEnds id body old new (Ok n) = IsTrue old.tells → IsIngested id body n old new
 IngestEnds id body old new (Err DeviceFault) = Rose old.faults new.faults
-IngestEnds id body old new (Err (Tampered e)) = IsTrue old.tells → IsFound IsIngestRule old new e
+IngestEnds id body old new (Err (Tampered e)) = IsTrue old.tells → IsNamed old new e
 IngestEnds id body old new (Err SlotsFull) = HasNoSlot old new
 IngestEnds id body old new (Err (Duplicate n)) = IsTaken id n old new
+IngestEnds id body old new (Err PathFull) = HasFullPath id old new
+IngestEnds id body old new (Err (TooManyTerms list count)) = IsTooMany id body list count old new
 IngestEnds id body old new (Err (Full need free)) = HasNoRoom id body need free old new
 IngestEnds id body old new (Err NoMemory) = IsUnput old new
 IngestEnds id body old new (Err NotFormatted) = SettleEnds old new (Err NotFormatted)

@@ -1,3 +1,4 @@
 pub mod Formats
+pub mod Indexing
 pub mod Ingesting
 pub mod StoredCells

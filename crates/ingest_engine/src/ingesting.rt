@@ -1,24 +1,26 @@
-//! A document, stored in the first free slot.
-ghost use Rattle.std.specs.Prelude.{◌≤◌};
+//! A document, stored in the first free slot with its index.
+ghost use Rattle.std.specs.Prelude.{◌≡◌, ◌≤◌};
 ghost use Rattle.stored_documents.specs.Documents.{IsBody, IsIdentifier};
-ghost use Rattle.ingest_engine.specs.Ingesting.{IdentifierChecks, Ingests, RoomEnds, SlotsEnd};
+ghost use Rattle.ingest_engine.specs.Ingesting.{Ingests, RoomEnds, SlotsEnd};
 
 use crate::document::StoredDocument;
+use crate::indexing::plan_for;
 use cell_types::Refusal;
 use plan_writer::{Plan, crashes_leave_whole_slots, put_planned};
 use recovery_engine::{Ready, settle};
-use slot_walk::first_with_identifier;
 use std::alloc::Global;
 use worm_device::Device;
 
-/// Settles the volume, and stores the document in its first free slot, unless a document of the volume has the
-/// identifier. Answers the slot, in which it is sure then. All memory is taken before the first cell is written.
+/// Settles the volume, and stores the document in its first free slot, with an index that leads to it, unless the index
+/// leads to a document with the identifier already. Answers the slot, in which it is sure then, and which no later write
+/// of anybody can hide. All memory is taken before the first cell is written.
 ///
 /// # Errors
 ///
 /// `NoMemory`; `NotFormatted`, `NotAVolume` and `WrongSize` by cell 0; `SlotsFull` where each slot is taken; `Duplicate`
-/// with the first slot whose document has the identifier; `Full` where the document needs more cells than are free;
-/// `Tampered` where a cell breaks a rule of the log, a document is broken, or a cell that is to be written is taken;
+/// with the slot that the identifier's path leads to; `PathFull` where each of the path's 64 buckets is another's;
+/// `TooManyTerms` where the body gives a list more than 256 postings; `Full` where the document and its index need more
+/// cells than are free; `Tampered` where a cell on the way breaks a rule, or one that is to be written is taken;
 /// `DeviceFault`.
 pub fn ingest<D: Device>(
     alloc: Global,
@@ -34,13 +36,14 @@ pub fn ingest<D: Device>(
     let document = StoredDocument::new(alloc, id, body)?;
     let ready = settle(device)?;
     check_slots(&ready)?;
-    check_identifier(device, &ready, id)?;
-    check_room(&ready, document.cells.len() as u32)?;
+    let index = plan_for(alloc, device, &ready, id, body)?;
+    let need = document.cells.len() as u32 + index.journal.len() as u32 + index.block_length;
+    check_room(&ready, need)?;
     let plan = Plan {
         start: ready.edge,
-        block_length: 0,
+        block_length: index.block_length,
         document: &document.cells,
-        journal: &[],
+        journal: &index.journal,
         bytes: document.bytes,
     };
     let slot = put_planned(device, &ready, &plan)?;
@@ -49,24 +52,13 @@ pub fn ingest<D: Device>(
 
 /// That a slot is free.
 fn check_slots(ready: &Ready) -> Result<(), Refusal>
+    requires { ready.now.horizon ≤ ready.now.volume.geometry.slots }
     ensures { SlotsEnd ready.now result }
 {
     if ready.horizon == ready.volume.geometry.slots() {
         return Err(Refusal::SlotsFull);
     }
     Ok(())
-}
-
-/// That no document of the volume has the identifier.
-fn check_identifier<D: Device>(device: &mut D, ready: &Ready, id: &[u8]) -> Result<(), Refusal>
-    requires horizon { ready.now.horizon ≤ ready.now.volume.geometry.slots }
-    requires size { ready.now.volume.geometry.cells ≤ (D.state device.old).cells }
-    ensures { IdentifierChecks ready.now id.now (D.state device.old) (D.state device.new) result }
-{
-    match first_with_identifier(device, ready, id)? {
-        Some(slot) => Err(Refusal::Duplicate(slot)),
-        None => Ok(()),
-    }
 }
 
 /// That the pool has so many cells behind the edge.

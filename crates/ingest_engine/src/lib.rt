@@ -23,6 +23,7 @@
 
 mod document;
 mod format;
+mod indexing;
 mod ingesting;
 
 pub use document::StoredDocument;

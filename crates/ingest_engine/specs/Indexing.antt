@@ -1,0 +1,100 @@
+-- How the index of a document is planned on a volume that was settled: where the path of its identifier ends, and then
+-- which cells are planned.
+use Rattle.std.specs.Prelude.{◌≡◌, ◌⊎◌, ℕ, List, Some, Result, Ok, Err, IsTrue, ⊤}
+use Rattle.cell_types.specs.Image.{IsUnchanged}
+use Rattle.cell_types.specs.declared.refusal.Evidence.{Evidence}
+use Rattle.cell_types.specs.declared.refusal.Fault.TheVariants as faults
+use Rattle.cell_types.specs.declared.refusal.Refusal.{Refusal}
+use Rattle.cell_types.specs.declared.refusal.Refusal.TheVariants.{DeviceFault, Duplicate, NoMemory, PathFull, Tampered, TooManyTerms}
+use Rattle.stored_documents.specs.Slots.{IsEdge, IsHorizon}
+use Rattle.stored_documents.specs.Volumes.{IsVolume}
+use Rattle.tamper_rules.specs.Rules.{IsBroken, IsPlaceOf}
+use Rattle.term_tags.specs.Listing.{GetsTooMany}
+use Rattle.worm_device.specs.Calls.{Called}
+use Rattle.worm_device.specs.Counts.{IsStill, Rose}
+use Rattle.worm_device.specs.State.{DeviceState}
+use Rattle.worm_device.specs.Views.{seen_directly}
+use Rattle.hash_tree.specs.declared.level.Level.{Level}
+use Rattle.hash_tree.specs.declared.path.Open.{Open}
+use Rattle.recovery_engine.specs.declared.settling.Ready.{Ready}
+use Rattle.identifier_lookup.specs.Walks.{IsWalkRule, WalkEnds}
+use Rattle.identifier_lookup.specs.declared.answers.Walk.{Walk}
+use Rattle.identifier_lookup.specs.declared.answers.Walk.TheVariants as walks
+use Rattle.ingest_plan.specs.Planning.{IsGrowthRule, IsPlanned}
+use Rattle.ingest_plan.specs.declared.plan.PlannedIndex.{PlannedIndex}
+use Rattle.ingest_engine.specs.declared.indexing.PathEnd.{PathEnd}
+
+-- the rules that are named on the way: those of a walk along a path, and those of planning
+abbrev pub IsPathRule : ℕ → Type 0
+IsPathRule number = IsWalkRule number ⊎ IsGrowthRule number
+
+-- Evidence that was found on the way. It stands in a place of its rule. Where nobody else wrote, cell 0 states the volume
+-- that was found ready, and its horizon and its edge are such, the rule is broken there.
+pub record IsFoundOnWay (r : Ready) (entry new : DeviceState) (e : Evidence) : Type 0 where
+  pub rule : IsPathRule e.rule
+  pub stands : new.image e.cell ≡ Some e.found
+  pub place : IsPlaceOf r.volume.geometry e.rule e.cell
+  pub broken : IsStill entry.foreign_writes new.foreign_writes → IsVolume new.cells new.image r.volume.geometry
+      → IsHorizon r.volume.geometry new.image new.image r.horizon
+      → IsEdge r.volume.geometry new.image new.image r.edge → IsBroken new.cells new.image e.rule e.cell
+
+-- a walk along the identifier's path on the device answers so
+abbrev pub WalksOn : Ready → List ℕ → DeviceState → DeviceState → Walk → Type 0
+WalksOn r id entry new answer =
+    WalkEnds r.volume.geometry r.horizon r.edge id (seen_directly entry 0) (seen_directly new 0) (Ok answer)
+
+-- how a look for the path's end may end, and why
+abbrev pub PathEnds : Ready → List ℕ → DeviceState → DeviceState → Result PathEnd Refusal → Type 0
+PathEnds r id entry new (Ok end) = WalksOn r id entry new (walks.End end.place end.level)
+PathEnds r id entry new (Err (Duplicate n)) = WalksOn r id entry new (walks.Found n)
+PathEnds r id entry new (Err PathFull) = WalksOn r id entry new walks.PathFull
+PathEnds r id entry new (Err DeviceFault) = Rose entry.faults new.faults
+PathEnds r id entry new (Err (Tampered e)) = IsTrue entry.tells → IsFoundOnWay r entry new e
+PathEnds r id entry new (Err refusal) = ⊥
+
+-- such a look changes nothing
+pub record EndsPath (r : Ready) (id : List ℕ) (entry new : DeviceState) (result : Result PathEnd Refusal) : Type 0 where
+  pub called : Called entry new
+  pub quiet : IsStill entry.foreign_writes new.foreign_writes → IsUnchanged entry.image new.image
+  pub ends : PathEnds r id entry new result
+
+-- The identifier's path was walked to its end, which is this place of this level's node, and then the device was only
+-- read.
+pub record HasWalked (r : Ready) (id : List ℕ) (place : Open) (level : Level) (entry walked new : DeviceState) : Type 0 where
+  pub called : Called entry walked
+  pub path : WalksOn r id entry walked (walks.End place level)
+  pub looked : Called walked new
+  pub quiet : IsStill walked.foreign_writes new.foreign_writes → IsUnchanged walked.image new.image
+
+-- The index of the document is planned, with its bucket at the end of its identifier's path.
+pub record HasIndex (r : Ready) (id body : List ℕ) (index : PlannedIndex) (entry new : DeviceState) : Type 0 where
+  pub walked : DeviceState
+  pub place : Open
+  pub level : Level
+  pub ends : HasWalked r id place level entry walked new
+  pub planned : IsPlanned r.volume.geometry r.horizon r.edge level place body index walked new
+
+-- The path ends, and no document with the identifier is on it; and a list gets too many tags of the body.
+pub record HasTooMany (r : Ready) (id body : List ℕ) (list count : ℕ) (entry new : DeviceState) : Type 0 where
+  pub place : Open
+  pub level : Level
+  pub path : WalksOn r id entry new (walks.End place level)
+  pub many : GetsTooMany r.volume.geometry.lists body list count
+
+-- how planning the index may end, and why
+abbrev pub PlanForEnds : Ready → List ℕ → List ℕ → DeviceState → DeviceState → Result PlannedIndex Refusal → Type 0
+PlanForEnds r id body entry new (Ok index) = HasIndex r id body index entry new
+PlanForEnds r id body entry new (Err (Duplicate n)) = WalksOn r id entry new (walks.Found n)
+PlanForEnds r id body entry new (Err PathFull) = WalksOn r id entry new walks.PathFull
+PlanForEnds r id body entry new (Err (TooManyTerms list count)) = HasTooMany r id body list count entry new
+PlanForEnds r id body entry new (Err DeviceFault) = Rose entry.faults new.faults
+PlanForEnds r id body entry new (Err (Tampered e)) = IsTrue entry.tells → IsFoundOnWay r entry new e
+PlanForEnds r id body entry new (Err NoMemory) = ⊤
+PlanForEnds r id body entry new (Err refusal) = ⊥
+
+-- it changes nothing
+pub record PlansFor (r : Ready) (id body : List ℕ) (entry new : DeviceState) (result : Result PlannedIndex Refusal)
+    : Type 0 where
+  pub called : Called entry new
+  pub quiet : IsStill entry.foreign_writes new.foreign_writes → IsUnchanged entry.image new.image
+  pub ends : PlanForEnds r id body entry new result

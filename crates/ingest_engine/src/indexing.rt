@@ -1,0 +1,85 @@
+//! The index of a document, planned on a settled volume.
+ghost use Rattle.std.specs.Prelude.{◌<◌, ◌≤◌};
+ghost use Rattle.cell_types.specs.Image.{IsUnchanged};
+ghost use Rattle.worm_device.specs.Calls.{Called};
+ghost use Rattle.worm_device.specs.Counts.{IsStill};
+ghost use Rattle.worm_device.specs.Views.{seen_directly};
+ghost use Rattle.recovery_engine.specs.Settling.{LiesInBounds};
+ghost use Rattle.identifier_lookup.specs.Walks.{WalkEnds};
+ghost use Rattle.ingest_engine.specs.Indexing.{EndsPath, PlansFor};
+
+use cell_types::{Fault, Refusal};
+use hash_tree::{Level, Open};
+use identifier_lookup::{Walk, walk};
+use ingest_plan::{PlannedIndex, plan_index};
+use recovery_engine::Ready;
+use std::alloc::Global;
+use worm_device::{Device, Direct};
+
+/// Where the path of an identifier ends: its entry goes there.
+#[derive(Clone, Copy, Debug)]
+pub struct PathEnd {
+    pub place: Open,
+    pub level: Level,
+}
+
+/// Plans the index of a document for the first free slot of a volume that was settled. The device is only read.
+///
+/// # Errors
+///
+/// `Duplicate` with the slot that the path of the identifier leads to, `PathFull` where the path is full;
+/// `TooManyTerms`; `Tampered` where a cell on the way is out of place; `DeviceFault`; `NoMemory`.
+pub fn plan_for<D: Device>(
+    alloc: Global,
+    device: &mut D,
+    ready: &Ready,
+    id: &[u8],
+    body: &[u8],
+) -> Result<PlannedIndex, Refusal>
+    requires bounds { LiesInBounds (D.state device.old) ready.now }
+    requires free { ready.now.horizon < ready.now.volume.geometry.slots }
+    ensures { PlansFor ready.now id.now body.now (D.state device.old) (D.state device.new) result }
+{
+    let end = path_end(device, ready, id)?;
+    let index = plan_index(
+        alloc,
+        device,
+        &ready.volume,
+        ready.horizon,
+        ready.edge,
+        end.place,
+        &end.level,
+        body,
+    )?;
+    Ok(index)
+}
+
+/// Where the path of the identifier ends. A slot that it leads to has a document with the identifier.
+fn path_end<D: Device>(device: &mut D, ready: &Ready, id: &[u8]) -> Result<PathEnd, Refusal>
+    requires bounds { LiesInBounds (D.state device.old) ready.now }
+    ensures { EndsPath ready.now id.now (D.state device.old) (D.state device.new) result }
+{
+    match walk_on_device(device, ready, id)? {
+        Walk::Found(slot) => Err(Refusal::Duplicate(slot)),
+        Walk::End(place, level) => Ok(PathEnd { place, level }),
+        Walk::PathFull => Err(Refusal::PathFull),
+    }
+}
+
+/// The walk along the path of the identifier.
+fn walk_on_device<D: Device>(device: &mut D, ready: &Ready, id: &[u8]) -> Result<Walk, Fault>
+    requires bounds { LiesInBounds (D.state device.old) ready.now }
+    ensures called { Called (D.state device.old) (D.state device.new) }
+    ensures quiet { IsStill (D.state device.old).foreign_writes (D.state device.new).foreign_writes →
+        IsUnchanged (D.state device.old).image (D.state device.new).image }
+    ensures ends { WalkEnds ready.now.volume.geometry ready.now.horizon ready.now.edge id.now
+        (seen_directly (D.state device.old) 0) (seen_directly (D.state device.new) 0) result }
+{
+    walk(
+        &mut Direct::new(device),
+        &ready.volume,
+        ready.horizon,
+        ready.edge,
+        id,
+    )
+}
