@@ -2,7 +2,7 @@
 use Rattle.std.proofs.Common.{◌≡◌, ◌≢◌, ◌<◌, ◌≤◌, ◌+◌, ◌*◌, ◌/◌, ◌⊎◌, ⊎_elim, inl, inr, ℕ, List, Some, None, refl, ap, sym, subst, arith, ◌∙◌}
 use Rattle.std.proofs.lemmas.Bool.{cases_lt}
 use Rattle.std.proofs.lemmas.Option.{none-some}
-use Rattle.cell_types.specs.Image.{Image}
+use Rattle.cell_types.specs.Image.{Image, Extends}
 use Rattle.cell_types.specs.Layout.{Layout, FirstBlock, LiesIn, list_at, pool_at, reserve_at}
 use Rattle.cell_types.specs.Records.{IsRecordCell}
 use Rattle.cell_types.specs.declared.record_cell.RecordCell.TheVariants.{Jump}
@@ -20,6 +20,7 @@ use Rattle.worm_device.specs.declared.owner.Owner.{Owner}
 use Rattle.list_growth.specs.Evidence.{StandsBelow, IsMet, IsBadHop, no_jump, outside, no_key, meets, meets_block, ShowsBelow, bad_entry, bad_pointer, late, IsInItsPlace, of_new, of_list, of_tree, AreInTheirPlaces, IsLicensedBelow}
 use Rattle.list_growth.specs.Readiness.{IsReached, is_new, stands_below}
 use Rattle.list_growth.proofs.BelowPlans.{IsShown, is_shown, front_shown, order_shown, greatest_shown}
+use Rattle.list_growth.proofs.Showing.{leads_on}
 
 -- an edge lies at the pool's start or behind
 edge_from : (g : Layout) (image : Image) (at : ℕ) → IsEdge g image image at → pool_at g ≤ at
@@ -57,6 +58,11 @@ block_of : (g : Layout) (s : ViewState) (l block : ℕ) → l < g.lists → IsEd
     → Leads s.lower (pool_at g) s.fresh block (list_at g l) → IsBlockOf g s.lower l block
 block_of g s l block list edge leads =
     record { list = list; leads = leads_on_device g s.lower s.fresh block (list_at g l) edge leads }
+
+-- and stay so
+pub block_on : {g : Layout} {old new : Image} {l block : ℕ} → Extends old new → IsBlockOf g old l block
+    → IsBlockOf g new l block
+block_on more block = record { list = block.list; leads = leads_on more block.leads }
 
 -- a block of the list ends before the cell where its room ends
 leads_before : {image : Image} {from to last block : ℕ} → block + 256 ≤ to → Leads image from to last block
