@@ -27,7 +27,7 @@ use Rattle.planned_cells.specs.declared.fault.GrowthFault.TheVariants.{Fault, No
 use Rattle.term_tags.specs.Listing.{listed}
 use Rattle.term_tags.specs.declared.rows.Posting.{Posting}
 use Rattle.worm_device.proofs.Covering.{planned_show}
-use Rattle.worm_device.proofs.Images.{extends_then}
+use Rattle.worm_device.proofs.Images.{extends_self, extends_then}
 use Rattle.worm_device.specs.Calls.{Called}
 use Rattle.worm_device.specs.Counts.{IsStill}
 use Rattle.worm_device.specs.Overlays.{PlansNothing}
@@ -42,6 +42,7 @@ use Rattle.index_growth.specs.Indexes.{IndexEnds, Indexes, IsIndexCell, IsIndexe
 use Rattle.index_growth.specs.Rows.{AreInOrder, AreInserted, InsertsRow, IsRowCell, of_posting, of_pointer, LiesInLists, in_first, in_pool}
 use Rattle.index_growth.specs.Standing.{IndexStands, ListsStand}
 use Rattle.index_growth.proofs.Granted.{StaysQuiet, gives_more, gives_on}
+use Rattle.index_growth.proofs.Licensing.{licensable}
 
 -- a place of a level lies in the level's node
 place_within : (g : Layout) (level : Level) (bucket : ℕ) (child : Option ℕ) → nibble level.digest level.number < 16
@@ -257,9 +258,9 @@ taken_still g level place mid new e same lower base t = record {
 
 -- the postings were refused
 pub row_ends : (g : Layout) (n : ℕ) (rows : List Posting) (level : Level) (place : Open) (from to : ℕ)
-    (old new : ViewState) (fault : GrowthFault) → InsertsRow g n rows from to old new (Err fault)
-    → Indexes g n rows level place from to old new (Err fault)
-row_ends g n rows level place from to old new fault inserts = record {
+    (old new : ViewState) (fault : GrowthFault) → ((cell : ℕ) → old.planned cell ≡ None)
+    → InsertsRow g n rows from to old new (Err fault) → Indexes g n rows level place from to old new (Err fault)
+row_ends g n rows level place from to old new fault nothing inserts = record {
   called = inserts.called;
   cells = inserts.cells;
   fresh = inserts.fresh;
@@ -271,7 +272,8 @@ row_ends g n rows level place from to old new fault inserts = record {
   why : (fault : GrowthFault) → InsertsRow g n rows from to old new (Err fault)
       → IndexEnds g n rows level place from to old new (Err fault)
   why (Fault faults.ReadFault) inserts = inserts.ends
-  why (Fault (faults.Tampered e)) inserts = λ tells. let h = inserts.ends tells in in_list h.0 h.1 h.2 h.3
+  why (Fault (faults.Tampered e)) inserts = λ tells.
+      let h = inserts.ends tells in (in_list h.0.0 h.0.1 h.0.2 h.0.3, h.1 nothing)
   why NoMemory inserts = tt
 
 -- the postings were inserted, and then the bucket was planned or refused
@@ -290,14 +292,20 @@ entry_ends g n rows level place from next pool rest old mid new result answer ro
   ends = ends;
 }
 
-pub entry_refused : (g : Layout) (n : ℕ) (rows : List Posting) (level : Level) (place : Open) (from : ℕ)
-    (pool rest : Pool) (old mid new : ViewState) (fault : GrowthFault)
+pub entry_refused : (g : Layout) (n : ℕ) (rows : List Posting) (level : Level) (place : Open) (from next : ℕ)
+    (pool rest : Pool) (old mid new : ViewState) (fault : GrowthFault) → IsView old
+    → ((cell : ℕ) → old.planned cell ≡ None) → InsertsRow g n rows from next old mid (Ok tt)
     → InsertsEntry g level place n pool rest mid new (Err fault)
     → IndexEnds g n rows level place from rest.next old new (Err fault)
-entry_refused g n rows level place from pool rest old mid new (Fault faults.ReadFault) entry = absurd entry.ends
-entry_refused g n rows level place from pool rest old mid new (Fault (faults.Tampered e)) entry =
-    λ tells. in_tree (taken_still g level place mid new e entry.ends.2 entry.lower entry.base entry.ends.0)
-entry_refused g n rows level place from pool rest old mid new NoMemory entry = tt
+entry_refused g n rows level place from next pool rest old mid new (Fault faults.ReadFault) view nothing row entry =
+    absurd entry.ends
+entry_refused g n rows level place from next pool rest old mid new (Fault (faults.Tampered e)) view nothing row entry =
+    λ tells. (
+      in_tree (taken_still g level place mid new e entry.ends.2 entry.lower entry.base entry.ends.0),
+      licensable view nothing tells row.ends row.fresh entry.fresh entry.ends.2.planned entry.ends.2.owners
+          (subst (λ (l : Image). Extends mid.lower l) (sym entry.lower) (extends_self mid.lower)),
+    )
+entry_refused g n rows level place from next pool rest old mid new NoMemory view nothing row entry = tt
 
 -- the pool has given cells, or none
 pub taken_on : (g : Layout) (level : Level) (place : Open) (n at : ℕ) (pool rest : Pool) (mid new : ViewState)

@@ -1,6 +1,7 @@
 pub mod Granted
 pub mod Indexing
 pub mod Journals
+pub mod Licensing
 pub mod Others
 pub mod RowSteps
 pub mod Standing

@@ -3,7 +3,7 @@ use Rattle.std.proofs.Common.{◌≡◌, ◌≢◌, ◌<◌, ◌≤◌, ◌+◌,
 use Rattle.std.specs.Prelude.{IsTrue, slice_get}
 use Rattle.std.proofs.lemmas.Bool.{cases_eq, cases_lt}
 use Rattle.std.proofs.lemmas.Option.{none-some}
-use Rattle.cell_types.specs.Image.{Extends}
+use Rattle.cell_types.specs.Image.{Image, Extends}
 use Rattle.cell_types.specs.Layout.{Layout, list_at, pool_at}
 use Rattle.cell_types.specs.declared.refusal.Fault.TheVariants as faults
 use Rattle.cell_types.specs.declared.record_cell.RecordCell.TheVariants.{Jump}
@@ -23,7 +23,7 @@ use Rattle.worm_device.specs.Counts.{IsStill}
 use Rattle.worm_device.proofs.Counting.{still_first, still_second}
 use Rattle.worm_device.proofs.Elapsing.{called_self, called_then}
 use Rattle.worm_device.proofs.Images.{extends_self, extends_then}
-use Rattle.worm_device.specs.Views.{ViewState}
+use Rattle.worm_device.specs.Views.{IsView, ViewState}
 use Rattle.worm_device.specs.declared.owner.Owner.{Owner}
 use Rattle.list_growth.specs.Growing.{Grows}
 use Rattle.list_growth.specs.Inserting.{InsertsPosting, PlansEntry, alone, with_pointer}
@@ -34,6 +34,7 @@ use Rattle.index_growth.proofs.Granted.{gives_more, gives_nothing, gives_on, qui
 use Rattle.list_growth.proofs.Untouched.{stays_untouched, untouched_ready}
 use Rattle.index_growth.proofs.Others.{IsNear, IsHeld, held_before, held_posting, held_pointer, IsOwned, as_before, anew, held_in, owned_in, plans_blank, plans_keep}
 use Rattle.index_growth.specs.Standing.{KeysSoFar, ListsStand, RowStands}
+use Rattle.index_growth.proofs.Licensing.{licensable, places_next}
 use Rattle.index_growth.proofs.Standing.{keys_first, keys_next, stands_first, stands_next}
 
 -- no posting is inserted yet
@@ -60,6 +61,7 @@ row_begins g n rows pool s free untouched = record {
     grants = gives_nothing s.planned pool.next;
     shown = λ tells. extends_self s.image;
     blank = λ tells cell none value is. absurd (none-some value (sym none ∙ is));
+    places = λ tells inside before. before;
     stand = λ tells i p less is. absurd (omega (arith, less));
     lists = λ tells still lists. stands_first lists;
   };
@@ -264,6 +266,9 @@ module _ (g : Layout) (n : ℕ) (rows : List Posting) (i : ℕ) (first pool late
       grants = granted_now plans;
       shown = λ tells. extends_then (so.inserted.shown tells) (inserts.ends.5 (told tells)).shown;
       blank = λ tells cell none value is. blank_now tells cell none value is (mid.planned cell) refl;
+      places = λ tells inside before.
+          places_next in_list plans (inserts.ends.5 (told tells)).ready inserts.lower inserts.fresh inside
+          (so.inserted.places tells (omega (arith, inside, inserts.fresh)) before);
       stand = stand_now;
       lists = lists_now;
     };
@@ -274,10 +279,11 @@ module _ (g : Layout) (n : ℕ) (rows : List Posting) (i : ℕ) (first pool late
 
 -- a posting was refused
 pub row_refused : (g : Layout) (n : ℕ) (rows : List Posting) (i : ℕ) (first pool later : Pool) (old mid new : ViewState)
-    (p : Posting) (fault : GrowthFault) → slice_get rows i ≡ Some p → RowSoFar g n rows i first pool old mid
+    (p : Posting) (fault : GrowthFault) → IsView old → slice_get rows i ≡ Some p
+    → RowSoFar g n rows i first pool old mid
     → InsertsPosting (list_at g p.list) (pool_at g) pool.next later.next (listed n p).posting mid new (Err fault)
     → InsertsRow g n rows first.next later.next old new (Err fault)
-row_refused g n rows i first pool later old mid new p fault here so inserts = record {
+row_refused g n rows i first pool later old mid new p fault view here so inserts = record {
   called = called_then so.called inserts.called;
   cells = inserts.cells ∙ so.cells;
   fresh = inserts.fresh ∙ so.fresh;
@@ -289,5 +295,12 @@ row_refused g n rows i first pool later old mid new p fault here so inserts = re
   why : (fault : GrowthFault) → InsertsPosting (list_at g p.list) (pool_at g) pool.next later.next (listed n p).posting mid new (Err fault)
       → Rattle.index_growth.specs.Rows.RowEnds g n rows first.next later.next old new (Err fault)
   why (Fault faults.ReadFault) inserts = omega (arith, inserts.ends, so.called.faults)
-  why (Fault (faults.Tampered e)) inserts = λ tells. (i, p, here, (inserts.ends (subst IsTrue (sym so.called.tells) tells)).0)
+  why (Fault (faults.Tampered e)) inserts = λ tells.
+      let h = inserts.ends (subst IsTrue (sym so.called.tells) tells) in (
+        (i, p, here, h.0),
+        λ nothing.
+            licensable view nothing tells so.inserted so.fresh inserts.fresh
+            (λ cell. ap (λ (f : Image). f cell) h.2.planned) (λ cell. ap (λ (f : ℕ → Option Owner). f cell) h.2.owners)
+            inserts.lower,
+      )
   why NoMemory inserts = tt

@@ -21,6 +21,7 @@ use Rattle.hash_tree.specs.declared.path.Open.{Open}
 use Rattle.list_growth.specs.Evidence.{ShowsBelow}
 use Rattle.tree_growth.specs.Inserting as tree
 use Rattle.index_growth.specs.Granting.{GivesWhatIsLedTo}
+use Rattle.index_growth.specs.Licensing.{IsLicensable}
 use Rattle.index_growth.specs.Standing.{IndexStands, ListsStand}
 
 -- the cell of an index record, which is well-formed there, from the first list on
@@ -64,7 +65,7 @@ abbrev pub IndexEnds : Layout → ℕ → List Posting → Level → Open → �
 IndexEnds g n rows level place from to old new (Ok done) = IsIndexed g n rows level place from to old new
 IndexEnds g n rows level place from to old new (Err (Fault ReadFault)) = Rose old.base.faults new.base.faults
 IndexEnds g n rows level place from to old new (Err (Fault (Tampered e))) =
-    IsTrue old.base.tells → IsNamed g n rows level place new e
+    IsTrue old.base.tells → IsNamed g n rows level place new e × IsLicensable g old new
 IndexEnds g n rows level place from to old new (Err NoMemory) = ⊤
 
 -- What planning the index of a document does, where the pool's next cell was this one and is that one. Where nobody else

@@ -17,9 +17,10 @@ use Rattle.worm_device.specs.Calls.{Called}
 use Rattle.worm_device.specs.Counts.{IsStill, Rose}
 use Rattle.worm_device.specs.Views.{ViewState}
 use Rattle.worm_device.specs.declared.owner.Owner.{Owner}
-use Rattle.list_growth.specs.Evidence.{ShowsBelow}
+use Rattle.list_growth.specs.Evidence.{AreInTheirPlaces, ShowsBelow}
 use Rattle.list_growth.specs.Readiness.{IsReady, IsUntouched}
 use Rattle.index_growth.specs.Granting.{GivesWhatIsLedTo}
+use Rattle.index_growth.specs.Licensing.{IsLicensable}
 use Rattle.index_growth.specs.Standing.{KeysSoFar, ListsStand, RowStands}
 
 -- the postings are in lists of the volume, by list and key, and each of their ordinals is at most the last
@@ -71,18 +72,22 @@ pub record AreInserted (g : Layout) (n : ℕ) (rows : List Posting) (count from 
   pub shown : IsTrue old.base.tells → Extends old.image new.image
   pub blank : IsTrue old.base.tells → (cell : ℕ) → old.planned cell ≡ None → (value : List ℕ)
       → new.planned cell ≡ Some value → old.image cell ≡ None
+  -- what is planned besides is in its place, where the cells that are new begin within the volume
+  pub places : IsTrue old.base.tells → new.fresh ≤ g.cells → AreInTheirPlaces g old → AreInTheirPlaces g new
   pub stand : IsTrue old.base.tells → (i : ℕ) (p : Posting) → i < count → slice_get rows i ≡ Some p
       → StandsInList g new to (listed n p)
   pub lists : IsTrue old.base.tells → IsStill old.base.foreign_writes new.base.foreign_writes
       → ListsStand g old.image from (256 * n) → RowStands g n rows count from to old.image new.image
 
--- how inserting the row may end, and why
+-- How inserting the row may end, and why. Evidence is of the list of one of the postings, and licensed where nothing was
+-- planned at entry.
 abbrev pub RowEnds : Layout → ℕ → List Posting → ℕ → ℕ → ViewState → ViewState → Result Unit GrowthFault → Type 0
 RowEnds g n rows from to old new (Ok done) = AreInserted g n rows (length rows) from to old new
 RowEnds g n rows from to old new (Err (Fault ReadFault)) = Rose old.base.faults new.base.faults
 RowEnds g n rows from to old new (Err (Fault (Tampered e))) =
-    IsTrue old.base.tells → (i : ℕ) × (p : Posting) × (slice_get rows i ≡ Some p)
-    × ShowsBelow new (list_at g p.list) (pool_at g) (listed n p).posting.key e
+    IsTrue old.base.tells → ((i : ℕ) × (p : Posting) × (slice_get rows i ≡ Some p)
+    × ShowsBelow new (list_at g p.list) (pool_at g) (listed n p).posting.key e)
+    × (((cell : ℕ) → old.planned cell ≡ None) → IsLicensable g old new)
 RowEnds g n rows from to old new (Err NoMemory) = ⊤
 
 -- What inserting a row of postings does, where the pool's next cell was this one and is that one. Where nobody else wrote,

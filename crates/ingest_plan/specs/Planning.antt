@@ -1,5 +1,5 @@
 -- What planning the index of a document says of it.
-use Rattle.std.specs.Prelude.{◌≡◌, ◌≤◌, ◌+◌, ℕ, List, Some, None, Result, Ok, Err, IsTrue, ⊤}
+use Rattle.std.specs.Prelude.{◌≡◌, ◌≤◌, ◌+◌, ◌⊎◌, ℕ, List, Some, None, Result, Ok, Err, IsTrue, ⊤}
 use Rattle.sha2.specs.Sha256.{sha256}
 use Rattle.cell_types.specs.Image.{Image, Extends, IsUnchanged}
 use Rattle.cell_types.specs.Layout.{Layout}
@@ -7,18 +7,21 @@ use Rattle.cell_types.specs.declared.refusal.Evidence.{Evidence}
 use Rattle.cell_types.specs.declared.refusal.Refusal.{Refusal}
 use Rattle.cell_types.specs.declared.refusal.Refusal.TheVariants.{DeviceFault, NoMemory, Tampered, TooManyTerms}
 use Rattle.stored_documents.specs.Documents.{Stands}
+use Rattle.stored_documents.specs.Slots.{IsEdge, IsHorizon}
+use Rattle.stored_documents.specs.Volumes.{IsVolume}
 use Rattle.index_paths.specs.Keeping.{IsKept, sought_in}
+use Rattle.tamper_rules.specs.Rules.{IsBroken, IsPlaceOf}
+use Rattle.tamper_rules.specs.declared.numbers.TheConstants.{BLOCK_OUT_OF_ORDER, FAKE_POSTING, LOST_POINTER, LOST_CHILD}
 use Rattle.term_tags.specs.Listing.{GetsTooMany}
-use Rattle.term_tags.specs.declared.rows.Posting.{Posting}
 use Rattle.worm_device.specs.Calls.{Called}
 use Rattle.worm_device.specs.Counts.{IsStill, Rose}
 use Rattle.worm_device.specs.State.{DeviceState}
-use Rattle.worm_device.specs.Views.{ViewState}
 use Rattle.hash_tree.specs.declared.level.Level.{Level}
 use Rattle.hash_tree.specs.declared.path.Open.{Open}
+use Rattle.tree_growth.specs.Laws.{IsLedWithin}
 use Rattle.tree_growth.specs.Readiness.{PassedDown}
 use Rattle.index_growth.specs.Granting.{GivesWhatIsLedTo}
-use Rattle.index_growth.specs.Indexes.{IsIndexCell, IsNamed}
+use Rattle.index_growth.specs.Indexes.{IsIndexCell}
 use Rattle.index_growth.specs.Journal.{IsJournal}
 use Rattle.ingest_plan.specs.declared.plan.PlannedIndex.{PlannedIndex}
 
@@ -45,13 +48,21 @@ pub record IsPlanned (g : Layout) (n edge : ℕ) (level : Level) (place : Open) 
   pub grants : GivesWhatIsLedTo planned edge (edge + p.block_length)
   pub keeps : IsTrue old.tells → KeepsDocument g n body level place (edge + p.block_length) new.image planned
 
--- What is named, in a state of what was planned over the device: a cell of a list that one of the postings goes into, or
--- the child cell that led to the level's node.
-pub record NamesCell (g : Layout) (n : ℕ) (level : Level) (place : Open) (new : DeviceState) (e : Evidence) : Type 0 where
-  pub rows : List Posting
-  pub view : ViewState
-  pub over : view.lower ≡ new.image
-  pub is : IsNamed g n rows level place view e
+-- the rules that planning names: those of a block's cells, of its postings and of its pointers, and that of child cells
+abbrev pub IsGrowthRule : ℕ → Type 0
+IsGrowthRule number =
+    (number ≡ BLOCK_OUT_OF_ORDER) ⊎ (number ≡ FAKE_POSTING) ⊎ (number ≡ LOST_POINTER) ⊎ (number ≡ LOST_CHILD)
+
+-- The licence of evidence. It stands on the device. Where the child cell that led to the level is one of a node, it is at
+-- a place of its rule; and where besides nobody else wrote in the call, cell 0 states this volume, slot n is the horizon,
+-- and new cells begin at the edge, the rule is broken there.
+pub record NamesCell (g : Layout) (n edge : ℕ) (level : Level) (old new : DeviceState) (e : Evidence) : Type 0 where
+  pub rule : IsGrowthRule e.rule
+  pub stands : new.image e.cell ≡ Some e.found
+  pub place : IsLedWithin g new.image level.led_by → IsPlaceOf g e.rule e.cell
+  pub broken : IsLedWithin g new.image level.led_by → IsStill old.foreign_writes new.foreign_writes
+      → IsVolume new.cells new.image g → IsHorizon g new.image new.image n → IsEdge g new.image new.image edge
+      → IsBroken new.cells new.image e.rule e.cell
 
 -- how planning may end, and why
 abbrev pub PlanEnds : Layout → ℕ → ℕ → Level → Open → List ℕ → DeviceState → DeviceState → Result PlannedIndex Refusal
@@ -59,7 +70,7 @@ abbrev pub PlanEnds : Layout → ℕ → ℕ → Level → Open → List ℕ →
 PlanEnds g n edge level place body old new (Ok p) = IsPlanned g n edge level place body p old new
 PlanEnds g n edge level place body old new (Err (TooManyTerms list count)) =
     GetsTooMany g.lists body list count × (new ≡ old)
-PlanEnds g n edge level place body old new (Err (Tampered e)) = IsTrue old.tells → NamesCell g n level place new e
+PlanEnds g n edge level place body old new (Err (Tampered e)) = IsTrue old.tells → NamesCell g n edge level old new e
 PlanEnds g n edge level place body old new (Err DeviceFault) = Rose old.faults new.faults
 PlanEnds g n edge level place body old new (Err NoMemory) = ⊤
 PlanEnds g n edge level place body old new (Err refusal) = ⊥

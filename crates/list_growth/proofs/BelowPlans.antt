@@ -21,7 +21,7 @@ shown_if : (s : ViewState) (cell : ℕ) (value : List ℕ) (planned : Option (Li
     → IsView s → NothingBelowPlans s → cell < s.fresh → s.lower cell ≡ Some value → s.image cell ≡ Some value
 shown_if s cell value None is view none before stands = view.below cell is before ∙ stands
 shown_if s cell value (Some planned) is view none before stands =
-    absurd (none-some value (sym (none cell planned is) ∙ stands))
+    absurd (none-some value (sym (none cell planned is before) ∙ stands))
 
 pub is_shown : (s : ViewState) → IsView s → NothingBelowPlans s → IsShown s.lower s.image s.fresh
 is_shown s view none = record {

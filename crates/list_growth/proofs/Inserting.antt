@@ -66,7 +66,7 @@ refused head floor next to low bound p old new (Fault ReadFault) view placed = r
   loans = placed.loans;
   lower = placed.lower;
   quiet = placed.quiet;
-  ends = placed.ends;
+  ends = placed.ends.0;
 }
 refused head floor next to low bound p old new (Fault (Tampered e)) view placed = record {
   called = placed.called;
@@ -75,7 +75,11 @@ refused head floor next to low bound p old new (Fault (Tampered e)) view placed 
   loans = placed.loans;
   lower = placed.lower;
   quiet = placed.quiet;
-  ends = λ tells. (placed.ends tells, λ still below. not_shown new view head floor p.key below e (placed.ends tells));
+  ends = λ tells. (
+    placed.ends.0 tells,
+    λ still below. not_shown new view head floor p.key below e (placed.ends.0 tells),
+    placed.ends.1 tells,
+  );
 }
 refused head floor next to low bound p old new NoMemory view placed = record {
   called = placed.called;

@@ -1,22 +1,26 @@
 -- The licence of what an insertion names: it stands below, in a place of its rule, and the rule is broken there.
-use Rattle.std.proofs.Common.{◌≡◌, ◌≢◌, ◌<◌, ◌≤◌, ◌+◌, ◌*◌, ◌⊎◌, ⊎_elim, inl, inr, ℕ, List, Some, refl, ap, sym, subst, arith, ◌∙◌}
-use Rattle.cell_types.specs.Image.{Image}
-use Rattle.cell_types.specs.Layout.{Layout, FirstBlock, LiesIn, list_at, pool_at}
+use Rattle.std.proofs.Common.{◌≡◌, ◌≢◌, ◌<◌, ◌≤◌, ◌+◌, ◌*◌, ◌/◌, ◌⊎◌, ⊎_elim, inl, inr, ℕ, List, Some, None, refl, ap, sym, subst, arith, ◌∙◌}
+use Rattle.std.proofs.lemmas.Bool.{cases_lt}
+use Rattle.std.proofs.lemmas.Option.{none-some}
+use Rattle.cell_types.specs.Image.{Image, Extends}
+use Rattle.cell_types.specs.Layout.{Layout, FirstBlock, LiesIn, list_at, pool_at, reserve_at}
 use Rattle.cell_types.specs.Records.{IsRecordCell}
 use Rattle.cell_types.specs.declared.record_cell.RecordCell.TheVariants.{Jump}
 use Rattle.cell_types.specs.declared.refusal.Evidence.{Evidence}
-use Rattle.stored_documents.specs.Slots.{IsEdge, Reserves}
+use Rattle.stored_documents.specs.Slots.{IsEdge, IsHorizon, Reserves}
 use Rattle.stored_documents.specs.Volumes.{Holds}
 use Rattle.stored_documents.proofs.Holding.{one_record_holds, some_is}
-use Rattle.index_paths.specs.Blocks.{InFront, InSpan, Leads, arrived, onwards, pointer_at}
+use Rattle.index_paths.specs.Blocks.{PostingFields, posting_record, InFront, InSpan, Leads, arrived, onwards, pointer_at}
 use Rattle.index_paths.specs.Nodes.{IsBlockOf}
-use Rattle.tamper_rules.specs.Rules.{Entries, IsOfPool, LeadsWell, Pointers, Postings}
+use Rattle.tamper_rules.specs.Rules.{Entries, IsOfPool, IsTruePosting, LeadsWell, Pointers, Postings}
 use Rattle.jump_index.proofs.Behind.{jump_target}
 use Rattle.jump_index.proofs.Licence.{in_place, leads_wider, not_in_order}
 use Rattle.worm_device.specs.Views.{ViewState, IsView}
+use Rattle.worm_device.specs.declared.owner.Owner.{Owner}
 use Rattle.list_growth.specs.Evidence.{StandsBelow, IsMet, IsBadHop, no_jump, outside, no_key, meets, meets_block, ShowsBelow, bad_entry, bad_pointer, late, IsInItsPlace, of_new, of_list, of_tree, AreInTheirPlaces, IsLicensedBelow}
 use Rattle.list_growth.specs.Readiness.{IsReached, is_new, stands_below}
 use Rattle.list_growth.proofs.BelowPlans.{IsShown, is_shown, front_shown, order_shown, greatest_shown}
+use Rattle.list_growth.proofs.Showing.{leads_on}
 
 -- an edge lies at the pool's start or behind
 edge_from : (g : Layout) (image : Image) (at : ℕ) → IsEdge g image image at → pool_at g ≤ at
@@ -54,6 +58,11 @@ block_of : (g : Layout) (s : ViewState) (l block : ℕ) → l < g.lists → IsEd
     → Leads s.lower (pool_at g) s.fresh block (list_at g l) → IsBlockOf g s.lower l block
 block_of g s l block list edge leads =
     record { list = list; leads = leads_on_device g s.lower s.fresh block (list_at g l) edge leads }
+
+-- and stay so
+pub block_on : {g : Layout} {old new : Image} {l block : ℕ} → Extends old new → IsBlockOf g old l block
+    → IsBlockOf g new l block
+block_on more block = record { list = block.list; leads = leads_on more block.leads }
 
 -- a block of the list ends before the cell where its room ends
 leads_before : {image : Image} {from to last block : ℕ} → block + 256 ≤ to → Leads image from to last block
@@ -152,6 +161,14 @@ not_well g s l block level digit found list shown edge places before low high
     let one = one_target s block level digit target found low high jump well.target well.jump in
     reached_breaks g s l block level digit target home list edge to other above under well one reached
 
+-- a cell of a block of list l that is new, or stands below before cells of the volume, is in its place
+pub reached_in_place : {g : Layout} {s : ViewState} {l cell : ℕ} {owner : Owner} → l < g.lists → s.fresh ≤ g.cells
+    → owner.head ≡ list_at g l → IsReached s (list_at g l) (pool_at g) owner.base → owner.base ≤ cell
+    → cell < owner.base + 256 → IsInItsPlace g s cell owner
+reached_in_place {l = l} list inside head (is_new past) from to = of_new past from
+reached_in_place {g} {l = l} list inside head (stands_below before leads) from to =
+    of_list l head (record { list = list; leads = leads_wider (pool_at g) g.cells (omega arith) inside leads }) from to
+
 -- what stands below is shown, and is the evidence
 stands_there : (s : ViewState) (e : Evidence) → IsView s → StandsBelow s e → s.lower e.cell ≡ Some e.found
 stands_there s e view st = sym (view.below e.cell st.free st.before) ∙ st.stands
@@ -171,6 +188,20 @@ cell_on_device g s l block off cell list edge leads below is =
     in_place g s.lower l (pool_at g) g.cells (list_at g l) block off cell list refl refl (omega arith)
     (leads_on_device g s.lower s.fresh block (list_at g l) edge leads) below is
 
+-- no posting of a slot from the horizon on is a true one
+past_horizon : {g : Layout} {image : Image} {n l : ℕ} {p : PostingFields} → IsHorizon g image image n → 256 * n ≤ p.key
+    → IsTruePosting g image l p → ⊥
+past_horizon {g} {image} {n} {l} {p} horizon past it =
+    let free : image (reserve_at n) ≡ None = horizon.free (omega (arith, past, it.live.slot)) in
+    ⊎_elim
+    (λ (less : n < p.key / 256).
+    let taken = it.live.taken n less in none-some taken.found (sym free ∙ taken.stands))
+    (λ (le : p.key / 256 ≤ n).
+    let reserve = it.live.done.done.commits.reserves.reserve in
+    let same : p.key / 256 ≡ n = omega (arith, le, past) in
+    none-some reserve.cell (sym free ∙ ap (λ (m : ℕ). image (reserve_at m)) (sym same) ∙ reserve.stands))
+    (cases_lt n (p.key / 256))
+
 -- the evidence of an insertion is licensed
 pub licensed : (g : Layout) (s : ViewState) (l key : ℕ) (e : Evidence) → IsView s → l < g.lists
     → ShowsBelow s (list_at g l) (pool_at g) key e → IsLicensedBelow g s l key e
@@ -179,6 +210,7 @@ licensed g s l key e view list (bad_entry block place leads st rule cell below b
       stands = low;
       place = λ inside. (Entries, rule, cell_in g s l block place e.cell list inside leads (omega arith) cell);
       late = λ other. absurd (omega (arith, rule, other));
+      past = λ n horizon after other volume edge. absurd (omega (arith, rule, other));
       broken = λ other volume edge none places. record {
         layout = g;
         volume = volume;
@@ -202,6 +234,7 @@ licensed g s l key e view list (bad_pointer block level digit leads st rule is c
             (omega (arith, is.levels, is.digits)) cell,
       );
       late = λ other. absurd (omega (arith, rule, other));
+      past = λ n horizon after other volume edge. absurd (omega (arith, rule, other));
       broken = λ other volume edge none places. record {
         layout = g;
         volume = volume;
@@ -218,7 +251,10 @@ licensed g s l key e view list (bad_pointer block level digit leads st rule is c
       };
     }
 licensed g s l key e view list (late block place p leads st rule cell below holds past) =
-    let low = stands_there s e view st in record {
+    let low = stands_there s e view st in
+    let posting : Holds s.lower e.cell (posting_record p) =
+    record { cell = holds.cell; stands = sym (view.below e.cell st.free st.before) ∙ holds.stands; is = holds.is } in
+    record {
       stands = low;
       place = λ inside. (Postings, rule, cell_in g s l block place e.cell list inside leads (omega arith) cell);
       late = λ same. record {
@@ -228,12 +264,19 @@ licensed g s l key e view list (late block place p leads st rule cell below hold
         leads = leads;
         at = cell;
         in_places = below;
-        posting = record {
-          cell = holds.cell;
-          stands = sym (view.below e.cell st.free st.before) ∙ holds.stands;
-          is = holds.is;
-        };
+        posting = posting;
         late = past;
+      };
+      past = λ n horizon after same volume edge. record {
+        layout = g;
+        volume = volume;
+        rule = Postings;
+        named = rule;
+        place = cell_on_device g s l block place e.cell list edge leads (omega arith) cell;
+        written = record { found = e.found; stands = low };
+        not_met = λ met.
+            past_horizon horizon (omega (arith, after, past))
+            (met l block place p (block_of g s l block list edge leads) below cell posting);
       };
       broken = λ other. absurd (other rule);
     }

@@ -405,7 +405,10 @@ module _ (head floor next to block l : ℕ) (p : PostingFields) (s : Span) (low 
     loans = both.loans ∙ viewed.loans;
     lower = extends_then viewed.lower (same_extends mid.lower new.lower both.lower);
     quiet = quiet_on viewed both.base;
-    ends = λ tells. absurd (both.ends (spot_free tells) (pointer_free tells) (spot_differs tells));
+    ends = (
+      λ tells. absurd (both.ends (spot_free tells) (pointer_free tells) (spot_differs tells)),
+      λ tells. absurd (both.ends (spot_free tells) (pointer_free tells) (spot_differs tells)),
+    );
   }
   both_places (Err NoMemory) both = record {
     called = called_on viewed.called both.base;
@@ -493,7 +496,10 @@ place_then head floor to block p low bound old mid new viewed (Err (Fault fault)
   loans = placed.loans ∙ viewed.loans;
   lower = extends_then viewed.lower placed.lower;
   quiet = quiet_then viewed placed.called placed.quiet;
-  ends = fault_then head floor p.key old mid new viewed fault placed.ends;
+  ends = (
+    fault_then head floor p.key old mid new viewed fault placed.ends.0,
+    λ tells. viewed_then viewed (placed.ends.1 (subst IsTrue (sym viewed.called.tells) tells)),
+  );
 }
 place_then head floor to block p low bound old mid new viewed (Err NoMemory) placed = record {
   called = called_then viewed.called placed.called;
@@ -540,7 +546,7 @@ read_fault head floor to block p low bound old new f viewed ends = record {
   loans = viewed.loans;
   lower = viewed.lower;
   quiet = (rests_of viewed).below;
-  ends = ends;
+  ends = (ends, λ tells. viewed);
 }
 
 -- the block has no key of the span
@@ -571,7 +577,7 @@ one_refused head floor to block at p low bound old mid new owner (Fault (Tampere
   loans = put.loans ∙ viewed.loans;
   lower = extends_then viewed.lower (same_extends mid.lower new.lower put.lower);
   quiet = quiet_on viewed put.base;
-  ends = λ tells. absurd (put.ends (free tells));
+  ends = (λ tells. absurd (put.ends (free tells)), λ tells. absurd (put.ends (free tells)));
 }
 one_refused head floor to block at p low bound old mid new owner NoMemory viewed free put = record {
   called = called_on viewed.called put.base;

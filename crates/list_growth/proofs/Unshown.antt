@@ -23,17 +23,17 @@ use Rattle.list_growth.proofs.Growing.{leads_below}
 use Rattle.list_growth.proofs.Showing.{some_or_none, some_same}
 
 module _ (s : ViewState) (view : IsView s) (head floor key : ℕ) (w : ListBelow s floor head key) where
-  not_planned : (c : ℕ) (v : List ℕ) → s.lower c ≡ Some v → s.planned c ≡ None
-  not_planned c v is = ⊎_elim
+  not_planned : (c : ℕ) (v : List ℕ) → c < s.fresh → s.lower c ≡ Some v → s.planned c ≡ None
+  not_planned c v old is = ⊎_elim
       (λ none. none)
-      (λ (some : (u : List ℕ) × (s.planned c ≡ Some u)). absurd (none-some v (sym (w.untouched c some.0 some.1) ∙ is)))
+      (λ (some : (u : List ℕ) × (s.planned c ≡ Some u)). absurd (none-some v (sym (w.untouched c some.0 some.1 old) ∙ is)))
       (some_or_none (s.planned c))
 
   holds_up : {c : ℕ} {r : RecordCell} → c < s.fresh → Holds s.lower c r → Holds s.image c r
   holds_up {c} {r} old h = record {
     cell = h.cell;
     stands =
-        view.below c (not_planned c h.cell h.stands) old ∙ h.stands;
+        view.below c (not_planned c h.cell old h.stands) old ∙ h.stands;
     is = h.is;
   }
 

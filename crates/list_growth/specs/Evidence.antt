@@ -1,8 +1,8 @@
 -- What an insertion names as evidence, and what licence that has.
-use Rattle.std.specs.Prelude.{◌≡◌, ◌≢◌, ◌<◌, ◌≤◌, ◌+◌, ◌⊎◌, ℕ, List, Some, None}
+use Rattle.std.specs.Prelude.{◌≡◌, ◌≢◌, ◌<◌, ◌≤◌, ◌+◌, ◌*◌, ◌⊎◌, ℕ, List, Some, None}
 use Rattle.cell_types.specs.Layout.{Layout, list_at, root_at, pool_at}
 use Rattle.cell_types.specs.declared.refusal.Evidence.{Evidence}
-use Rattle.stored_documents.specs.Slots.{IsEdge}
+use Rattle.stored_documents.specs.Slots.{IsEdge, IsHorizon}
 use Rattle.stored_documents.specs.Volumes.{Holds, IsVolume}
 use Rattle.index_paths.specs.Blocks.{PostingFields, posting_record, InFront, InSpan, Leads, pointer_at}
 use Rattle.index_paths.specs.Nodes.{IsBlockOf, IsNode}
@@ -64,9 +64,10 @@ pub data ShowsBelow (s : ViewState) (head floor key : ℕ) (e : Evidence) : Type
       → e.rule ≡ FAKE_POSTING → e.cell ≡ block + place → place < 128
       → Holds s.image e.cell (posting_record p) → key ≤ p.key → ShowsBelow s head floor key e
 
--- nothing stands below what is planned
+-- nothing stands below what is planned before the cells that are new
 abbrev pub NothingBelowPlans : ViewState → Type 0
-NothingBelowPlans s = (cell : ℕ) (value : List ℕ) → s.planned cell ≡ Some value → s.lower cell ≡ None
+NothingBelowPlans s =
+    (cell : ℕ) (value : List ℕ) → s.planned cell ≡ Some value → cell < s.fresh → s.lower cell ≡ None
 
 -- A planned cell lies in the block or node that its owner names, which is new, or one of the owner's list or tree as it
 -- stands below.
@@ -92,12 +93,15 @@ pub record IsLatePosting (s : ViewState) (head floor key : ℕ) (e : Evidence) :
   pub late : key ≤ p.key
 
 -- The licence of an insertion's evidence over what stands below, for list l of a volume whose pool begins at the floor.
--- It stands there, in a place of its rule. A posting that is named is late. What else is named breaks its rule there,
--- where cell 0 states the volume, what is new begins at an edge of what stands below, nothing stands below what is
--- planned, and what is planned is in its place.
+-- It stands there, in a place of its rule. A posting that is named is late, and where the new key is of a slot from the
+-- horizon on, it breaks its rule there, where cell 0 states the volume, and what is new begins at an edge of what stands
+-- below. What else is named does so where besides nothing stands below what is planned before what is new, and what is
+-- planned is in its place.
 pub record IsLicensedBelow (g : Layout) (s : ViewState) (l key : ℕ) (e : Evidence) : Type 0 where
   pub stands : s.lower e.cell ≡ Some e.found
   pub place : s.fresh ≤ g.cells → HasPlace g e
   pub late : e.rule ≡ FAKE_POSTING → IsLatePosting s (list_at g l) (pool_at g) key e
+  pub past : (n : ℕ) → IsHorizon g s.lower s.lower n → 256 * n ≤ key → e.rule ≡ FAKE_POSTING → IsVolume g.cells s.lower g
+      → IsEdge g s.lower s.lower s.fresh → IsBroken g.cells s.lower e.rule e.cell
   pub broken : e.rule ≢ FAKE_POSTING → IsVolume g.cells s.lower g → IsEdge g s.lower s.lower s.fresh
       → NothingBelowPlans s → AreInTheirPlaces g s → IsBroken g.cells s.lower e.rule e.cell

@@ -1,11 +1,12 @@
 -- What one insertion adds to a list.
-use Rattle.std.specs.Prelude.{◌≡◌, ◌<◌, ◌≤◌, ◌+◌, ℕ, List, None, Some}
+use Rattle.std.specs.Prelude.{◌≡◌, ◌<◌, ◌≤◌, ◌+◌, ℕ, None}
 use Rattle.cell_types.specs.Image.{Image}
 use Rattle.cell_types.specs.declared.record_cell.RecordCell.TheVariants.{Jump}
 use Rattle.stored_documents.specs.Volumes.{Holds}
 use Rattle.index_paths.specs.Blocks.{PostingFields, posting_record, InFront, IsFull, InSpan, Trail, Leads, pointer_at}
 use Rattle.volume_growth.specs.ListShapes.{IsWellListed, Adds}
 use Rattle.worm_device.specs.Views.{ViewState}
+use Rattle.list_growth.specs.Evidence.{NothingBelowPlans}
 use Rattle.list_growth.specs.Readiness.{IsOwnBlock}
 
 -- a full block leads on for a key: the pointer of the key's span is a jump cell to the target
@@ -85,12 +86,12 @@ pub data Grows (old new : Image) (floor next to block : ℕ) (p : PostingFields)
       → ((cell : ℕ) → next ≤ cell → old cell ≡ None) → IsLastFull old floor next home p.key → to ≡ next + 256
       → cost ≡ 258 → Grows old new floor next to block p cost
 
--- The list as it stands below is well shaped, with keys below this one; nothing stands below what is planned; and what
--- is planned in the list's blocks is for it.
+-- The list as it stands below is well shaped, with keys below this one; nothing stands below what is planned before the
+-- cells that are new; and what is planned in the list's blocks is for it.
 pub record ListBelow (s : ViewState) (floor head key : ℕ) : Type 0 where
   pub roomy : floor ≤ s.fresh
   pub listed : IsWellListed s.lower floor s.fresh head
-  pub untouched : (cell : ℕ) (value : List ℕ) → s.planned cell ≡ Some value → s.lower cell ≡ None
+  pub untouched : NothingBelowPlans s
   pub own_blocks : (b : ℕ) → Leads s.lower floor s.fresh b head → IsOwnBlock s head b
   pub below : (block place : ℕ) (p : PostingFields) → Leads s.lower floor s.fresh block head → place < 128
       → Holds s.lower (block + place) (posting_record p) → p.key < key

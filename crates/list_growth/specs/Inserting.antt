@@ -13,7 +13,7 @@ use Rattle.planned_cells.specs.declared.fault.GrowthFault.{GrowthFault}
 use Rattle.planned_cells.specs.declared.fault.GrowthFault.TheVariants.{Fault, NoMemory}
 use Rattle.worm_device.specs.Calls.{Called}
 use Rattle.worm_device.specs.Counts.{IsStill, Rose}
-use Rattle.worm_device.specs.Views.{ViewState}
+use Rattle.worm_device.specs.Views.{ViewState, Viewed}
 use Rattle.list_growth.specs.Evidence.{ShowsBelow}
 use Rattle.list_growth.specs.Growing.{Grows, ListBelow}
 use Rattle.list_growth.specs.Readiness.{IsReady}
@@ -61,8 +61,8 @@ pub record IsInserted (head floor next to : ℕ) (p : PostingFields) (e : Entry)
   pub grows : IsStill old.base.foreign_writes new.base.foreign_writes → IsWellListed old.image floor next head
       → IsWellListed new.image floor to head × ((cost : ℕ) × Grows old.image new.image floor next to head p cost)
 
--- How inserting a posting may end, and why. What a written cell is named for stands below; where nobody else wrote, none
--- is named in a list that stands as it should.
+-- How inserting a posting may end, and why. What a written cell is named for stands below, and nothing was planned then;
+-- where nobody else wrote, none is named in a list that stands as it should.
 abbrev pub InsertEnds : ℕ → ℕ → ℕ → ℕ → PostingFields → ViewState → ViewState → Result Entry GrowthFault → Type 0
 InsertEnds head floor next to p old new (Ok e) =
     (posting_of e ≡ p) × (e.place < 128) × (e.block + 256 ≤ to)
@@ -73,6 +73,7 @@ InsertEnds head floor next to p old new (Err (Fault ReadFault)) = Rose old.base.
 InsertEnds head floor next to p old new (Err (Fault (Tampered e))) =
     IsTrue old.base.tells → ShowsBelow new head floor p.key e
     × (IsStill old.base.foreign_writes new.base.foreign_writes → ListBelow new floor head p.key → ⊥)
+    × Viewed old new
 InsertEnds head floor next to p old new (Err NoMemory) = ⊤
 
 -- Inserting a posting, where the pool's next cell was this one and is that one. Where nobody else wrote, the device below

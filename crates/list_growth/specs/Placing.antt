@@ -23,7 +23,8 @@ pub record IsPlaced (head floor to block : ℕ) (p : PostingFields) (low bound a
   pub has : HasKeyIn new.image block low bound
   pub ready : (key : ℕ) → p.key < key → IsReady new head floor to key
 
--- the posting is inserted; or the block is full and has no key of the span; or there is a fault, or no memory
+-- the posting is inserted; or the block is full and has no key of the span; or reads alone met a fault; or there is no
+-- memory
 abbrev pub PlaceEnds : ℕ → ℕ → ℕ → ℕ → PostingFields → ℕ → ℕ → ViewState → ViewState
     → Result (Option Spot) GrowthFault → Type 0
 PlaceEnds head floor to block p low bound old new (Ok (Some spot)) =
@@ -32,7 +33,8 @@ PlaceEnds head floor to block p low bound old new (Ok None) =
     Viewed old new
     × (IsTrue old.base.tells → (place : ℕ) (q : PostingFields) → place < 128 → InFront new.image block place q
     → q.key < low)
-PlaceEnds head floor to block p low bound old new (Err (Fault fault)) = FaultEnds head floor p.key old new fault
+PlaceEnds head floor to block p low bound old new (Err (Fault fault)) =
+    FaultEnds head floor p.key old new fault × (IsTrue old.base.tells → Viewed old new)
 PlaceEnds head floor to block p low bound old new (Err NoMemory) = ⊤
 
 -- inserting a posting in or behind a block, where the pool's next cell is that one then

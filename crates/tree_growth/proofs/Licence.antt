@@ -38,7 +38,7 @@ leads_well {g} {image} {cell} {target} place met held =
     )
 
 -- a child cell of a node lies in the root or in the pool
-child_inside : {g : Layout} {image : Image} {cell v node x : ℕ} → IsNode g image v node → x < 16
+pub child_inside : {g : Layout} {image : Image} {cell v node x : ℕ} → IsNode g image v node → x < 16
     → cell ≡ node + 16 + x → LiesIn g Root cell ⊎ IsOfPool g cell
 child_inside (nodes.IsNode.root v node is at) xs same =
     inl (record { exists = tt; from = omega (arith, at, same); below = omega (arith, at, same, xs) })

@@ -24,7 +24,7 @@ use Rattle.tree_growth.specs.Readiness.{blank_in, cost_in}
 use Rattle.tree_growth.specs.Rooting.{IsNewBucket, IsRooted, IsRootedBefore, in_bucket, in_new_node}
 
 -- a node stays one
-node_on : {g : Layout} {old new : Image} {v node : ℕ} → Extends old new → IsNode g old v node → IsNode g new v node
+pub node_on : {g : Layout} {old new : Image} {v node : ℕ} → Extends old new → IsNode g old v node → IsNode g new v node
 node_on e (nodes.IsNode.root v node is at) = nodes.IsNode.root v node is at
 node_on e (nodes.IsNode.under v node u above x is rest xs less child from inside) =
     nodes.IsNode.under v node u above x is (node_on e rest) xs less (holds_on e child) from inside

@@ -6,6 +6,7 @@ use Rattle.std.proofs.Common.{[]}
 use Rattle.std.specs.Prelude.{slice_index_or}
 use Rattle.term_tags.specs.Listing.{listed}
 use Rattle.term_tags.specs.declared.rows.Posting.{Posting}
+use Rattle.worm_device.specs.Overlaying.{overlay_shows}
 use Rattle.worm_device.specs.Overlays.{of_overlay}
 use Rattle.index_growth.proofs.RowSteps.{row_begins, row_next, row_refused}
 use Rattle.index_growth.proofs.rows.insert_postings.Goals as goal
@@ -26,7 +27,8 @@ pub returns-in-Err-clause-inserts : goal.returns-in-Err-clause-inserts
 returns-in-Err-clause-inserts g c =
     row_refused c.args.geometry.now c.args.slot c.args.rows.now c.loop-row.row-index c.args.pool.now c.loop-row.pool c.insert_one.new.pool
     (of_overlay g.V.View.seen c.args.overlay.now) (of_overlay g.V.View.seen c.loop-row.overlay) (of_overlay g.V.View.seen c.insert_one.new.overlay) _
-    c.in-Err.fault (slice_get-get_or c.args.rows.now c.loop-row.row-index _ c.loop-row-test.true) c.loop-row.invariant
+    c.in-Err.fault (overlay_shows g.V.View.seen g.met.V.View.proper c.args.overlay.now)
+    (slice_get-get_or c.args.rows.now c.loop-row.row-index _ c.loop-row-test.true) c.loop-row.invariant
     (rw c.in-Err.is at c.insert_one.ensures.inserts)
 
 pub insert_one-requires-clause-ready : goal.insert_one-requires-clause-ready

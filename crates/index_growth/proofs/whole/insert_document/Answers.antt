@@ -21,7 +21,7 @@ returns-in-Err-clause-indexes g c =
     row_ends c.args.volume.now.geometry c.args.slot c.args.rows.now c.args.level.now c.args.place c.args.pool.now.next
     c.insert_postings.new.pool.next
     (of_overlay g.V.View.seen c.args.overlay.now) (of_overlay g.V.View.seen c.insert_postings.new.overlay) c.in-Err.fault
-    (rw c.in-Err.is at c.insert_postings.ensures.inserts)
+    c.requires.nothing (rw c.in-Err.is at c.insert_postings.ensures.inserts)
 
 pub returns-in-Ok-clause-indexes : goal.returns-in-Ok-clause-indexes
 returns-in-Ok-clause-indexes g c =
@@ -53,6 +53,7 @@ returns-in-Err-insert-clause-indexes g c =
     c.insert_postings.new.pool c.insert.new.pool
     (of_overlay g.V.View.seen c.args.overlay.now) (of_overlay g.V.View.seen c.insert_postings.new.overlay)
     (of_overlay g.V.View.seen c.insert.new.overlay) _ _ row entry
-    (entry_refused c.args.volume.now.geometry c.args.slot c.args.rows.now c.args.level.now c.args.place c.args.pool.now.next c.insert_postings.new.pool
-    c.insert.new.pool (of_overlay g.V.View.seen c.args.overlay.now) (of_overlay g.V.View.seen c.insert_postings.new.overlay)
-    (of_overlay g.V.View.seen c.insert.new.overlay) c.in-Err-insert.fault entry)
+    (entry_refused c.args.volume.now.geometry c.args.slot c.args.rows.now c.args.level.now c.args.place c.args.pool.now.next
+    c.insert_postings.new.pool.next c.insert_postings.new.pool c.insert.new.pool (of_overlay g.V.View.seen c.args.overlay.now) (of_overlay g.V.View.seen c.insert_postings.new.overlay)
+    (of_overlay g.V.View.seen c.insert.new.overlay) c.in-Err-insert.fault
+    (overlay_shows g.V.View.seen g.met.V.View.proper c.args.overlay.now) c.requires.nothing row entry)
