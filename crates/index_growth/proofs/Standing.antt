@@ -24,8 +24,10 @@ use Rattle.list_growth.proofs.Added.{IsAddedBy, the_posting, the_pointer, grows_
 use Rattle.list_growth.proofs.Costs.{posting_costs}
 use Rattle.list_growth.proofs.KeptTrails.{IsGrown, grown, keys_go_on, trails_go_on}
 use Rattle.list_growth.proofs.Others.{stands_aside}
+use Rattle.index_growth.specs.Counts.{PlansAtCost}
 use Rattle.index_growth.specs.Rows.{AreInOrder}
 use Rattle.index_growth.specs.Standing.{IsAddedTo, posting, pointer, KeysSoFar, LiesOutside, ListsStand, RowStands}
+use Rattle.index_growth.proofs.Counting.{costs_none, costs_then}
 
 -- one more of a row
 mapped_more : {A B : Type 0} (f : A → B) (rows : List A) (i : ℕ) (row : A) → slice_get rows i ≡ Some row
@@ -72,6 +74,13 @@ stands_first s = record {
   cost = 0;
   costs = none _ _ 0 refl refl refl;
 }
+
+-- with nothing planned, at no cost
+pub stands_first_at_cost : {g : Layout} {n : ℕ} {rows : List Posting} {from : ℕ} {image : Image} (planned : Image)
+    → ListsStand g image from (256 * n)
+    → (stands : RowStands g n rows 0 from from image image) × PlansAtCost planned planned from from stands.cost
+unfolding stands_first
+stands_first_at_cost {from = from} planned s = (stands_first s, costs_none from)
 
 pub keys_first : {g : Layout} (n : ℕ) (rows : List Posting) {from : ℕ} {image : Image}
     → ListsStand g image from (256 * n) → KeysSoFar g n rows 0 image from
@@ -224,6 +233,13 @@ module _ {g : Layout} {n : ℕ} {rows : List Posting} {i from next to cost : ℕ
         (costs_more (listed n p) cost s.costs
         (posting_costs (s.lists.well p.list in_list) (s.lists.trails p.list in_list) keys_here grows));
   }
+
+  -- and what it plans and takes is added to the cost
+  pub stands_next_at_cost : {before mid after : Image} → PlansAtCost before mid from next s.cost
+      → PlansAtCost mid after next to cost
+      → (stands : RowStands g n rows (i + 1) from to first new) × PlansAtCost before after from to stands.cost
+  unfolding stands_next
+  stands_next_at_cost so_far now = (stands_next, costs_then s.cost cost s.more grew.more so_far now)
 
   pub keys_next : KeysSoFar g n rows (i + 1) new to
   keys_next l key less slot before = ⊎_elim
