@@ -30,17 +30,19 @@ use Rattle.worm_device.proofs.Covering.{planned_show}
 use Rattle.worm_device.proofs.Images.{extends_self, extends_then}
 use Rattle.worm_device.specs.Calls.{Called}
 use Rattle.worm_device.specs.Counts.{IsStill}
-use Rattle.worm_device.specs.Overlays.{PlansNothing}
+use Rattle.worm_device.specs.Overlays.{over, PlansNothing}
 use Rattle.worm_device.specs.State.{DeviceState}
 use Rattle.worm_device.specs.Views.{IsView, ViewState}
 use Rattle.worm_device.specs.declared.owner.Owner.{Owner}
 use Rattle.tree_growth.specs.Inserting.{InsertsEntry, IsInserted, IsTaken, PlansBucket, alone, with_node}
-use Rattle.tree_growth.specs.Readiness.{IsReady, blank_in, blank_of, owner_in}
+use Rattle.tree_growth.specs.Readiness.{IsReady, blank_in, blank_of, cost_of, owner_in}
 use Rattle.tree_growth.specs.Rooting.{IsRooted, IsRootedBefore}
 use Rattle.index_growth.specs.Granting.{GivesWhatIsLedTo, to_node}
-use Rattle.index_growth.specs.Indexes.{IndexEnds, Indexes, IsIndexCell, IsIndexed, in_list, in_tree}
+use Rattle.index_growth.specs.Indexes.{IndexEnds, IndexStandsAtCost, Indexes, IsIndexCell, IsIndexed, in_list, in_tree}
 use Rattle.index_growth.specs.Rows.{AreInOrder, AreInserted, InsertsRow, IsRowCell, of_posting, of_pointer, LiesInLists, in_first, in_pool}
-use Rattle.index_growth.specs.Standing.{IndexStands, ListsStand}
+use Rattle.index_growth.specs.Counts.{PlansAtCost}
+use Rattle.index_growth.specs.Standing.{IndexStands, ListsStand, RowStands}
+use Rattle.index_growth.proofs.Counting.{bucket_at_cost, costs_then, none_planned}
 use Rattle.index_growth.proofs.Granted.{StaysQuiet, gives_more, gives_on}
 use Rattle.index_growth.proofs.Licensing.{licensable}
 
@@ -201,25 +203,91 @@ module _ (g : Layout) (n : ℕ) (rows : List Posting) (level : Level) (place : O
     node_taken (with_node child is_child child_is less leads at_is holds others small below takes) other is =
         omega (arith, takes.next, from_pool)
 
+    still_row : new.base ≡ mid.base → IsStill old.base.foreign_writes new.base.foreign_writes
+        → IsStill old.base.foreign_writes mid.base.foreign_writes
+    still_row same_base still =
+        subst (λ (b : DeviceState). IsStill old.base.foreign_writes b.foreign_writes) same_base still
+
+    -- what is not planned reads as it did
+    unplanned_now : PlansBucket g level place n at pool rest mid new
+        → IsStill old.base.foreign_writes mid.base.foreign_writes → (cell : ℕ) → new.planned cell ≡ None
+        → new.image cell ≡ old.image cell
+    unplanned_now (alone none same_at holds others small same_pool) still cell free =
+        let as_before = others cell (λ same. none-some holds.planned.cell
+        (sym free ∙ ap new.planned same ∙ holds.planned.stands)) in
+        as_before.image ∙ row.unplanned still cell (sym as_before.planned ∙ free)
+    unplanned_now (with_node child is_child child_is less leads at_is holds others small below takes) still cell free =
+        let as_before = others cell
+        (λ same. none-some leads.planned.cell (sym free ∙ ap new.planned same ∙ leads.planned.stands))
+        (λ same. none-some holds.planned.cell (sym free ∙ ap new.planned same ∙ holds.planned.stands)) in
+        as_before.image ∙ row.unplanned still cell (sym as_before.planned ∙ free)
+
+    shows_by : IsView new → new.base ≡ mid.base → IsStill old.base.foreign_writes new.base.foreign_writes → (cell : ℕ)
+        → (held : Option (List ℕ)) → new.planned cell ≡ held → new.image cell ≡ over held (old.image cell)
+    shows_by view same_base still cell (Some value) is = view.planned.keeps cell value is
+    shows_by view same_base still cell None is = unplanned_now inserted.plans (still_row same_base still) cell is
+
+    -- what is planned read blank, where the place did
+    blank_now : IsView old → PlansBucket g level place n at pool rest mid new → IsTrue old.base.tells
+        → old.image (blank_of place) ≡ None → (cell : ℕ) (value : List ℕ) → new.planned cell ≡ Some value
+        → old.image cell ≡ None
+    blank_now view (alone none same_at holds others small same_pool) tells blank cell value is = ⊎_elim
+        (λ (here : cell ≡ at). ap old.image (here ∙ same_at ∙ sym (bucket_place none)) ∙ blank)
+        (λ differs. row.blank tells cell (nothing cell) value (sym (others cell differs).planned ∙ is))
+        (cases_eq cell at)
+      where
+        bucket_place : place.child ≡ None → blank_of place ≡ bucket_at g level
+        bucket_place none =
+            ap (λ (c : Option ℕ). blank_in place.bucket c) none
+            ∙ subst (λ (c : Option ℕ). Rattle.hash_tree.specs.Steps.IsOpenAt g level place.bucket c) none open_at
+    blank_now view (with_node child is_child child_is less leads at_is holds others small below takes) tells blank cell
+        value is = ⊎_elim
+        (λ (here : cell ≡ child).
+        ap old.image (here ∙ sym (ap (λ (c : Option ℕ). blank_in place.bucket c) is_child)) ∙ blank)
+        (λ differs. ⊎_elim
+        (λ (here : cell ≡ at).
+        view.beyond cell (nothing cell) (omega (arith, here, at_is, from_pool, fresh)))
+        (λ also. row.blank tells cell (nothing cell) value (sym (others cell differs also).planned ∙ is))
+        (cases_eq cell at))
+        (cases_eq cell child)
+
     -- the lists behind the postings, and the tree behind the bucket
     stands_now : new.base ≡ mid.base → next ≤ rest.next → IsTrue old.base.tells → IsStill old.base.foreign_writes new.base.foreign_writes
-        → ListsStand g old.image from (256 * n) → IndexStands g n rows level place from rest.next old.image new.image
+        → (lists : RowStands g n rows (length rows) from next old.image mid.image)
+        → IndexStands g n rows level place from rest.next old.image new.image
     stands_now same_base further tells still lists = record {
       between = mid.image;
       next = next;
       more = further;
       node = node_taken inserted.plans;
-      lists = row.lists tells
-          (subst (λ (b : DeviceState). IsStill old.base.foreign_writes b.foreign_writes) same_base still) lists;
+      lists = lists;
       tree = λ before.
           subst (λ (m : ℕ). IsRooted g level place n m rest.next mid.image new.image) from_pool
           (inserted.rooted (subst (λ (m : ℕ). IsRootedBefore g level place m mid.image) (sym from_pool) before));
       need = inserted.need;
     }
 
-    pub index_is_done : IsView mid → new.lower ≡ mid.lower → new.base ≡ mid.base → next ≤ rest.next
+    -- and as many cells as they cost
+    cost_now : new.base ≡ mid.base → next ≤ rest.next → IsTrue old.base.tells → IsStill old.base.foreign_writes new.base.foreign_writes
+        → ListsStand g old.image from (256 * n)
+        → IndexStandsAtCost g n rows level place from rest.next old.image new.image new.planned
+    unfolding stands_now
+    cost_now same_base further tells still lists =
+        let r = row.lists tells (still_row same_base still) lists in
+        let by_bucket : PlansAtCost mid.planned new.planned next rest.next (cost_of place) =
+        subst (λ (m : ℕ). PlansAtCost mid.planned new.planned m rest.next (cost_of place)) from_pool
+        (bucket_at_cost g level place n at pool rest mid new inserted.plans) in
+        let all = costs_then r.0.cost (cost_of place) r.0.more further r.1 by_bucket 0 (none_planned nothing) in
+        record {
+          stands = stands_now same_base further tells still r.0;
+          count = all.0;
+          cells = all.1;
+          cost = omega (arith, all.2);
+        }
+
+    pub index_is_done : IsView old → IsView mid → IsView new → new.lower ≡ mid.lower → new.base ≡ mid.base → next ≤ rest.next
         → IsIndexed g n rows level place from rest.next old new
-    index_is_done view below same_base further = record {
+    index_is_done first view last below same_base further = record {
       only = only_now inserted.plans;
       before = inserted.beyond;
       grants = given_now inserted.plans;
@@ -233,7 +301,9 @@ module _ (g : Layout) (n : ℕ) (rows : List Posting) (level : Level) (place : O
                 (trail_on all stands.trail);
           };
       path = inserted.trail;
-      stands = stands_now same_base further;
+      shows = λ still cell. shows_by last same_base still cell (new.planned cell) refl;
+      blank = blank_now first inserted.plans;
+      stands = cost_now same_base further;
     }
 
 -- what is taken is taken still, where nothing was planned

@@ -1,3 +1,4 @@
+pub mod Counting
 pub mod Granted
 pub mod Indexing
 pub mod Journals

@@ -6,6 +6,7 @@ use Rattle.cell_types.specs.Records.{IsRecordCell}
 use Rattle.cell_types.specs.declared.record_cell.RecordCell.{RecordCell}
 use Rattle.cell_types.specs.declared.record_cell.RecordCell.TheVariants.{Jump}
 use Rattle.index_paths.specs.Blocks.{PostingFields, posting_record}
+use Rattle.worm_device.specs.Counts.{IsStill}
 use Rattle.worm_device.specs.Views.{ViewState}
 use Rattle.worm_device.specs.declared.owner.Owner.{Owner}
 use Rattle.list_growth.specs.Inserting.{IsPlannedFor, PlansEntry, alone, with_pointer}
@@ -123,5 +124,28 @@ plans_blank {head} {floor} {at} {p} {old} {new} (with_pointer pointer target one
     (λ differs. ⊎_elim
     (λ same. subst (λ (n : ℕ). old.image n ≡ None) (sym same) (other.blank tells))
     (λ differs_too. absurd (none-some value (sym free ∙ sym (rest cell differs differs_too).planned ∙ is)))
+    (cases_eq cell pointer))
+    (cases_eq cell at)
+
+-- what is planned is planned
+is_planned_there : {head floor at : ℕ} {r : RecordCell} {old new : ViewState}
+    → IsPlannedFor head floor r at old new → (cell : ℕ) → cell ≡ at → new.planned cell ≡ None → ⊥
+is_planned_there {at = at} {new = new} one cell same none =
+    none-some one.held.cell (sym none ∙ ap new.planned same ∙ one.held.stands)
+
+-- what is not planned was not before, and where nobody else wrote it reads as it did
+pub plans_no_other : {head floor next to at : ℕ} {p : PostingFields} {old new : ViewState}
+    → PlansEntry head floor next to p at old new
+    → IsStill old.base.foreign_writes new.base.foreign_writes → (cell : ℕ) → new.planned cell ≡ None
+    → (old.planned cell ≡ None) × (new.image cell ≡ old.image cell)
+plans_no_other {at = at} (alone one rest same_next) still cell none = ⊎_elim
+    (λ same. absurd (is_planned_there one cell same none))
+    (λ differs. (sym (rest cell differs).planned ∙ none, (rest cell differs).shown still))
+    (cases_eq cell at)
+plans_no_other {at = at} (with_pointer pointer target one other apart rest taken) still cell none = ⊎_elim
+    (λ same. absurd (is_planned_there one cell same none))
+    (λ differs. ⊎_elim
+    (λ same. absurd (is_planned_there other cell same none))
+    (λ also. (sym (rest cell differs also).planned ∙ none, (rest cell differs also).shown still))
     (cases_eq cell pointer))
     (cases_eq cell at)

@@ -30,12 +30,14 @@ use Rattle.list_growth.specs.Inserting.{InsertsPosting, PlansEntry, alone, with_
 use Rattle.list_growth.specs.Readiness.{IsReady, IsUntouched}
 use Rattle.index_growth.specs.Rows.{AreInOrder, AreInserted, AreUntouched, InsertsRow, IsRowCell, of_posting, of_pointer, LiesInLists, in_first, in_pool, RowSoFar, StandsInList}
 use Rattle.index_growth.specs.Granting.{GivesWhatIsLedTo, to_block}
+use Rattle.index_growth.specs.Counts.{PlansAtCost}
+use Rattle.index_growth.proofs.Counting.{insertion_at_cost}
 use Rattle.index_growth.proofs.Granted.{gives_more, gives_nothing, gives_on, quiet_then}
 use Rattle.list_growth.proofs.Untouched.{stays_untouched, untouched_ready}
-use Rattle.index_growth.proofs.Others.{IsNear, IsHeld, held_before, held_posting, held_pointer, IsOwned, as_before, anew, held_in, owned_in, plans_blank, plans_keep}
+use Rattle.index_growth.proofs.Others.{IsNear, IsHeld, held_before, held_posting, held_pointer, IsOwned, as_before, anew, held_in, owned_in, plans_blank, plans_keep, plans_no_other}
 use Rattle.index_growth.specs.Standing.{KeysSoFar, ListsStand, RowStands}
 use Rattle.index_growth.proofs.Licensing.{licensable, places_next}
-use Rattle.index_growth.proofs.Standing.{keys_first, keys_next, stands_first, stands_next}
+use Rattle.index_growth.proofs.Standing.{keys_first, keys_next, stands_first_at_cost, stands_next_at_cost}
 
 -- no posting is inserted yet
 pub row_begins : (g : Layout) (n : ℕ) (rows : List Posting) (pool : Pool) (s : ViewState)
@@ -63,7 +65,8 @@ row_begins g n rows pool s free untouched = record {
     blank = λ tells cell none value is. absurd (none-some value (sym none ∙ is));
     places = λ tells inside before. before;
     stand = λ tells i p less is. absurd (omega (arith, less));
-    lists = λ tells still lists. stands_first lists;
+    unplanned = λ still cell none. refl;
+    lists = λ tells still lists. stands_first_at_cost s.planned lists;
   };
   untouched = λ tells l less before. untouched tells l less;
   ready = λ tells a less before. untouched_ready s (list_at g a.list) (pool_at g) pool.next a.posting.key (untouched tells a.list less);
@@ -221,27 +224,39 @@ module _ (g : Layout) (n : ℕ) (rows : List Posting) (i : ℕ) (first pool late
       → IsStill old.base.foreign_writes mid.base.foreign_writes
   still_before still = still_first so.called.foreign_writes inserts.called.foreign_writes still
 
+  still_here : IsStill old.base.foreign_writes new.base.foreign_writes
+      → IsStill mid.base.foreign_writes new.base.foreign_writes
+  still_here still = still_second so.called.foreign_writes inserts.called.foreign_writes still
+
+  unplanned_now : IsStill old.base.foreign_writes new.base.foreign_writes → (cell : ℕ) → new.planned cell ≡ None
+      → new.image cell ≡ old.image cell
+  unplanned_now still cell none =
+      let h = plans_no_other plans (still_here still) cell none in
+      h.1 ∙ so.inserted.unplanned (still_before still) cell h.0
+
   grew : IsTrue old.base.tells → IsStill old.base.foreign_writes new.base.foreign_writes
       → RowStands g n rows i first.next pool.next old.image mid.image
       → IsWellListed new.image (pool_at g) later.next (list_at g p.list)
       × ((cost : ℕ) × Grows mid.image new.image (pool_at g) pool.next later.next (list_at g p.list)
       (listed n p).posting cost)
   grew tells still s = (inserts.ends.5 (told tells)).grows
-      (still_second so.called.foreign_writes inserts.called.foreign_writes still)
-      (s.lists.well p.list in_list)
+      (still_here still) (s.lists.well p.list in_list)
 
   lists_now : IsTrue old.base.tells → IsStill old.base.foreign_writes new.base.foreign_writes
       → ListsStand g old.image first.next (256 * n)
-      → RowStands g n rows (i + 1) first.next later.next old.image new.image
+      → (stands : RowStands g n rows (i + 1) first.next later.next old.image new.image)
+      × PlansAtCost old.planned new.planned first.next later.next stands.cost
   lists_now tells still lists =
       let s = so.inserted.lists tells (still_before still) lists in
-      let h = grew tells still s in
-      stands_next order here byte (omega (arith, roomy, so.from)) s (so.keys tells (still_before still) lists) h.0 h.1.1
+      let h = grew tells still s.0 in
+      stands_next_at_cost order here byte (omega (arith, roomy, so.from)) s.0
+      (so.keys tells (still_before still) lists) h.0 h.1.1 s.1
+      (insertion_at_cost (told tells) (still_here still) plans h.1.1)
 
   keys_now : IsTrue old.base.tells → IsStill old.base.foreign_writes new.base.foreign_writes
       → ListsStand g old.image first.next (256 * n) → KeysSoFar g n rows (i + 1) new.image later.next
   keys_now tells still lists =
-      let s = so.inserted.lists tells (still_before still) lists in
+      let s = (so.inserted.lists tells (still_before still) lists).0 in
       let h = grew tells still s in
       keys_next order here byte (omega (arith, roomy, so.from)) s (so.keys tells (still_before still) lists) h.0 h.1.1
 
@@ -270,6 +285,7 @@ module _ (g : Layout) (n : ℕ) (rows : List Posting) (i : ℕ) (first pool late
           places_next in_list plans (inserts.ends.5 (told tells)).ready inserts.lower inserts.fresh inside
           (so.inserted.places tells (omega (arith, inside, inserts.fresh)) before);
       stand = stand_now;
+      unplanned = unplanned_now;
       lists = lists_now;
     };
     untouched = untouched_now;

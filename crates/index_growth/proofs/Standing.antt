@@ -1,11 +1,14 @@
 -- All lists stand as they should behind one posting more of a row.
-use Rattle.std.proofs.Common.{◌≡◌, ◌≢◌, ◌<◌, ◌≤◌, ◌+◌, ◌*◌, ◌++◌, ◌⊎◌, ◌∙◌, ⊎_elim, inl, inr, ℕ, zero, suc, List, [], ◌∷◌, Some, refl, ap, sym, subst, arith, take}
+use Rattle.std.proofs.Common.{◌≡◌, ◌≢◌, ◌<◌, ◌≤◌, ◌+◌, ◌*◌, ◌++◌, ◌⊎◌, ◌∙◌, ⊎_elim, inl, inr, ℕ, zero, suc, List, [], ◌∷◌, Option, Some, None, refl, ap, sym, subst, arith, take}
 use Rattle.std.specs.Prelude.{map, slice_get, length}
 use Rattle.std.proofs.Math.Seq.{take-length}
 use Rattle.std.proofs.lemmas.Bool.{cases_eq}
 use Rattle.std.proofs.lemmas.Option.{none-some}
-use Rattle.cell_types.specs.Image.{Image}
+use Rattle.cell_types.specs.Image.{Image, Extends}
 use Rattle.cell_types.specs.Layout.{Layout, list_at, pool_at}
+use Rattle.cell_types.specs.Records.{IsRecordCell}
+use Rattle.cell_types.specs.declared.record_cell.RecordCell.{RecordCell}
+use Rattle.stored_documents.specs.Volumes.{Holds}
 use Rattle.index_paths.specs.Blocks.{Leads}
 use Rattle.index_paths.specs.Nodes.{AreApart}
 use Rattle.index_paths.specs.Postings.{ListedPosting}
@@ -17,11 +20,14 @@ use Rattle.term_tags.specs.declared.rows.Posting.{Posting}
 use Rattle.list_growth.specs.Costs.{HaveTrails, HaveKeysBelow}
 use Rattle.list_growth.specs.Growing.{Grows}
 use Rattle.list_growth.specs.Others.{ListsAreApart, StandsAside}
+use Rattle.list_growth.proofs.Added.{IsAddedBy, the_posting, the_pointer, grows_add, leads_go_on}
 use Rattle.list_growth.proofs.Costs.{posting_costs}
 use Rattle.list_growth.proofs.KeptTrails.{IsGrown, grown, keys_go_on, trails_go_on}
 use Rattle.list_growth.proofs.Others.{stands_aside}
+use Rattle.index_growth.specs.Counts.{PlansAtCost}
 use Rattle.index_growth.specs.Rows.{AreInOrder}
-use Rattle.index_growth.specs.Standing.{KeysSoFar, LiesOutside, ListsStand, RowStands}
+use Rattle.index_growth.specs.Standing.{IsAddedTo, posting, pointer, KeysSoFar, LiesOutside, ListsStand, RowStands}
+use Rattle.index_growth.proofs.Counting.{costs_none, costs_then}
 
 -- one more of a row
 mapped_more : {A B : Type 0} (f : A → B) (rows : List A) (i : ℕ) (row : A) → slice_get rows i ≡ Some row
@@ -64,13 +70,39 @@ stands_first s = record {
   more = omega arith;
   blocks = λ l block less leads. inl leads;
   outside = λ cell before apart. refl;
+  added = λ cell value is blank. absurd (none-some value (sym blank ∙ is));
   cost = 0;
   costs = none _ _ 0 refl refl refl;
 }
 
+-- with nothing planned, at no cost
+pub stands_first_at_cost : {g : Layout} {n : ℕ} {rows : List Posting} {from : ℕ} {image : Image} (planned : Image)
+    → ListsStand g image from (256 * n)
+    → (stands : RowStands g n rows 0 from from image image) × PlansAtCost planned planned from from stands.cost
+unfolding stands_first
+stands_first_at_cost {from = from} planned s = (stands_first s, costs_none from)
+
 pub keys_first : {g : Layout} (n : ℕ) (rows : List Posting) {from : ℕ} {image : Image}
     → ListsStand g image from (256 * n) → KeysSoFar g n rows 0 image from
 keys_first n rows s l key less slot before = keys_below slot (s.keys l less)
+
+-- what was added is added still, behind one posting more
+added_on : {g : Layout} {n : ℕ} {rows : List Posting} {i next to cell : ℕ} {value : List ℕ} {old new : Image}
+    → Extends old new → next ≤ to → IsAddedTo g n rows i old next cell value
+    → IsAddedTo g n rows (i + 1) new to cell value
+added_on e more (posting j q block place less is leads small at holds) =
+    posting j q block place (omega (arith, less)) is (leads_go_on e more leads) small at holds
+added_on e more (pointer l block level digit target less leads levels some digits at there holds) =
+    pointer l block level digit target less (leads_go_on e more leads) levels some digits at
+    (leads_go_on e more there) holds
+
+-- the value of a cell is the record that it holds
+held_as : {image : Image} {at : ℕ} {r : RecordCell} {value : List ℕ} → image at ≡ Some value → Holds image at r
+    → IsRecordCell r at value
+held_as {image} {at} {r} {value} is h =
+    let there : Some h.cell ≡ Some value = sym h.stands ∙ is in
+    let same : h.cell ≡ value = cc in
+    subst (λ (v : List ℕ). IsRecordCell r at v) same h.is
 
 -- one posting more
 module _ {g : Layout} {n : ℕ} {rows : List Posting} {i from next to cost : ℕ} {first old new : Image} {p : Posting}
@@ -161,6 +193,28 @@ module _ {g : Layout} {n : ℕ} {rows : List Posting} {i from next to cost : ℕ
       (s.blocks p.list block in_list leads))
       ∙ s.outside cell before apart
 
+  -- what the posting adds
+  added_here : (cell : ℕ) (value : List ℕ) → new cell ≡ Some value
+      → IsAddedBy new (pool_at g) to (list_at g p.list) (listed n p).posting cell
+      → IsAddedTo g n rows (i + 1) new to cell value
+  added_here cell value is (the_posting block place leads less at holds) =
+      posting i p block place (omega arith) here leads less at (held_as is holds)
+  added_here cell value is (the_pointer block level digit target leads levels some digits at there holds) =
+      pointer p.list block level digit target in_list leads levels some digits at there (held_as is holds)
+
+  added_by : (cell : ℕ) (value : List ℕ) → new cell ≡ Some value → first cell ≡ None → (held : Option (List ℕ))
+      → old cell ≡ held → IsAddedTo g n rows (i + 1) new to cell value
+  added_by cell value is blank None free = added_here cell value is (grows_add roomy grows cell value is free)
+  added_by cell value is blank (Some other) held =
+      let there : Some other ≡ Some value = sym (grew.extends.keeps cell other held) ∙ is in
+      let same : other ≡ value = cc in
+      subst (λ (v : List ℕ). IsAddedTo g n rows (i + 1) new to cell v) same
+      (added_on grew.extends grew.more (s.added cell other held blank))
+
+  added_next : (cell : ℕ) (value : List ℕ) → new cell ≡ Some value → first cell ≡ None
+      → IsAddedTo g n rows (i + 1) new to cell value
+  added_next cell value is blank = added_by cell value is blank (old cell) refl
+
   pub stands_next : RowStands g n rows (i + 1) from to first new
   stands_next = record {
     extends = extends_then s.extends grew.extends;
@@ -168,6 +222,7 @@ module _ {g : Layout} {n : ℕ} {rows : List Posting} {i from next to cost : ℕ
     lists = lists_next;
     blocks = blocks_next;
     outside = outside_next;
+    added = added_next;
     cost = s.cost + cost;
     costs =
         let next_place : suc i ≡ i + 1 = omega arith in
@@ -178,6 +233,13 @@ module _ {g : Layout} {n : ℕ} {rows : List Posting} {i from next to cost : ℕ
         (costs_more (listed n p) cost s.costs
         (posting_costs (s.lists.well p.list in_list) (s.lists.trails p.list in_list) keys_here grows));
   }
+
+  -- and what it plans and takes is added to the cost
+  pub stands_next_at_cost : {before mid after : Image} → PlansAtCost before mid from next s.cost
+      → PlansAtCost mid after next to cost
+      → (stands : RowStands g n rows (i + 1) from to first new) × PlansAtCost before after from to stands.cost
+  unfolding stands_next
+  stands_next_at_cost so_far now = (stands_next, costs_then s.cost cost s.more grew.more so_far now)
 
   pub keys_next : KeysSoFar g n rows (i + 1) new to
   keys_next l key less slot before = ⊎_elim

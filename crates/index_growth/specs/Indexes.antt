@@ -1,5 +1,5 @@
 -- What planning the whole index of a document does: its postings, and its bucket.
-use Rattle.std.specs.Prelude.{◌≡◌, ◌≤◌, ◌*◌, ℕ, List, slice_get, Some, None, Result, Ok, Err, IsTrue, ⊤}
+use Rattle.std.specs.Prelude.{◌≡◌, ◌≤◌, ◌+◌, ◌*◌, ◌-◌, ℕ, List, slice_get, Some, None, Result, Ok, Err, IsTrue, ⊤}
 use Rattle.cell_types.specs.Image.{Image, Extends, IsUnchanged}
 use Rattle.cell_types.specs.Layout.{Layout, list_at, pool_at}
 use Rattle.cell_types.specs.Records.{IsRecordCell}
@@ -11,6 +11,7 @@ use Rattle.index_paths.specs.Postings.{ListedPosting}
 use Rattle.tamper_rules.specs.Journals.{IsIndexRecord}
 use Rattle.worm_device.specs.Calls.{Called}
 use Rattle.worm_device.specs.Counts.{IsStill, Rose}
+use Rattle.worm_device.specs.Overlays.{over}
 use Rattle.worm_device.specs.Views.{ViewState}
 use Rattle.planned_cells.specs.declared.fault.GrowthFault.{GrowthFault}
 use Rattle.planned_cells.specs.declared.fault.GrowthFault.TheVariants.{Fault, NoMemory}
@@ -20,6 +21,8 @@ use Rattle.hash_tree.specs.declared.level.Level.{Level}
 use Rattle.hash_tree.specs.declared.path.Open.{Open}
 use Rattle.list_growth.specs.Evidence.{ShowsBelow}
 use Rattle.tree_growth.specs.Inserting as tree
+use Rattle.tree_growth.specs.Readiness.{blank_of, cost_of}
+use Rattle.index_growth.specs.Counts.{HasCells}
 use Rattle.index_growth.specs.Granting.{GivesWhatIsLedTo}
 use Rattle.index_growth.specs.Licensing.{IsLicensable}
 use Rattle.index_growth.specs.Standing.{IndexStands, ListsStand}
@@ -36,11 +39,21 @@ pub record HasTrailIn (g : Layout) (image : Image) (to : ℕ) (a : ListedPosting
   pub at : ℕ
   pub trail : Trail image (pool_at g) to at a.posting (list_at g a.list)
 
+-- The index stands as it should, and costs what its postings and its bucket must: as many cells as are planned, each of
+-- which the journal copies once, and as the pool gave.
+pub record IndexStandsAtCost (g : Layout) (n : ℕ) (rows : List Posting) (level : Level) (place : Open) (from to : ℕ)
+    (old new planned : Image) : Type 0 where
+  pub stands : IndexStands g n rows level place from to old new
+  pub count : ℕ
+  pub cells : HasCells planned count
+  pub cost : count + (to - from) ≡ stands.lists.cost + cost_of place
+
 -- The index of slot n's document is planned, before the pool's next cell, and nothing but index cells is. What the pool
 -- gave, from its next cell before, are blocks and a node that planned cells lead to. In each image that has
 -- what stands below and what is planned each posting has its trail; and the slot has its hash trail in each image that
--- has what is planned and in which the path is passed. Where nobody else wrote, and all lists stood as they should with
--- keys of earlier slots, the whole index does, at the cost that it must have.
+-- has what is planned and in which the path is passed. Where nobody else wrote, what is planned is all that is shown
+-- besides what was, and where the place was blank, too, none of it stood in a written cell; and where all lists stood as
+-- they should with keys of earlier slots, the whole index does, at the cost that it must have.
 pub record IsIndexed (g : Layout) (n : ℕ) (rows : List Posting) (level : Level) (place : Open) (from to : ℕ)
     (old new : ViewState) : Type 0 where
   pub only : (cell : ℕ) (value : List ℕ) → new.planned cell ≡ Some value → IsIndexCell g cell value
@@ -49,8 +62,13 @@ pub record IsIndexed (g : Layout) (n : ℕ) (rows : List Posting) (level : Level
   pub trails : IsTrue old.base.tells → (image : Image) → Extends new.lower image → Extends new.planned image
       → (i : ℕ) (p : Posting) → slice_get rows i ≡ Some p → HasTrailIn g image to (listed n p)
   pub path : tree.HasTrail g level place n to new.planned
+  pub shows : IsStill old.base.foreign_writes new.base.foreign_writes → (cell : ℕ)
+      → new.image cell ≡ over (new.planned cell) (old.image cell)
+  pub blank : IsTrue old.base.tells → old.image (blank_of place) ≡ None → (cell : ℕ) (value : List ℕ)
+      → new.planned cell ≡ Some value → old.image cell ≡ None
   pub stands : IsTrue old.base.tells → IsStill old.base.foreign_writes new.base.foreign_writes
-      → ListsStand g old.image from (256 * n) → IndexStands g n rows level place from to old.image new.image
+      → ListsStand g old.image from (256 * n)
+      → IndexStandsAtCost g n rows level place from to old.image new.image new.planned
 
 -- What is named: a cell of a list that one of the postings goes into, or the child cell that led to the level's node.
 pub data IsNamed (g : Layout) (n : ℕ) (rows : List Posting) (level : Level) (place : Open) (s : ViewState) (e : Evidence)

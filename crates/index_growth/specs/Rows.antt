@@ -19,6 +19,7 @@ use Rattle.worm_device.specs.Views.{ViewState}
 use Rattle.worm_device.specs.declared.owner.Owner.{Owner}
 use Rattle.list_growth.specs.Evidence.{AreInTheirPlaces, ShowsBelow}
 use Rattle.list_growth.specs.Readiness.{IsReady, IsUntouched}
+use Rattle.index_growth.specs.Counts.{PlansAtCost}
 use Rattle.index_growth.specs.Granting.{GivesWhatIsLedTo}
 use Rattle.index_growth.specs.Licensing.{IsLicensable}
 use Rattle.index_growth.specs.Standing.{KeysSoFar, ListsStand, RowStands}
@@ -54,8 +55,9 @@ pub data IsRowCell (n : ℕ) (rows : List Posting) (count cell : ℕ) (value : L
 -- The first so many postings of the row are inserted. What was planned is planned still, for whom it was; what is
 -- planned besides are these postings, and pointers, for their lists, and lies before the pool's next cell. What the pool
 -- gave are blocks that planned pointers lead to. Where the view tells its image, what was shown is shown still, what is
--- planned besides read blank, and each of these postings has its trail. Where nobody else wrote, too, and all lists
--- stood as they should with keys of earlier slots, they stand so still, and these postings cost what they must.
+-- planned besides read blank, and each of these postings has its trail. Where nobody else wrote, too, nothing else has
+-- changed; and where all lists stood as they should with keys of earlier slots, they stand so still, and these postings
+-- cost what they must: as many cells as are planned for them and as the pool gave.
 pub record AreInserted (g : Layout) (n : ℕ) (rows : List Posting) (count from to : ℕ) (old new : ViewState)
     : Type 0 where
   pub kept : Extends old.planned new.planned
@@ -76,8 +78,12 @@ pub record AreInserted (g : Layout) (n : ℕ) (rows : List Posting) (count from 
   pub places : IsTrue old.base.tells → new.fresh ≤ g.cells → AreInTheirPlaces g old → AreInTheirPlaces g new
   pub stand : IsTrue old.base.tells → (i : ℕ) (p : Posting) → i < count → slice_get rows i ≡ Some p
       → StandsInList g new to (listed n p)
+  pub unplanned : IsStill old.base.foreign_writes new.base.foreign_writes → (cell : ℕ) → new.planned cell ≡ None
+      → new.image cell ≡ old.image cell
   pub lists : IsTrue old.base.tells → IsStill old.base.foreign_writes new.base.foreign_writes
-      → ListsStand g old.image from (256 * n) → RowStands g n rows count from to old.image new.image
+      → ListsStand g old.image from (256 * n)
+      → (stands : RowStands g n rows count from to old.image new.image)
+      × PlansAtCost old.planned new.planned from to stands.cost
 
 -- How inserting the row may end, and why. Evidence is of the list of one of the postings, and licensed where nothing was
 -- planned at entry.

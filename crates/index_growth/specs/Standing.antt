@@ -1,8 +1,10 @@
 -- That all lists stand as they should, before a row of insertions and behind it, and the tree behind a bucket.
-use Rattle.std.specs.Prelude.{◌≡◌, ◌≢◌, ◌<◌, ◌≤◌, ◌+◌, ◌*◌, ◌⊎◌, ℕ, List, length, map, take, slice_get, Some}
+use Rattle.std.specs.Prelude.{◌≡◌, ◌≢◌, ◌<◌, ◌≤◌, ◌+◌, ◌*◌, ◌⊎◌, ℕ, List, length, map, take, slice_get, Some, None}
 use Rattle.cell_types.specs.Image.{Image, Extends}
 use Rattle.cell_types.specs.Layout.{Layout, list_at, pool_at}
-use Rattle.index_paths.specs.Blocks.{Leads}
+use Rattle.cell_types.specs.Records.{IsRecordCell}
+use Rattle.cell_types.specs.declared.record_cell.RecordCell.TheVariants.{Jump}
+use Rattle.index_paths.specs.Blocks.{Leads, pointer_at, posting_record}
 use Rattle.index_paths.specs.Nodes.{AreApart}
 use Rattle.volume_growth.specs.ListShapes.{IsWellListed}
 use Rattle.volume_growth.specs.Needs.{PostingsCost}
@@ -29,9 +31,22 @@ abbrev pub LiesOutside : Layout → Image → ℕ → ℕ → Type 0
 LiesOutside g image next cell =
     (l block : ℕ) → l < g.lists → Leads image (pool_at g) next block (list_at g l) → AreApart block 256 cell 1
 
+-- The cell holds one of the first so many postings of slot n's row, at an entry place of a block of its list; or a
+-- pointer of a block of a list, which leads to another block of this list.
+pub data IsAddedTo (g : Layout) (n : ℕ) (rows : List Posting) (count : ℕ) (image : Image) (to cell : ℕ) (value : List ℕ)
+    : Type 0 where
+  posting : (i : ℕ) (p : Posting) (block place : ℕ) → i < count → slice_get rows i ≡ Some p
+      → Leads image (pool_at g) to block (list_at g p.list) → place < 128 → cell ≡ block + place
+      → IsRecordCell (posting_record (listed n p).posting) cell value
+      → IsAddedTo g n rows count image to cell value
+  pointer : (l block level digit target : ℕ) → l < g.lists → Leads image (pool_at g) to block (list_at g l)
+      → level < 8 → 1 ≤ digit → digit ≤ 15 → cell ≡ pointer_at block level digit
+      → Leads image (pool_at g) to target (list_at g l) → IsRecordCell (Jump target) cell value
+      → IsAddedTo g n rows count image to cell value
+
 -- Behind the first so many postings of slot n's row all lists stand as they should, with keys of slots up to n, and
 -- these postings cost what they must. What stood stands still, and nothing else has changed outside the blocks of
--- before, and before the new ones.
+-- before, and before the new ones. Each cell that was blank and is written is one of these postings, or a pointer.
 pub record RowStands (g : Layout) (n : ℕ) (rows : List Posting) (count from to : ℕ) (old new : Image) : Type 0 where
   pub extends : Extends old new
   pub more : from ≤ to
@@ -39,6 +54,8 @@ pub record RowStands (g : Layout) (n : ℕ) (rows : List Posting) (count from to
   pub blocks : (l block : ℕ) → l < g.lists → Leads new (pool_at g) to block (list_at g l)
       → Leads old (pool_at g) from block (list_at g l) ⊎ (from ≤ block)
   pub outside : (cell : ℕ) → cell < from → LiesOutside g old from cell → new cell ≡ old cell
+  pub added : (cell : ℕ) (value : List ℕ) → new cell ≡ Some value → old cell ≡ None
+      → IsAddedTo g n rows count new to cell value
   pub cost : ℕ
   pub costs : PostingsCost g new to (map (listed n) (take count rows)) old from cost
 

@@ -21,9 +21,11 @@
 #![tactic(auto)]
 
 mod journal;
+mod laws;
 mod rows;
 mod whole;
 
 pub use journal::copies_of;
+pub use laws::count_is_one;
 pub use rows::insert_postings;
 pub use whole::insert_document;

@@ -44,5 +44,6 @@ pub record PlansOver (g : Layout) (n edge : ℕ) (rows : List Posting) (level : 
     (result : Result PlannedIndex Refusal) : Type 0 where
   pub called : Called old.base new.base
   pub quiet : IsStill old.base.foreign_writes new.base.foreign_writes → IsUnchanged old.base.image new.base.image
+  pub fresh : new.fresh ≡ old.fresh
   pub loans : new.loans ≡ old.loans
   pub ends : OverEnds g n edge rows level place old new result

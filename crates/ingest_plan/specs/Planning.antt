@@ -1,5 +1,5 @@
 -- What planning the index of a document says of it.
-use Rattle.std.specs.Prelude.{◌≡◌, ◌≤◌, ◌+◌, ◌⊎◌, ℕ, List, Some, None, Result, Ok, Err, IsTrue, ⊤}
+use Rattle.std.specs.Prelude.{◌≡◌, ◌≤◌, ◌+◌, ◌*◌, ◌⊎◌, ℕ, List, length, map, Some, None, Result, Ok, Err, IsTrue, nat_lt, if◌then◌else◌, ⊤}
 use Rattle.sha2.specs.Sha256.{sha256}
 use Rattle.cell_types.specs.Image.{Image, Extends, IsUnchanged}
 use Rattle.cell_types.specs.Layout.{Layout}
@@ -10,19 +10,23 @@ use Rattle.stored_documents.specs.Documents.{Stands}
 use Rattle.stored_documents.specs.Slots.{IsEdge, IsHorizon}
 use Rattle.stored_documents.specs.Volumes.{IsVolume}
 use Rattle.index_paths.specs.Keeping.{IsKept, sought_in}
+use Rattle.index_paths.specs.Postings.{ArePostings}
 use Rattle.tamper_rules.specs.Rules.{IsBroken, IsPlaceOf}
 use Rattle.tamper_rules.specs.declared.numbers.TheConstants.{BLOCK_OUT_OF_ORDER, FAKE_POSTING, LOST_POINTER, LOST_CHILD}
-use Rattle.term_tags.specs.Listing.{GetsTooMany}
+use Rattle.term_tags.specs.Listing.{GetsTooMany, listed}
+use Rattle.term_tags.specs.declared.rows.Posting.{Posting}
 use Rattle.worm_device.specs.Calls.{Called}
 use Rattle.worm_device.specs.Counts.{IsStill, Rose}
+use Rattle.worm_device.specs.Overlays.{over}
 use Rattle.worm_device.specs.State.{DeviceState}
+use Rattle.hash_tree.specs.Levels.{IsLedWithin}
 use Rattle.hash_tree.specs.declared.level.Level.{Level}
 use Rattle.hash_tree.specs.declared.path.Open.{Open}
-use Rattle.tree_growth.specs.Laws.{IsLedWithin}
-use Rattle.tree_growth.specs.Readiness.{PassedDown}
+use Rattle.tree_growth.specs.Readiness.{PassedDown, blank_of, cost_of}
 use Rattle.index_growth.specs.Granting.{GivesWhatIsLedTo}
 use Rattle.index_growth.specs.Indexes.{IsIndexCell}
 use Rattle.index_growth.specs.Journal.{IsJournal}
+use Rattle.index_growth.specs.Standing.{IndexStands, ListsStand}
 use Rattle.ingest_plan.specs.declared.plan.PlannedIndex.{PlannedIndex}
 
 -- The journal copies index cells alone, which lie from the first list on and before this cell.
@@ -40,13 +44,37 @@ KeepsDocument g n body level place to below planned =
     → PassedDown g image (sought_in g.cells g id) level place.child
     → IsKept g.cells image g (record { slot = n; id = id; body = body })
 
+-- an image up to a cell: from there on it is blank
+abbrev pub cut_at : ℕ → Image → Image
+cut_at edge image = λ cell. if nat_lt cell edge then image cell else None
+
+-- planned cells over an image
+abbrev pub laid_over : Image → Image → Image
+laid_over planned image = λ cell. over (planned cell) (image cell)
+
+-- Planned over this image, the index stands as it should, at the cost that its postings and its bucket must have: as many
+-- cells as the journal has, and as its new blocks and its new node do.
+pub record StandsAtCost (g : Layout) (n edge : ℕ) (rows : List Posting) (level : Level) (place : Open) (p : PlannedIndex)
+    (image planned : Image) : Type 0 where
+  pub stands : IndexStands g n rows level place edge (edge + p.block_length) image (laid_over planned image)
+  pub cost : length p.journal.items + p.block_length ≡ stands.lists.cost + cost_of place
+
 -- The index of a body is planned, in slot n, with its blocks from the edge on: each of them is led to by a planned cell.
+-- Where the place was blank, no planned cell was written before the edge. Where nobody else wrote, and all lists stood as
+-- they should up to the edge, with keys of earlier slots, the whole index does, at the cost that it must have.
 pub record IsPlanned (g : Layout) (n edge : ℕ) (level : Level) (place : Open) (body : List ℕ) (p : PlannedIndex)
     (old new : DeviceState) : Type 0 where
+  pub rows : List Posting
+  pub are : ArePostings g.lists body n (map (listed n) rows)
   pub planned : Image
   pub journal : IsJournalBefore g (edge + p.block_length) planned p.journal.items
   pub grants : GivesWhatIsLedTo planned edge (edge + p.block_length)
   pub keeps : IsTrue old.tells → KeepsDocument g n body level place (edge + p.block_length) new.image planned
+  pub blank : IsTrue old.tells → cut_at edge old.image (blank_of place) ≡ None → (cell : ℕ) (value : List ℕ)
+      → planned cell ≡ Some value → cut_at edge old.image cell ≡ None
+  pub stands : IsTrue old.tells → IsStill old.foreign_writes new.foreign_writes
+      → ListsStand g (cut_at edge old.image) edge (256 * n)
+      → StandsAtCost g n edge rows level place p (cut_at edge old.image) planned
 
 -- the rules that planning names: those of a block's cells, of its postings and of its pointers, and that of child cells
 abbrev pub IsGrowthRule : ℕ → Type 0

@@ -1,3 +1,4 @@
+pub mod Added
 mod Adding
 pub mod BelowPlans
 pub mod Costs

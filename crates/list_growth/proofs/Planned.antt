@@ -7,7 +7,10 @@ use Rattle.std.proofs.lemmas.Option.{none-some}
 use Rattle.stored_documents.specs.Volumes.{Holds}
 use Rattle.stored_documents.proofs.Extending.{blank_before}
 use Rattle.index_paths.specs.Blocks.{PostingFields, posting_record, pointer_at}
+use Rattle.worm_device.specs.State.{DeviceState}
 use Rattle.worm_device.specs.Views.{ViewState, Viewed}
+use Rattle.worm_device.proofs.Counting.{still_first, still_second}
+use Rattle.worm_device.proofs.Resting.{rests_of}
 use Rattle.cell_pool.specs.Grants.{TakesFront}
 use Rattle.cell_pool.specs.declared.pool.Pool.{Pool}
 use Rattle.worm_device.specs.declared.owner.Owner.{Owner}
@@ -26,46 +29,54 @@ planned_before viewed cell = ap (λ (f : Image). f cell) viewed.planned
 owners_before : {old mid : ViewState} → Viewed old mid → (cell : ℕ) → mid.owners cell ≡ old.owners cell
 owners_before viewed cell = ap (λ (f : ℕ → Option Owner). f cell) viewed.owners
 
+-- the device counts no other writes meanwhile
+pub writes_on : {a b : DeviceState} → b ≡ a → a.foreign_writes ≤ b.foreign_writes
+writes_on same = omega (arith, ap (λ (d : DeviceState). d.foreign_writes) same)
+
 -- after reads
-module _ (old mid new : ViewState) (viewed : Viewed old mid) where
-  planned_for_then : {head floor at : ℕ} {r : RecordCell} → IsPlannedFor head floor r at mid new
-      → IsPlannedFor head floor r at old new
-  planned_for_then {at = at} h = record {
-    free = sym (planned_before viewed at) ∙ h.free;
-    blank = λ tells. blank_before viewed.image (h.blank (subst IsTrue (sym viewed.called.tells) tells));
-    shown = h.shown;
-    held = h.held;
-    block = h.block;
-    for_whom = h.for_whom;
-    from = h.from;
-    to = h.to;
-    where_blocks_lie = h.where_blocks_lie;
-  }
+module _ (old mid new : ViewState) (viewed : Viewed old mid) (later : mid.base.foreign_writes ≤ new.base.foreign_writes)
+  where
+    planned_for_then : {head floor at : ℕ} {r : RecordCell} → IsPlannedFor head floor r at mid new
+        → IsPlannedFor head floor r at old new
+    planned_for_then {at = at} h = record {
+      free = sym (planned_before viewed at) ∙ h.free;
+      blank = λ tells. blank_before viewed.image (h.blank (subst IsTrue (sym viewed.called.tells) tells));
+      shown = h.shown;
+      held = h.held;
+      block = h.block;
+      for_whom = h.for_whom;
+      from = h.from;
+      to = h.to;
+      where_blocks_lie = h.where_blocks_lie;
+    }
 
-  as_planned_then : {cell : ℕ} → IsAsPlanned mid new cell → IsAsPlanned old new cell
-  as_planned_then {cell} h = record {
-    planned = h.planned ∙ planned_before viewed cell;
-    owners = h.owners ∙ owners_before viewed cell;
-  }
+    as_planned_then : {cell : ℕ} → IsAsPlanned mid new cell → IsAsPlanned old new cell
+    as_planned_then {cell} h = record {
+      planned = h.planned ∙ planned_before viewed cell;
+      owners = h.owners ∙ owners_before viewed cell;
+      shown = λ still.
+          h.shown (still_second viewed.called.foreign_writes later still)
+          ∙ (rests_of viewed).shown (still_first viewed.called.foreign_writes later still) cell;
+    }
 
-  plans_then : {head floor next to at : ℕ} {p : PostingFields} → PlansEntry head floor next to p at mid new
-      → PlansEntry head floor next to p at old new
-  plans_then (alone posting others same) =
-      alone (planned_for_then posting) (λ c differ. as_planned_then (others c differ)) same
-  plans_then (with_pointer pointer target posting jump apart others taken) =
-      with_pointer pointer target (planned_for_then posting) (planned_for_then jump) apart
-      (λ c differ also. as_planned_then (others c differ also)) taken
+    plans_then : {head floor next to at : ℕ} {p : PostingFields} → PlansEntry head floor next to p at mid new
+        → PlansEntry head floor next to p at old new
+    plans_then (alone posting others same) =
+        alone (planned_for_then posting) (λ c differ. as_planned_then (others c differ)) same
+    plans_then (with_pointer pointer target posting jump apart others taken) =
+        with_pointer pointer target (planned_for_then posting) (planned_for_then jump) apart
+        (λ c differ also. as_planned_then (others c differ also)) taken
 
-  pub has_planned_then : (head floor next to : ℕ) (p : PostingFields) (result : Result (Option Spot) GrowthFault)
-      → PlannedEnds head floor next to p mid new result → PlannedEnds head floor next to p old new result
-  has_planned_then head floor next to p (Ok (Some spot)) h = record {
-    in_places = h.in_places;
-    before = h.before;
-    planned = plans_then h.planned;
-    free = h.free;
-  }
-  has_planned_then head floor next to p (Ok None) h = tt
-  has_planned_then head floor next to p (Err fault) h = tt
+    pub has_planned_then : (head floor next to : ℕ) (p : PostingFields) (result : Result (Option Spot) GrowthFault)
+        → PlannedEnds head floor next to p mid new result → PlannedEnds head floor next to p old new result
+    has_planned_then head floor next to p (Ok (Some spot)) h = record {
+      in_places = h.in_places;
+      before = h.before;
+      planned = plans_then h.planned;
+      free = h.free;
+    }
+    has_planned_then head floor next to p (Ok None) h = tt
+    has_planned_then head floor next to p (Err fault) h = tt
 
 -- the posting alone
 pub planned_alone : (head floor to : ℕ) (p : PostingFields) (old new : ViewState) (spot : Spot) → spot.place < 128
@@ -90,7 +101,11 @@ planned_alone head floor to p old new spot in_places before lies blank free put 
         to = omega (arith, in_places);
         where_blocks_lie = lies;
       })
-      (λ c differ. record { planned = (put.others c differ).1; owners = (put.others c differ).2 })
+      (λ c differ. record {
+        planned = (put.others c differ).1;
+        owners = (put.others c differ).2;
+        shown = λ still. (put.others c differ).0;
+      })
       refl;
   free = λ c past.
       (put.others c (λ (e : c ≡ spot.block + spot.place). omega (arith, e, past, before, in_places))).1 ∙ free c past;
@@ -105,7 +120,10 @@ module _ (head floor next to home level digit : ℕ) (p : PostingFields) (old mi
     (blank_pointer : IsTrue old.base.tells → old.image (pointer_at home level digit) ≡ None)
     (free : (cell : ℕ) → to ≤ cell → old.planned cell ≡ None) where
   module _ (two : PlansTwo spot (pointer_at home level digit) p (record { head = head; base = spot.block })
-      (record { head = head; base = home }) mid new) where
+      (record { head = head; base = home }) mid new) (base : new.base ≡ mid.base) where
+    later : mid.base.foreign_writes ≤ new.base.foreign_writes
+    later = writes_on base
+
     -- the posting was planned first, and the pointer's cell was not planned then
     differ : spot.block + spot.place ≢ pointer_at home level digit
     differ e = none-some two.posting.ends.planned.cell
@@ -119,6 +137,8 @@ module _ (head floor next to home level digit : ℕ) (p : PostingFields) (old mi
         record {
           planned = led.1 ∙ put.1 ∙ planned_before viewed cell;
           owners = led.2 ∙ put.2 ∙ owners_before viewed cell;
+          shown = λ still.
+              led.0 ∙ put.0 ∙ (rests_of viewed).shown (still_first viewed.called.foreign_writes later still) cell;
         }
 
     has_both : HasPlanned head floor next to p spot old new
@@ -166,7 +186,7 @@ module _ (head floor next to home level digit : ℕ) (p : PostingFields) (old mi
       → PlannedEnds head floor next to p old new result
   planned_both (Ok (Some found)) both =
       let P : Spot → Type 0 = λ x. HasPlanned head floor next to p x old new in subst P (sym both.ends.0)
-      (has_both both.ends.1)
+      (has_both both.ends.1 both.base)
   planned_both (Ok None) both = tt
   planned_both (Err fault) both = tt
 

@@ -36,10 +36,11 @@ pub record IsPlannedFor (head floor : ℕ) (r : RecordCell) (at : ℕ) (old new 
   pub to : at < block + 256
   pub where_blocks_lie : (block ≡ head) ⊎ (floor ≤ block)
 
--- nothing else is planned, and for nobody else
+-- nothing else is planned, and for nobody else; and where nobody else wrote, nothing else is shown
 pub record IsAsPlanned (old new : ViewState) (cell : ℕ) : Type 0 where
   pub planned : new.planned cell ≡ old.planned cell
   pub owners : new.owners cell ≡ old.owners cell
+  pub shown : IsStill old.base.foreign_writes new.base.foreign_writes → new.image cell ≡ old.image cell
 
 -- What one insertion plans: the posting in this cell, and at most one pointer besides. The pool's next cell was `next`
 -- and is `to`: a block is taken only where the pointer leads to it.

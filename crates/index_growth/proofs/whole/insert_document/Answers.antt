@@ -40,7 +40,9 @@ returns-in-Ok-clause-indexes g c =
     c.requires.floor (omega (arith, c.requires.fresh, c.insert_postings.ensures.from)) c.requires.within c.requires.led
     row.called row.fresh row.lower row.ends c.insert_postings.new.pool c.insert.new.pool
     (of_overlay g.V.View.seen c.insert.new.overlay) c.in-Ok.field-0 entry.ends refl
-    (overlay_shows g.V.View.seen g.met.V.View.proper c.insert_postings.new.overlay) entry.lower entry.base
+    (overlay_shows g.V.View.seen g.met.V.View.proper c.args.overlay.now)
+    (overlay_shows g.V.View.seen g.met.V.View.proper c.insert_postings.new.overlay)
+    (overlay_shows g.V.View.seen g.met.V.View.proper c.insert.new.overlay) entry.lower entry.base
     (taken_on c.args.volume.now.geometry c.args.level.now c.args.place c.args.slot c.in-Ok.field-0 c.insert_postings.new.pool c.insert.new.pool
     (of_overlay g.V.View.seen c.insert_postings.new.overlay) (of_overlay g.V.View.seen c.insert.new.overlay) entry.ends.plans))
 

@@ -13,7 +13,7 @@ use Rattle.list_growth.specs.Planning.{PutsRecord}
 use Rattle.list_growth.proofs.Adding.{grows_open, grow_then, grow_behind}
 use Rattle.list_growth.proofs.Naming.{front_fault, late_fault, pointer_fault, fault_then, check_refused, named_fault, no_key_there, check_on}
 use Rattle.list_growth.proofs.Placing.{into_open, into_target, place_then, refused_behind, read_fault, no_key_here, one_refused}
-use Rattle.list_growth.proofs.Planned.{planned_alone, has_planned_then, pool_next}
+use Rattle.list_growth.proofs.Planned.{planned_alone, has_planned_then, pool_next, writes_on}
 use Rattle.list_growth.proofs.Readying.{at_viewed, at_target}
 use Rattle.list_growth.proofs.Showing.{is_view, blank_is_free}
 use Rattle.list_growth.proofs.insertion.+insert_from.Goals as goal
@@ -297,8 +297,8 @@ returns-in-Ok-put_posting-clause-planned g t c =
     c.from.ensures c.in-Ok-put_posting.ensures in
     has_planned_then (of_overlay g.V.View.seen c.args.overlay.now)
     (of_overlay g.V.View.seen c.first_at_least.new.view)
-    (of_overlay g.V.View.seen c.put_posting.new.overlay) viewed c.args.head c.args.floor c.args.pool.now.next
-    c.args.pool.now.next (fields_of c.args.entry) (Ok (Some (record { block = c.args.block; place = c.in-Open.place })))
+    (of_overlay g.V.View.seen c.put_posting.new.overlay) viewed (writes_on put.base) c.args.head c.args.floor
+    c.args.pool.now.next c.args.pool.now.next (fields_of c.args.entry) (Ok (Some (record { block = c.args.block; place = c.in-Open.place })))
     (planned_alone c.args.head c.args.floor c.args.pool.now.next (fields_of c.args.entry)
     (of_overlay g.V.View.seen c.first_at_least.new.view) (of_overlay g.V.View.seen c.put_posting.new.overlay)
     (record { block = c.args.block; place = c.in-Open.place }) read.0 c.requires.before c.requires.lies
@@ -310,6 +310,7 @@ returns-in_default-clause-planned g t c =
     has_planned_then (of_overlay g.V.View.seen c.args.overlay.now) (of_overlay g.V.View.seen c.pointer.new.view)
     (of_overlay g.V.View.seen c.insert_behind.new.overlay)
     (viewed_then c.first_at_least.ensures.viewed c.pointer.ensures.viewed)
+    c.insert_behind.ensures.places.called.foreign_writes
     c.args.head c.args.floor c.args.pool.now.next c.insert_behind.new.pool.next
     (fields_of c.args.entry) c.insert_behind.result c.insert_behind.ensures.planned
 
@@ -318,6 +319,7 @@ returns-in-Ok-Some-clause-planned g t c =
     has_planned_then (of_overlay g.V.View.seen c.args.overlay.now) (of_overlay g.V.View.seen c.pointer.new.view)
     (of_overlay g.V.View.seen c.insert_from.new.overlay)
     (viewed_then c.first_at_least.ensures.viewed c.pointer.ensures.viewed)
+    c.insert_from.ensures.places.called.foreign_writes
     c.args.head c.args.floor c.args.pool.now.next c.insert_from.new.pool.next (fields_of c.args.entry)
     (Ok (Some c.in-Ok-Some.spot))
     (rw c.in-Ok-Some.field-0-is at c.in-Ok-Some.ensures.planned)

@@ -1,0 +1,22 @@
+-- How many cells are planned.
+use Rattle.std.specs.Prelude.{◌≡◌, ◌<◌, ◌+◌, ◌-◌, ℕ, List, length, slice_get, Some}
+use Rattle.cell_types.specs.Image.{Image}
+use Rattle.stored_documents.specs.Volumes.{IsWritten}
+
+-- The image has so many written cells: these are all of them, and each is named once.
+pub record HasCells (image : Image) (count : ℕ) : Type 0 where
+  pub cells : List ℕ
+  pub long : length cells ≡ count
+  pub once : (i j cell : ℕ) → i < j → slice_get cells i ≡ Some cell → slice_get cells j ≡ Some cell → ⊥
+  pub written : (i cell : ℕ) → slice_get cells i ≡ Some cell → IsWritten image cell
+  pub all : (cell : ℕ) → IsWritten image cell → (i : ℕ) × (slice_get cells i ≡ Some cell)
+
+-- an image has one number of written cells
+abbrev pub CountIsOne : Type 0
+CountIsOne = (image : Image) (a b : ℕ) → HasCells image a → HasCells image b → a ≡ b
+
+-- The cells that were planned between one image of what is planned and the next, and those that the pool gave, from one
+-- up to another, are together as many as this cost.
+abbrev pub PlansAtCost : Image → Image → ℕ → ℕ → ℕ → Type 0
+PlansAtCost old new from to cost =
+    (before : ℕ) → HasCells old before → (after : ℕ) × HasCells new after × (after + (to - from) ≡ before + cost)
