@@ -60,12 +60,16 @@ pub record StandsAtCost (g : Layout) (n edge : ℕ) (rows : List Posting) (level
   pub cost : length p.journal.items + p.block_length ≡ stands.lists.cost + cost_of place
 
 -- The index of a body is planned, in slot n, with its blocks from the edge on: each of them is led to by a planned cell.
+-- On each image a posting takes 1 to 258 cells, and the bucket 1 to 34.
 -- Where the place was blank, no planned cell was written before the edge. Where nobody else wrote, and all lists stood as
 -- they should up to the edge, with keys of earlier slots, the whole index does, at the cost that it must have.
 pub record IsPlanned (g : Layout) (n edge : ℕ) (level : Level) (place : Open) (body : List ℕ) (p : PlannedIndex)
     (old new : DeviceState) : Type 0 where
   pub rows : List Posting
   pub are : ArePostings g.lists body n (map (listed n) rows)
+  pub few : length rows ≤ 256 * g.lists
+  pub least : length rows + 1 ≤ length p.journal.items
+  pub most : length p.journal.items + p.block_length ≤ 258 * length rows + 34
   pub planned : Image
   pub journal : IsJournalBefore g (edge + p.block_length) planned p.journal.items
   pub grants : GivesWhatIsLedTo planned edge (edge + p.block_length)
