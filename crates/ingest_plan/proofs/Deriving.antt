@@ -1,29 +1,34 @@
 -- From what is planned over a view of a device to what that says of the device.
-use Rattle.std.proofs.Common.{◌≡◌, ◌+◌, ℕ, List, Option, Some, None, Result, Ok, Err, refl, ap, sym, subst, arith, ◌∙◌}
+use Rattle.std.proofs.Common.{◌≡◌, ◌≤◌, ◌+◌, ℕ, List, Option, Some, None, Result, Ok, Err, refl, ap, sym, subst, arith, ◌∙◌}
 use Rattle.std.specs.Prelude.{IsTrue, map, slice_get}
 use Rattle.std.specs.Option.{option_map}
 use Rattle.std.proofs.lemmas.Option.{none-some, slice_get-map}
 use Rattle.cell_types.specs.Image.{Image}
 use Rattle.cell_types.specs.Layout.{Layout, list_at, pool_at}
+use Rattle.cell_types.specs.declared.refusal.Fault.TheVariants as faults
 use Rattle.cell_types.specs.declared.refusal.Refusal.{Refusal}
 use Rattle.cell_types.specs.declared.refusal.Refusal.TheVariants as refusals
 use Rattle.index_paths.specs.Blocks.{PostingFields, Trail}
 use Rattle.index_paths.specs.Keeping.{sought_in}
 use Rattle.index_paths.specs.Postings.{ArePostings, ListedPosting}
 use Rattle.index_paths.proofs.Trails.{trail_wider}
+use Rattle.planned_cells.specs.declared.fault.GrowthFault.{GrowthFault}
+use Rattle.planned_cells.specs.declared.fault.GrowthFault.TheVariants as growth
 use Rattle.term_tags.specs.Listing.{listed}
 use Rattle.term_tags.specs.declared.rows.Posting.{Posting}
 use Rattle.worm_device.specs.Calls.{Called}
 use Rattle.worm_device.specs.State.{DeviceState}
-use Rattle.worm_device.specs.Views.{ViewState}
+use Rattle.worm_device.specs.Views.{IsView, ViewState}
 use Rattle.hash_tree.specs.declared.level.Level.{Level}
 use Rattle.hash_tree.specs.declared.path.Open.{Open}
-use Rattle.index_growth.specs.Indexes.{IsIndexed}
+use Rattle.index_growth.specs.Indexes.{IndexEnds, Indexes, IsIndexed}
 use Rattle.index_growth.specs.Journal.{IsJournal}
 use Rattle.index_growth.proofs.Granted.{StaysQuiet}
-use Rattle.ingest_plan.specs.Over.{IsPlannedOver, OverEnds, PlansOver}
+use Rattle.ingest_plan.specs.Over.{IsPlannedOver, IsRefusalOf, OverEnds, PlansOver}
 use Rattle.ingest_plan.specs.Planning.{KeepsDocument, PlanEnds, PlansIndex}
 use Rattle.ingest_plan.specs.declared.plan.PlannedIndex.{PlannedIndex}
+use Rattle.ingest_plan.proofs.Licence.{names_cell}
+use Rattle.ingest_plan.proofs.Postings.{in_order}
 
 -- the posting that stands at a place of the row
 posting_at : (n : ℕ) (l : ℕ) (q : PostingFields) (found : Option Posting) → option_map (listed n) found ≡ Some (record { list = l; posting = q })
@@ -50,18 +55,25 @@ module _ (g : Layout) (n : ℕ) (body : List ℕ) (rows : List Posting) (level :
 -- what the rows are, whose words are the body's, gives what is said of the device
 pub plans_index : (g : Layout) (n edge : ℕ) (body : List ℕ) (rows : List Posting) (level : Level) (place : Open)
     (start : DeviceState) (old new : ViewState) (result : Result PlannedIndex Refusal) (done : DeviceState)
-    → ArePostings g.lists body n (map (listed n) rows) → PlansOver g n edge rows level place old new result
-    → old.base ≡ start → done ≡ new.base → new.lower ≡ new.base.image
+    → ArePostings g.lists body n (map (listed n) rows) → edge ≤ g.cells
+    → PlansOver g n edge rows level place old new result
+    → old.base ≡ start → done ≡ new.base → old.lower ≡ old.base.image → new.lower ≡ new.base.image
     → PlansIndex g n edge level place body start done result
-plans_index g n edge body rows level place start old new result done are over begins ends below = record {
+plans_index g n edge body rows level place start old new result done are inside over begins ends above below = record {
   called = subst (λ (d : DeviceState). Called start d) (sym ends)
       (subst (λ (d : DeviceState). Called d new.base) begins over.called);
-  quiet = subst (λ (d : DeviceState). StaysQuiet start d) (sym ends)
-      (subst (λ (d : DeviceState). StaysQuiet d new.base) begins over.quiet);
+  quiet = quiet;
   ends = why result over.ends;
 } where
+  quiet : StaysQuiet start done
+  quiet = subst (λ (d : DeviceState). StaysQuiet start d) (sym ends)
+      (subst (λ (d : DeviceState). StaysQuiet d new.base) begins over.quiet)
+
   told : IsTrue start.tells → IsTrue old.base.tells
   told tells = subst (λ (d : DeviceState). IsTrue d.tells) (sym begins) tells
+
+  first : start.image ≡ old.lower
+  first = ap (λ (d : DeviceState). d.image) (sym begins) ∙ sym above
 
   there : done.image ≡ new.lower
   there = ap (λ (d : DeviceState). d.image) ends ∙ sym below
@@ -75,7 +87,9 @@ plans_index g n edge body rows level place start old new result done are over be
     keeps = λ tells. subst (λ (i : Image). KeepsDocument g n body level place (edge + p.block_length) i new.planned) (sym there)
         (keeps g n body rows level place edge (edge + p.block_length) old new are h.indexed (told tells));
   }
-  why (Err (refusals.Tampered e)) h = λ tells. record { rows = rows; view = new; over = sym there; is = h (told tells) }
+  why (Err (refusals.Tampered e)) h = λ tells.
+      names_cell start done (in_order g.lists body n rows are) inside
+      (subst IsTrue (sym over.called.tells) (told tells)) first there quiet (h (told tells))
   why (Err refusals.DeviceFault) h =
       omega (arith, h, ap (λ (d : DeviceState). d.faults) begins, ap (λ (d : DeviceState). d.faults) ends)
   why (Err refusals.NoMemory) h = tt
@@ -101,3 +115,26 @@ planned_over g n edge from next rows level place p old new held begins ends inde
     before = λ cell past. indexed.before cell (omega (arith, ends, past));
   };
 }
+
+-- why nothing was planned
+pub plan_refused : (g : Layout) (n edge from next : ℕ) (rows : List Posting) (level : Level) (place : Open)
+    (old new : ViewState) (fault : GrowthFault) (refusal : Refusal) → IsView new → old.fresh ≡ edge
+    → Indexes g n rows level place from next old new (Err fault) → IsRefusalOf fault refusal
+    → PlansOver g n edge rows level place old new (Err refusal)
+plan_refused g n edge from next rows level place old new fault refusal view fresh indexes is = record {
+  called = indexes.called;
+  quiet = indexes.quiet;
+  loans = indexes.loans;
+  ends = why fault indexes.ends is;
+} where
+  why : (fault : GrowthFault) → IndexEnds g n rows level place from next old new (Err fault) → IsRefusalOf fault refusal
+      → OverEnds g n edge rows level place old new (Err refusal)
+  why (growth.Fault (faults.Tampered e)) h same =
+      subst (λ (r : Refusal). OverEnds g n edge rows level place old new (Err r)) (sym same)
+      (λ tells.
+      let named = h tells in
+      record { view = view; fresh = indexes.fresh ∙ fresh; is = named.0; licensable = named.1 })
+  why (growth.Fault faults.ReadFault) h same =
+      subst (λ (r : Refusal). OverEnds g n edge rows level place old new (Err r)) (sym same) h
+  why growth.NoMemory h same =
+      subst (λ (r : Refusal). OverEnds g n edge rows level place old new (Err r)) (sym same) tt

@@ -1,2 +1,3 @@
 pub mod Deriving
+pub mod Licence
 pub mod Postings

@@ -2,6 +2,7 @@
 use Rattle.std.specs.Prelude.{◌≡◌, ◌+◌, ℕ, List, Result, Ok, Err, IsTrue, ⊤}
 use Rattle.cell_types.specs.Layout.{Layout}
 use Rattle.cell_types.specs.declared.refusal.Fault.TheVariants as faults
+use Rattle.cell_types.specs.declared.refusal.Evidence.{Evidence}
 use Rattle.cell_types.specs.declared.refusal.Refusal.{Refusal}
 use Rattle.cell_types.specs.declared.refusal.Refusal.TheVariants.{DeviceFault, NoMemory, Tampered}
 use Rattle.planned_cells.specs.declared.fault.GrowthFault.{GrowthFault}
@@ -10,10 +11,11 @@ use Rattle.term_tags.specs.declared.rows.Posting.{Posting}
 use Rattle.worm_device.specs.Calls.{Called}
 use Rattle.cell_types.specs.Image.{IsUnchanged}
 use Rattle.worm_device.specs.Counts.{IsStill, Rose}
-use Rattle.worm_device.specs.Views.{ViewState}
+use Rattle.worm_device.specs.Views.{IsView, ViewState}
 use Rattle.hash_tree.specs.declared.level.Level.{Level}
 use Rattle.hash_tree.specs.declared.path.Open.{Open}
 use Rattle.index_growth.specs.Indexes.{IsIndexed, IsNamed}
+use Rattle.index_growth.specs.Licensing.{IsLicensable}
 use Rattle.ingest_plan.specs.Planning.{IsJournalBefore}
 use Rattle.ingest_plan.specs.declared.plan.PlannedIndex.{PlannedIndex}
 
@@ -29,12 +31,21 @@ pub record IsPlannedOver (g : Layout) (n edge : ℕ) (rows : List Posting) (leve
   pub indexed : IsIndexed g n rows level place edge (edge + p.block_length) old new
   pub journal : IsJournalBefore g (edge + p.block_length) new.planned p.journal.items
 
+-- One of the rows' lists or the level's child cell is named, and licensed over what stands below, where new cells begin
+-- at the edge.
+pub record NamesBelow (g : Layout) (n edge : ℕ) (rows : List Posting) (level : Level) (place : Open) (old new : ViewState)
+    (e : Evidence) : Type 0 where
+  pub view : IsView new
+  pub fresh : new.fresh ≡ edge
+  pub is : IsNamed g n rows level place new e
+  pub licensable : IsLicensable g old new
+
 -- how planning over a view may end, and why
 abbrev pub OverEnds : Layout → ℕ → ℕ → List Posting → Level → Open → ViewState → ViewState → Result PlannedIndex Refusal
     → Type 0
 OverEnds g n edge rows level place old new (Ok p) = IsPlannedOver g n edge rows level place p old new
 OverEnds g n edge rows level place old new (Err (Tampered e)) =
-    IsTrue old.base.tells → IsNamed g n rows level place new e
+    IsTrue old.base.tells → NamesBelow g n edge rows level place old new e
 OverEnds g n edge rows level place old new (Err DeviceFault) = Rose old.base.faults new.base.faults
 OverEnds g n edge rows level place old new (Err NoMemory) = ⊤
 OverEnds g n edge rows level place old new (Err refusal) = ⊥

@@ -26,5 +26,5 @@ returns g c =
     (given c.args.volume.now.geometry.lists c.args.body.now c.args.slot c.in-Ok.terms.items c.deref.result.now
     c.in-Ok-postings.rows.items c.deref-2.result.now (rw c.in-Ok.is at c.words.ensures) c.deref.ensures.value
     (rw (c.in-Ok-postings.is, c.lists.ensures.lists) at c.postings.ensures.ok) c.deref-2.ensures.value)
-    c.plan_over.ensures (ap (λ view. g.D.Device.state view.device.now) c.new-overlay.ensures.view ∙ ap (λ d. g.D.Device.state d) c.new.ensures.same)
-    (ap (λ d. g.D.Device.state d) (grind (arith, common_steps))) refl
+    c.requires.to c.plan_over.ensures (ap (λ view. g.D.Device.state view.device.now) c.new-overlay.ensures.view ∙ ap (λ d. g.D.Device.state d) c.new.ensures.same)
+    (ap (λ d. g.D.Device.state d) (grind (arith, common_steps))) refl refl
