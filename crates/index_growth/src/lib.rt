@@ -12,7 +12,11 @@
 //! of insertions over one view and one pool each posting has its trail, and what is planned is what was planned before
 //! and what the row has added (`AreInserted`). Postings come by list and ordinal, so that keys rise in each list; a list
 //! that no posting has gone into yet is as it was. Where nobody else writes, and all lists stood as they should before,
-//! they do so behind the row, and its postings cost what they must (`specs/Standing.antt`).
+//! they do so behind the row, and its postings cost what they must; and what the row has added are its postings, in
+//! blocks of their lists, and pointers from such blocks to others of the same list (`specs/Standing.antt`).
+//!
+//! **The cost** of the whole index is the number of cells that are planned and of those that the pool gave: 1, 2 or 258
+//! for a posting, and 1 or 34 for the bucket (`IndexStandsAtCost`). In the picture it is 3.
 //!
 //! **The journal** of a plan is a copy of each planned cell, by rising numbers (`copies_of`).
 //!

@@ -1,8 +1,10 @@
 -- From what is planned over a view of a device to what that says of the device.
-use Rattle.std.proofs.Common.{◌≡◌, ◌≤◌, ◌+◌, ℕ, List, Option, Some, None, Result, Ok, Err, refl, ap, sym, subst, arith, ◌∙◌}
-use Rattle.std.specs.Prelude.{IsTrue, map, slice_get}
+use Rattle.std.proofs.Common.{◌≡◌, ◌<◌, ◌≤◌, ◌+◌, ◌*◌, ⊎_elim, ℕ, Bool, List, [], Option, Some, None, Result, Ok, Err, refl, ap, sym, subst, arith, ◌∙◌}
+use Rattle.std.specs.Prelude.{IsTrue, length, map, slice_get, if◌then◌else◌}
 use Rattle.std.specs.Option.{option_map}
-use Rattle.std.proofs.lemmas.Option.{none-some, slice_get-map}
+use Rattle.std.proofs.Math.ListN.{get_or}
+use Rattle.std.proofs.lemmas.Bool.{cases_lt, le-ltb, lt-ltb}
+use Rattle.std.proofs.lemmas.Option.{none-some, slice_get-get_or, slice_get-map, slice_get_within}
 use Rattle.cell_types.specs.Image.{Image}
 use Rattle.cell_types.specs.Layout.{Layout, list_at, pool_at}
 use Rattle.cell_types.specs.declared.refusal.Fault.TheVariants as faults
@@ -17,15 +19,22 @@ use Rattle.planned_cells.specs.declared.fault.GrowthFault.TheVariants as growth
 use Rattle.term_tags.specs.Listing.{listed}
 use Rattle.term_tags.specs.declared.rows.Posting.{Posting}
 use Rattle.worm_device.specs.Calls.{Called}
+use Rattle.tamper_rules.proofs.Images.{same_image}
+use Rattle.worm_device.specs.Counts.{IsStill}
+use Rattle.worm_device.specs.Overlays.{over}
 use Rattle.worm_device.specs.State.{DeviceState}
 use Rattle.worm_device.specs.Views.{IsView, ViewState}
 use Rattle.hash_tree.specs.declared.level.Level.{Level}
 use Rattle.hash_tree.specs.declared.path.Open.{Open}
-use Rattle.index_growth.specs.Indexes.{IndexEnds, Indexes, IsIndexed}
+use Rattle.tree_growth.specs.Readiness.{blank_of}
+use Rattle.index_growth.specs.Counts.{HasCells}
+use Rattle.index_growth.specs.Indexes.{IndexEnds, IndexStandsAtCost, Indexes, IsIndexed}
 use Rattle.index_growth.specs.Journal.{IsJournal}
+use Rattle.index_growth.specs.Standing.{ListsStand}
+use Rattle.index_growth.proofs.Counting.{count_is_one}
 use Rattle.index_growth.proofs.Granted.{StaysQuiet}
 use Rattle.ingest_plan.specs.Over.{IsPlannedOver, IsRefusalOf, OverEnds, PlansOver}
-use Rattle.ingest_plan.specs.Planning.{KeepsDocument, PlanEnds, PlansIndex}
+use Rattle.ingest_plan.specs.Planning.{KeepsDocument, PlanEnds, PlansIndex, StandsAtCost, cut_at, laid_over}
 use Rattle.ingest_plan.specs.declared.plan.PlannedIndex.{PlannedIndex}
 use Rattle.ingest_plan.proofs.Licence.{names_cell}
 use Rattle.ingest_plan.proofs.Postings.{in_order}
@@ -52,48 +61,114 @@ module _ (g : Layout) (n : ℕ) (body : List ℕ) (rows : List Posting) (level :
     path = indexed.path image (sought_in g.cells g id) digest refl room planned passed;
   }
 
+-- the journal has as many cells as are planned
+journal_counts : {planned : Image} {journal : List (List ℕ)} → IsJournal planned journal
+    → HasCells planned (length journal)
+journal_counts {planned} {journal} is = record {
+  cells = is.numbers;
+  long = is.long;
+  once = λ i j cell less at too. omega (arith, is.rise i j cell cell less at too);
+  written = λ i cell at.
+      let none : List ℕ = [] in
+      let value : List ℕ = get_or journal i none in
+      let there : slice_get journal i ≡ Some value =
+      slice_get-get_or journal i none (omega (arith, slice_get_within is.numbers i cell at, is.long)) in
+      record { found = value; stands = is.each i cell value at there };
+  all = λ cell w. let found = is.all cell w.found w.stands in (found.0, found.1);
+}
+
+-- over a view with nothing planned an image is shown up to where nothing below is asked
+shows_cut : (edge : ℕ) (image : Image) (view : ViewState) → IsView view → ((cell : ℕ) → view.planned cell ≡ None)
+    → view.fresh ≡ edge → view.lower ≡ image → view.image ≡ cut_at edge image
+shows_cut edge image view is nothing fresh lower = sym (same_image (λ cell. ⊎_elim
+    (λ (before : cell < edge).
+    let asked : cut_at edge image cell ≡ image cell =
+    ap (λ (b : Bool). if b then image cell else None) (lt-ltb cell edge before) in
+    asked ∙ sym (is.below cell (nothing cell) (omega (arith, before, fresh)) ∙ ap (λ (i : Image). i cell) lower))
+    (λ (past : edge ≤ cell).
+    let unasked : cut_at edge image cell ≡ None =
+    ap (λ (b : Bool). if b then image cell else None) (le-ltb cell edge past) in
+    unasked ∙ sym (is.beyond cell (nothing cell) (omega (arith, past, fresh))))
+    (cases_lt cell edge)))
+
+-- the index stands, and the journal and what the pool gave are as many cells as it costs
+stands_at_cost : {g : Layout} {n edge : ℕ} {rows : List Posting} {level : Level} {place : Open} {p : PlannedIndex}
+    {old new planned : Image} → ((cell : ℕ) → new cell ≡ over (planned cell) (old cell))
+    → IsJournal planned p.journal.items
+    → IndexStandsAtCost g n rows level place edge (edge + p.block_length) old new planned
+    → StandsAtCost g n edge rows level place p old planned
+stands_at_cost {g} {n} {edge} {rows} {level} {place} {p} {old} {new} {planned} shows journal stands =
+    let laid : new ≡ laid_over planned old = same_image shows in
+    let there : IndexStandsAtCost g n rows level place edge (edge + p.block_length) old (laid_over planned old) planned =
+    subst (λ (i : Image). IndexStandsAtCost g n rows level place edge (edge + p.block_length) old i planned) laid
+    stands in
+    let count : length p.journal.items ≡ there.count =
+    count_is_one planned (length p.journal.items) there.count (journal_counts journal) there.cells in
+    record { stands = there.stands; cost = omega (arith, count, there.cost) }
+
 -- what the rows are, whose words are the body's, gives what is said of the device
 pub plans_index : (g : Layout) (n edge : ℕ) (body : List ℕ) (rows : List Posting) (level : Level) (place : Open)
     (start : DeviceState) (old new : ViewState) (result : Result PlannedIndex Refusal) (done : DeviceState)
     → ArePostings g.lists body n (map (listed n) rows) → edge ≤ g.cells
     → PlansOver g n edge rows level place old new result
-    → old.base ≡ start → done ≡ new.base → old.lower ≡ old.base.image → new.lower ≡ new.base.image
+    → old.base ≡ start → done ≡ new.base → new.lower ≡ new.base.image
+    → IsView old → ((cell : ℕ) → old.planned cell ≡ None) → old.fresh ≡ edge → old.lower ≡ start.image
     → PlansIndex g n edge level place body start done result
-plans_index g n edge body rows level place start old new result done are inside over begins ends above below = record {
-  called = subst (λ (d : DeviceState). Called start d) (sym ends)
-      (subst (λ (d : DeviceState). Called d new.base) begins over.called);
-  quiet = quiet;
-  ends = why result over.ends;
-} where
-  quiet : StaysQuiet start done
-  quiet = subst (λ (d : DeviceState). StaysQuiet start d) (sym ends)
-      (subst (λ (d : DeviceState). StaysQuiet d new.base) begins over.quiet)
+plans_index g n edge body rows level place start old new result done are inside over begins ends below view nothing
+    fresh lower = record {
+      called = subst (λ (d : DeviceState). Called start d) (sym ends)
+          (subst (λ (d : DeviceState). Called d new.base) begins over.called);
+      quiet = quiet;
+      ends = why result over.ends;
+    } where
+      quiet : StaysQuiet start done
+      quiet = subst (λ (d : DeviceState). StaysQuiet start d) (sym ends)
+          (subst (λ (d : DeviceState). StaysQuiet d new.base) begins over.quiet)
 
-  told : IsTrue start.tells → IsTrue old.base.tells
-  told tells = subst (λ (d : DeviceState). IsTrue d.tells) (sym begins) tells
+      told : IsTrue start.tells → IsTrue old.base.tells
+      told tells = subst (λ (d : DeviceState). IsTrue d.tells) (sym begins) tells
 
-  first : start.image ≡ old.lower
-  first = ap (λ (d : DeviceState). d.image) (sym begins) ∙ sym above
+      there : done.image ≡ new.lower
+      there = ap (λ (d : DeviceState). d.image) ends ∙ sym below
 
-  there : done.image ≡ new.lower
-  there = ap (λ (d : DeviceState). d.image) ends ∙ sym below
+      shown : old.image ≡ cut_at edge start.image
+      shown = shows_cut edge start.image old view nothing fresh lower
 
-  why : (result : Result PlannedIndex Refusal) → OverEnds g n edge rows level place old new result
-      → PlanEnds g n edge level place body start done result
-  why (Ok p) h = record {
-    planned = new.planned;
-    journal = h.journal;
-    grants = h.indexed.grants;
-    keeps = λ tells. subst (λ (i : Image). KeepsDocument g n body level place (edge + p.block_length) i new.planned) (sym there)
-        (keeps g n body rows level place edge (edge + p.block_length) old new are h.indexed (told tells));
-  }
-  why (Err (refusals.Tampered e)) h = λ tells.
-      names_cell start done (in_order g.lists body n rows are) inside
-      (subst IsTrue (sym over.called.tells) (told tells)) first there quiet (h (told tells))
-  why (Err refusals.DeviceFault) h =
-      omega (arith, h, ap (λ (d : DeviceState). d.faults) begins, ap (λ (d : DeviceState). d.faults) ends)
-  why (Err refusals.NoMemory) h = tt
-  why (Err refusal) h = absurd h
+      still_then : IsStill start.foreign_writes done.foreign_writes
+          → IsStill old.base.foreign_writes new.base.foreign_writes
+      still_then still =
+          subst (λ (d : DeviceState). IsStill d.foreign_writes new.base.foreign_writes) (sym begins)
+          (subst (λ (d : DeviceState). IsStill start.foreign_writes d.foreign_writes) ends still)
+
+      why : (result : Result PlannedIndex Refusal) → OverEnds g n edge rows level place old new result
+          → PlanEnds g n edge level place body start done result
+      why (Ok p) h = record {
+        rows = rows;
+        are = are;
+        few = ?;
+        least = ?;
+        most = ?;
+        planned = new.planned;
+        journal = h.journal;
+        grants = h.indexed.grants;
+        keeps = λ tells. subst (λ (i : Image). KeepsDocument g n body level place (edge + p.block_length) i new.planned) (sym there)
+            (keeps g n body rows level place edge (edge + p.block_length) old new are h.indexed (told tells));
+        blank = λ tells.
+            subst (λ (i : Image). i (blank_of place) ≡ None → (cell : ℕ) (value : List ℕ) → new.planned cell ≡ Some value
+            → i cell ≡ None) shown (h.indexed.blank (told tells));
+        stands = λ tells still.
+            subst (λ (i : Image). ListsStand g i edge (256 * n) → StandsAtCost g n edge rows level place p i new.planned)
+            shown
+            (λ lists. stands_at_cost (h.indexed.shows (still_then still)) h.journal.is
+            (h.indexed.stands (told tells) (still_then still) lists));
+      }
+      why (Err (refusals.Tampered e)) h = λ tells.
+          names_cell start done (in_order g.lists body n rows are) inside
+          (subst IsTrue (sym over.called.tells) (told tells)) (sym lower) there quiet (h (told tells))
+      why (Err refusals.DeviceFault) h =
+          omega (arith, h, ap (λ (d : DeviceState). d.faults) begins, ap (λ (d : DeviceState). d.faults) ends)
+      why (Err refusals.NoMemory) h = tt
+      why (Err refusal) h = absurd h
 
 -- what was planned, and its journal
 pub planned_over : (g : Layout) (n edge from next : ℕ) (rows : List Posting) (level : Level) (place : Open) (p : PlannedIndex)
@@ -124,6 +199,7 @@ pub plan_refused : (g : Layout) (n edge from next : ℕ) (rows : List Posting) (
 plan_refused g n edge from next rows level place old new fault refusal view fresh indexes is = record {
   called = indexes.called;
   quiet = indexes.quiet;
+  fresh = indexes.fresh;
   loans = indexes.loans;
   ends = why fault indexes.ends is;
 } where

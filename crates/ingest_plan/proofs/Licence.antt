@@ -21,7 +21,7 @@ use Rattle.hash_tree.specs.declared.path.Open.{Open}
 use Rattle.list_growth.specs.Evidence.{AreInTheirPlaces, IsInItsPlace, IsLicensedBelow, NothingBelowPlans, ShowsBelow, bad_entry, bad_pointer, late, of_list, of_new, of_tree}
 use Rattle.list_growth.proofs.Licence.{licensed}
 use Rattle.tree_growth.specs.Inserting.{IsTaken}
-use Rattle.tree_growth.specs.Laws.{IsChildPlace, IsLedWithin, LiesByOwner, in_block, in_new, in_node}
+use Rattle.tree_growth.specs.Laws.{LiesByOwner, in_block, in_new, in_node}
 use Rattle.tree_growth.proofs.Licence as tree
 use Rattle.index_growth.specs.Indexes.{IsNamed, in_list, in_tree}
 use Rattle.index_growth.specs.Rows.{AreInOrder}

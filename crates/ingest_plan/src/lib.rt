@@ -10,6 +10,10 @@
 //! its slot has a hash trail, where its document stands in the slot and the path of its identifier is passed
 //! (`KeepsDocument`). That holds on any device, whoever else writes while it is planned.
 //!
+//! **Where nobody else wrote, and all lists stood as they should up to the edge**, the index stands so with the planned
+//! cells laid over what stood there, and the cells of the journal and of the new blocks are together as many as the
+//! index must cost (`StandsAtCost`).
+//!
 //! New blocks begin at the edge and may pass the device's end, so that the need is known also where it is too great.
 //!
 //! Stands on `word_reader` and `term_tags`, which give the postings, and on `index_growth`, which plans them. Begin with

@@ -1,6 +1,9 @@
 -- The postings of the body, planned over the device.
 use Rattle.std.proofs.Common.{refl, ap, ◌∙◌, arith}
 use Rattle.std.proofs.lemmas.Grind.{common_steps}
+use Rattle.worm_device.specs.Directly.{device_is_view}
+use Rattle.worm_device.specs.Overlaying.{overlay_shows}
+use Rattle.worm_device.specs.Views.{seen_directly}
 use Rattle.ingest_plan.proofs.Deriving.{plans_index}
 use Rattle.ingest_plan.proofs.Postings.{few, given, in_order}
 use Rattle.ingest_plan.proofs.plan.plan_index.Goals as goal
@@ -27,4 +30,10 @@ returns g c =
     c.in-Ok-postings.rows.items c.deref-2.result.now (rw c.in-Ok.is at c.words.ensures) c.deref.ensures.value
     (rw (c.in-Ok-postings.is, c.lists.ensures.lists) at c.postings.ensures.ok) c.deref-2.ensures.value)
     c.requires.to c.plan_over.ensures (ap (λ view. g.D.Device.state view.device.now) c.new-overlay.ensures.view ∙ ap (λ d. g.D.Device.state d) c.new.ensures.same)
-    (ap (λ d. g.D.Device.state d) (grind (arith, common_steps))) refl refl
+    (ap (λ d. g.D.Device.state d) (grind (arith, common_steps))) refl
+    (overlay_shows (λ view. seen_directly (g.D.Device.state view.device.now) view.device.ghost_name)
+    (λ view. device_is_view (g.D.Device.state view.device.now) view.device.ghost_name (g.met.D.Device.proper view.device.now))
+    c.new-overlay.result)
+    (grind (arith, common_steps)) (grind (arith, common_steps))
+    (ap (λ view. (g.D.Device.state view.device.now).image) c.new-overlay.ensures.view
+    ∙ ap (λ d. (g.D.Device.state d).image) c.new.ensures.same)

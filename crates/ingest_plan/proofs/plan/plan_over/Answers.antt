@@ -19,6 +19,7 @@ returns-in-Ok g c =
     record {
       called = indexes.called;
       quiet = indexes.quiet;
+      fresh = indexes.fresh;
       loans = indexes.loans;
       ends = planned_over c.args.volume.now.geometry c.args.slot c.args.edge c.over-pool.result.next c.insert_document.new.pool.next c.args.rows.now c.args.level.now c.args.place
           (record { block_length = c.next.result - c.args.edge; journal = c.in-Ok.journal })
