@@ -36,13 +36,13 @@ far apart less here = ⊎_elim (λ low. omega (arith, low, less, here)) (λ high
 module _ {g : Layout} {n : ℕ} {rows : List Posting} {level : Level} {place : Open} {from to : ℕ} {old new : Image}
     (pool : pool_at g ≤ from) (inside : to ≤ g.cells) (stand : IndexesStand g old from (256 * n))
     (path : EndsPath g old level place) (index : IndexStands g n rows level place from to old new) where
-  half : nibble level.digest level.number < 16
+  pub half : nibble level.digest level.number < 16
   half = nibble_low level.digest path.digest level.number
 
-  tree : TreeStands g index.between index.next
+  pub tree : TreeStands g index.between index.next
   tree = tree_behind pool stand.tree index.lists (omega (arith, index.more, inside))
 
-  node : IsNode g index.between level.number (node_of g level)
+  pub node : IsNode g index.between level.number (node_of g level)
   node = node_on index.lists.extends path.node
 
   blank : index.between (blank_of place) ≡ None
@@ -61,10 +61,10 @@ module _ {g : Layout} {n : ℕ} {rows : List Posting} {level : Level} {place : O
     room = λ child is. omega (arith, index.node child is, inside);
   }
 
-  rooted : IsRooted g level place n index.next to index.between new
+  pub rooted : IsRooted g level place n index.next to index.between new
   rooted = index.tree before
 
-  extends : TreeGrows g level n index.next to index.between new (cost_of place) → Extends index.between new
+  pub extends : TreeGrows g level n index.next to index.between new (cost_of place) → Extends index.between new
   extends (in_bucket adds holds same cost) = adds_extends adds
   extends (in_new_node mid less adds leads adds_bucket holds same cost) =
       extends_then (adds_extends adds) (adds_extends adds_bucket)
@@ -79,7 +79,7 @@ module _ {g : Layout} {n : ℕ} {rows : List Posting} {level : Level} {place : O
       ∙ adds.others cell (λ here.
       far {i = 16 + nibble level.digest level.number} apart (omega (arith, half)) (omega (arith, here)))
 
-  block_same : (l block i : ℕ) → l < g.lists → Leads index.between (pool_at g) index.next block (list_at g l) → i < 256
+  pub block_same : (l block i : ℕ) → l < g.lists → Leads index.between (pool_at g) index.next block (list_at g l) → i < 256
       → new (block + i) ≡ index.between (block + i)
   block_same l block i list leads less =
       let below = leads_below leads (omega (arith, list, pool, index.lists.more)) in
