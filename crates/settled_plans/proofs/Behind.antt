@@ -136,9 +136,9 @@ module _ {g : Layout} {old laid : Image} {p : Plan} {rows : List Posting} {level
       (is_rooted.nodes v node is)
 
   -- each posting of the row is one of the document's
-  pub is_listed : {i : ℕ} {a : Posting} → slice_get rows i ≡ Some a
+  pub is_listed : (i : ℕ) (a : Posting) → slice_get rows i ≡ Some a
       → (a.list < g.lists) × IsPostingOf g.lists p.body p.slot a.list (listed p.slot a).posting
-  is_listed {i} {a} row =
+  is_listed i a row =
       h.rows_are.each i (listed p.slot a)
       (slice_get-map (listed p.slot) rows i ∙ ap (λ o. option_map (listed p.slot) o) row)
 
@@ -154,7 +154,7 @@ module _ {g : Layout} {old laid : Image} {p : Plan} {rows : List Posting} {level
 
       outside : {value : List ℕ} → IsRowAddition g p.slot rows h.stands.next h.stands.between cell value → ⊥
       outside (of_posting i a block at row leads less is same) =
-          omega (arith, leads_below leads (lists_below a.list (is_listed row).0), less, is, far)
+          omega (arith, leads_below leads (lists_below a.list (is_listed i a row).0), less, is, far)
       outside (of_pointer l block i digit target list leads levels low high is other same) =
           omega (arith, leads_below leads (lists_below l list), levels, high, is, far)
 
@@ -196,7 +196,7 @@ module _ {g : Layout} {old laid : Image} {p : Plan} {rows : List Posting} {level
   of_row : {cell : ℕ} {value : List ℕ} → IsRowAddition g p.slot rows h.stands.next h.stands.between cell value
       → IsPlannedCell g p.slot rows level to laid cell value
   of_row (of_posting i a block at row leads less is same) =
-      a_posting i a block at row (is_listed row).0 (leads_on leads) less is same
+      a_posting i a block at row (is_listed i a row).0 (leads_on leads) less is same
   of_row (of_pointer l block i digit target list leads levels low high is other same) =
       a_pointer l block i digit target list (leads_on leads) levels low high is (leads_on other) same
 

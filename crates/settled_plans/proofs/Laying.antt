@@ -15,20 +15,24 @@ first_of (Some value) below = Some value
 abbrev pub over : Image → Image → Image
 over upper lower cell = first_of (upper cell) (lower cell)
 
+-- the value stands there
+pub record IsIn (image : Image) (cell : ℕ) (value : List ℕ) : Type 0 where
+  pub is : image cell ≡ Some value
+
 -- where the other is blank in each cell of the first, it has these cells then
-pub over_is : {upper lower : Image} → ((cell : ℕ) (value : List ℕ) → upper cell ≡ Some value → lower cell ≡ None)
-    → IsWith (λ cell value. upper cell ≡ Some value) lower (over upper lower)
+pub over_is : {upper lower : Image} → ((cell : ℕ) (value : List ℕ) → IsIn upper cell value → lower cell ≡ None)
+    → IsWith (IsIn upper) lower (over upper lower)
 over_is {upper} {lower} blank = record {
   keeps = record {
     keeps = λ cell value is. ⊎_elim
         (λ none. ap (λ o. first_of o (lower cell)) none ∙ is)
-        (λ w. absurd (none-some _ (sym (blank cell w.0 w.1) ∙ is)))
+        (λ w. absurd (none-some _ (sym (blank cell w.0 (record { is = w.1 })) ∙ is)))
         (look upper cell);
   };
-  adds = λ cell value row. ap (λ o. first_of o (lower cell)) row;
+  adds = λ cell value row. ap (λ o. first_of o (lower cell)) row.is;
   only = λ cell value is. ⊎_elim
       (λ none. inl (sym (ap (λ o. first_of o (lower cell)) none) ∙ is))
-      (λ w. inr (w.1 ∙ sym (ap (λ o. first_of o (lower cell)) w.1) ∙ is))
+      (λ w. inr (record { is = w.1 ∙ sym (ap (λ o. first_of o (lower cell)) w.1) ∙ is }))
       (look upper cell);
 }
 

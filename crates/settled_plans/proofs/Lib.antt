@@ -1,2 +1,4 @@
 pub mod Behind
 pub mod Laying
+pub mod NewImage
+pub mod Rows
