@@ -1,5 +1,7 @@
 pub mod Behind
+pub mod JournalOrder
 pub mod Laying
 pub mod NewImage
+pub mod OldPlaces
 pub mod Rows
 pub mod Standing
