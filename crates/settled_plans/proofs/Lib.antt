@@ -5,3 +5,4 @@ pub mod NewImage
 pub mod OldPlaces
 pub mod Rows
 pub mod Standing
+pub mod Tiles
