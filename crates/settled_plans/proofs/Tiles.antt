@@ -220,3 +220,78 @@ module _ {g : Layout} {old laid : Image} {p : Plan} {rows : List Posting} {level
       ∙ ap (λ (t : ℕ). Some t) (sym same) in
       (there.place, slice_get_within (map (λ (x : Grant). x.at) h.grants.0) there.place target at,
       get_or_from_slice_get (map (λ (x : Grant). x.at) h.grants.0) there.place target target at)
+
+  -- no cells are a block and a node
+  clash : {target : ℕ} → IsPiece target 256 → IsPiece target 32 → ⊥
+  clash {target} block node = ⊎_elim
+      (λ one. let same : 256 ≡ 32 = one.1 in omega (arith, same))
+      (λ far. ⊎_elim (λ low. omega (arith, low)) (λ high. omega (arith, high)) far)
+      (pieces_apart block node)
+
+  abbrev HasJumpTo : ℕ → Type 0
+  HasJumpTo target = HasJump (new_image h) p.start p.reserved (length p.journal) target
+
+  abbrev HasChildTo : ℕ → Type 0
+  HasChildTo target = HasChild (new_image h) p.start p.reserved (length p.journal) target
+
+  jump_copied : {target : ℕ} → HasJumpTo target → IsPiece target 256
+  jump_copied (at, cell, copies) = jump_piece (copies_planned copies)
+
+  child_copied : {target : ℕ} → HasChildTo target → IsPiece target 32
+  child_copied (at, cell, copies) = child_piece (copies_planned copies)
+
+  -- what the pool gave is copied as a target
+  has_target : {grant : Grant} → IsLedTo planned grant → HasJumpTo grant.at ⊎ HasChildTo grant.at
+  has_target (to_block cell holds size) = let copies = planned_copies tt holds in inl (copies.0, cell, copies.1)
+  has_target (to_node cell holds size) = let copies = planned_copies tt holds in inr (copies.0, cell, copies.1)
+
+  has_size : {grant : Grant} → IsLedTo planned grant
+      → IsSize (new_image h) p.start p.reserved (length p.journal) grant.at grant.size
+  has_size (to_block cell holds size) = let copies = planned_copies tt holds in inl (size, (copies.0, cell, copies.1))
+  has_size (to_node cell holds size) = inr (size, λ jump. clash (jump_copied jump) (child_piece holds))
+
+  tiled : (from end : ℕ) (grants : List Grant)
+      → ((i : ℕ) (grant : Grant) → slice_get grants i ≡ Some grant → IsLedTo planned grant) → Tile from end grants
+      → rules.Tile (new_image h) p.start p.reserved (length p.journal) from end (map (λ (grant : Grant). grant.at) grants)
+  tiled from end [] led same = same
+  tiled from end (grant ∷ grants) led (at, rest) = (
+    at,
+    grant.size,
+    has_size (led zero grant refl),
+    tiled (from + grant.size) end grants (λ i one is. led (suc i) one is) rest,
+  )
+
+  -- each is a target in the block part
+  record IsTarget (target : ℕ) : Type 0 where
+    has : HasJumpTo target ⊎ HasChildTo target
+    from : p.start ≤ target
+    below : target < to
+
+  granted_target : {target : ℕ} → Contains (map (λ (grant : Grant). grant.at) h.grants.0) target → IsTarget target
+  granted_target {target} (k, low, is) =
+      let found = slice_get-get_or (map (λ (x : Grant). x.at) h.grants.0) k target low in
+      let one = mapped (slice_get h.grants.0 k) target
+      (sym (slice_get-map (λ (x : Grant). x.at) h.grants.0 k) ∙ found ∙ ap (λ (t : ℕ). Some t) is) in
+      let led = h.grants.1.led k one.0 one.1 in
+      let inside = tile_inside p.start to h.grants.0 k one.0 h.grants.1.tile one.1 in
+      let some = piece_some (grant_piece one.0 led) in
+      record {
+        has = subst (λ (t : ℕ). HasJumpTo t ⊎ HasChildTo t) one.2 (has_target led);
+        from = omega (arith, inside.0, one.2);
+        below = omega (arith, inside.1, one.2, some);
+      }
+
+  pub tiles : TilingRule (new_image h) p.start p.reserved (length (stored_of p)) (length p.journal)
+  tiles = record {
+    targets = map (λ (grant : Grant). grant.at) h.grants.0;
+    each = λ target. (
+      λ is. ⊎_elim
+          (λ jump. is_granted (jump_copied jump) is.1 (omega (arith, is.2, ends_there h)))
+          (λ child. is_granted (child_copied child) is.1 (omega (arith, is.2, ends_there h)))
+          is.0,
+      λ among. let there = granted_target among in (there.has, there.from, omega (arith, there.below, ends_there h)),
+    );
+    tile = subst
+        (λ (end : ℕ). rules.Tile (new_image h) p.start p.reserved (length p.journal) p.start end (map (λ (grant : Grant). grant.at) h.grants.0))
+        (sym (ends_there h)) (tiled p.start to h.grants.0 h.grants.1.led h.grants.1.tile);
+  }
