@@ -1,8 +1,10 @@
 pub mod Behind
+pub mod Filled
 pub mod JournalOrder
 pub mod Laying
 pub mod NewImage
 pub mod OldPlaces
+pub mod Postings
 pub mod Rows
 pub mod Standing
 pub mod Tiles

@@ -1,0 +1,111 @@
+-- The plan's cells fill its slot.
+use Rattle.std.proofs.Common.{◌≡◌, ◌<◌, ◌≤◌, ◌+◌, ◌⊎◌, ⊎_elim, inl, inr, ℕ, List, length, refl, sym, ◌∙◌, subst, arith}
+use Rattle.cell_types.specs.Image.{Image}
+use Rattle.cell_types.specs.Layout.{Layout, list_at, reserve_at, outcome_at, done_at}
+use Rattle.cell_types.specs.Records.{record_bytes}
+use Rattle.cell_types.specs.declared.record_cell.RecordCell.TheVariants.{Reserve, Commit, Done}
+use Rattle.stored_documents.specs.Slots.{Reserves, cells_for}
+use Rattle.stored_documents.specs.Volumes.{Holds}
+use Rattle.index_paths.specs.Nodes.{IsBlockOf}
+use Rattle.tamper_rules.specs.Journals.{LiesInBlocks}
+use Rattle.volume_growth.specs.Filling.{IsFilled, blocks_end}
+use Rattle.volume_growth.specs.Ingesting.{Plan, Reserving, Committing, Finishing, stored_of}
+use Rattle.volume_growth.proofs.Filled.{mine, stores_on'}
+use Rattle.term_tags.specs.declared.rows.Posting.{Posting}
+use Rattle.hash_tree.specs.declared.level.Level.{Level}
+use Rattle.hash_tree.specs.declared.path.Open.{Open}
+use Rattle.settled_plans.specs.Laws.{IsPlannedIndex}
+use Rattle.settled_plans.proofs.Behind.{more, pool_before}
+use Rattle.settled_plans.proofs.JournalOrder.{in_order}
+use Rattle.settled_plans.proofs.NewImage.{ends_there, new_image}
+use Rattle.settled_plans.proofs.OldPlaces.{block_owned}
+use Rattle.settled_plans.proofs.Rows.{all_rows, commit_cell, done_cell, reserve_cell}
+use Rattle.settled_plans.proofs.Standing.{block_back, block_lies, blocks}
+use Rattle.settled_plans.proofs.Tiles.{tiles}
+
+module _ {g : Layout} {old laid : Image} {p : Plan} {rows : List Posting} {level : Level} {place : Open} {to : ℕ}
+    {planned : Image} (h : IsPlannedIndex g old laid p rows level place to planned) where
+  reserves : Reserves g (new_image h) p.slot p.start p.reserved
+  reserves = record {
+    slot = h.takes.slot;
+    reserve = record {
+      cell = record_bytes (Reserve p.start p.reserved) (reserve_at p.slot);
+      stands = (all_rows h).adds (reserve_at p.slot) (record_bytes (Reserve p.start p.reserved) (reserve_at p.slot))
+          (Reserving, record { at = refl; is = reserve_cell h });
+      is = reserve_cell h;
+    };
+    from = pool_before h;
+    to = h.takes.inside;
+  }
+
+  pub filled : IsFilled g old (new_image h) p
+  filled = record {
+    volume = h.takes.volume;
+    before = h.takes.settled;
+    horizon = h.takes.horizon;
+    begins = h.takes.begins;
+    reserves = reserves;
+    commit = record {
+      cell = record_bytes (Commit (length (stored_of p)) (length p.journal)) (outcome_at p.slot);
+      stands = (all_rows h).adds (outcome_at p.slot)
+          (record_bytes (Commit (length (stored_of p)) (length p.journal)) (outcome_at p.slot))
+          (Committing, record { at = refl; is = commit_cell h });
+      is = commit_cell h;
+    };
+    done = record {
+      cell = record_bytes (Done p.slot) (done_at p.slot);
+      stands = (all_rows h).adds (done_at p.slot) (record_bytes (Done p.slot) (done_at p.slot))
+          (Finishing, record { at = refl; is = done_cell h });
+      is = done_cell h;
+    };
+    fits = omega (arith, h.takes.room, more h);
+    rows = all_rows h;
+    is_identifier = h.takes.identifier;
+    is_body = h.takes.body;
+    in_order = in_order h;
+    tiles = tiles h;
+  }
+
+  -- a slot's block part goes on
+  lies_on : {m cell : ℕ} → LiesInBlocks g old m cell → LiesInBlocks g (new_image h) m cell
+  lies_on lies = record {
+    start = lies.start;
+    length = lies.length;
+    bytes = lies.bytes;
+    journal = lies.journal;
+    stores = stores_on' filled lies.stores;
+    from = lies.from;
+    below = lies.below;
+  }
+
+  -- and the new cells are the plan's
+  lies_in_new : (cell : ℕ) → p.start ≤ cell → cell < to → LiesInBlocks g (new_image h) p.slot cell
+  lies_in_new cell from below =
+      let done = mine filled in
+      record {
+        start = p.start;
+        length = p.reserved;
+        bytes = length (stored_of p);
+        journal = length p.journal;
+        stores = record { commits = done.commits; done = inr done.done };
+        from = from;
+        below = omega (arith, below, ends_there h);
+      }
+
+  -- each block is its list's first, or lies in the block part of one slot
+  pub owners : (l block : ℕ) → IsBlockOf g (new_image h) l block → (block ≡ list_at g l)
+      ⊎ ((m : ℕ) × LiesInBlocks g (new_image h) m block × LiesInBlocks g (new_image h) m (block + 255))
+  owners l block b = ⊎_elim
+      (λ (was : IsBlockOf g old l block). ⊎_elim
+      inl
+      (λ (owned : (m : ℕ) × LiesInBlocks g old m block × LiesInBlocks g old m (block + 255)).
+      inr (owned.0, lies_on owned.1, lies_on owned.2))
+      (block_owned h.takes.layout h.takes.settled h.takes.horizon h.takes.slot was))
+      (λ far.
+      let lies = block_lies h l block b.list (block_back h b) in
+      inr (
+        p.slot,
+        lies_in_new block far (omega (arith, lies.1)),
+        lies_in_new (block + 255) (omega (arith, far)) (omega (arith, lies.1)),
+      ))
+      (blocks h l block b)
