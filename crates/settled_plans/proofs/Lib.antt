@@ -3,6 +3,7 @@ pub mod Filled
 pub mod JournalOrder
 pub mod Laying
 pub mod NewImage
+pub mod Nodes
 pub mod OldPlaces
 pub mod Postings
 pub mod Rows

@@ -1,7 +1,7 @@
 -- The new postings are the document's, and each of its postings has a trail.
 use Rattle.std.proofs.Common.{◌≡◌, ◌<◌, ◌≤◌, ◌+◌, ◌*◌, ◌/◌, ◌^◌, ◌⊎◌, ⊎_elim, inl, inr, ℕ, List, length, map, slice_get, Option, Some, None, refl, sym, ◌∙◌, subst, ap, arith}
 use Rattle.std.specs.Option.{option_map}
-use Rattle.std.proofs.lemmas.Option.{none-some, slice_get-map}
+use Rattle.std.proofs.lemmas.Option.{none-some, slice_get-map, slice_get_within}
 use Rattle.cell_types.specs.Image.{Image, Extends}
 use Rattle.cell_types.specs.Layout.{Layout, list_at, pool_at}
 use Rattle.cell_types.specs.Records.{IsRecordCell}
@@ -12,6 +12,7 @@ use Rattle.stored_documents.proofs.Holding.{one_record_holds}
 use Rattle.index_paths.specs.Blocks.{Leads, PostingFields, Trail, posting_record}
 use Rattle.index_paths.specs.Nodes.{AreApart, IsBlockOf}
 use Rattle.index_paths.specs.Postings.{IsPostingOf, ListedPosting}
+use Rattle.index_paths.proofs.Fronts.{one_posting}
 use Rattle.index_paths.proofs.Trails.{trail_wider}
 use Rattle.tamper_rules.proofs.Writing.{same_or_not}
 use Rattle.volume_growth.specs.Ingesting.{Plan}
@@ -35,9 +36,6 @@ no_bucket_posts a slot fingerprint same = cc
 no_child_posts : (a : PostingFields) (target : ℕ) → Child target ≡ posting_record a → ⊥
 no_child_posts a target same = cc
 
-same_posting : (a b : PostingFields) → posting_record a ≡ posting_record b → a ≡ b
-same_posting a b same = ?
-
 -- what a row of the map came from
 mapped : (n : ℕ) (found : Option Posting) (one : ListedPosting) → option_map (listed n) found ≡ Some one
     → (a : Posting) × (found ≡ Some a) × (listed n a ≡ one)
@@ -58,21 +56,63 @@ module _ {g : Layout} {old laid : Image} {p : Plan} {rows : List Posting} {level
       (same_or_not l k)
 
   -- the posting is one of the document's, and of its slot
-  IsMine : ℕ → PostingFields → Type 0
+  abbrev IsMine : ℕ → PostingFields → Type 0
   IsMine l q = (q.key / 256 ≡ p.slot) × IsPostingOf g.lists p.body p.slot l q
 
   mine : (i : ℕ) (a : Posting) (cell : ℕ) (value : List ℕ) → slice_get rows i ≡ Some a
       → IsRecordCell (posting_record (listed p.slot a).posting) cell value
-      → ((listed p.slot a).posting.key / 256 ≡ p.slot) × IsPostingOf g.lists p.body p.slot a.list (listed p.slot a).posting
+      → IsMine a.list (listed p.slot a).posting
   mine i a cell value row is =
       let of_document = (is_listed h i a row).1 in
-      (?, of_document)
+      let below = slice_get_within of_document.tags of_document.ordinal _ of_document.here in
+      let last = is.fits.1 in
+      let key = of_document.key in
+      (omega (arith, below, of_document.last, last, key), of_document)
 
   pub postings : (l block at : ℕ) (q : PostingFields) → IsBlockOf g (new_image h) l block → at < 128
       → old (block + at) ≡ None → Holds (new_image h) (block + at) (posting_record q)
       → (q.key / 256 ≡ p.slot) × IsPostingOf g.lists p.body p.slot l q
-  postings l block at q b less none holds = ?
+  postings l block at q b less none holds = of_kind (planned_cell h (block + at) held.cell is_planned)
+    where
+      leads : Leads laid (pool_at g) to block (list_at g l)
+      leads = block_back h b
+
+      held : Holds laid (block + at) (posting_record q)
+      held = holds_back (block_same h l block at b.list leads (omega (arith, less))) holds
+
+      is_planned : planned (block + at) ≡ Some held.cell
+      is_planned = ⊎_elim
+          (λ was. absurd (none-some _ (sym none ∙ was)))
+          (λ row. row)
+          (h.laid_is.only (block + at) held.cell held.stands)
+
+      one : {r : RecordCell} → IsRecordCell r (block + at) held.cell → r ≡ posting_record q
+      one {r} is =
+          one_record_holds laid (block + at) r (posting_record q) (record { cell = held.cell; stands = held.stands; is = is }) held
+
+      of_kind : IsPlannedCell g p.slot rows level to laid (block + at) held.cell → IsMine l q
+      of_kind (a_posting i a other k row list leads' below here is) =
+          let of_list : a.list ≡ l =
+          same_list a.list l other block k at list b.list leads' leads (omega (arith, below)) (omega (arith, less)) (sym here) in
+          subst (λ (r : PostingFields). IsMine l r) (one_posting laid (block + at) (listed p.slot a).posting q (record { cell = held.cell; stands = held.stands; is = is }) held)
+          (subst (λ (m : ℕ). IsMine m (listed p.slot a).posting) of_list (mine i a (block + at) held.cell row is))
+      of_kind (a_pointer m other i digit target list leads' levels low high here to_other is) =
+          absurd (no_jump_posts q target (one is))
+      of_kind (a_bucket v node x is under here bucket) = absurd (no_bucket_posts q _ _ (one bucket))
+      of_kind (a_child v node x w target is under here to_other child) = absurd (no_child_posts q target (one child))
+
+  pub extends_planned : Extends planned (new_image h)
+  extends_planned = record {
+    keeps = λ cell value is. (extends_new h).keeps cell value (h.laid_is.adds cell value is);
+  }
 
   pub trails : (l : ℕ) (q : PostingFields) → l < g.lists → IsPostingOf g.lists p.body p.slot l q
       → (at : ℕ) × Trail (new_image h) (pool_at g) g.cells at q (list_at g l)
-  trails l q list is = ?
+  trails l q list is =
+      let row = h.rows_are.all l q list is in
+      let one = mapped p.slot (slice_get rows row.0) (record { list = l; posting = q })
+      (sym (slice_get-map (listed p.slot) rows row.0) ∙ row.1) in
+      let has = h.trails (new_image h) (all_rows h).keeps extends_planned row.0 one.0 one.1 in
+      let trail : Trail (new_image h) (pool_at g) to has.at q (list_at g l) =
+      subst (λ (x : ListedPosting). Trail (new_image h) (pool_at g) to has.at x.posting (list_at g x.list)) one.2 has.trail in
+      (has.at, trail_wider (pool_at g) g.cells (omega arith) (to_inside h) trail)
