@@ -1,5 +1,5 @@
 -- Where a document's index is planned on a settled volume: what stood before, between postings and bucket, and behind.
-use Rattle.std.proofs.Common.{◌≡◌, ◌<◌, ◌≤◌, ◌+◌, ◌*◌, ◌⊎◌, ⊎_elim, inl, inr, ℕ, List, length, map, slice_get, Some, None, refl, sym, ◌∙◌, subst, ap, arith}
+use Rattle.std.proofs.Common.{◌≡◌, ◌<◌, ◌≤◌, ◌+◌, ◌*◌, ◌⊎◌, ⊎_elim, inl, inr, ℕ, List, slice_get, Some, None, refl, sym, ◌∙◌, subst, ap, arith}
 use Rattle.std.proofs.lemmas.Bool.{cases_lt}
 use Rattle.std.specs.Option.{option_map}
 use Rattle.std.proofs.lemmas.Option.{none-some, slice_get-map}
@@ -30,12 +30,10 @@ use Rattle.hash_tree.specs.declared.level.Level.{Level}
 use Rattle.hash_tree.specs.declared.path.Open.{Open}
 use Rattle.list_growth.proofs.KeptTrails.{leads_below}
 use Rattle.tree_growth.proofs.Paths.{nibble_low}
-use Rattle.tree_growth.specs.Readiness.{cost_of}
 use Rattle.tree_growth.specs.Rooting.{IsRooted, TreeGrows, in_bucket, in_new_node}
-use Rattle.index_growth.specs.Standing.{RowStands}
 use Rattle.settled_growth.specs.Laws.{IndexesStand, TreeStands}
 use Rattle.settled_growth.proofs.BehindBucket as bucket
-use Rattle.settled_growth.proofs.BehindRow.{node_back, node_on, node_same}
+use Rattle.settled_growth.proofs.BehindRow.{node_back, node_on}
 use Rattle.settled_growth.proofs.ListsAside.{was_block}
 use Rattle.settled_growth.proofs.SettledLists.{settled_stand}
 use Rattle.settled_growth.proofs.SettledTrees.{settled_tree}

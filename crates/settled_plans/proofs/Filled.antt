@@ -1,14 +1,13 @@
 -- The plan's cells fill its slot.
-use Rattle.std.proofs.Common.{◌≡◌, ◌<◌, ◌≤◌, ◌+◌, ◌⊎◌, ⊎_elim, inl, inr, ℕ, List, length, refl, sym, ◌∙◌, subst, arith}
+use Rattle.std.proofs.Common.{◌≡◌, ◌<◌, ◌≤◌, ◌+◌, ◌⊎◌, ⊎_elim, inl, inr, ℕ, List, length, refl, arith}
 use Rattle.cell_types.specs.Image.{Image}
 use Rattle.cell_types.specs.Layout.{Layout, list_at, reserve_at, outcome_at, done_at}
 use Rattle.cell_types.specs.Records.{record_bytes}
 use Rattle.cell_types.specs.declared.record_cell.RecordCell.TheVariants.{Reserve, Commit, Done}
-use Rattle.stored_documents.specs.Slots.{Reserves, cells_for}
-use Rattle.stored_documents.specs.Volumes.{Holds}
+use Rattle.stored_documents.specs.Slots.{Reserves}
 use Rattle.index_paths.specs.Nodes.{IsBlockOf}
 use Rattle.tamper_rules.specs.Journals.{LiesInBlocks}
-use Rattle.volume_growth.specs.Filling.{IsFilled, blocks_end}
+use Rattle.volume_growth.specs.Filling.{IsFilled}
 use Rattle.volume_growth.specs.Ingesting.{Plan, Reserving, Committing, Finishing, stored_of}
 use Rattle.volume_growth.proofs.Filled.{mine, stores_on'}
 use Rattle.term_tags.specs.declared.rows.Posting.{Posting}

@@ -1,29 +1,25 @@
 -- The image with all cells of a plan: the planned ones at their addresses, the journal, the document, and the slot's cells.
-use Rattle.std.proofs.Common.{◌≡◌, ◌≢◌, ◌<◌, ◌≤◌, ◌+◌, ◌-◌, ◌*◌, ◌^◌, ◌⊎◌, ⊎_elim, inl, inr, ℕ, List, [], length, slice_get, Option, Some, None, refl, sym, ◌∙◌, subst, ap, arith}
-use Rattle.std.proofs.lemmas.Option.{none-some, slice_get_within, slice_get-get_or}
-use Rattle.cell_types.specs.Image.{Image, Extends}
-use Rattle.cell_types.specs.Layout.{Layout, list_at, pool_at, reserve_at, outcome_at, done_at}
-use Rattle.cell_types.specs.Records.{IsRecordCell, record_bytes, Fits, IsWellFormed}
-use Rattle.cell_types.specs.declared.record_cell.RecordCell.{RecordCell}
+use Rattle.std.proofs.Common.{◌≡◌, ◌<◌, ◌≤◌, ◌+◌, ◌-◌, ◌⊎◌, ⊎_elim, ℕ, List, length, slice_get, Option, None, refl, sym, ◌∙◌, ap, arith}
+use Rattle.std.proofs.lemmas.Option.{none-some}
+use Rattle.cell_types.specs.Image.{Image}
+use Rattle.cell_types.specs.Layout.{Layout, list_at, reserve_at, outcome_at, done_at}
+use Rattle.cell_types.specs.Records.{record_bytes}
 use Rattle.cell_types.specs.declared.record_cell.RecordCell.TheVariants.{Reserve, Commit, Done}
-use Rattle.cell_types.proofs.OneRecord.{one_record}
 use Rattle.stored_documents.specs.Documents.{content_at, document_at}
 use Rattle.stored_documents.specs.Slots.{cells_for}
-use Rattle.stored_documents.specs.Volumes.{IsWritten}
-use Rattle.stored_documents.proofs.Extending.{blank_before}
 use Rattle.tamper_rules.specs.Journals.{journal_at}
 use Rattle.tamper_rules.specs.Rules
 use Rattle.tamper_rules.specs.Rules.{DoneRule, OutcomeRule}
 use Rattle.tamper_rules.specs.Settling.{IsWith}
 use Rattle.tamper_rules.proofs.Images.{look}
 use Rattle.volume_growth.specs.Filling.{blocks_end}
-use Rattle.volume_growth.specs.Ingesting.{Plan, Phase, Reserving, Storing, Committing, Applying, Finishing, stored_of, ContentRow, CopyRow, AppliedRow, Row, AnyRow}
+use Rattle.volume_growth.specs.Ingesting.{Plan, stored_of}
 use Rattle.term_tags.specs.declared.rows.Posting.{Posting}
 use Rattle.hash_tree.specs.declared.level.Level.{Level}
 use Rattle.hash_tree.specs.declared.path.Open.{Open}
 use Rattle.settled_plans.specs.Laws.{IsPlannedIndex}
-use Rattle.settled_plans.proofs.Behind.{blank_from, more, planned_low, pool_before, some_planned, to_inside}
-use Rattle.settled_plans.proofs.Laying.{IsIn, blank_with, held, held_is, held_there, one_cell, one_is, one_there, over, over_is, row_from, row_is, row_there, same_with, with_both, with_same}
+use Rattle.settled_plans.proofs.Behind.{blank_from, more, planned_low, pool_before}
+use Rattle.settled_plans.proofs.Laying.{IsIn, blank_with, held, held_is, one_cell, one_is, over, over_is, row_from, row_is, with_both, with_same}
 
 module _ {g : Layout} {old laid : Image} {p : Plan} {rows : List Posting} {level : Level} {place : Open} {to : ℕ}
     {planned : Image} (h : IsPlannedIndex g old laid p rows level place to planned) where

@@ -1,6 +1,5 @@
 -- The new child cells and buckets are the document's, and its slot has a hash trail.
-use Rattle.std.proofs.Common.{◌≡◌, ◌<◌, ◌≤◌, ◌+◌, ◌⊎◌, ⊎_elim, inl, inr, ℕ, List, Option, Some, None, refl, sym, ◌∙◌, subst, ap, arith}
-use Rattle.std.proofs.lemmas.Option.{none-some}
+use Rattle.std.proofs.Common.{◌≡◌, ◌<◌, ◌≤◌, ◌+◌, ⊎_elim, ℕ, List, Option, Some, None, refl, sym, ◌∙◌, subst, arith}
 use Rattle.sha2.specs.Sha256.{sha256}
 use Rattle.cell_types.specs.Bytes.{AreBytes}
 use Rattle.cell_types.specs.Image.{Image, Extends}
@@ -22,9 +21,8 @@ use Rattle.hash_tree.specs.declared.path.Open.{Open}
 use Rattle.tree_growth.proofs.Paths.{on_path}
 use Rattle.tree_growth.specs.Readiness.{PassedDown}
 use Rattle.settled_growth.proofs.BehindRow as row
-use Rattle.worm_device.proofs.Images.{extends_then}
 use Rattle.settled_plans.specs.Laws.{IsPlannedIndex}
-use Rattle.settled_plans.proofs.Behind.{between_blank, extends_between, is_rooted, more, pool_before, stand, to_inside}
+use Rattle.settled_plans.proofs.Behind.{between_blank, is_rooted, pool_before, stand, to_inside}
 use Rattle.settled_plans.proofs.NewImage.{new_image}
 use Rattle.settled_plans.proofs.Postings.{extends_planned}
 use Rattle.settled_plans.proofs.Rows.{all_rows, extends_new}

@@ -3,7 +3,7 @@ use Rattle.std.proofs.Common.{◌≡◌, ◌<◌, ◌≤◌, ◌+◌, ◌⊎◌,
 use Rattle.std.specs.Prelude.{Contains}
 use Rattle.cell_types.specs.Image.{Image}
 use Rattle.cell_types.specs.Layout.{Layout, IsLayout, list_at, outcome_at, pool_at}
-use Rattle.cell_types.specs.declared.record_cell.RecordCell.TheVariants.{Commit, Jump, Child, Reserve}
+use Rattle.cell_types.specs.declared.record_cell.RecordCell.TheVariants.{Jump, Child}
 use Rattle.stored_documents.specs.Documents.{document_at}
 use Rattle.stored_documents.specs.Slots.{IsDone, IsHorizon, Stores}
 use Rattle.stored_documents.specs.Volumes.{Holds}

@@ -1,5 +1,5 @@
 -- The new postings are the document's, and each of its postings has a trail.
-use Rattle.std.proofs.Common.{◌≡◌, ◌<◌, ◌≤◌, ◌+◌, ◌*◌, ◌/◌, ◌^◌, ◌⊎◌, ⊎_elim, inl, inr, ℕ, List, length, map, slice_get, Option, Some, None, refl, sym, ◌∙◌, subst, ap, arith}
+use Rattle.std.proofs.Common.{◌≡◌, ◌<◌, ◌+◌, ◌/◌, ⊎_elim, ℕ, List, slice_get, Option, Some, None, refl, sym, ◌∙◌, subst, arith}
 use Rattle.std.specs.Option.{option_map}
 use Rattle.std.proofs.lemmas.Option.{none-some, slice_get-map, slice_get_within}
 use Rattle.cell_types.specs.Image.{Image, Extends}
@@ -10,13 +10,13 @@ use Rattle.cell_types.specs.declared.record_cell.RecordCell.TheVariants.{Jump, B
 use Rattle.stored_documents.specs.Volumes.{Holds}
 use Rattle.stored_documents.proofs.Holding.{one_record_holds}
 use Rattle.index_paths.specs.Blocks.{Leads, PostingFields, Trail, posting_record}
-use Rattle.index_paths.specs.Nodes.{AreApart, IsBlockOf}
+use Rattle.index_paths.specs.Nodes.{IsBlockOf}
 use Rattle.index_paths.specs.Postings.{IsPostingOf, ListedPosting}
 use Rattle.index_paths.proofs.Fronts.{one_posting}
 use Rattle.index_paths.proofs.Trails.{trail_wider}
 use Rattle.tamper_rules.proofs.Writing.{same_or_not}
 use Rattle.volume_growth.specs.Ingesting.{Plan}
-use Rattle.volume_growth.proofs.ListShapes.{holds_back, same_cell}
+use Rattle.volume_growth.proofs.ListShapes.{holds_back}
 use Rattle.term_tags.specs.Listing.{listed}
 use Rattle.term_tags.specs.declared.rows.Posting.{Posting}
 use Rattle.hash_tree.specs.declared.level.Level.{Level}
@@ -24,7 +24,7 @@ use Rattle.hash_tree.specs.declared.path.Open.{Open}
 use Rattle.settled_plans.specs.Laws.{IsPlannedIndex}
 use Rattle.settled_plans.proofs.Behind.{IsPlannedCell, a_posting, a_pointer, a_bucket, a_child, is_listed, planned_cell, stand_behind, to_inside}
 use Rattle.settled_plans.proofs.NewImage.{new_image}
-use Rattle.settled_plans.proofs.Rows.{all_rows, extends_new, of_planned}
+use Rattle.settled_plans.proofs.Rows.{all_rows, extends_new}
 use Rattle.settled_plans.proofs.Standing.{block_back, block_same}
 
 no_jump_posts : (a : PostingFields) (target : ℕ) → Jump target ≡ posting_record a → ⊥

@@ -1,5 +1,5 @@
 -- The new image has the cells of the plan's five phases, and no other that the old one lacked.
-use Rattle.std.proofs.Common.{◌≡◌, ◌<◌, ◌≤◌, ◌+◌, ◌-◌, ◌⊎◌, ⊎_elim, inl, inr, ℕ, List, length, length-append, slice_get, Some, None, refl, sym, ◌∙◌, subst, arith}
+use Rattle.std.proofs.Common.{◌≡◌, ◌<◌, ◌≤◌, ◌+◌, ◌-◌, ◌⊎◌, ⊎_elim, inl, inr, ℕ, List, length, length-append, Some, None, refl, sym, ◌∙◌, subst, arith}
 use Rattle.std.proofs.lemmas.Option.{none-some, slice_get_within, slice_get-get_or}
 use Rattle.cell_types.specs.Image.{Image, Extends}
 use Rattle.cell_types.specs.Layout.{Layout, list_at, reserve_at, outcome_at, done_at}
@@ -11,14 +11,14 @@ use Rattle.stored_documents.specs.Slots.{cells_for}
 use Rattle.stored_documents.proofs.Extending.{blank_before}
 use Rattle.tamper_rules.specs.Settling.{IsWith}
 use Rattle.tamper_rules.proofs.Images.{look}
-use Rattle.volume_growth.specs.Ingesting.{Plan, Phase, Reserving, Storing, Committing, Applying, Finishing, stored_of, ContentRow, CopyRow, AppliedRow, Row, AnyRow}
+use Rattle.volume_growth.specs.Ingesting.{Plan, Reserving, Storing, Committing, Applying, Finishing, stored_of, ContentRow, CopyRow, AppliedRow, AnyRow}
 use Rattle.term_tags.specs.declared.rows.Posting.{Posting}
 use Rattle.hash_tree.specs.declared.level.Level.{Level}
 use Rattle.hash_tree.specs.declared.path.Open.{Open}
 use Rattle.settled_plans.specs.Laws.{IsPlannedIndex}
-use Rattle.settled_plans.proofs.Behind.{more, planned_low, pool_before, some_planned, to_inside}
-use Rattle.settled_plans.proofs.Laying.{IsIn, blank_with, held_is, held_there, one_is, one_there, row_is, row_there, with_same}
-use Rattle.settled_plans.proofs.NewImage.{OfCommit, OfDocument, OfDone, OfJournal, OfReserve, Planned, bytes, document, document_cells, document_from, is_all, is_planned, journal, journal_cells, journal_from, new_image}
+use Rattle.settled_plans.proofs.Behind.{more, planned_low, some_planned, to_inside}
+use Rattle.settled_plans.proofs.Laying.{blank_with, held_is, held_there, one_is, one_there, row_is, row_there, with_same}
+use Rattle.settled_plans.proofs.NewImage.{OfCommit, OfDocument, OfDone, OfJournal, OfReserve, Planned, bytes, document, document_cells, is_all, journal, journal_cells, new_image}
 
 module _ {g : Layout} {old laid : Image} {p : Plan} {rows : List Posting} {level : Level} {place : Open} {to : ℕ}
     {planned : Image} (h : IsPlannedIndex g old laid p rows level place to planned) where

@@ -1,5 +1,5 @@
 -- The new blocks and the new node of a plan tile its block part.
-use Rattle.std.proofs.Common.{◌≡◌, ◌<◌, ◌≤◌, ◌+◌, ◌*◌, ◌⊎◌, ⊎_elim, inl, inr, ℕ, suc, zero, List, [], ◌∷◌, length, map, slice_get, Option, Some, None, refl, sym, ◌∙◌, subst, ap, arith}
+use Rattle.std.proofs.Common.{◌≡◌, ◌<◌, ◌≤◌, ◌+◌, ◌⊎◌, ⊎_elim, inl, inr, ℕ, suc, zero, List, [], ◌∷◌, length, map, slice_get, Option, Some, None, refl, sym, ◌∙◌, subst, ap, arith}
 use Rattle.std.specs.Option.{option_map}
 use Rattle.std.specs.Prelude.{Contains}
 use Rattle.std.proofs.lemmas.Bool.{cases_lt}
@@ -9,7 +9,6 @@ use Rattle.cell_types.specs.Layout.{Layout, list_at, pool_at}
 use Rattle.cell_types.specs.Records.{IsRecordCell}
 use Rattle.cell_types.specs.declared.record_cell.RecordCell.{RecordCell}
 use Rattle.cell_types.specs.declared.record_cell.RecordCell.TheVariants.{Jump, Bucket, Child}
-use Rattle.stored_documents.specs.Documents.{document_at}
 use Rattle.stored_documents.specs.Volumes.{Holds}
 use Rattle.stored_documents.proofs.Holding.{one_record_holds, some_is}
 use Rattle.index_paths.specs.Blocks.{Leads, PostingFields, posting_record}
@@ -19,7 +18,6 @@ use Rattle.tamper_rules.specs.Rules.{HasChild, HasJump, IsSize, TilingRule}
 use Rattle.tamper_rules.specs.Rules as rules
 use Rattle.tamper_rules.proofs.GivenUp.{children, jumps}
 use Rattle.tamper_rules.proofs.Writing.{same_or_not}
-use Rattle.volume_growth.specs.Filling.{blocks_end}
 use Rattle.volume_growth.specs.Ingesting.{Plan, Storing, stored_of}
 use Rattle.cell_pool.specs.Grants.{Grant, Tile}
 use Rattle.term_tags.specs.Listing.{listed}
@@ -217,9 +215,11 @@ module _ {g : Layout} {old laid : Image} {p : Plan} {rows : List Posting} {level
       (pieces_apart piece grant) in
       let at : slice_get (map (λ (x : Grant). x.at) h.grants.0) there.place ≡ Some target =
       slice_get-map (λ (x : Grant). x.at) h.grants.0 there.place ∙ ap (λ o. option_map (λ (x : Grant). x.at) o) there.is
-      ∙ ap (λ (t : ℕ). Some t) (sym same) in
-      (there.place, slice_get_within (map (λ (x : Grant). x.at) h.grants.0) there.place target at,
-      get_or_from_slice_get (map (λ (x : Grant). x.at) h.grants.0) there.place target target at)
+      ∙ ap (λ (t : ℕ). Some t) (sym same) in (
+        there.place,
+        slice_get_within (map (λ (x : Grant). x.at) h.grants.0) there.place target at,
+        get_or_from_slice_get (map (λ (x : Grant). x.at) h.grants.0) there.place target target at,
+      )
 
   -- no cells are a block and a node
   clash : {target : ℕ} → IsPiece target 256 → IsPiece target 32 → ⊥

@@ -7,20 +7,23 @@ use Rattle.settled_plans.proofs.Standing.{apart, apart_nodes, blocks, lists, nod
 use Rattle.settled_plans.proofs.laws.plan_is_well.Goals as goal
 
 pub returns : goal.returns
-returns c = λ g old laid p rows level place to planned h. (new_image h, record {
-  filled = filled h;
-  lists = lists h;
-  owners = owners h;
-  apart = apart h;
-  apart_nodes = apart_nodes h;
-  blocks = blocks h;
-  postings = postings h;
-  has_postings = h.rows_are.exist;
-  trails = trails h;
-  tree = tree h;
-  nodes = nodes h;
-  new_children = new_children h;
-  new_buckets = new_buckets h;
-  path = path h;
-  absent = h.takes.absent;
-})
+returns c = λ g old laid p rows level place to planned h. (
+  new_image h,
+  record {
+    filled = filled h;
+    lists = lists h;
+    owners = owners h;
+    apart = apart h;
+    apart_nodes = apart_nodes h;
+    blocks = blocks h;
+    postings = postings h;
+    has_postings = h.rows_are.exist;
+    trails = trails h;
+    tree = tree h;
+    nodes = nodes h;
+    new_children = new_children h;
+    new_buckets = new_buckets h;
+    path = path h;
+    absent = h.takes.absent;
+  },
+)
