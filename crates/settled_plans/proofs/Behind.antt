@@ -1,5 +1,5 @@
 -- Where a document's index is planned on a settled volume: what stood before, between postings and bucket, and behind.
-use Rattle.std.proofs.Common.{◌≡◌, ◌<◌, ◌≤◌, ◌+◌, ◌*◌, ◌⊎◌, ⊎_elim, inl, inr, ℕ, List, slice_get, Some, None, refl, sym, ◌∙◌, subst, ap, arith}
+use Rattle.std.proofs.Common.{◌≡◌, ◌<◌, ◌≤◌, ◌+◌, ◌*◌, ◌⊎◌, ⊎_elim, inl, inr, ℕ, List, slice_get, Some, None, refl, sym, ◌∙◌, subst, ap, arith, length}
 use Rattle.std.proofs.lemmas.Bool.{cases_lt}
 use Rattle.std.specs.Option.{option_map}
 use Rattle.std.proofs.lemmas.Option.{none-some, slice_get-map}
@@ -31,13 +31,14 @@ use Rattle.hash_tree.specs.declared.path.Open.{Open}
 use Rattle.list_growth.proofs.KeptTrails.{leads_below}
 use Rattle.tree_growth.proofs.Paths.{nibble_low}
 use Rattle.tree_growth.specs.Rooting.{IsRooted, TreeGrows, in_bucket, in_new_node}
+use Rattle.index_growth.specs.Standing.{IsAddedTo, posting, pointer}
 use Rattle.settled_growth.specs.Laws.{IndexesStand, TreeStands}
 use Rattle.settled_growth.proofs.BehindBucket as bucket
 use Rattle.settled_growth.proofs.BehindRow.{node_back, node_on}
 use Rattle.settled_growth.proofs.ListsAside.{was_block}
 use Rattle.settled_growth.proofs.SettledLists.{settled_stand}
 use Rattle.settled_growth.proofs.SettledTrees.{settled_tree}
-use Rattle.settled_plans.specs.Laws.{IsPlannedIndex, IsRowAddition, of_posting, of_pointer}
+use Rattle.settled_plans.specs.Laws.{IsPlannedIndex}
 
 -- A planned cell is one of the document's postings in a block of the posting's list, a pointer of a list's block to
 -- another of its blocks, the document's bucket in a node, or a child cell of a node that leads to a node.
@@ -144,16 +145,16 @@ module _ {g : Layout} {old laid : Image} {p : Plan} {rows : List Posting} {level
   pub between_blank : (cell : ℕ) → old cell ≡ None → h.stands.next ≤ cell → h.stands.between cell ≡ None
   between_blank cell none far = ⊎_elim
       (λ blank. blank)
-      (λ found. absurd (outside (h.added cell found.0 found.1 none)))
+      (λ found. absurd (outside (h.stands.lists.added cell found.0 found.1 none)))
       (look h.stands.between cell)
     where
       lists_below : (l : ℕ) → l < g.lists → list_at g l + 256 ≤ h.stands.next
       lists_below l list = omega (arith, list, pool_before, h.stands.lists.more)
 
-      outside : {value : List ℕ} → IsRowAddition g p.slot rows h.stands.next h.stands.between cell value → ⊥
-      outside (of_posting i a block at row leads less is same) =
+      outside : {value : List ℕ} → IsAddedTo g p.slot rows (length rows) h.stands.between h.stands.next cell value → ⊥
+      outside (posting i a block at count row leads less is same) =
           omega (arith, leads_below leads (lists_below a.list (is_listed i a row).0), less, is, far)
-      outside (of_pointer l block i digit target list leads levels low high is other same) =
+      outside (pointer l block i digit target list leads levels low high is other same) =
           omega (arith, leads_below leads (lists_below l list), levels, high, is, far)
 
   half : (v : ℕ) → nibble level.digest v < 16
@@ -191,11 +192,11 @@ module _ {g : Layout} {old laid : Image} {p : Plan} {rows : List Posting} {level
   leads_on leads = leads_wider h.stands.more (leads_to_on extends_between leads)
 
   -- what the postings add
-  of_row : {cell : ℕ} {value : List ℕ} → IsRowAddition g p.slot rows h.stands.next h.stands.between cell value
+  of_row : {cell : ℕ} {value : List ℕ} → IsAddedTo g p.slot rows (length rows) h.stands.between h.stands.next cell value
       → IsPlannedCell g p.slot rows level to laid cell value
-  of_row (of_posting i a block at row leads less is same) =
+  of_row (posting i a block at count row leads less is same) =
       a_posting i a block at row (is_listed i a row).0 (leads_on leads) less is same
-  of_row (of_pointer l block i digit target list leads levels low high is other same) =
+  of_row (pointer l block i digit target list leads levels low high is other same) =
       a_pointer l block i digit target list (leads_on leads) levels low high is (leads_on other) same
 
   pub planned_cell : (cell : ℕ) (value : List ℕ) → planned cell ≡ Some value
@@ -205,8 +206,8 @@ module _ {g : Layout} {old laid : Image} {p : Plan} {rows : List Posting} {level
       (λ found.
       let same : found.0 ≡ value =
       some_is found.0 value (sym (extends_between.keeps cell found.0 found.1) ∙ h.laid_is.adds cell value is) in
-      of_row (subst (λ (v : List ℕ). IsRowAddition g p.slot rows h.stands.next h.stands.between cell v) same
-      (h.added cell found.0 found.1 (h.blank cell value is))))
+      of_row (subst (λ (v : List ℕ). IsAddedTo g p.slot rows (length rows) h.stands.between h.stands.next cell v) same
+      (h.stands.lists.added cell found.0 found.1 (h.blank cell value is))))
       (look h.stands.between cell)
 
   -- some cell is planned: the bucket

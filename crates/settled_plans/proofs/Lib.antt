@@ -1,6 +1,7 @@
 pub mod Behind
 pub mod Filled
 pub mod JournalOrder
+pub mod Kept
 pub mod Laying
 pub mod NewImage
 pub mod Nodes

@@ -1,16 +1,15 @@
--- The new child cells and buckets are the document's, and its slot has a hash trail.
+-- The new child cells and buckets are the document's.
 use Rattle.std.proofs.Common.{◌≡◌, ◌<◌, ◌≤◌, ◌+◌, ⊎_elim, ℕ, List, Option, Some, None, refl, sym, ◌∙◌, subst, arith}
 use Rattle.sha2.specs.Sha256.{sha256}
 use Rattle.cell_types.specs.Bytes.{AreBytes}
-use Rattle.cell_types.specs.Image.{Image, Extends}
+use Rattle.cell_types.specs.Image.{Image}
 use Rattle.cell_types.specs.Layout.{Layout, root_at}
 use Rattle.cell_types.specs.declared.record_cell.RecordCell.TheVariants.{Bucket, Child}
 use Rattle.stored_documents.specs.Volumes.{Holds, IsWritten}
 use Rattle.stored_documents.proofs.Extending.{holds_on}
-use Rattle.index_paths.specs.HashPaths.{HashTrail, PassedTo, fingerprint_of, nibble}
+use Rattle.index_paths.specs.HashPaths.{PassedTo, fingerprint_of, nibble}
 use Rattle.index_paths.specs.Keeping.{sought_in}
 use Rattle.index_paths.specs.Nodes.{IsNode, IsOnPath}
-use Rattle.index_paths.proofs.HashTrails.{passed_on, passed_to_on}
 use Rattle.tamper_rules.proofs.GoingOn.{on_path_on}
 use Rattle.volume_growth.specs.Ingesting.{Plan}
 use Rattle.volume_growth.proofs.ListShapes.{holds_back, written_back}
@@ -22,17 +21,10 @@ use Rattle.tree_growth.proofs.Paths.{on_path}
 use Rattle.tree_growth.specs.Readiness.{PassedDown}
 use Rattle.settled_growth.proofs.BehindRow as row
 use Rattle.settled_plans.specs.Laws.{IsPlannedIndex}
-use Rattle.settled_plans.proofs.Behind.{between_blank, is_rooted, pool_before, stand, to_inside}
+use Rattle.settled_plans.proofs.Behind.{between_blank, is_rooted, pool_before, stand}
 use Rattle.settled_plans.proofs.NewImage.{new_image}
-use Rattle.settled_plans.proofs.Postings.{extends_planned}
-use Rattle.settled_plans.proofs.Rows.{all_rows, extends_new}
+use Rattle.settled_plans.proofs.Rows.{extends_new}
 use Rattle.settled_plans.proofs.Standing.{child_same, node_back, node_same}
-
--- a path that is passed down is so in each image that extends this one
-passed_down_on : (g : Layout) {old new : Image} (id : List ℕ) (level : Level) (child : Option ℕ) → Extends old new
-    → PassedDown g old (sought_in g.cells g id) level child → PassedDown g new (sought_in g.cells g id) level child
-passed_down_on g id level None e passed = passed_to_on e passed
-passed_down_on g id level (Some child) e (to, above) = (passed_to_on e to, passed_on e above)
 
 -- its level's node is reached from the root
 passed_to : (g : Layout) {image : Image} (id : List ℕ) (level : Level) (child : Option ℕ)
@@ -83,8 +75,3 @@ module _ {g : Layout} {old laid : Image} {p : Plan} {rows : List Posting} {level
             (subst (λ (d : List ℕ). IsOnPath g laid d v node) h.digest (new.on_path level_on_path)),
         subst (λ (d : List ℕ). x ≡ nibble d v) h.digest new.half_byte,
       )
-
-  pub path : HashTrail (new_image h) (sought_in g.cells g p.id) p.slot (root_at g) 0
-  path =
-      h.path (new_image h) (sought_in g.cells g p.id) (sym h.digest) refl (to_inside h) (extends_planned h)
-      (passed_down_on g p.id level place.child (all_rows h).keeps h.passed)

@@ -1,19 +1,17 @@
--- The new postings are the document's, and each of its postings has a trail.
-use Rattle.std.proofs.Common.{◌≡◌, ◌<◌, ◌+◌, ◌/◌, ⊎_elim, ℕ, List, slice_get, Option, Some, None, refl, sym, ◌∙◌, subst, arith}
-use Rattle.std.specs.Option.{option_map}
-use Rattle.std.proofs.lemmas.Option.{none-some, slice_get-map, slice_get_within}
-use Rattle.cell_types.specs.Image.{Image, Extends}
+-- The new postings are the document's.
+use Rattle.std.proofs.Common.{◌≡◌, ◌<◌, ◌+◌, ◌/◌, ⊎_elim, ℕ, List, slice_get, Some, None, sym, ◌∙◌, subst, arith}
+use Rattle.std.proofs.lemmas.Option.{none-some, slice_get_within}
+use Rattle.cell_types.specs.Image.{Image}
 use Rattle.cell_types.specs.Layout.{Layout, list_at, pool_at}
 use Rattle.cell_types.specs.Records.{IsRecordCell}
 use Rattle.cell_types.specs.declared.record_cell.RecordCell.{RecordCell}
 use Rattle.cell_types.specs.declared.record_cell.RecordCell.TheVariants.{Jump, Bucket, Child}
 use Rattle.stored_documents.specs.Volumes.{Holds}
 use Rattle.stored_documents.proofs.Holding.{one_record_holds}
-use Rattle.index_paths.specs.Blocks.{Leads, PostingFields, Trail, posting_record}
+use Rattle.index_paths.specs.Blocks.{Leads, PostingFields, posting_record}
 use Rattle.index_paths.specs.Nodes.{IsBlockOf}
-use Rattle.index_paths.specs.Postings.{IsPostingOf, ListedPosting}
+use Rattle.index_paths.specs.Postings.{IsPostingOf}
 use Rattle.index_paths.proofs.Fronts.{one_posting}
-use Rattle.index_paths.proofs.Trails.{trail_wider}
 use Rattle.tamper_rules.proofs.Writing.{same_or_not}
 use Rattle.volume_growth.specs.Ingesting.{Plan}
 use Rattle.volume_growth.proofs.ListShapes.{holds_back}
@@ -22,9 +20,8 @@ use Rattle.term_tags.specs.declared.rows.Posting.{Posting}
 use Rattle.hash_tree.specs.declared.level.Level.{Level}
 use Rattle.hash_tree.specs.declared.path.Open.{Open}
 use Rattle.settled_plans.specs.Laws.{IsPlannedIndex}
-use Rattle.settled_plans.proofs.Behind.{IsPlannedCell, a_posting, a_pointer, a_bucket, a_child, is_listed, planned_cell, stand_behind, to_inside}
+use Rattle.settled_plans.proofs.Behind.{IsPlannedCell, a_posting, a_pointer, a_bucket, a_child, is_listed, planned_cell, stand_behind}
 use Rattle.settled_plans.proofs.NewImage.{new_image}
-use Rattle.settled_plans.proofs.Rows.{all_rows, extends_new}
 use Rattle.settled_plans.proofs.Standing.{block_back, block_same}
 
 no_jump_posts : (a : PostingFields) (target : ℕ) → Jump target ≡ posting_record a → ⊥
@@ -35,12 +32,6 @@ no_bucket_posts a slot fingerprint same = cc
 
 no_child_posts : (a : PostingFields) (target : ℕ) → Child target ≡ posting_record a → ⊥
 no_child_posts a target same = cc
-
--- what a row of the map came from
-mapped : (n : ℕ) (found : Option Posting) (one : ListedPosting) → option_map (listed n) found ≡ Some one
-    → (a : Posting) × (found ≡ Some a) × (listed n a ≡ one)
-mapped n None one is = absurd (none-some _ is)
-mapped n (Some a) one is = (a, refl, cc)
 
 module _ {g : Layout} {old laid : Image} {p : Plan} {rows : List Posting} {level : Level} {place : Open} {to : ℕ}
     {planned : Image} (h : IsPlannedIndex g old laid p rows level place to planned) where
@@ -100,19 +91,3 @@ module _ {g : Layout} {old laid : Image} {p : Plan} {rows : List Posting} {level
           absurd (no_jump_posts q target (one is))
       of_kind (a_bucket v node x is under here bucket) = absurd (no_bucket_posts q _ _ (one bucket))
       of_kind (a_child v node x w target is under here to_other child) = absurd (no_child_posts q target (one child))
-
-  pub extends_planned : Extends planned (new_image h)
-  extends_planned = record {
-    keeps = λ cell value is. (extends_new h).keeps cell value (h.laid_is.adds cell value is);
-  }
-
-  pub trails : (l : ℕ) (q : PostingFields) → l < g.lists → IsPostingOf g.lists p.body p.slot l q
-      → (at : ℕ) × Trail (new_image h) (pool_at g) g.cells at q (list_at g l)
-  trails l q list is =
-      let row = h.rows_are.all l q list is in
-      let one = mapped p.slot (slice_get rows row.0) (record { list = l; posting = q })
-      (sym (slice_get-map (listed p.slot) rows row.0) ∙ row.1) in
-      let has = h.trails (new_image h) (all_rows h).keeps extends_planned row.0 one.0 one.1 in
-      let trail : Trail (new_image h) (pool_at g) to has.at q (list_at g l) =
-      subst (λ (x : ListedPosting). Trail (new_image h) (pool_at g) to has.at x.posting (list_at g x.list)) one.2 has.trail in
-      (has.at, trail_wider (pool_at g) g.cells (omega arith) (to_inside h) trail)

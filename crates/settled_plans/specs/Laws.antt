@@ -1,15 +1,12 @@
 -- What is planned for a document on a settled volume, and that it is well made.
-use Rattle.std.specs.Prelude.{◌≡◌, ◌<◌, ◌≤◌, ◌+◌, ℕ, List, length, map, slice_get, Some, None}
+use Rattle.std.specs.Prelude.{◌≡◌, ◌<◌, ◌≤◌, ◌+◌, ℕ, List, length, map, Some, None}
 use Rattle.sha2.specs.Sha256.{sha256}
 use Rattle.cell_types.specs.Image.{Image, Extends}
-use Rattle.cell_types.specs.Layout.{Layout, IsLayout, list_at, pool_at}
-use Rattle.cell_types.specs.Records.{IsRecordCell}
-use Rattle.cell_types.specs.declared.record_cell.RecordCell.TheVariants.{Jump}
+use Rattle.cell_types.specs.Layout.{Layout, IsLayout}
 use Rattle.stored_documents.specs.Documents.{IsBody, IsIdentifier, Stands}
 use Rattle.stored_documents.specs.Slots.{EndsBelow, IsHorizon, cells_for}
 use Rattle.stored_documents.specs.Volumes.{IsVolume}
-use Rattle.index_paths.specs.Blocks.{Leads, pointer_at, posting_record}
-use Rattle.index_paths.specs.Keeping.{sought_in}
+use Rattle.index_paths.specs.Keeping.{IsKept, sought_in}
 use Rattle.index_paths.specs.Postings.{ArePostings}
 use Rattle.tamper_rules.specs.Settling.{IsSettled, IsWith}
 use Rattle.volume_growth.specs.Filling.{IsWellPlanned}
@@ -18,10 +15,9 @@ use Rattle.term_tags.specs.Listing.{listed}
 use Rattle.term_tags.specs.declared.rows.Posting.{Posting}
 use Rattle.hash_tree.specs.declared.level.Level.{Level}
 use Rattle.hash_tree.specs.declared.path.Open.{Open}
-use Rattle.tree_growth.specs.Inserting.{HasTrail}
 use Rattle.tree_growth.specs.Readiness.{PassedDown}
 use Rattle.index_growth.specs.Granting.{GivesWhatIsLedTo}
-use Rattle.index_growth.specs.Indexes.{HasTrailIn, IsIndexCell}
+use Rattle.index_growth.specs.Indexes.{IsIndexCell}
 use Rattle.index_growth.specs.Journal.{IsJournal}
 use Rattle.index_growth.specs.Standing.{IndexStands}
 use Rattle.settled_growth.specs.Laws.{EndsPath}
@@ -41,21 +37,9 @@ pub record TakesSlot (g : Layout) (old : Image) (p : Plan) (to : ℕ) : Type 0 w
   pub body : IsBody p.body
   pub absent : (m : ℕ) (other : List ℕ) → Stands g.cells old m p.id other → ⊥
 
--- a cell that a row of slot n adds: one of its postings in a block of the posting's list, or a pointer of a list's block to
--- another of its blocks
-pub data IsRowAddition (g : Layout) (n : ℕ) (rows : List Posting) (next : ℕ) (image : Image) (cell : ℕ) (value : List ℕ)
-    : Type 0 where
-  of_posting : (i : ℕ) (p : Posting) (block place : ℕ) → slice_get rows i ≡ Some p
-      → Leads image (pool_at g) next block (list_at g p.list) → place < 128 → cell ≡ block + place
-      → IsRecordCell (posting_record (listed n p).posting) cell value → IsRowAddition g n rows next image cell value
-  of_pointer : (l block level digit target : ℕ) → l < g.lists → Leads image (pool_at g) next block (list_at g l)
-      → level < 8 → 1 ≤ digit → digit ≤ 15 → cell ≡ pointer_at block level digit
-      → Leads image (pool_at g) next target (list_at g l) → IsRecordCell (Jump target) cell value
-      → IsRowAddition g n rows next image cell value
-
--- The index of the plan's document is planned, and laid is the old image with its cells: index cells that were blank, the
--- plan's journal. Its postings and its bucket go where lists and path ask for them, and cost what they must; each new
--- block and node is led to by a planned cell; and what is planned gives each posting a trail, and the slot a hash trail.
+-- The index of the plan's document is planned, and laid is the old image with its cells: index cells that were blank, and
+-- the plan's journal. Its postings and its bucket go where lists and path ask for them, and cost what they must; each
+-- new block and node is led to by a planned cell; and once these cells stand, the document is kept where it stands.
 pub record IsPlannedIndex (g : Layout) (old laid : Image) (p : Plan) (rows : List Posting) (level : Level) (place : Open)
     (to : ℕ) (planned : Image) : Type 0 where
   pub takes : TakesSlot g old p to
@@ -70,11 +54,8 @@ pub record IsPlannedIndex (g : Layout) (old laid : Image) (p : Plan) (rows : Lis
   pub grants : GivesWhatIsLedTo planned p.start to
   pub laid_is : IsWith (λ cell value. planned cell ≡ Some value) old laid
   pub stands : IndexStands g p.slot rows level place p.start to old laid
-  pub added : (cell : ℕ) (value : List ℕ) → stands.between cell ≡ Some value → old cell ≡ None
-      → IsRowAddition g p.slot rows stands.next stands.between cell value
-  pub trails : (image : Image) → Extends old image → Extends planned image
-      → (i : ℕ) (a : Posting) → slice_get rows i ≡ Some a → HasTrailIn g image to (listed p.slot a)
-  pub path : HasTrail g level place p.slot to planned
+  pub keeps : (image : Image) → Extends old image → Extends planned image → Stands g.cells image p.slot p.id p.body
+      → IsKept g.cells image g (record { slot = p.slot; id = p.id; body = p.body })
 
 -- so the plan is well made: with its cells the old image becomes one of which `volume_growth` has its laws
 abbrev pub PlanIsWell : Type 0

@@ -1,8 +1,9 @@
 -- The law, for all images.
 use Rattle.settled_plans.proofs.Filled.{filled, owners}
+use Rattle.settled_plans.proofs.Kept.{kept}
 use Rattle.settled_plans.proofs.NewImage.{new_image}
-use Rattle.settled_plans.proofs.Nodes.{new_buckets, new_children, path}
-use Rattle.settled_plans.proofs.Postings.{postings, trails}
+use Rattle.settled_plans.proofs.Nodes.{new_buckets, new_children}
+use Rattle.settled_plans.proofs.Postings.{postings}
 use Rattle.settled_plans.proofs.Standing.{apart, apart_nodes, blocks, lists, nodes, tree}
 use Rattle.settled_plans.proofs.laws.plan_is_well.Goals as goal
 
@@ -18,12 +19,12 @@ returns c = λ g old laid p rows level place to planned h. (
     blocks = blocks h;
     postings = postings h;
     has_postings = h.rows_are.exist;
-    trails = trails h;
+    trails = (kept h).trails;
     tree = tree h;
     nodes = nodes h;
     new_children = new_children h;
     new_buckets = new_buckets h;
-    path = path h;
+    path = (kept h).path;
     absent = h.takes.absent;
   },
 )
