@@ -52,7 +52,8 @@ pub data IsPlannedCell (g : Layout) (n : ℕ) (rows : List Posting) (level : Lev
       → Leads image (pool_at g) to target (list_at g l) → IsRecordCell (Jump target) cell value
       → IsPlannedCell g n rows level to image cell value
   a_bucket : (v node x : ℕ) → IsNode g image v node → x < 16 → cell ≡ node + x
-      → IsRecordCell (Bucket n (fingerprint_of level.digest)) cell value → IsPlannedCell g n rows level to image cell value
+      → IsRecordCell (Bucket n (fingerprint_of level.digest)) cell value
+      → IsPlannedCell g n rows level to image cell value
   a_child : (v node x w target : ℕ) → IsNode g image v node → x < 16 → cell ≡ node + 16 + x → IsNode g image w target
       → IsRecordCell (Child target) cell value → IsPlannedCell g n rows level to image cell value
 
@@ -76,7 +77,8 @@ module _ {g : Layout} {old laid : Image} {p : Plan} {rows : List Posting} {level
   pub pool_before : pool_at g ≤ p.start
   pool_before = ⊎_elim
       (λ (z : (p.slot ≡ 0) × (p.start ≡ pool_at g)). omega (arith, z.1))
-      (λ (w : (m : ℕ) × (start : ℕ) × (count : ℕ) × (p.slot ≡ m + 1) × Reserves g old m start count × (p.start ≡ start + count)).
+      (λ (w : (m : ℕ) × (start : ℕ) × (count : ℕ) × (p.slot ≡ m + 1)
+      × Reserves g old m start count × (p.start ≡ start + count)).
       let r = w.4 in omega (arith, r.from, w.5))
       h.takes.begins
 
@@ -85,7 +87,8 @@ module _ {g : Layout} {old laid : Image} {p : Plan} {rows : List Posting} {level
   blank_from cell from = ⊎_elim
       (λ none. none)
       (λ found.
-      let rule : BlankRule g old cell = h.takes.settled.met Rules.StrayCells cell (record { found = found.0; stands = found.1 }) in
+      let rule : BlankRule g old cell = h.takes.settled.met Rules.StrayCells cell
+      (record { found = found.0; stands = found.1 }) in
       absurd (omega (arith, rule.edge p.start old_edge (omega (arith, pool_before, from)), from)))
       (look old cell)
 
@@ -125,7 +128,9 @@ module _ {g : Layout} {old laid : Image} {p : Plan} {rows : List Posting} {level
   block_was l block list leads =
       h.stands.lists.blocks l block list
       (was_block h.stands.lists.lists extends_between h.stands.more
-      (λ k b i less leads below. bucket.block_same pool_before to_inside stand h.ends h.stands k b i less leads below) l block list leads)
+      (λ k b i less leads below.
+      bucket.block_same pool_before to_inside stand h.ends h.stands k b i less leads below)
+      l block list leads)
 
   -- a node was one between, or is the next
   pub node_was : {v node : ℕ} → IsNode g laid v node → IsNode g old v node ⊎ (node ≡ h.stands.next)
@@ -168,12 +173,14 @@ module _ {g : Layout} {old laid : Image} {p : Plan} {rows : List Posting} {level
   of_tree : {cell cost : ℕ} {value : List ℕ} → TreeGrows g level p.slot h.stands.next to h.stands.between laid cost
       → h.stands.between cell ≡ None → laid cell ≡ Some value → IsPlannedCell g p.slot rows level to laid cell value
   of_tree {cell} (in_bucket adds holds same cost) none is = ⊎_elim
-      (λ here. a_bucket level.number (node_of g level) (nibble level.digest level.number) node_laid (half level.number) here
+      (λ here. a_bucket level.number (node_of g level) (nibble level.digest level.number) node_laid (half level.number)
+      here
       (record_there here holds is))
       (λ other. absurd (none-some _ (sym (adds.others cell other ∙ none) ∙ is)))
       (same_or_not cell (bucket_at g level))
   of_tree {cell} (in_new_node mid levels adds leads adds_bucket holds same cost) none is = ⊎_elim
-      (λ here. a_child level.number (node_of g level) (nibble level.digest level.number) (level.number + 1) h.stands.next
+      (λ here. a_child level.number (node_of g level) (nibble level.digest level.number) (level.number + 1)
+      h.stands.next
       node_laid (half level.number) here new_node (record_there here leads is))
       (λ other. ⊎_elim
       (λ here. a_bucket (level.number + 1) h.stands.next (nibble level.digest (level.number + 1)) new_node
@@ -183,7 +190,8 @@ module _ {g : Layout} {old laid : Image} {p : Plan} {rows : List Posting} {level
       (same_or_not cell (child_at g level))
     where
       new_node : IsNode g laid (level.number + 1) h.stands.next
-      new_node = under (level.number + 1) h.stands.next level.number (node_of g level) (nibble level.digest level.number) refl
+      new_node = under (level.number + 1) h.stands.next level.number (node_of g level)
+          (nibble level.digest level.number) refl
           node_laid (half level.number) levels leads (omega (arith, pool_before, h.stands.lists.more))
           (omega (arith, same, to_inside))
 

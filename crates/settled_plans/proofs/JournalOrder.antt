@@ -20,7 +20,8 @@ use Rattle.settled_plans.proofs.OldPlaces.{block_cell, node_cell}
 
 module _ {g : Layout} {old laid : Image} {p : Plan} {rows : List Posting} {level : Level} {place : Open} {to : ℕ}
     {planned : Image} (h : IsPlannedIndex g old laid p rows level place to planned) where
-  in_block : (l block i cell : ℕ) → l < g.lists → Leads laid (pool_at g) to block (list_at g l) → i < 256 → cell ≡ block + i
+  in_block : (l block i cell : ℕ) → l < g.lists → Leads laid (pool_at g) to block (list_at g l) → i < 256
+      → cell ≡ block + i
       → IsIndexCell g old p.slot cell ⊎ (p.start ≤ cell)
   in_block l block i cell list leads less here = ⊎_elim
       (λ was. inl (subst (λ (c : ℕ). IsIndexCell g old p.slot c) (sym here)

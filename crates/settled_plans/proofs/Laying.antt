@@ -52,7 +52,8 @@ with_both x y = record {
 }
 
 -- the same cells in other words
-pub with_same : {a b : ℕ → List ℕ → Type 0} {old new : Image} → ((cell : ℕ) (value : List ℕ) → a cell value → b cell value)
+pub with_same : {a b : ℕ → List ℕ → Type 0} {old new : Image}
+    → ((cell : ℕ) (value : List ℕ) → a cell value → b cell value)
     → ((cell : ℕ) (value : List ℕ) → b cell value → a cell value) → IsWith a old new → IsWith b old new
 with_same to from w = record {
   keeps = w.keeps;

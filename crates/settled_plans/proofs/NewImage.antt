@@ -1,4 +1,4 @@
--- The image with all cells of a plan: the planned ones at their addresses, the journal, the document, and the slot's cells.
+-- The image with all cells of a plan: the planned ones, the journal, the document, and the slot's cells.
 use Rattle.std.proofs.Common.{◌≡◌, ◌<◌, ◌≤◌, ◌+◌, ◌-◌, ◌⊎◌, ⊎_elim, ℕ, List, length, slice_get, Option, None, refl, sym, ◌∙◌, ap, arith}
 use Rattle.std.proofs.lemmas.Option.{none-some}
 use Rattle.cell_types.specs.Image.{Image}
@@ -86,7 +86,8 @@ module _ {g : Layout} {old laid : Image} {p : Plan} {rows : List Posting} {level
       (λ none. none)
       (λ found.
       let rule : OutcomeRule old p.slot =
-      h.takes.settled.met Rules.OutcomeCells (outcome_at p.slot) (record { found = found.0; stands = found.1 }) p.slot h.takes.slot refl in
+      h.takes.settled.met Rules.OutcomeCells (outcome_at p.slot)
+      (record { found = found.0; stands = found.1 }) p.slot h.takes.slot refl in
       absurd (none-some _ (sym (h.takes.horizon.free h.takes.slot) ∙ rule.reserve.stands)))
       (look old (outcome_at p.slot))
 
@@ -95,7 +96,8 @@ module _ {g : Layout} {old laid : Image} {p : Plan} {rows : List Posting} {level
       (λ none. none)
       (λ found.
       let rule : DoneRule old p.slot =
-      h.takes.settled.met Rules.DoneCells (done_at p.slot) (record { found = found.0; stands = found.1 }) p.slot h.takes.slot refl in
+      h.takes.settled.met Rules.DoneCells (done_at p.slot)
+      (record { found = found.0; stands = found.1 }) p.slot h.takes.slot refl in
       absurd (none-some _ (sym outcome_blank ∙ rule.commit.stands)))
       (look old (done_at p.slot))
 

@@ -39,7 +39,9 @@ module _ {g : Layout} {old laid : Image} {p : Plan} {rows : List Posting} {level
   node_blank : {v node : ℕ} (i : ℕ) → IsNode g laid v node → i < 32 → old (node + i) ≡ None
       → h.stands.between (node + i) ≡ None
   node_blank {v} {node} i is less none = ⊎_elim
-      (λ was. row.node_same (pool_before h) (stand h).tree h.stands.lists (row.node_back (pool_before h) (stand h).tree h.stands.lists was) less ∙ none)
+      (λ was.
+      let there = row.node_back (pool_before h) (stand h).tree h.stands.lists was in
+      row.node_same (pool_before h) (stand h).tree h.stands.lists there less ∙ none)
       (λ next. between_blank h (node + i) none (omega (arith, next)))
       ((is_rooted h).nodes v node is)
 
@@ -51,7 +53,8 @@ module _ {g : Layout} {old laid : Image} {p : Plan} {rows : List Posting} {level
       let blank : h.stands.between (node + 16 + x) ≡ None =
       subst (λ (c : ℕ). h.stands.between c ≡ None) same
       (node_blank (16 + x) there (omega (arith, less)) (subst (λ (c : ℕ). old c ≡ None) (sym same) none)) in
-      let next = (is_rooted h).new_children v node x target there less blank (holds_back (child_same h x there less) child) in
+      let next = (is_rooted h).new_children v node x target there less blank
+      (holds_back (child_same h x there less) child) in
       omega (arith, next, h.stands.lists.more)
 
   -- the level's node is on the identifier's path
@@ -59,7 +62,8 @@ module _ {g : Layout} {old laid : Image} {p : Plan} {rows : List Posting} {level
   level_on_path =
       let bytes : AreBytes (sha256 p.id) = subst (λ (d : List ℕ). AreBytes d) h.digest h.ends.digest in
       let way = on_path bytes refl (omega arith) (passed_to g p.id level place.child h.passed) in
-      on_path_on h.stands.lists.extends (subst (λ (d : List ℕ). IsOnPath g old d level.number (node_of g level)) (sym h.digest) way.0)
+      on_path_on h.stands.lists.extends
+      (subst (λ (d : List ℕ). IsOnPath g old d level.number (node_of g level)) (sym h.digest) way.0)
 
   pub new_buckets : (v node x : ℕ) → IsNode g (new_image h) v node → x < 16 → old (node + x) ≡ None
       → IsWritten (new_image h) (node + x)

@@ -51,7 +51,8 @@ module _ {g : Layout} {image : Image} {n : ℕ} (layout : IsLayout g) (s : IsSet
       s.met Rules.Pointers (pointer_at from level digit) (record { found = jump.cell; stands = jump.stands }) in
       let well : LeadsWell g image l from level digit = rule l from level digit b levels low high refl in
       let same : block ≡ well.target =
-      jumps block well.target (one_record_holds image (pointer_at from level digit) (Jump block) (Jump well.target) jump well.jump) in
+      jumps block well.target
+      (one_record_holds image (pointer_at from level digit) (Jump block) (Jump well.target) jump well.jump) in
       inr (
         well.owner,
         subst (λ (t : ℕ). LiesInBlocks g image well.owner t) (sym same) well.owns_first,
@@ -62,7 +63,8 @@ module _ {g : Layout} {image : Image} {n : ℕ} (layout : IsLayout g) (s : IsSet
       → IsOwned l block → IsOwned l last
   reached {l} (arrived block is) b so = subst (λ (c : ℕ). IsOwned l c) is so
   reached (onwards block level digit target levels low high jump from to rest) b so =
-      reached rest (record { list = b.list; leads = leads_further b.leads level digit target levels low high jump from to })
+      reached rest
+      (record { list = b.list; leads = leads_further b.leads level digit target levels low high jump from to })
       (led b levels low high jump)
 
   pub block_owned : {l block : ℕ} → IsBlockOf g image l block → (block ≡ list_at g l)
@@ -71,7 +73,8 @@ module _ {g : Layout} {image : Image} {n : ℕ} (layout : IsLayout g) (s : IsSet
 
   not_above : {m start reserved bytes journal : ℕ} → Stores g image m start reserved bytes journal → m ≤ n
   not_above {m} stores =
-      omega (arith, below_horizon g image s n m free horizon stores.commits.reserves.slot (written stores.commits.reserves))
+      let reserves = stores.commits.reserves in
+      omega (arith, below_horizon g image s n m free horizon reserves.slot (written reserves))
 
   -- each cell of a block is an index cell
   pub block_cell : {l block : ℕ} (i : ℕ) → IsBlockOf g image l block → i < 256 → IsIndexCell g image n (block + i)
@@ -107,8 +110,10 @@ module _ {g : Layout} {image : Image} {n : ℕ} (layout : IsLayout g) (s : IsSet
       s.met Rules.Children (node + 16 + x) (record { found = child.cell; stands = child.stands }) in
       let well : LeadsDownWell g image v node x = rule v node x is less refl in
       let same : target ≡ well.target =
-      children target well.target (one_record_holds image (node + 16 + x) (Child target) (Child well.target) child well.child) in
-      let slot = commit_done g image s well.owner well.bytes well.journal well.stores.commits.reserves.slot well.stores.commits.outcome in
+      children target well.target
+      (one_record_holds image (node + 16 + x) (Child target) (Child well.target) child well.child) in
+      let slot = commit_done g image s well.owner well.bytes well.journal well.stores.commits.reserves.slot
+      well.stores.commits.outcome in
       let done : IsDone g image well.owner well.start well.reserved well.bytes well.journal =
       record { commits = well.stores.commits; done = slot.done.done } in
       let tiles : TilingRule image well.start well.reserved well.bytes well.journal =
@@ -143,5 +148,6 @@ module _ {g : Layout} {image : Image} {n : ℕ} (layout : IsLayout g) (s : IsSet
 
   -- each cell of a node is an index cell
   pub node_cell : {v node : ℕ} (i : ℕ) → IsNode g image v node → i < 32 → IsIndexCell g image n (node + i)
-  node_cell i (root v node is at) less = of_root (record { exists = tt; from = omega (arith, at); below = omega (arith, at, less) })
+  node_cell i (root v node is at) less =
+      of_root (record { exists = tt; from = omega (arith, at); below = omega (arith, at, less) })
   node_cell i (under v node u above x is rest low levels child from inside) less = child_owned rest low child i less

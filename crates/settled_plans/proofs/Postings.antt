@@ -79,13 +79,18 @@ module _ {g : Layout} {old laid : Image} {p : Plan} {rows : List Posting} {level
 
       one : {r : RecordCell} → IsRecordCell r (block + at) held.cell → r ≡ posting_record q
       one {r} is =
-          one_record_holds laid (block + at) r (posting_record q) (record { cell = held.cell; stands = held.stands; is = is }) held
+          one_record_holds laid (block + at) r (posting_record q)
+          (record { cell = held.cell; stands = held.stands; is = is }) held
 
       of_kind : IsPlannedCell g p.slot rows level to laid (block + at) held.cell → IsMine l q
       of_kind (a_posting i a other k row list leads' below here is) =
           let of_list : a.list ≡ l =
-          same_list a.list l other block k at list b.list leads' leads (omega (arith, below)) (omega (arith, less)) (sym here) in
-          subst (λ (r : PostingFields). IsMine l r) (one_posting laid (block + at) (listed p.slot a).posting q (record { cell = held.cell; stands = held.stands; is = is }) held)
+          same_list a.list l other block k at list b.list leads' leads (omega (arith, below)) (omega (arith, less))
+          (sym here) in
+          let same : (listed p.slot a).posting ≡ q =
+          one_posting laid (block + at) (listed p.slot a).posting q
+          (record { cell = held.cell; stands = held.stands; is = is }) held in
+          subst (λ (r : PostingFields). IsMine l r) same
           (subst (λ (m : ℕ). IsMine m (listed p.slot a).posting) of_list (mine i a (block + at) held.cell row is))
       of_kind (a_pointer m other i digit target list leads' levels low high here to_other is) =
           absurd (no_jump_posts q target (one is))

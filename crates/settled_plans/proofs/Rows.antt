@@ -70,7 +70,10 @@ module _ {g : Layout} {old laid : Image} {p : Plan} {rows : List Posting} {level
       let most = h.takes.identifier.most in
       let body = h.takes.body.most in
       record {
-        fits = (omega (arith, long, most, body), omega (arith, h.takes.room, h.takes.inside, h.takes.layout.cells, more h));
+        fits = (
+          omega (arith, long, most, body),
+          omega (arith, h.takes.room, h.takes.inside, h.takes.layout.cells, more h),
+        );
         well_formed = (omega (arith, long, some), omega (arith, long, most, body), some_journal);
         same = refl;
       }
@@ -96,21 +99,37 @@ module _ {g : Layout} {old laid : Image} {p : Plan} {rows : List Posting} {level
       let left = held_is (cells_for (bytes h) - k.0) (content_at (stored_of p) k.0) value k.2 in
       (Storing, inl (record { place = k.0; below = omega (arith, left.0); at = k.1; is = left.1 }))
   to_row cell value (inl (inl (inr row))) =
-      let one = one_is row.is in
-      (Finishing, record { at = one.0; is = subst (λ (v : List ℕ). IsRecordCell (Done p.slot) (done_at p.slot) v) (sym one.1) done_cell })
+      let one = one_is row.is in (
+        Finishing,
+        record {
+          at = one.0;
+          is = subst (λ (v : List ℕ). IsRecordCell (Done p.slot) (done_at p.slot) v) (sym one.1) done_cell;
+        },
+      )
   to_row cell value (inl (inr row)) =
-      let one = one_is row.is in
-      (Committing, record { at = one.0; is = subst (λ (v : List ℕ). IsRecordCell (Commit (bytes h) (length p.journal)) (outcome_at p.slot) v) (sym one.1) commit_cell })
+      let one = one_is row.is in (
+        Committing,
+        record {
+          at = one.0;
+          is = subst (λ (v : List ℕ). IsRecordCell (Commit (bytes h) (length p.journal)) (outcome_at p.slot) v) (sym one.1) commit_cell;
+        },
+      )
   to_row cell value (inr row) =
-      let one = one_is row.is in
-      (Reserving, record { at = one.0; is = subst (λ (v : List ℕ). IsRecordCell (Reserve p.start p.reserved) (reserve_at p.slot) v) (sym one.1) reserve_cell })
+      let one = one_is row.is in (
+        Reserving,
+        record {
+          at = one.0;
+          is = subst (λ (v : List ℕ). IsRecordCell (Reserve p.start p.reserved) (reserve_at p.slot) v) (sym one.1) reserve_cell;
+        },
+      )
 
   stored : (cell : ℕ) (value : List ℕ) → ContentRow p cell value ⊎ CopyRow p cell value → AllOf cell value
   stored cell value (inl row) =
       inl (inl (inl (inr (record {
         is = row_there (document h) (document_cells h) row.place row.at
             (subst (λ (v : List ℕ). document_cells h row.place ≡ Some v) (sym row.is)
-            (held_there (cells_for (bytes h) - row.place) (content_at (stored_of p) row.place) (omega (arith, row.below))));
+            (held_there (cells_for (bytes h) - row.place) (content_at (stored_of p) row.place)
+            (omega (arith, row.below))));
       }))))
   stored cell value (inr row) =
       inl (inl (inl (inl (inr (record { is = row_there (journal h) (journal_cells h) row.place row.at row.entry })))))

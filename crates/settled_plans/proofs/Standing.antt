@@ -84,7 +84,8 @@ module _ {g : Layout} {old laid : Image} {p : Plan} {rows : List Posting} {level
   -- what a well made plan says of lists and tree
   pub lists : (l : ℕ) → l < g.lists → IsWellListed (new_image h) (pool_at g) (blocks_end p) (list_at g l)
   lists l list =
-      subst (λ (end : ℕ). IsWellListed (new_image h) (pool_at g) end (list_at g l)) (sym (ends_there h)) (new_lists.well l list)
+      subst (λ (end : ℕ). IsWellListed (new_image h) (pool_at g) end (list_at g l)) (sym (ends_there h))
+      (new_lists.well l list)
 
   pub tree : IsWellRooted g (new_image h) (blocks_end p)
   tree = subst (λ (end : ℕ). IsWellRooted g (new_image h) end) (sym (ends_there h)) new_rooted
@@ -99,12 +100,14 @@ module _ {g : Layout} {old laid : Image} {p : Plan} {rows : List Posting} {level
       (λ one. inl (sym one, same))
       inr
       (((stand_behind h).lists.well l x.list).apart a b (block_back x) other))
-      (λ differ. inr ((stand_behind h).lists.apart l k x.list y.list (λ same. differ (sym same)) a b (block_back x) (block_back y)))
+      (λ differ. inr
+      ((stand_behind h).lists.apart l k x.list y.list (λ same. differ (sym same)) a b (block_back x) (block_back y)))
       (same_or_not k l)
 
   pub apart_nodes : (l a v node : ℕ) → IsBlockOf g (new_image h) l a → IsNode g (new_image h) v node
       → AreApart a 256 node 32
-  apart_nodes l a v node b is = ⊎_elim inr inl ((stand_behind h).tree.apart v node l a (node_back is) b.list (block_back b))
+  apart_nodes l a v node b is =
+      ⊎_elim inr inl ((stand_behind h).tree.apart v node l a (node_back is) b.list (block_back b))
 
   pub blocks : (l block : ℕ) → IsBlockOf g (new_image h) l block → IsBlockOf g old l block ⊎ (p.start ≤ block)
   blocks l block b = ⊎_elim

@@ -78,7 +78,13 @@ tile_has : (from end cell : ℕ) (grants : List Grant) → Tile from end grants 
     → HasCell grants cell
 tile_has from end cell [] same low high = absurd (omega (arith, same, low, high))
 tile_has from end cell (grant ∷ grants) (at, rest) low high = ⊎_elim
-    (λ less. record { place = zero; grant = grant; is = refl; from = omega (arith, at, low); below = omega (arith, at, less) })
+    (λ less. record {
+      place = zero;
+      grant = grant;
+      is = refl;
+      from = omega (arith, at, low);
+      below = omega (arith, at, less);
+    })
     (λ far.
     let there = tile_has (from + grant.size) end cell grants rest far high in
     record { place = suc there.place; grant = there.grant; is = there.is; from = there.from; below = there.below })
@@ -96,7 +102,8 @@ module _ {g : Layout} {old laid : Image} {p : Plan} {rows : List Posting} {level
       → Holds planned cell r
   copies_planned {at} {cell} {r} copies =
       let found = slice_get-get_or p.journal at [] copies.below in
-      let there = (all_rows h).adds (journal_at p.start p.reserved (length p.journal) + at) _ (Storing, inr (record { place = at; entry = found; at = refl })) in
+      let there = (all_rows h).adds (journal_at p.start p.reserved (length p.journal) + at) _
+      (Storing, inr (record { place = at; entry = found; at = refl })) in
       let same = some_is _ copies.entry (sym there ∙ copies.stands) in
       record {
         cell = copies.entry;
@@ -135,7 +142,8 @@ module _ {g : Layout} {old laid : Image} {p : Plan} {rows : List Posting} {level
 
   -- The cells at a target are a block of a list, or a node.
   data IsPiece (target : ℕ) : ℕ → Type 0 where
-    a_block : (size l : ℕ) → size ≡ 256 → l < g.lists → Leads laid (pool_at g) to target (list_at g l) → IsPiece target size
+    a_block : (size l : ℕ) → size ≡ 256 → l < g.lists → Leads laid (pool_at g) to target (list_at g l)
+        → IsPiece target size
     a_node : (size w : ℕ) → size ≡ 32 → IsNode g laid w target → IsPiece target size
 
   -- a planned pointer leads to a block, and a planned child cell to a node
@@ -252,7 +260,8 @@ module _ {g : Layout} {old laid : Image} {p : Plan} {rows : List Posting} {level
 
   tiled : (from end : ℕ) (grants : List Grant)
       → ((i : ℕ) (grant : Grant) → slice_get grants i ≡ Some grant → IsLedTo planned grant) → Tile from end grants
-      → rules.Tile (new_image h) p.start p.reserved (length p.journal) from end (map (λ (grant : Grant). grant.at) grants)
+      → rules.Tile (new_image h) p.start p.reserved (length p.journal) from end
+      (map (λ (grant : Grant). grant.at) grants)
   tiled from end [] led same = same
   tiled from end (grant ∷ grants) led (at, rest) = (
     at,
@@ -292,6 +301,7 @@ module _ {g : Layout} {old laid : Image} {p : Plan} {rows : List Posting} {level
       λ among. let there = granted_target among in (there.has, there.from, omega (arith, there.below, ends_there h)),
     );
     tile = subst
-        (λ (end : ℕ). rules.Tile (new_image h) p.start p.reserved (length p.journal) p.start end (map (λ (grant : Grant). grant.at) h.grants.0))
+        (λ (end : ℕ). rules.Tile (new_image h) p.start p.reserved (length p.journal) p.start end
+        (map (λ (grant : Grant). grant.at) h.grants.0))
         (sym (ends_there h)) (tiled p.start to h.grants.0 h.grants.1.led h.grants.1.tile);
   }

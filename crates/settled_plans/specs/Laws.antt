@@ -37,11 +37,11 @@ pub record TakesSlot (g : Layout) (old : Image) (p : Plan) (to : ℕ) : Type 0 w
   pub body : IsBody p.body
   pub absent : (m : ℕ) (other : List ℕ) → Stands g.cells old m p.id other → ⊥
 
--- The index of the plan's document is planned, and laid is the old image with its cells: index cells that were blank, and
--- the plan's journal. Its postings and its bucket go where lists and path ask for them, and cost what they must; each
--- new block and node is led to by a planned cell; and once these cells stand, the document is kept where it stands.
-pub record IsPlannedIndex (g : Layout) (old laid : Image) (p : Plan) (rows : List Posting) (level : Level) (place : Open)
-    (to : ℕ) (planned : Image) : Type 0 where
+-- The index of the plan's document is planned, and laid is the old image with its cells: index cells that were blank,
+-- which the plan's journal copies. Its postings and its bucket go where lists and path ask for them; each new block and
+-- node is led to by a planned cell; and once these cells stand, the document is kept where it stands.
+pub record IsPlannedIndex (g : Layout) (old laid : Image) (p : Plan) (rows : List Posting) (level : Level)
+    (place : Open) (to : ℕ) (planned : Image) : Type 0 where
   pub takes : TakesSlot g old p to
   pub rows_are : ArePostings g.lists p.body p.slot (map (listed p.slot) rows)
   pub ends : EndsPath g old level place
