@@ -5,15 +5,12 @@ use Rattle.cell_types.specs.Image.{Image}
 use Rattle.stored_documents.proofs.Holding.{some_is}
 use Rattle.tamper_rules.specs.Settling.{IsWith}
 use Rattle.tamper_rules.proofs.Images.{look}
+use Rattle.worm_device.specs.Overlays.{over}
 use Rattle.tamper_rules.proofs.Writing.{put_cell, put_there, put_other, same_or_not}
 
-abbrev pub first_of : Option (List ℕ) → Option (List ℕ) → Option (List ℕ)
-first_of None below = below
-first_of (Some value) below = Some value
-
 -- what the first image has, and where it is blank what the other has
-abbrev pub over : Image → Image → Image
-over upper lower cell = first_of (upper cell) (lower cell)
+abbrev pub laid_on : Image → Image → Image
+laid_on upper lower cell = over (upper cell) (lower cell)
 
 -- the value stands there
 pub record IsIn (image : Image) (cell : ℕ) (value : List ℕ) : Type 0 where
@@ -21,18 +18,18 @@ pub record IsIn (image : Image) (cell : ℕ) (value : List ℕ) : Type 0 where
 
 -- where the other is blank in each cell of the first, it has these cells then
 pub over_is : {upper lower : Image} → ((cell : ℕ) (value : List ℕ) → IsIn upper cell value → lower cell ≡ None)
-    → IsWith (IsIn upper) lower (over upper lower)
+    → IsWith (IsIn upper) lower (laid_on upper lower)
 over_is {upper} {lower} blank = record {
   keeps = record {
     keeps = λ cell value is. ⊎_elim
-        (λ none. ap (λ o. first_of o (lower cell)) none ∙ is)
+        (λ none. ap (λ o. over o (lower cell)) none ∙ is)
         (λ w. absurd (none-some _ (sym (blank cell w.0 (record { is = w.1 })) ∙ is)))
         (look upper cell);
   };
-  adds = λ cell value row. ap (λ o. first_of o (lower cell)) row.is;
+  adds = λ cell value row. ap (λ o. over o (lower cell)) row.is;
   only = λ cell value is. ⊎_elim
-      (λ none. inl (sym (ap (λ o. first_of o (lower cell)) none) ∙ is))
-      (λ w. inr (record { is = w.1 ∙ sym (ap (λ o. first_of o (lower cell)) w.1) ∙ is }))
+      (λ none. inl (sym (ap (λ o. over o (lower cell)) none) ∙ is))
+      (λ w. inr (record { is = w.1 ∙ sym (ap (λ o. over o (lower cell)) w.1) ∙ is }))
       (look upper cell);
 }
 

@@ -19,7 +19,7 @@ use Rattle.hash_tree.specs.declared.level.Level.{Level}
 use Rattle.hash_tree.specs.declared.path.Open.{Open}
 use Rattle.settled_plans.specs.Laws.{IsPlannedIndex}
 use Rattle.settled_plans.proofs.Behind.{blank_from, more, planned_low, pool_before}
-use Rattle.settled_plans.proofs.Laying.{IsIn, blank_with, held, held_is, one_cell, one_is, over, over_is, row_from, row_is, with_both, with_same}
+use Rattle.settled_plans.proofs.Laying.{IsIn, blank_with, held, held_is, one_cell, one_is, laid_on, over_is, row_from, row_is, with_both, with_same}
 
 module _ {g : Layout} {old laid : Image} {p : Plan} {rows : List Posting} {level : Level} {place : Open} {to : ℕ}
     {planned : Image} (h : IsPlannedIndex g old laid p rows level place to planned) where
@@ -46,21 +46,21 @@ module _ {g : Layout} {old laid : Image} {p : Plan} {rows : List Posting} {level
   document_cells k = held (cells_for bytes - k) (content_at (stored_of p) k)
 
   abbrev with_journal : Image
-  with_journal = over (row_from journal journal_cells) laid
+  with_journal = laid_on (row_from journal journal_cells) laid
 
   abbrev with_document : Image
-  with_document = over (row_from document document_cells) with_journal
+  with_document = laid_on (row_from document document_cells) with_journal
 
   abbrev with_done : Image
-  with_done = over (one_cell (done_at p.slot) (record_bytes (Done p.slot) (done_at p.slot))) with_document
+  with_done = laid_on (one_cell (done_at p.slot) (record_bytes (Done p.slot) (done_at p.slot))) with_document
 
   abbrev with_commit : Image
   with_commit =
-      over (one_cell (outcome_at p.slot) (record_bytes (Commit bytes (length p.journal)) (outcome_at p.slot))) with_done
+      laid_on (one_cell (outcome_at p.slot) (record_bytes (Commit bytes (length p.journal)) (outcome_at p.slot))) with_done
 
   abbrev pub new_image : Image
   new_image =
-      over (one_cell (reserve_at p.slot) (record_bytes (Reserve p.start p.reserved) (reserve_at p.slot))) with_commit
+      laid_on (one_cell (reserve_at p.slot) (record_bytes (Reserve p.start p.reserved) (reserve_at p.slot))) with_commit
 
   -- where they lie
   planned_from : {cell : ℕ} {value : List ℕ} → IsIn planned cell value → list_at g 0 ≤ cell

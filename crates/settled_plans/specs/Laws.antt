@@ -1,7 +1,7 @@
 -- What is planned for a document on a settled volume, and that it is well made.
-use Rattle.std.specs.Prelude.{◌≡◌, ◌<◌, ◌≤◌, ◌+◌, ℕ, List, length, map, Some, None}
+use Rattle.std.specs.Prelude.{◌≡◌, ◌<◌, ◌≤◌, ◌+◌, ℕ, List, length, map, Some, None, IsTrue}
 use Rattle.sha2.specs.Sha256.{sha256}
-use Rattle.cell_types.specs.Image.{Image, Extends}
+use Rattle.cell_types.specs.Image.{Image, Extends, IsUnchanged}
 use Rattle.cell_types.specs.Layout.{Layout, IsLayout}
 use Rattle.stored_documents.specs.Documents.{IsBody, IsIdentifier, Stands}
 use Rattle.stored_documents.specs.Slots.{EndsBelow, IsHorizon, cells_for}
@@ -11,6 +11,8 @@ use Rattle.index_paths.specs.Postings.{ArePostings}
 use Rattle.tamper_rules.specs.Settling.{IsSettled, IsWith}
 use Rattle.volume_growth.specs.Filling.{IsWellPlanned}
 use Rattle.volume_growth.specs.Ingesting.{Plan, stored_of}
+use Rattle.worm_device.specs.Counts.{IsStill}
+use Rattle.worm_device.specs.State.{DeviceState}
 use Rattle.term_tags.specs.Listing.{listed}
 use Rattle.term_tags.specs.declared.rows.Posting.{Posting}
 use Rattle.hash_tree.specs.declared.level.Level.{Level}
@@ -21,6 +23,8 @@ use Rattle.index_growth.specs.Indexes.{IsIndexCell}
 use Rattle.index_growth.specs.Journal.{IsJournal}
 use Rattle.index_growth.specs.Standing.{IndexStands}
 use Rattle.settled_growth.specs.Laws.{EndsPath}
+use Rattle.ingest_plan.specs.Planning.{IsPlanned}
+use Rattle.ingest_plan.specs.declared.plan.PlannedIndex.{PlannedIndex}
 
 -- The plan takes the slot at the horizon of a settled volume, and the cells from the edge on: blocks up to this one,
 -- and the cells of its document and its journal. No slot stands with its identifier.
@@ -63,3 +67,14 @@ PlanIsWell =
     (g : Layout) (old laid : Image) (p : Plan) (rows : List Posting) (level : Level) (place : Open) (to : ℕ)
     (planned : Image)
     → IsPlannedIndex g old laid p rows level place to planned → (new : Image) × IsWellPlanned g old new p
+
+-- And so is what planning answers, where nobody else wrote meanwhile: the plan of its journal, which takes the cells of
+-- its new blocks and its new node, of the document, and of the journal.
+abbrev pub AnswerIsWell : Type 0
+AnswerIsWell =
+    (g : Layout) (p : Plan) (level : Level) (place : Open) (made : PlannedIndex) (old new : DeviceState)
+    → IsTrue old.tells → IsStill old.foreign_writes new.foreign_writes → IsUnchanged old.image new.image
+    → TakesSlot g old.image p (p.start + made.block_length) → p.journal ≡ made.journal.items
+    → EndsPath g old.image level place → level.digest ≡ sha256 p.id
+    → PassedDown g old.image (sought_in g.cells g p.id) level place.child
+    → IsPlanned g p.slot p.start level place p.body made old new → (after : Image) × IsWellPlanned g old.image after p

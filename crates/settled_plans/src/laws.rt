@@ -1,7 +1,12 @@
-//! A law: what the definitions mean together. It is a function that does nothing and whose contract is the law.
-ghost use Rattle.settled_plans.specs.Laws.{PlanIsWell};
+//! Laws: what the definitions mean together. Each is a function that does nothing and whose contract is the law.
+ghost use Rattle.settled_plans.specs.Laws.{AnswerIsWell, PlanIsWell};
 
 /// A document's index that was planned on a settled volume is well made.
 pub fn plan_is_well()
     ensures { PlanIsWell }
+{}
+
+/// And so is what planning answers.
+pub fn answer_is_well()
+    ensures { AnswerIsWell }
 {}

@@ -10,10 +10,10 @@
 //! So `plan_is_settled`, `plan_leaves_sound` and `plan_adds_one` hold of it: the volume is settled with the plan's
 //! cells, it is sound at each moment until then, and it has one document more.
 //!
-//! There is no code here, only a law. Stands on `settled_growth`, by which lists and tree stand behind an index as
+//! There is no code here, only laws. Stands on `settled_growth`, by which lists and tree stand behind an index as
 //! before, and on `volume_growth`, which says what a well made plan is. Begin with specs/Laws.antt.
 #![tactic(auto)]
 
 mod laws;
 
-pub use laws::plan_is_well;
+pub use laws::{answer_is_well, plan_is_well};
