@@ -3,8 +3,8 @@
 //! A document lies in its slot's cells before the journal, as content cells that spell its stored bytes: one byte that
 //! says how long the identifier is, the identifier, and the body. Slot 0 with the document `a`, `hello world`:
 //!
-//!     cell 4      reserve cell     580, 1 cell
-//!     cell 5      commit cell      13 stored bytes, 0 journal cells
+//!     cell 4      reserve cell     580, 4 cells
+//!     cell 5      commit cell      13 stored bytes, 3 journal cells
 //!     cell 580    content cell     01 61 68 65 6c 6c 6f 20 77 6f 72 6c 64
 //!
 //! A slot that is done **holds** a document where each of these cells is the content cell of its place, and they spell

@@ -22,21 +22,33 @@ type Written = (u32, [u8; 16]);
 /// 8 slots, 2 lists, 1,000 cells.
 const VOLUME: Written = (0, [1, 1, 0, 0, 0, 8, 0, 2, 0, 0, 3, 0xe8, 0, 0, 0, 0]);
 
-/// Slot 0 reserves cells 580 and 581.
-const RESERVE_0: Written = (4, [2, 0, 0, 2, 0x44, 0, 0, 0, 2, 0, 0, 0, 0, 0, 0, 4]);
+/// Slot 0 reserves cells 580 to 582.
+const RESERVE_0: Written = (4, [2, 0, 0, 2, 0x44, 0, 0, 0, 3, 0, 0, 0, 0, 0, 0, 4]);
 
 const DONE_0: Written = (6, [5, 0, 0, 0, 0, 0, 0, 0, 0, 0, 0, 0, 0, 0, 0, 6]);
 
-/// The commit cell of slot 0, for so many stored bytes and no journal.
+/// The bucket of `a`, for the cell of half byte 12 of the root: the journal's one cell, and its target.
+const BUCKET: [u8; 16] = [
+    8, 0, 0, 0, 0, 0xca, 0x97, 0x81, 0x12, 0xca, 0x1b, 0xbd, 0, 0, 2, 0x30,
+];
+
+/// The commit cell of slot 0, for so many stored bytes and a journal of one cell, which is cell 582.
 fn commit_0(stated: u8) -> [u8; 16] {
-    [3, 0, 0, 0, stated, 0, 0, 0, 0, 0, 0, 0, 0, 0, 0, 5]
+    [3, 0, 0, 0, stated, 0, 0, 0, 1, 0, 0, 0, 0, 0, 0, 5]
 }
 
 /// The volume whose slot 0 is done and states so many bytes, with content cells of these bytes.
 fn volume_with(alloc: Global, stated: u8, contents: &[(u32, &[u8])]) -> Result<MemoryDevice, Fail> {
     let mut device = MemoryDevice::new(alloc, 1_000)?;
     device.reserve(16)?;
-    for (at, bytes) in [VOLUME, RESERVE_0, DONE_0, (5, commit_0(stated))] {
+    for (at, bytes) in [
+        VOLUME,
+        RESERVE_0,
+        DONE_0,
+        (5, commit_0(stated)),
+        (582, BUCKET),
+        (560, BUCKET),
+    ] {
         let value = Cell::from_bytes(bytes).ok_or("a blank cell")?;
         if at < device.cells() {
             let _ = device.foreign(at, value)?;

@@ -1,5 +1,5 @@
 //! Walks on a volume of 8 slots and 2 lists on 1,000 cells, built by hand in memory: the root is at 548, the pool at
-//! 580. Slot 0 holds the document `a`, `hello world`.
+//! 580. Slot 0 holds the document `a`, `hello world` with its index, and its cells end at 584.
 ghost use Rattle.std.specs.Prelude.{◌<◌, ◌≤◌};
 
 use crate::{Walk, lookup, walk};
@@ -16,20 +16,26 @@ type Written = (u32, [u8; 16]);
 /// 8 slots, 2 lists, 1,000 cells.
 const VOLUME: Written = (0, [1, 1, 0, 0, 0, 8, 0, 2, 0, 0, 3, 0xe8, 0, 0, 0, 0]);
 
-/// Slot 0 reserves cell 580, for 13 stored bytes and no journal, and is done.
-const RESERVE_0: Written = (4, [2, 0, 0, 2, 0x44, 0, 0, 0, 1, 0, 0, 0, 0, 0, 0, 4]);
+/// Slot 0 reserves cells 580 to 583, for 13 stored bytes and 3 journal cells, and is done.
+const RESERVE_0: Written = (4, [2, 0, 0, 2, 0x44, 0, 0, 0, 4, 0, 0, 0, 0, 0, 0, 4]);
 
-const COMMIT_0: [u8; 16] = [3, 0, 0, 0, 13, 0, 0, 0, 0, 0, 0, 0, 0, 0, 0, 5];
+const COMMIT_0: [u8; 16] = [3, 0, 0, 0, 13, 0, 0, 0, 3, 0, 0, 0, 0, 0, 0, 5];
 
 const DONE_0: Written = (6, [5, 0, 0, 0, 0, 0, 0, 0, 0, 0, 0, 0, 0, 0, 0, 6]);
 
-/// The bucket of `a`, whose digest begins ca 97 81 12 ca 1b bd.
-const BUCKET_OF_A: Written = (
-    560,
-    [
-        8, 0, 0, 0, 0, 0xca, 0x97, 0x81, 0x12, 0xca, 0x1b, 0xbd, 0, 0, 2, 0x30,
-    ],
-);
+/// The postings of `hello` and `world`, for the first two cells of list 0.
+const HELLO: [u8; 16] = [
+    6, 0, 0, 0, 0, 1, 0x2c, 0xf2, 0x4d, 0xba, 0x5f, 0xb0, 0, 0, 0, 0x24,
+];
+
+const WORLD: [u8; 16] = [
+    6, 0, 0, 0, 1, 1, 0x48, 0x6e, 0xa4, 0x62, 0x24, 0xd1, 0, 0, 0, 0x25,
+];
+
+/// The bucket of `a`, whose digest begins ca 97 81 12 ca 1b bd, for the root's cell of half byte 12.
+const BUCKET_OF_A: [u8; 16] = [
+    8, 0, 0, 0, 0, 0xca, 0x97, 0x81, 0x12, 0xca, 0x1b, 0xbd, 0, 0, 2, 0x30,
+];
 
 /// The bucket 551 that names this slot, where that of `b` goes: its digest begins 3e 23 e8 16 00 39 59.
 fn bucket_of_b(slot: u32) -> [u8; 16] {
@@ -39,11 +45,22 @@ fn bucket_of_b(slot: u32) -> [u8; 16] {
     ]
 }
 
-/// The volume with these stored bytes in slot 0, and the bucket of `a`.
+/// The volume with these stored bytes in slot 0, and the index of `a`, `hello world`.
 fn volume_with(alloc: Global, stored: &[u8]) -> Result<MemoryDevice, Fail> {
     let mut device = MemoryDevice::new(alloc, 1_000)?;
     device.reserve(16)?;
-    for (at, bytes) in [VOLUME, RESERVE_0, DONE_0, BUCKET_OF_A, (5, COMMIT_0)] {
+    for (at, bytes) in [
+        VOLUME,
+        RESERVE_0,
+        (581, HELLO),
+        (582, WORLD),
+        (583, BUCKET_OF_A),
+        (5, COMMIT_0),
+        (36, HELLO),
+        (37, WORLD),
+        (560, BUCKET_OF_A),
+        DONE_0,
+    ] {
         put(&mut device, at, bytes)?;
     }
     if !stored.is_empty() && stored.len() <= 15 && device.cells() > 580 {
@@ -79,7 +96,7 @@ fn asked(
     id: &[u8],
 ) -> Result<(Result<Told, Fault>, Result<Option<u32>, Fault>), Fail> {
     let geometry = Geometry::new(8, 2, device.cells()).ok_or("no volume")?;
-    if horizon > geometry.slots() || geometry.cells() < 581 {
+    if horizon > geometry.slots() || geometry.cells() < 584 {
         return Err("no horizon".into());
     }
     let volume = Volume {
@@ -87,13 +104,13 @@ fn asked(
         geometry,
     };
     let mut view = Direct::new(device);
-    let walked = match walk(&mut view, &volume, horizon, 581, id) {
+    let walked = match walk(&mut view, &volume, horizon, 584, id) {
         Ok(Walk::Found(slot)) => Ok(Told::Found(slot)),
         Ok(Walk::End(place, _level)) => Ok(Told::End(place)),
         Ok(Walk::PathFull) => Ok(Told::PathFull),
         Err(fault) => Err(fault),
     };
-    let looked = lookup(&mut view, &volume, horizon, 581, id);
+    let looked = lookup(&mut view, &volume, horizon, 584, id);
     Ok((walked, looked))
 }
 

@@ -61,7 +61,7 @@ module _ (g : Layout) (n : ℕ) (p : Plan) (old : Image) {s2 s4 : DeviceState} (
         is_body = d.is_body;
       }
 
-  -- the slot is done, its document is one of the volume's, the journal stands at its targets, and all that stood is sure
+  -- the slot is done, its document is of the volume, the journal stands at its targets, and all that stood is sure
   pub carried_out : IsCarriedOut g p n s4.cells old s2.image s4.sure
   carried_out = record {
     unused = unused;

@@ -44,7 +44,11 @@ reserve_0 = record { cell = reserve_cell; stands = refl; is = reserve_is }
 
 -- the commit cell is well-formed at cell 5
 commit_is : IsRecordCell (Commit 13 3) 5 commit_cell
-commit_is = record { fits = (omega arith, omega arith); well_formed = (omega arith, omega arith); same = refl }
+commit_is = record {
+  fits = (omega arith, omega arith);
+  well_formed = (omega arith, omega arith, omega arith);
+  same = refl;
+}
 
 -- and stands in the small image
 pub commit_0 : Holds small_image 5 (Commit 13 3)

@@ -28,7 +28,11 @@ reserve_is = record { fits = (omega arith, omega arith); well_formed = omega ari
 
 -- and its commit cell
 commit_is : IsRecordCell (Commit 2 1) 9 commit_cell_1
-commit_is = record { fits = (omega arith, omega arith); well_formed = (omega arith, omega arith); same = refl }
+commit_is = record {
+  fits = (omega arith, omega arith);
+  well_formed = (omega arith, omega arith, omega arith);
+  same = refl;
+}
 
 -- and its done cell
 done_is : IsRecordCell (Done 1) 10 done_cell_1
