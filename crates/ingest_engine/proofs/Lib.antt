@@ -1,6 +1,6 @@
-pub mod CrashedIngests
-pub mod Endings
 pub mod JoinedCells
-pub mod PlainPlans
+pub mod KeptNow
 pub mod SeenBlank
+pub mod Suited
 pub mod UnusedSlots
+pub mod Walked

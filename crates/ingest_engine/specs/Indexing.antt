@@ -3,7 +3,7 @@
 use Rattle.std.specs.Prelude.{◌≡◌, ◌⊎◌, ℕ, List, Some, Result, Ok, Err, IsTrue, ⊤}
 use Rattle.cell_types.specs.Image.{IsUnchanged}
 use Rattle.cell_types.specs.declared.refusal.Evidence.{Evidence}
-use Rattle.cell_types.specs.declared.refusal.Fault.TheVariants as faults
+use Rattle.cell_types.specs.declared.refusal.Fault.{Fault}
 use Rattle.cell_types.specs.declared.refusal.Refusal.{Refusal}
 use Rattle.cell_types.specs.declared.refusal.Refusal.TheVariants.{DeviceFault, Duplicate, NoMemory, PathFull, Tampered, TooManyTerms}
 use Rattle.stored_documents.specs.Slots.{IsEdge, IsHorizon}
@@ -42,6 +42,12 @@ pub record IsFoundOnWay (r : Ready) (entry new : DeviceState) (e : Evidence) : T
 abbrev pub WalksOn : Ready → List ℕ → DeviceState → DeviceState → Walk → Type 0
 WalksOn r id entry new answer =
     WalkEnds r.volume.geometry r.horizon r.edge id (seen_directly entry 0) (seen_directly new 0) (Ok answer)
+
+-- what a walk along the identifier's path on the device does: it changes nothing
+pub record WalksDevice (r : Ready) (id : List ℕ) (entry new : DeviceState) (result : Result Walk Fault) : Type 0 where
+  pub called : Called entry new
+  pub quiet : IsStill entry.foreign_writes new.foreign_writes → IsUnchanged entry.image new.image
+  pub ends : WalkEnds r.volume.geometry r.horizon r.edge id (seen_directly entry 0) (seen_directly new 0) result
 
 -- how a look for the path's end may end, and why
 abbrev pub PathEnds : Ready → List ℕ → DeviceState → DeviceState → Result PathEnd Refusal → Type 0

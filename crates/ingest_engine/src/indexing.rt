@@ -1,12 +1,7 @@
 //! The index of a document, planned on a settled volume.
 ghost use Rattle.std.specs.Prelude.{◌<◌, ◌≤◌};
-ghost use Rattle.cell_types.specs.Image.{IsUnchanged};
-ghost use Rattle.worm_device.specs.Calls.{Called};
-ghost use Rattle.worm_device.specs.Counts.{IsStill};
-ghost use Rattle.worm_device.specs.Views.{seen_directly};
 ghost use Rattle.recovery_engine.specs.Settling.{LiesInBounds};
-ghost use Rattle.identifier_lookup.specs.Walks.{WalkEnds};
-ghost use Rattle.ingest_engine.specs.Indexing.{EndsPath, PlansFor};
+ghost use Rattle.ingest_engine.specs.Indexing.{EndsPath, PlansFor, WalksDevice};
 
 use cell_types::{Fault, Refusal};
 use hash_tree::{Level, Open};
@@ -67,13 +62,10 @@ fn path_end<D: Device>(device: &mut D, ready: &Ready, id: &[u8]) -> Result<PathE
 }
 
 /// The walk along the path of the identifier.
+#[tactic(auto, using(crate::proofs::Walked::device_walks))]
 fn walk_on_device<D: Device>(device: &mut D, ready: &Ready, id: &[u8]) -> Result<Walk, Fault>
     requires bounds { LiesInBounds (D.state device.old) ready.now }
-    ensures called { Called (D.state device.old) (D.state device.new) }
-    ensures quiet { IsStill (D.state device.old).foreign_writes (D.state device.new).foreign_writes →
-        IsUnchanged (D.state device.old).image (D.state device.new).image }
-    ensures ends { WalkEnds ready.now.volume.geometry ready.now.horizon ready.now.edge id.now
-        (seen_directly (D.state device.old) 0) (seen_directly (D.state device.new) 0) result }
+    ensures { WalksDevice ready.now id.now (D.state device.old) (D.state device.new) result }
 {
     walk(
         &mut Direct::new(device),

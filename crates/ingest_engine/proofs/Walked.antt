@@ -1,0 +1,153 @@
+-- What a walk on the device, and then planning, say of the device.
+use Rattle.std.proofs.Common.{◌≡◌, ◌∙◌, ℕ, List, Result, Ok, Err, sym, subst, inl, inr, arith}
+use Rattle.std.specs.Prelude.{IsTrue}
+use Rattle.cell_types.specs.Image.{IsUnchanged}
+use Rattle.cell_types.specs.Layout.{Layout}
+use Rattle.cell_types.specs.Refusals.{refusal_of_fault}
+use Rattle.cell_types.specs.declared.refusal.Fault.{Fault}
+use Rattle.cell_types.specs.declared.refusal.Fault.TheVariants as faults
+use Rattle.cell_types.specs.declared.refusal.Refusal.{Refusal}
+use Rattle.cell_types.specs.declared.refusal.Refusal.TheVariants.{DeviceFault, NoMemory, Tampered, TooManyTerms}
+use Rattle.worm_device.specs.Calls.{Called}
+use Rattle.worm_device.specs.Counts.{IsStill}
+use Rattle.worm_device.specs.State.{DeviceState}
+use Rattle.worm_device.specs.Views.{Viewed, seen_directly}
+use Rattle.worm_device.proofs.Counting.{still_first, still_second}
+use Rattle.worm_device.proofs.Elapsing.{called_then}
+use Rattle.worm_device.proofs.Resting.{rests_of}
+use Rattle.hash_tree.specs.Levels.{IsLedWithin}
+use Rattle.hash_tree.proofs.Growing.{led_within_on}
+use Rattle.recovery_engine.specs.declared.settling.Ready.{Ready}
+use Rattle.identifier_lookup.specs.Walks.{WalkEnds}
+use Rattle.identifier_lookup.specs.declared.answers.Walk.{Walk}
+use Rattle.identifier_lookup.specs.declared.answers.Walk.TheVariants as walks
+use Rattle.ingest_plan.specs.Planning.{PlanEnds, PlansIndex}
+use Rattle.ingest_plan.specs.declared.plan.PlannedIndex.{PlannedIndex}
+use Rattle.ingest_engine.specs.Indexing.{EndsPath, PlanForEnds, PlansFor, WalksDevice, WalksOn}
+use Rattle.ingest_engine.specs.declared.indexing.PathEnd.{PathEnd}
+
+-- what a walk says does not depend on the name of the loan
+pub any_loan : (g : Layout) (horizon edge : ℕ) (id : List ℕ) (old new : DeviceState) (lent back : ℕ) (result : Result Walk Fault)
+    → WalkEnds g horizon edge id (seen_directly old lent) (seen_directly new back) result
+    → WalkEnds g horizon edge id (seen_directly old 0) (seen_directly new 0) result
+any_loan g horizon edge id old new lent back (Ok (walks.Found n)) h = (
+  h.0,
+  h.1,
+  λ tells. let found = h.2 tells in record { holds = found.holds; first = found.first; alone = found.alone },
+)
+any_loan g horizon edge id old new lent back (Ok (walks.End place level)) h = (
+  h.0,
+  record { number = h.1.number; within = h.1.within; led = h.1.led },
+  h.2,
+  h.3,
+  λ tells.
+      let end = h.4 tells in
+      record {
+        blank = end.blank;
+        reached = end.reached;
+        led_within = end.led_within;
+        passed = end.passed;
+        none = end.none;
+      },
+)
+any_loan g horizon edge id old new lent back (Ok walks.PathFull) h = (
+  h.0,
+  λ tells. let full = h.1 tells in record { passed = full.passed; none = full.none },
+)
+any_loan g horizon edge id old new lent back (Err faults.ReadFault) h = h
+any_loan g horizon edge id old new lent back (Err (faults.Tampered e)) h = (
+  h.0,
+  h.1,
+  λ tells. let seen = h.2 tells in record { rule = seen.rule; stands = seen.stands; broken = seen.broken },
+)
+
+-- a walk over a loan of the device is one on the device
+pub device_walks : (r : Ready) (id : List ℕ) {entry new : DeviceState} {lent back : ℕ}
+    → Viewed (seen_directly entry lent) (seen_directly new back) → (result : Result Walk Fault)
+    → WalkEnds r.volume.geometry r.horizon r.edge id (seen_directly entry lent) (seen_directly new back) result
+    → WalksDevice r id entry new result
+device_walks r id {entry} {new} {lent} {back} viewed result ends = record {
+  called = viewed.called;
+  quiet = (rests_of viewed).shown;
+  ends = any_loan r.volume.geometry r.horizon r.edge id entry new lent back result ends;
+}
+
+-- where nobody else wrote from a first state to a third, what stands is as it was at the first, if each call left it so
+pub quiet_then : {a b c : DeviceState} → Called a b → Called b c
+    → (IsStill a.foreign_writes b.foreign_writes → IsUnchanged a.image b.image)
+    → (IsStill b.foreign_writes c.foreign_writes → IsUnchanged b.image c.image)
+    → IsStill a.foreign_writes c.foreign_writes → IsUnchanged a.image c.image
+quiet_then first second one two still = λ cell.
+    two (still_second first.foreign_writes second.foreign_writes still) cell
+    ∙ one (still_first first.foreign_writes second.foreign_writes still) cell
+
+-- a walk that was ended
+pub walk_failed : (r : Ready) (id : List ℕ) (entry new : DeviceState) (fault : Fault)
+    → WalksDevice r id entry new (Err fault) → EndsPath r id entry new (Err (refusal_of_fault fault))
+walk_failed r id entry new faults.ReadFault walks = record {
+  called = walks.called;
+  quiet = walks.quiet;
+  ends = walks.ends;
+}
+walk_failed r id entry new (faults.Tampered e) walks = record {
+  called = walks.called;
+  quiet = walks.quiet;
+  ends = λ tells.
+      let seen = walks.ends.2 tells in
+      record { rule = inl seen.rule; stands = seen.stands; place = walks.ends.0; broken = seen.broken };
+}
+
+module _ (r : Ready) (id body : List ℕ) (entry walked new : DeviceState) (end : PathEnd)
+    (path : EndsPath r id entry walked (Ok end)) where
+  told : IsTrue entry.tells → IsTrue walked.tells
+  told tells = subst IsTrue (sym path.called.tells) tells
+
+  -- planning was ended
+  pub unplanned : (refusal : Refusal)
+      → PlansIndex r.volume.geometry r.horizon r.edge end.level end.place body walked new (Err refusal)
+      → PlansFor r id body entry new (Err refusal)
+  unplanned refusal plans = record {
+    called = called_then path.called plans.called;
+    quiet = quiet_then path.called plans.called path.quiet plans.quiet;
+    ends = why refusal plans.ends;
+  }
+    where
+      why : (refusal : Refusal)
+          → PlanEnds r.volume.geometry r.horizon r.edge end.level end.place body walked new (Err refusal)
+          → PlanForEnds r id body entry new (Err refusal)
+      why (TooManyTerms list count) h = record {
+        place = end.place;
+        level = end.level;
+        path = subst (λ (s : DeviceState). WalksOn r id entry s (walks.End end.place end.level)) (sym h.1) path.ends;
+        many = h.0;
+      }
+      why (Tampered e) h = λ tells.
+          let named = h (told tells) in
+          let led : IsLedWithin r.volume.geometry new.image end.level.led_by =
+          led_within_on r.volume.geometry end.level.led_by plans.called.image (path.ends.4 tells).led_within in
+          record {
+            rule = inr named.rule;
+            stands = named.stands;
+            place = named.place led;
+            broken = λ still volume horizon edge. named.broken led
+                (still_second path.called.foreign_writes plans.called.foreign_writes still) volume horizon edge;
+          }
+      why DeviceFault h = omega (arith, h, path.called.faults)
+      why NoMemory h = tt
+      why refusal h = absurd h
+
+  -- or it is done
+  pub planned : (index : PlannedIndex)
+      → PlansIndex r.volume.geometry r.horizon r.edge end.level end.place body walked new (Ok index)
+      → PlansFor r id body entry new (Ok index)
+  planned index plans = record {
+    called = called_then path.called plans.called;
+    quiet = quiet_then path.called plans.called path.quiet plans.quiet;
+    ends = record {
+      walked = walked;
+      place = end.place;
+      level = end.level;
+      ends = record { called = path.called; path = path.ends; looked = plans.called; quiet = plans.quiet };
+      planned = plans.ends;
+    };
+  }

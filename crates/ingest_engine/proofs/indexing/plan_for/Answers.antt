@@ -1,0 +1,12 @@
+-- The index was not planned.
+use Rattle.cell_types.proofs.Passed.{handed}
+use Rattle.ingest_engine.proofs.Walked.{unplanned}
+use Rattle.ingest_engine.proofs.indexing.plan_for.Goals as goal
+
+pub returns-in_err-index : goal.returns-in_err-index
+returns-in_err-index g c =
+    let refusal = c.in_err-index.field-0.0 in
+    rw (handed c.from_residual-in_err-index.result refusal c.from_residual-in_err-index.ensures.1)
+    (unplanned c.args.ready.now c.args.id.now c.args.body.now (g.D.Device.state c.args.device.now)
+    (g.D.Device.state c.path_end.new.device) (g.D.Device.state c.plan_index.new.device) c.in_ok-end.end
+    c.in_ok-end.ensures refusal c.in_err-index.ensures)
