@@ -50,13 +50,15 @@ module _ {g : Layout} {p : Plan} {level : Level} {place : Open} {made : PlannedI
   blank : (cell : ℕ) (value : List ℕ) → is.planned cell ≡ Some value → old.image cell ≡ None
   blank cell value row =
       subst (λ (image : Image). image cell ≡ None) cut_same
-      (is.blank tells (subst (λ (image : Image). image (blank_of place) ≡ None) (sym cut_same) ends.blank) cell value row)
+      (is.blank tells (subst (λ (image : Image). image (blank_of place) ≡ None) (sym cut_same) ends.blank)
+      cell value row)
 
   stands : IndexStands g p.slot is.rows level place p.start (p.start + made.block_length) old.image
       (laid_over is.planned old.image)
   stands =
       subst
-      (λ (image : Image). IndexStands g p.slot is.rows level place p.start (p.start + made.block_length) image (laid_over is.planned image))
+      (λ (image : Image).
+      IndexStands g p.slot is.rows level place p.start (p.start + made.block_length) image (laid_over is.planned image))
       cut_same
       (is.stands tells still
       (subst (λ (image : Image). ListsStand g image p.start (256 * p.slot)) (sym cut_same) (stand takes).lists)).stands

@@ -16,7 +16,8 @@ use Rattle.settled_plans.proofs.Postings.{postings}
 use Rattle.settled_plans.proofs.Standing.{apart, apart_nodes, blocks, lists, nodes, tree}
 
 pub well : {g : Layout} {old laid : Image} {p : Plan} {rows : List Posting} {level : Level} {place : Open} {to : ℕ}
-    {planned : Image} → IsPlannedIndex g old laid p rows level place to planned → (new : Image) × IsWellPlanned g old new p
+    {planned : Image} → IsPlannedIndex g old laid p rows level place to planned
+    → (new : Image) × IsWellPlanned g old new p
 well h = (
   new_image h,
   record {
