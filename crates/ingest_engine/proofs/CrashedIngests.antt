@@ -157,7 +157,7 @@ crashed id body old new law called (ComesTo.settling refusal s) tells still g n 
     unused_whole (settling_left g n old volume unused s tells still image left)
 crashed id body old new law called (ComesTo.settled r h) tells still g n volume unused image left =
     unused_whole (looking_left g n old volume unused h tells still image left)
-crashed id body old new law called (ComesTo.put looked r p h less plan puts) tells still g n volume unused image left =
+crashed id body old new law called (ComesTo.put looked r p h device less plan puts) tells still g n volume unused image left =
     let first : Called old looked = called_then h.settles.called h.looked in
     let layout = ready_layout old looked r g h tells volume in
     putting_left g n old volume unused h tells (still_first first.foreign_writes puts.called.foreign_writes still) law id body p new

@@ -10,7 +10,7 @@ use Rattle.cell_types.specs.declared.refusal.Refusal.TheVariants.{DeviceFault, D
 use Rattle.stored_documents.specs.Volumes.{IsVolume}
 use Rattle.worm_device.specs.Calls.{Called}
 use Rattle.worm_device.specs.Counts.{Rose}
-use Rattle.worm_device.specs.State.{DeviceState}
+use Rattle.worm_device.specs.State.{DeviceState, IsDevice}
 use Rattle.worm_device.proofs.Elapsing.{called_self, called_then}
 use Rattle.stored_documents.proofs.Extending.{volume_on}
 use Rattle.recovery_engine.specs.Settling.{HasSettled, SettleEnds, Settles}
@@ -55,7 +55,7 @@ module _ (id body : List ℕ) (old new : DeviceState) where
   no_slot r refusal h ends = absurd ends
 
   module _ (settled : DeviceState) (r : Ready) (s : Settles old settled (Ok r))
-      (slot : r.horizon < r.volume.geometry.slots) where
+      (slot : r.horizon < r.volume.geometry.slots) (device : IsDevice new) where
     told : IsTrue old.tells → IsTrue settled.tells
     told tells = subst IsTrue (sym s.called.tells) tells
 
@@ -85,7 +85,7 @@ module _ (id body : List ℕ) (old new : DeviceState) where
     }
     unplanned_ends DeviceFault plans ends = rose_sooner old.faults settled.faults new.faults s.called.faults ends
     unplanned_ends (Tampered e) plans ends = λ tells.
-        named_on_way r (planned_behind s plans) tells e (ends (told tells))
+        named_on_way device r (planned_behind s plans) tells e (ends (told tells))
     unplanned_ends NoMemory plans ends = inr (r, planned_behind s plans)
     unplanned_ends refusal plans ends = absurd ends
 
@@ -130,12 +130,12 @@ module _ (id body : List ℕ) (old new : DeviceState) where
         (no_slot r refusal (just_settled s) ends)
 
     module _ (settled : DeviceState) (r : Ready) (s : Settles old settled (Ok r))
-        (slot : r.horizon < r.volume.geometry.slots) where
+        (slot : r.horizon < r.volume.geometry.slots) (device : IsDevice new) where
       -- the index was not planned
       pub unplanned : (refusal : Refusal) → PlansFor r id body settled new (Err refusal)
           → Ingests id body old new (Err refusal)
       unplanned refusal plans = far (Err refusal) (called_then s.called plans.called)
-          (ComesTo.settled r (planned_behind s plans)) (unplanned_ends settled r s slot refusal plans plans.ends)
+          (ComesTo.settled r (planned_behind s plans)) (unplanned_ends settled r s slot device refusal plans plans.ends)
 
       -- there was no room
       pub unroomed : (index : PlannedIndex) (need : ℕ) (refusal : Refusal) → need ≡ need_with id body index
@@ -143,13 +143,13 @@ module _ (id body : List ℕ) (old new : DeviceState) where
           → Ingests id body old new (Err refusal)
       unroomed index need refusal same plans ends = far (Err refusal) (called_then s.called plans.called)
           (ComesTo.settled r (planned_behind s plans))
-          (no_room settled r s slot index refusal plans (subst (λ (n : ℕ). RoomEnds r n (Err refusal)) same ends))
+          (no_room settled r s slot device index refusal plans (subst (λ (n : ℕ). RoomEnds r n (Err refusal)) same ends))
 
   module _ (law : CrashesLeaveWholeSlots) (looked : DeviceState) (r : Ready) (p : Plan) (layout : IsLayout r.volume.geometry)
-      (slot : r.horizon < r.volume.geometry.slots) (has : HasSettled old looked r)
+      (slot : r.horizon < r.volume.geometry.slots) (has : HasSettled old looked r) (device : IsDevice looked)
       (plan : IsPlanFor r id body has.settled looked p) (puts : PutsPlan r.horizon p looked new) where
     comes_to_put : ComesTo id body old new
-    comes_to_put = ComesTo.put looked r p has slot plan puts
+    comes_to_put = ComesTo.put looked r p has device slot plan puts
 
     called_all : Called old new
     called_all = called_then (called_then has.settles.called has.looked) puts.called
@@ -158,7 +158,7 @@ module _ (id body : List ℕ) (old new : DeviceState) where
         → IngestEnds id body old new (Err (refusal_of_fault fault))
     put_refused faults.ReadFault ends = ends
     put_refused (faults.Tampered e) ends = λ tells.
-        named_by_plan layout has tells plan puts.called.foreign_writes e (ends tells)
+        named_by_plan layout has tells plan device puts.called e (ends tells)
 
     -- and then the plan was not put
     pub unput : (fault : Fault) → PlanEnds r.volume.geometry p r.horizon old looked new (Err fault)

@@ -9,9 +9,11 @@ use Rattle.cell_types.specs.declared.refusal.Evidence.{Evidence}
 use Rattle.stored_documents.specs.Slots.{IsEdge, IsHorizon}
 use Rattle.stored_documents.proofs.Extending.{written_on}
 use Rattle.stored_documents.proofs.Holding.{some_is}
+use Rattle.worm_device.specs.Calls.{Called}
 use Rattle.worm_device.specs.Counts.{IsStill}
-use Rattle.worm_device.specs.State.{DeviceState}
+use Rattle.worm_device.specs.State.{DeviceState, IsDevice}
 use Rattle.worm_device.proofs.Counting.{still_first, still_second}
+use Rattle.worm_device.proofs.Elapsing.{called_self}
 use Rattle.tree_growth.specs.Readiness.{blank_in, blank_of}
 use Rattle.recovery_engine.specs.Entries.{target_of}
 use Rattle.recovery_engine.specs.Settling.{HasSettled}
@@ -25,40 +27,41 @@ use Rattle.ingest_engine.specs.Indexing.{IsFoundOnWay}
 use Rattle.ingest_engine.specs.Ingesting.{IsLogRule, IsNamed, IsPlanFor, by_plan, in_index}
 use Rattle.ingest_engine.proofs.Suited.{copies_of, entry}
 
-module _ {old new : DeviceState} (r : Ready) (has : HasSettled old new r) (tells : IsTrue old.tells) where
-  -- the horizon is one of what stands, where nobody else wrote
-  is_horizon : IsStill old.foreign_writes new.foreign_writes
-      → IsHorizon r.volume.geometry new.image new.image r.horizon
-  is_horizon still = record {
-    most = (has.settles.ends.1 tells).horizon.most;
-    below = λ m is. written_on has.looked.image ((has.settles.ends.1 tells).horizon.below m is);
-    free = λ less. free_2 r has tells less still;
-  }
+module _ {old new : DeviceState} (device : IsDevice new) (r : Ready) (has : HasSettled old new r) (tells : IsTrue old.tells)
+  where
+    -- the horizon is one of what stands, where nobody else wrote
+    is_horizon : IsStill old.foreign_writes new.foreign_writes
+        → IsHorizon r.volume.geometry new.image new.image r.horizon
+    is_horizon still = record {
+      most = (has.settles.ends.1 tells).horizon.most;
+      below = λ m is. written_on has.looked.image ((has.settles.ends.1 tells).horizon.below m is);
+      free = λ less. free_2 r has tells less still;
+    }
 
-  -- and so is the edge
-  is_edge : IsStill old.foreign_writes new.foreign_writes → IsEdge r.volume.geometry new.image new.image r.edge
-  is_edge still = record {
-    u = r.horizon;
-    most = (has.settles.ends.1 tells).horizon.most;
-    free = λ less. free_2 r has tells less still;
-    ends = ends_2 r has tells;
-  }
+    -- and so is the edge
+    is_edge : IsStill old.foreign_writes new.foreign_writes → IsEdge r.volume.geometry new.image new.image r.edge
+    is_edge still = record {
+      u = r.horizon;
+      most = (has.settles.ends.1 tells).horizon.most;
+      free = λ less. free_2 r has tells less still;
+      ends = ends_2 r has tells;
+    }
 
-  -- what was found on the way is named
-  pub named_on_way : (e : Evidence) → IsFoundOnWay r has.settled new e → IsNamed old new e
-  named_on_way e found =
-      let broken = λ (still : IsStill old.foreign_writes new.foreign_writes).
-      found.broken (still_second has.settles.called.foreign_writes has.looked.foreign_writes still)
-      (volume_2 r has tells) (is_horizon still) (is_edge still) in
-      in_index found.rule
-      (record {
-        stands = found.stands;
-        layout = r.volume.geometry;
-        volume = volume_2 r has tells;
-        place = found.place;
-        broken = broken;
-      })
-      (record { ready = r; looked = new; settled = has; broken = broken })
+    -- what was found on the way is named
+    pub named_on_way : (e : Evidence) → IsFoundOnWay r has.settled new e → IsNamed old new e
+    named_on_way e found =
+        let broken = λ (still : IsStill old.foreign_writes new.foreign_writes).
+        found.broken (still_second has.settles.called.foreign_writes has.looked.foreign_writes still)
+        (volume_2 r has tells) (is_horizon still) (is_edge still) in
+        in_index found.rule
+        (record {
+          stands = found.stands;
+          layout = r.volume.geometry;
+          volume = volume_2 r has tells;
+          place = found.place;
+          broken = broken;
+        })
+        (record { ready = r; looked = new; device = device; settled = has; since = called_self new; broken = broken })
 
 -- a blank cell is blank in what stands before the edge
 cut_blank : (edge : ℕ) (image : Image) (cell : ℕ) → image cell ≡ None → cut_at edge image cell ≡ None
@@ -118,11 +121,11 @@ module _ {id body : List ℕ} {old looked : DeviceState} {r : Ready} {p : Plan} 
         ap looked.image at ∙ plan.has.ends.quiet after e.0 ∙ sym asked ∙ cut
 
     -- what was found while the plan was put is named
-    pub named_by_plan : {new : DeviceState} → looked.foreign_writes ≤ new.foreign_writes → (e : Evidence)
+    pub named_by_plan : {new : DeviceState} → Called looked new → (e : Evidence)
         → IsFoundByPlan p old looked new e → IsNamed old new e
     named_by_plan {new} later e found =
         let asks = λ (still : IsStill old.foreign_writes new.foreign_writes).
-        asks_for_blank (still_first (called r has).foreign_writes later still) in
+        asks_for_blank (still_first (called r has).foreign_writes later.foreign_writes still) in
         by_plan
         (record {
           rule = log_rule e.rule found.rule;
@@ -132,6 +135,8 @@ module _ {id body : List ℕ} {old looked : DeviceState} {r : Ready} {p : Plan} 
         (record {
           ready = r;
           looked = looked;
+          device = device;
           settled = has;
+          since = later;
           broken = λ still. found.at_entry still (asks still);
         })

@@ -30,8 +30,8 @@ returns-in_err-index g c =
     let refusal = c.in_err-index.field-0.0 in
     rw (handed c.from_residual-in_err-index.result refusal c.from_residual-in_err-index.ensures.1)
     (unplanned c.args.id.now c.args.body.now _ _ c.crashes_leave_whole_slots.ensures
-    (g.D.Device.state c.settle.new.device) c.in_ok-ready.ready c.in_ok-ready.ensures c.in_ok-check_slots.ensures refusal
-    c.in_err-index.ensures)
+    (g.D.Device.state c.settle.new.device) c.in_ok-ready.ready c.in_ok-ready.ensures c.in_ok-check_slots.ensures
+    (g.met.D.Device.proper c.plan_for.new.device) refusal c.in_err-index.ensures)
 
 pub returns-in_err-check_room : goal.returns-in_err-check_room
 returns-in_err-check_room g c =
@@ -39,7 +39,7 @@ returns-in_err-check_room g c =
     rw (handed c.from_residual-in_err-check_room.result refusal c.from_residual-in_err-check_room.ensures.1)
     (unroomed c.args.id.now c.args.body.now _ _ c.crashes_leave_whole_slots.ensures
     (g.D.Device.state c.settle.new.device) c.in_ok-ready.ready c.in_ok-ready.ensures c.in_ok-check_slots.ensures
-    c.in_ok-index.index _ refusal
+    (g.met.D.Device.proper c.plan_for.new.device) c.in_ok-index.index _ refusal
     (omega (arith, c.len.ensures, c.len-2.ensures, c.in_ok-document.ensures.cells.count)) c.in_ok-index.ensures
     c.in_err-check_room.ensures)
 
@@ -59,6 +59,7 @@ returns-in_err-slot g c =
     rw (handed c.from_residual-in_err-slot.result (refusal_of_fault fault) c.from_residual-in_err-slot.ensures.1)
     (unput c.args.id.now c.args.body.now (g.D.Device.state c.args.device.now) _ c.crashes_leave_whole_slots.ensures
     (g.D.Device.state c.plan_for.new.device) c.in_ok-ready.ready _ bounds.layout c.in_ok-check_slots.ensures has
+    (g.met.D.Device.proper c.plan_for.new.device)
     (record {
       starts = refl;
       suits = plan_suits _ c.args.id.now c.args.body.now c.in_ok-document.document c.requires.identifier
@@ -80,6 +81,7 @@ returns g c =
     let has = planned_behind c.in_ok-ready.ensures c.in_ok-index.ensures in
     put c.args.id.now c.args.body.now (g.D.Device.state c.args.device.now) _ c.crashes_leave_whole_slots.ensures
     (g.D.Device.state c.plan_for.new.device) c.in_ok-ready.ready _ bounds.layout c.in_ok-check_slots.ensures has
+    (g.met.D.Device.proper c.plan_for.new.device)
     (record {
       starts = refl;
       suits = plan_suits _ c.args.id.now c.args.body.now c.in_ok-document.document c.requires.identifier
