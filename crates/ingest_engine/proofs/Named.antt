@@ -121,9 +121,9 @@ module _ {id body : List ℕ} {old looked : DeviceState} {r : Ready} {p : Plan} 
         ap looked.image at ∙ plan.has.ends.quiet after e.0 ∙ sym asked ∙ cut
 
     -- what was found while the plan was put is named
-    pub named_by_plan : {new : DeviceState} → Called looked new → (e : Evidence)
+    pub named_by_plan : {new : DeviceState} → IsDevice looked → Called looked new → (e : Evidence)
         → IsFoundByPlan p old looked new e → IsNamed old new e
-    named_by_plan {new} later e found =
+    named_by_plan {new} device later e found =
         let asks = λ (still : IsStill old.foreign_writes new.foreign_writes).
         asks_for_blank (still_first (called r has).foreign_writes later.foreign_writes still) in
         by_plan
