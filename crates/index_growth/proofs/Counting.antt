@@ -233,8 +233,8 @@ no_bucket_leads : (target slot : ℕ) (fingerprint : List ℕ) → Child target 
 no_bucket_leads target slot fingerprint same = cc
 
 -- a bucket plans one or two cells, as many as it costs without what the pool gave
-bucket_planned : (g : Layout) (level : Level) (place : Open) (slot at before : ℕ) (pool rest : Pool) (old new : ViewState)
-    → PlansBucket g level place slot at pool rest old new → HasCells old.planned before
+bucket_planned : (g : Layout) (level : Level) (place : Open) (slot at before : ℕ) (pool rest : Pool)
+    (old new : ViewState) → PlansBucket g level place slot at pool rest old new → HasCells old.planned before
     → (after : ℕ) × HasCells new.planned after × (after + (rest.next - pool.next) ≡ before + cost_of place)
     × (before + 1 ≤ after) × (after ≤ before + 2)
 bucket_planned g level place slot at before pool rest old new

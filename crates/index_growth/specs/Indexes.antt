@@ -48,12 +48,13 @@ pub record IndexStandsAtCost (g : Layout) (n : ℕ) (rows : List Posting) (level
   pub cells : HasCells planned count
   pub cost : count + (to - from) ≡ stands.lists.cost + cost_of place
 
--- The index of slot n's document is planned, before the pool's next cell, and nothing but index cells is: one or two for
--- each posting, and for the bucket. What the pool gave, from its next cell before, are blocks and a node that planned cells lead to. In each image that has
--- what stands below and what is planned each posting has its trail; and the slot has its hash trail in each image that
--- has what is planned and in which the path is passed. Where nobody else wrote, what is planned is all that is shown
--- besides what was, and where the place was blank, too, none of it stood in a written cell; and where all lists stood as
--- they should with keys of earlier slots, the whole index does, at the cost that it must have.
+-- The index of slot n's document is planned, before the pool's next cell, and nothing but index cells is: one or two
+-- for each posting, and for the bucket. What the pool gave, from its next cell before, are blocks and a node that
+-- planned cells lead to. In each image that has what stands below and what is planned each posting has its trail; and
+-- the slot has its hash trail in each image that has what is planned and in which the path is passed. Where nobody else
+-- wrote, what is planned is all that is shown besides what was, and where the place was blank, too, none of it stood in
+-- a written cell; and where all lists stood as they should with keys of earlier slots, the whole index does, at the
+-- cost that it must have.
 pub record IsIndexed (g : Layout) (n : ℕ) (rows : List Posting) (level : Level) (place : Open) (from to : ℕ)
     (old new : ViewState) : Type 0 where
   pub only : (cell : ℕ) (value : List ℕ) → new.planned cell ≡ Some value → IsIndexCell g cell value

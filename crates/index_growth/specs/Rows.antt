@@ -54,10 +54,11 @@ pub data IsRowCell (n : ℕ) (rows : List Posting) (count cell : ℕ) (value : L
 
 -- The first so many postings of the row are inserted. What was planned is planned still, for whom it was; what is
 -- planned besides are these postings, and pointers, for their lists, one or two cells for each posting, and lies before
--- the pool's next cell. What the pool gave are blocks that planned pointers lead to. Where the view tells its image, what was shown is shown still, what is
--- planned besides read blank, and each of these postings has its trail. Where nobody else wrote, too, nothing else has
--- changed; and where all lists stood as they should with keys of earlier slots, they stand so still, and these postings
--- cost what they must: as many cells as are planned for them and as the pool gave.
+-- the pool's next cell. What the pool gave are blocks that planned pointers lead to. Where the view tells its image,
+-- what was shown is shown still, what is planned besides read blank, and each of these postings has its trail. Where
+-- nobody else wrote, too, nothing else has changed; and where all lists stood as they should with keys of earlier
+-- slots, they stand so still, and these postings cost what they must: as many cells as are planned for them and as the
+-- pool gave.
 pub record AreInserted (g : Layout) (n : ℕ) (rows : List Posting) (count from to : ℕ) (old new : ViewState)
     : Type 0 where
   pub kept : Extends old.planned new.planned
