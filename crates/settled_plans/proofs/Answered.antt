@@ -1,7 +1,6 @@
 -- What planning answers, where nobody else wrote, is a planned index over the image as it stood.
-use Rattle.std.proofs.Common.{◌≡◌, ◌≤◌, ◌+◌, ◌*◌, ℕ, List, Option, Some, None, refl, sym, subst, arith}
-use Rattle.std.specs.Prelude.{IsTrue, nat_lt, if◌then◌else◌, Bool, true, false}
-use Rattle.std.proofs.lemmas.Bool.Decides.{nat_tests}
+use Rattle.std.proofs.Common.{◌≡◌, ◌+◌, ℕ, List, Option, Some, None, sym, subst, arith}
+use Rattle.std.specs.Prelude.{IsTrue}
 use Rattle.sha2.specs.Sha256.{sha256}
 use Rattle.cell_types.specs.Image.{Image, Extends, IsUnchanged}
 use Rattle.cell_types.specs.Layout.{Layout}
@@ -15,21 +14,13 @@ use Rattle.hash_tree.specs.declared.level.Level.{Level}
 use Rattle.hash_tree.specs.declared.path.Open.{Open}
 use Rattle.tree_growth.specs.Readiness.{PassedDown, blank_of}
 use Rattle.index_growth.specs.Journal.{IsJournal}
-use Rattle.index_growth.specs.Standing.{IndexStands, ListsStand}
+use Rattle.index_growth.specs.Standing.{IndexStands}
 use Rattle.settled_growth.specs.Laws.{EndsPath}
 use Rattle.ingest_plan.specs.Planning.{IsPlanned, cut_at, laid_over}
 use Rattle.ingest_plan.specs.declared.plan.PlannedIndex.{PlannedIndex}
 use Rattle.settled_plans.specs.Laws.{IsPlannedIndex, TakesSlot}
 use Rattle.settled_plans.proofs.Laying.{over_is, with_same}
-use Rattle.settled_plans.proofs.Taken.{blank_from, stand}
-
--- an image that is blank from a cell on is itself up to there
-cut_cell : (edge cell : ℕ) (image : Image) → (edge ≤ cell → image cell ≡ None) → cut_at edge image cell ≡ image cell
-cut_cell edge cell image blank = by_test (nat_lt cell edge) refl
-  where
-    by_test : (less : Bool) → nat_lt cell edge ≡ less → (if less then image cell else None) ≡ image cell
-    by_test true is = refl
-    by_test false is = sym (blank (grind (arith, nat_tests, is)))
+use Rattle.settled_plans.proofs.Taken.{cut_at_edge, old_edge, stand, stands_at_cost}
 
 -- a path that is passed down is so in each image that extends this one
 passed_down_on : (g : Layout) {old new : Image} (id : List ℕ) (level : Level) (child : Option ℕ) → Extends old new
@@ -43,9 +34,8 @@ module _ {g : Layout} {p : Plan} {level : Level} {place : Open} {made : PlannedI
     (journal : p.journal ≡ made.journal.items) (ends : EndsPath g old.image level place)
     (digest : level.digest ≡ sha256 p.id) (passed : PassedDown g old.image (sought_in g.cells g p.id) level place.child)
     (is : IsPlanned g p.slot p.start level place p.body made old new) where
-  -- nothing stands from the edge on, so that up to the edge the image is the image
   cut_same : cut_at p.start old.image ≡ old.image
-  cut_same = same_image (λ cell. cut_cell p.start cell old.image (λ far. blank_from takes cell far))
+  cut_same = cut_at_edge (old_edge takes) takes.settled
 
   blank : (cell : ℕ) (value : List ℕ) → is.planned cell ≡ Some value → old.image cell ≡ None
   blank cell value row =
@@ -55,13 +45,7 @@ module _ {g : Layout} {p : Plan} {level : Level} {place : Open} {made : PlannedI
 
   stands : IndexStands g p.slot is.rows level place p.start (p.start + made.block_length) old.image
       (laid_over is.planned old.image)
-  stands =
-      subst
-      (λ (image : Image).
-      IndexStands g p.slot is.rows level place p.start (p.start + made.block_length) image (laid_over is.planned image))
-      cut_same
-      (is.stands tells still
-      (subst (λ (image : Image). ListsStand g image p.start (256 * p.slot)) (sym cut_same) (stand takes).lists)).stands
+  stands = (stands_at_cost (old_edge takes) made takes.settled (is.stands tells still) (stand takes).lists).stands
 
   pub answered : IsPlannedIndex g old.image (laid_over is.planned old.image) p is.rows level place
       (p.start + made.block_length) is.planned

@@ -4,6 +4,7 @@ pub mod Filled
 pub mod JournalOrder
 pub mod Kept
 pub mod Laying
+pub mod Needed
 pub mod NewImage
 pub mod Nodes
 pub mod OldPlaces

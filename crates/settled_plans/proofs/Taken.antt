@@ -1,16 +1,67 @@
 -- What stands where a plan takes the slot at the horizon of a settled volume.
-use Rattle.std.proofs.Common.{◌≡◌, ◌≤◌, ◌+◌, ◌*◌, ⊎_elim, ℕ, None, arith}
+use Rattle.std.proofs.Common.{◌≡◌, ◌≤◌, ◌+◌, ◌*◌, ⊎_elim, ℕ, List, None, refl, sym, subst, arith}
+use Rattle.std.specs.Prelude.{nat_lt, if◌then◌else◌, Bool, true, false}
+use Rattle.std.proofs.lemmas.Bool.Decides.{nat_tests}
 use Rattle.cell_types.specs.Image.{Image}
 use Rattle.cell_types.specs.Layout.{Layout, pool_at}
 use Rattle.stored_documents.specs.Slots.{IsEdge, Reserves}
 use Rattle.tamper_rules.specs.Rules
 use Rattle.tamper_rules.specs.Rules.{BlankRule}
-use Rattle.tamper_rules.proofs.Images.{look}
+use Rattle.tamper_rules.specs.Settling.{IsSettled}
+use Rattle.tamper_rules.proofs.Images.{look, same_image}
 use Rattle.volume_growth.specs.Ingesting.{Plan}
+use Rattle.term_tags.specs.declared.rows.Posting.{Posting}
+use Rattle.hash_tree.specs.declared.level.Level.{Level}
+use Rattle.hash_tree.specs.declared.path.Open.{Open}
+use Rattle.index_growth.specs.Standing.{ListsStand}
 use Rattle.settled_growth.specs.Laws.{IndexesStand}
 use Rattle.settled_growth.proofs.SettledLists.{settled_stand}
 use Rattle.settled_growth.proofs.SettledTrees.{settled_tree}
+use Rattle.ingest_plan.specs.Planning.{StandsAtCost, cut_at}
+use Rattle.ingest_plan.specs.declared.plan.PlannedIndex.{PlannedIndex}
 use Rattle.settled_plans.specs.Laws.{TakesSlot}
+
+-- an image that is blank from a cell on is itself up to there
+cut_cell : (edge cell : ℕ) (image : Image) → (edge ≤ cell → image cell ≡ None) → cut_at edge image cell ≡ image cell
+cut_cell edge cell image blank = by_test (nat_lt cell edge) refl
+  where
+    by_test : (less : Bool) → nat_lt cell edge ≡ less → (if less then image cell else None) ≡ image cell
+    by_test true is = refl
+    by_test false is = sym (blank (grind (arith, nat_tests, is)))
+
+module _ {g : Layout} {image : Image} {edge : ℕ} (e : IsEdge g image image edge) where
+  pub pool_before_edge : pool_at g ≤ edge
+  pool_before_edge = ⊎_elim
+      (λ (z : (e.u ≡ 0) × (edge ≡ pool_at g)). omega (arith, z.1))
+      (λ (w : (m : ℕ) × (start : ℕ) × (count : ℕ) × (e.u ≡ m + 1)
+      × Reserves g image m start count × (edge ≡ start + count)).
+      let r = w.4 in omega (arith, r.from, w.5))
+      e.ends
+
+  -- nothing stands from the edge on
+  pub blank_behind : IsSettled g image → (cell : ℕ) → edge ≤ cell → image cell ≡ None
+  blank_behind settled cell from = ⊎_elim
+      (λ none. none)
+      (λ found.
+      let rule : BlankRule g image cell = settled.met Rules.StrayCells cell
+      (record { found = found.0; stands = found.1 }) in
+      absurd (omega (arith, rule.edge edge e (omega (arith, pool_before_edge, from)), from)))
+      (look image cell)
+
+  -- so that up to the edge the image is the image
+  pub cut_at_edge : IsSettled g image → cut_at edge image ≡ image
+  cut_at_edge settled = same_image (λ cell. cut_cell edge cell image (λ far. blank_behind settled cell far))
+
+  -- what is planned over the image up to there stands over the image itself
+  pub stands_at_cost : {n : ℕ} {rows : List Posting} {level : Level} {place : Open} (made : PlannedIndex)
+      {planned : Image} → IsSettled g image
+      → (ListsStand g (cut_at edge image) edge (256 * n)
+      → StandsAtCost g n edge rows level place made (cut_at edge image) planned)
+      → ListsStand g image edge (256 * n) → StandsAtCost g n edge rows level place made image planned
+  stands_at_cost {n} {rows} {level} {place} made {planned} settled stands lists =
+      let same = cut_at_edge settled in
+      subst (λ (below : Image). StandsAtCost g n edge rows level place made below planned) same
+      (stands (subst (λ (below : Image). ListsStand g below edge (256 * n)) (sym same) lists))
 
 module _ {g : Layout} {old : Image} {p : Plan} {to : ℕ} (takes : TakesSlot g old p to) where
   pub old_edge : IsEdge g old old p.start
@@ -22,22 +73,10 @@ module _ {g : Layout} {old : Image} {p : Plan} {to : ℕ} (takes : TakesSlot g o
   }
 
   pub pool_before : pool_at g ≤ p.start
-  pool_before = ⊎_elim
-      (λ (z : (p.slot ≡ 0) × (p.start ≡ pool_at g)). omega (arith, z.1))
-      (λ (w : (m : ℕ) × (start : ℕ) × (count : ℕ) × (p.slot ≡ m + 1)
-      × Reserves g old m start count × (p.start ≡ start + count)).
-      let r = w.4 in omega (arith, r.from, w.5))
-      takes.begins
+  pool_before = pool_before_edge old_edge
 
-  -- nothing stands from the edge on
   pub blank_from : (cell : ℕ) → p.start ≤ cell → old cell ≡ None
-  blank_from cell from = ⊎_elim
-      (λ none. none)
-      (λ found.
-      let rule : BlankRule g old cell = takes.settled.met Rules.StrayCells cell
-      (record { found = found.0; stands = found.1 }) in
-      absurd (omega (arith, rule.edge p.start old_edge (omega (arith, pool_before, from)), from)))
-      (look old cell)
+  blank_from cell from = blank_behind old_edge takes.settled cell from
 
   pub stand : IndexesStand g old p.start (256 * p.slot)
   stand = record {

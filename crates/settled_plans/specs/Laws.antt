@@ -3,7 +3,7 @@ use Rattle.std.specs.Prelude.{◌≡◌, ◌<◌, ◌≤◌, ◌+◌, ℕ, List,
 use Rattle.sha2.specs.Sha256.{sha256}
 use Rattle.cell_types.specs.Image.{Image, Extends, IsUnchanged}
 use Rattle.cell_types.specs.Layout.{Layout, IsLayout}
-use Rattle.stored_documents.specs.Documents.{IsBody, IsIdentifier, Stands}
+use Rattle.stored_documents.specs.Documents.{IsBody, IsIdentifier, Stands, stored_bytes}
 use Rattle.stored_documents.specs.Slots.{EndsBelow, IsHorizon, cells_for}
 use Rattle.stored_documents.specs.Volumes.{IsVolume}
 use Rattle.index_paths.specs.Keeping.{IsKept, sought_in}
@@ -11,6 +11,7 @@ use Rattle.index_paths.specs.Postings.{ArePostings}
 use Rattle.tamper_rules.specs.Settling.{IsSettled, IsWith}
 use Rattle.volume_growth.specs.Filling.{IsWellPlanned}
 use Rattle.volume_growth.specs.Ingesting.{Plan, stored_of}
+use Rattle.volume_growth.specs.Needs.{IsNeed}
 use Rattle.worm_device.specs.Counts.{IsStill}
 use Rattle.worm_device.specs.State.{DeviceState}
 use Rattle.term_tags.specs.Listing.{listed}
@@ -78,3 +79,18 @@ AnswerIsWell =
     → EndsPath g old.image level place → level.digest ≡ sha256 p.id
     → PassedDown g old.image (sought_in g.cells g p.id) level place.child
     → IsPlanned g p.slot p.start level place p.body made old new → (after : Image) × IsWellPlanned g old.image after p
+
+-- What a document takes with the index that was planned for it on a settled volume, where nobody else wrote meanwhile,
+-- is exactly its need: the cells of the document and of the journal, the new blocks and the new node. It is so also
+-- where the device has no room for them.
+abbrev pub AnswerIsNeed : Type 0
+AnswerIsNeed =
+    (g : Layout) (n edge : ℕ) (id body : List ℕ) (level : Level) (place : Open) (made : PlannedIndex)
+    (old new : DeviceState)
+    → IsTrue old.tells → IsStill old.foreign_writes new.foreign_writes → IsLayout g → IsSettled g old.image
+    → IsHorizon g old.image old.image n → n < g.slots → EndsBelow g old.image n edge
+    → EndsPath g old.image level place → level.digest ≡ sha256 id
+    → PassedDown g old.image (sought_in g.cells g id) level place.child
+    → IsPlanned g n edge level place body made old new
+    → IsNeed g old.image n id body
+    (cells_for (length (stored_bytes id body)) + length made.journal.items + made.block_length)

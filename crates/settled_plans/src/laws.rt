@@ -1,5 +1,5 @@
 //! Laws: what the definitions mean together. Each is a function that does nothing and whose contract is the law.
-ghost use Rattle.settled_plans.specs.Laws.{AnswerIsWell, PlanIsWell};
+ghost use Rattle.settled_plans.specs.Laws.{AnswerIsNeed, AnswerIsWell, PlanIsWell};
 
 /// A document's index that was planned on a settled volume is well made.
 pub fn plan_is_well()
@@ -9,4 +9,9 @@ pub fn plan_is_well()
 /// And so is what planning answers.
 pub fn answer_is_well()
     ensures { AnswerIsWell }
+{}
+
+/// A document and its index that was planned for it take the document's need.
+pub fn answer_is_need()
+    ensures { AnswerIsNeed }
 {}

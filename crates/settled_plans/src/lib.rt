@@ -8,7 +8,8 @@
 //!     the journal copies each planned cell, by rising numbers     postings in 36 and 37, a bucket in 560
 //!
 //! So `plan_is_settled`, `plan_leaves_sound` and `plan_adds_one` hold of it: the volume is settled with the plan's
-//! cells, it is sound at each moment until then, and it has one document more.
+//! cells, it is sound at each moment until then, and it has one document more. And it takes exactly the document's need
+//! (`answer_is_need`), which is so also where the device has no room for it.
 //!
 //! There is no code here, only laws. Stands on `settled_growth`, by which lists and tree stand behind an index as
 //! before, and on `volume_growth`, which says what a well made plan is. Begin with specs/Laws.antt.
@@ -16,4 +17,4 @@
 
 mod laws;
 
-pub use laws::{answer_is_well, plan_is_well};
+pub use laws::{answer_is_need, answer_is_well, plan_is_well};
