@@ -149,6 +149,7 @@ pub record IsFoundBehind (old new : DeviceState) (e : Evidence) : Type 0 where
   pub ready : Ready
   pub looked : DeviceState
   pub settled : HasSettled old looked ready
+  pub since : Called looked new
   pub broken : IsStill old.foreign_writes new.foreign_writes → IsBroken looked.cells looked.image e.rule e.cell
 
 -- How tampering is named: in the log, where nobody else wrote its rule was broken there before the command; or on the way
