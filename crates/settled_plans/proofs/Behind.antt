@@ -8,7 +8,6 @@ use Rattle.cell_types.specs.Layout.{Layout, list_at, pool_at}
 use Rattle.cell_types.specs.Records.{IsRecordCell}
 use Rattle.cell_types.specs.declared.record_cell.RecordCell.{RecordCell}
 use Rattle.cell_types.specs.declared.record_cell.RecordCell.TheVariants.{Jump, Bucket, Child}
-use Rattle.stored_documents.specs.Slots.{IsEdge, Reserves}
 use Rattle.stored_documents.specs.Volumes.{Holds}
 use Rattle.stored_documents.proofs.Extending.{blank_before}
 use Rattle.stored_documents.proofs.Holding.{some_is}
@@ -16,8 +15,6 @@ use Rattle.index_paths.specs.Blocks.{Leads, pointer_at, posting_record}
 use Rattle.index_paths.specs.HashPaths.{fingerprint_of, nibble}
 use Rattle.index_paths.specs.Nodes.{IsNode, under}
 use Rattle.index_paths.specs.Postings.{IsPostingOf}
-use Rattle.tamper_rules.specs.Rules
-use Rattle.tamper_rules.specs.Rules.{BlankRule}
 use Rattle.tamper_rules.proofs.GoingOn.{leads_to_on}
 use Rattle.tamper_rules.proofs.Images.{look}
 use Rattle.tamper_rules.proofs.Writing.{same_or_not}
@@ -36,9 +33,8 @@ use Rattle.settled_growth.specs.Laws.{IndexesStand, TreeStands}
 use Rattle.settled_growth.proofs.BehindBucket as bucket
 use Rattle.settled_growth.proofs.BehindRow.{node_back, node_on}
 use Rattle.settled_growth.proofs.ListsAside.{was_block}
-use Rattle.settled_growth.proofs.SettledLists.{settled_stand}
-use Rattle.settled_growth.proofs.SettledTrees.{settled_tree}
 use Rattle.settled_plans.specs.Laws.{IsPlannedIndex}
+use Rattle.settled_plans.proofs.Taken as taken
 
 -- A planned cell is one of the document's postings in a block of the posting's list, a pointer of a list's block to
 -- another of its blocks, the document's bucket in a node, or a child cell of a node that leads to a node.
@@ -66,31 +62,14 @@ record_there {image} {at} {cell} {value} {r} same h is =
 
 module _ {g : Layout} {old laid : Image} {p : Plan} {rows : List Posting} {level : Level} {place : Open} {to : ℕ}
     {planned : Image} (h : IsPlannedIndex g old laid p rows level place to planned) where
-  pub old_edge : IsEdge g old old p.start
-  old_edge = record {
-    u = p.slot;
-    most = h.takes.horizon.most;
-    free = h.takes.horizon.free;
-    ends = h.takes.begins;
-  }
-
   pub pool_before : pool_at g ≤ p.start
-  pool_before = ⊎_elim
-      (λ (z : (p.slot ≡ 0) × (p.start ≡ pool_at g)). omega (arith, z.1))
-      (λ (w : (m : ℕ) × (start : ℕ) × (count : ℕ) × (p.slot ≡ m + 1)
-      × Reserves g old m start count × (p.start ≡ start + count)).
-      let r = w.4 in omega (arith, r.from, w.5))
-      h.takes.begins
+  pool_before = taken.pool_before h.takes
 
-  -- nothing stands from the edge on
   pub blank_from : (cell : ℕ) → p.start ≤ cell → old cell ≡ None
-  blank_from cell from = ⊎_elim
-      (λ none. none)
-      (λ found.
-      let rule : BlankRule g old cell = h.takes.settled.met Rules.StrayCells cell
-      (record { found = found.0; stands = found.1 }) in
-      absurd (omega (arith, rule.edge p.start old_edge (omega (arith, pool_before, from)), from)))
-      (look old cell)
+  blank_from cell from = taken.blank_from h.takes cell from
+
+  pub stand : IndexesStand g old p.start (256 * p.slot)
+  stand = taken.stand h.takes
 
   pub to_inside : to ≤ g.cells
   to_inside = omega (arith, h.takes.room, h.takes.inside)
@@ -103,12 +82,6 @@ module _ {g : Layout} {old laid : Image} {p : Plan} {rows : List Posting} {level
       (λ less. less)
       (λ far. absurd (none-some _ (sym (h.before cell far) ∙ is)))
       (cases_lt cell to)
-
-  pub stand : IndexesStand g old p.start (256 * p.slot)
-  stand = record {
-    lists = settled_stand h.takes.layout h.takes.settled old_edge h.takes.horizon h.takes.slot;
-    tree = settled_tree h.takes.layout h.takes.settled old_edge;
-  }
 
   pub tree_between : TreeStands g h.stands.between h.stands.next
   tree_between = bucket.tree pool_before to_inside stand h.ends h.stands

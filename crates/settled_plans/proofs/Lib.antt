@@ -1,3 +1,4 @@
+pub mod Answered
 pub mod Behind
 pub mod Filled
 pub mod JournalOrder
@@ -9,4 +10,6 @@ pub mod OldPlaces
 pub mod Postings
 pub mod Rows
 pub mod Standing
+pub mod Taken
 pub mod Tiles
+pub mod Well

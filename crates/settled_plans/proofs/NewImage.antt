@@ -56,7 +56,8 @@ module _ {g : Layout} {old laid : Image} {p : Plan} {rows : List Posting} {level
 
   abbrev with_commit : Image
   with_commit =
-      laid_on (one_cell (outcome_at p.slot) (record_bytes (Commit bytes (length p.journal)) (outcome_at p.slot))) with_done
+      laid_on (one_cell (outcome_at p.slot) (record_bytes (Commit bytes (length p.journal)) (outcome_at p.slot)))
+      with_done
 
   abbrev pub new_image : Image
   new_image =

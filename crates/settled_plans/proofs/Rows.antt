@@ -111,7 +111,8 @@ module _ {g : Layout} {old laid : Image} {p : Plan} {rows : List Posting} {level
         Committing,
         record {
           at = one.0;
-          is = subst (λ (v : List ℕ). IsRecordCell (Commit (bytes h) (length p.journal)) (outcome_at p.slot) v) (sym one.1) commit_cell;
+          is = subst (λ (v : List ℕ). IsRecordCell (Commit (bytes h) (length p.journal)) (outcome_at p.slot) v) (sym one.1)
+              commit_cell;
         },
       )
   to_row cell value (inr row) =
@@ -119,7 +120,8 @@ module _ {g : Layout} {old laid : Image} {p : Plan} {rows : List Posting} {level
         Reserving,
         record {
           at = one.0;
-          is = subst (λ (v : List ℕ). IsRecordCell (Reserve p.start p.reserved) (reserve_at p.slot) v) (sym one.1) reserve_cell;
+          is = subst (λ (v : List ℕ). IsRecordCell (Reserve p.start p.reserved) (reserve_at p.slot) v) (sym one.1)
+              reserve_cell;
         },
       )
 
