@@ -14,7 +14,7 @@ use Rattle.tamper_rules.specs.declared.numbers.TheConstants.{STRAY_CELL}
 use Rattle.term_tags.specs.Listing.{GetsTooMany}
 use Rattle.worm_device.specs.Calls.{Called}
 use Rattle.worm_device.specs.Counts.{Rose, IsStill}
-use Rattle.worm_device.specs.State.{DeviceState, LeftSince}
+use Rattle.worm_device.specs.State.{DeviceState, IsDevice, LeftSince}
 use Rattle.commit_record.specs.Licences.{IsLicensed}
 use Rattle.document_store.specs.Looks.{HoldsIdentifier}
 use Rattle.recovery_engine.specs.Settling.{HasSettled, IsFound, IsSettlingRule, SettleEnds, Settles}
@@ -47,7 +47,7 @@ pub data ComesTo (id body : List ℕ) (old new : DeviceState) : Type 0 where
   -- the volume was settled, and then looked at alone
   settled : (r : Ready) → HasSettled old new r → ComesTo id body old new
   -- a slot was free, the document and its index were planned, and the plan was put into that slot
-  put : (looked : DeviceState) (r : Ready) (p : Plan) (h : HasSettled old looked r)
+  put : (looked : DeviceState) (r : Ready) (p : Plan) (h : HasSettled old looked r) → IsDevice looked
       → r.horizon < r.volume.geometry.slots → IsPlanFor r id body h.settled looked p → PutsPlan r.horizon p looked new
       → ComesTo id body old new
 
@@ -148,6 +148,7 @@ IsLogRule number = IsSettlingRule number ⊎ (number ≡ STRAY_CELL)
 pub record IsFoundBehind (old new : DeviceState) (e : Evidence) : Type 0 where
   pub ready : Ready
   pub looked : DeviceState
+  pub device : IsDevice looked
   pub settled : HasSettled old looked ready
   pub since : Called looked new
   pub broken : IsStill old.foreign_writes new.foreign_writes → IsBroken looked.cells looked.image e.rule e.cell
