@@ -1,1 +1,2 @@
 pub mod WellPlanned
+pub mod PlanPhases
