@@ -1,2 +1,5 @@
-pub mod WellPlanned
+pub mod LeftByIngest
 pub mod PlanPhases
+pub mod PutPlans
+pub mod Steady
+pub mod WellPlanned
