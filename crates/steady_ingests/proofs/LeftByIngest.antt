@@ -1,8 +1,9 @@
--- What a crash leaves, of calls that add no document and of those that add one, and that a device is steady behind them.
+-- What a crash leaves, of calls that add no document and of those that add one; and that a device is steady behind
+-- them.
 use Rattle.std.proofs.Common.{◌≡◌, ◌≤◌, ◌<◌, ℕ, List, inl, inr, ⊎_elim, sym, subst, arith}
 use Rattle.cell_types.specs.Image.{Image, Between}
 use Rattle.tamper_rules.specs.Settling.{IsBlankOrSound}
-use Rattle.worm_device.specs.State.{DeviceState, IsDevice, LeftSince}
+use Rattle.worm_device.specs.State.{DeviceState, LeftSince}
 use Rattle.steady_volumes.specs.Steadiness.{IsLeftWhole, IsSteady, StaysSteady}
 use Rattle.steady_ingests.specs.Steadiness.{CrashesLeaveIngest, IsLeftByIngest, StaysSteadyBy}
 

@@ -1,6 +1,5 @@
 -- The phases in which a plan is put, against the rows of the plan.
-use Rattle.std.proofs.Common.{◌≡◌, ◌≤◌, ◌<◌, ◌+◌, ◌^◌, ◌⊎◌, ℕ, zero, suc, List, length, Some, None, refl, sym, ap, ◌∙◌, inl, inr, ⊎_elim, subst, arith}
-use Rattle.std.specs.Prelude.{slice_get}
+use Rattle.std.proofs.Common.{◌≡◌, ◌≤◌, ◌<◌, ◌+◌, ◌^◌, ℕ, zero, suc, List, length, Some, refl, sym, ap, ◌∙◌, inl, inr, ⊎_elim, subst, arith}
 use Rattle.std.proofs.lemmas.Option.{slice_get_within}
 use Rattle.cell_types.specs.Image.{Image, Extends}
 use Rattle.cell_types.specs.Layout.{Layout, reserve_at, outcome_at, done_at}
@@ -16,13 +15,13 @@ use Rattle.tamper_rules.specs.Journals.{journal_at}
 use Rattle.tamper_rules.specs.Settling.{RecordRow}
 use Rattle.tamper_rules.specs.declared.numbers.TheConstants.{STRAY_CELL}
 use Rattle.volume_growth.specs.Filling.{IsWellPlanned}
-use Rattle.volume_growth.specs.Ingesting.{Phase, Reserving, Storing, Committing, Applying, Finishing, order_of, ContentRow, CopyRow, AppliedRow, Row, IsLeftIn}
+use Rattle.volume_growth.specs.Ingesting.{Phase, Reserving, Storing, Committing, Applying, Finishing, order_of, ContentRow, CopyRow, Row, IsLeftIn}
 use Rattle.phase_writer.specs.declared.put.Blame.TheVariants as blames
 use Rattle.phase_writer.specs.declared.put.Put.{Put}
 use Rattle.phase_writer.specs.Putting.{AreStanding, ChangesBy, IsInFirst, IsInRow, IsPut}
 use Rattle.recovery_engine.specs.Ending.{done_put}
 use Rattle.recovery_engine.specs.Entries.{target_of}
-use Rattle.plan_writer.specs.Planned.{INGEST_PHASES, IsAskedPut, PlansDocument, Suits, commit_put, document_from, ingest_phases, journal_from, reserve_put, reserved_by}
+use Rattle.plan_writer.specs.Planned.{PlansDocument, Suits, commit_put, document_from, ingest_phases, journal_from, reserve_put, reserved_by}
 use Rattle.plan_writer.specs.declared.plan.Plan.{Plan}
 use Rattle.steady_ingests.proofs.WellPlanned.{plan_of}
 
@@ -73,8 +72,8 @@ module _ (g : Layout) (n : ℕ) (p : Plan) (id body : List ℕ) (old after : Ima
   put_row zero put h cell value here is = (
     Reserving,
     refl,
-    record_row after (records.Reserve p.start (reserved_by p).length) (reserve_at n) w.filled.reserves.reserve cell value
-        (sym here ∙ ap (λ (x : Put). x.at) h) (sym is ∙ ap (λ (x : Put). x.value) h),
+    record_row after (records.Reserve p.start (reserved_by p).length) (reserve_at n) w.filled.reserves.reserve cell
+        value (sym here ∙ ap (λ (x : Put). x.at) h) (sym is ∙ ap (λ (x : Put). x.value) h),
   )
   put_row (suc zero) put h cell value here is = (
     Storing,
@@ -108,8 +107,7 @@ module _ (g : Layout) (n : ℕ) (p : Plan) (id body : List ℕ) (old after : Ima
       let same : o.entry.value ≡ value =
       some_is o.entry.value value (sym o.entry.entry ∙ h.value ∙ ap (λ (x : List ℕ). Some x) is) in
       let target : o.target ≡ cell = sym (address_in o.copied o.target o.entry.value o.entry.address o.entry.is)
-      ∙ ap target_of (same ∙ sym is) ∙ sym h.at ∙ here in
-      (
+      ∙ ap target_of (same ∙ sym is) ∙ sym h.at ∙ here in (
         Applying,
         refl,
         record {

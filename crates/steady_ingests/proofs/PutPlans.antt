@@ -1,5 +1,5 @@
 -- A plan that is put behind settling: what a crash leaves of it.
-use Rattle.std.proofs.Common.{◌≡◌, ◌≤◌, ◌<◌, ◌⊎◌, ℕ, List, [], ◌∷◌, ◌++◌, Some, None, inl, inr, ⊎_elim, sym, ◌∙◌, subst, arith}
+use Rattle.std.proofs.Common.{◌≡◌, ◌<◌, ℕ, List, [], ◌∷◌, ◌++◌, Some, None, inl, inr, ⊎_elim, sym, ◌∙◌, subst, arith}
 use Rattle.std.specs.Prelude.{IsTrue}
 use Rattle.cell_types.specs.Image.{Image, Extends}
 use Rattle.cell_types.specs.Layout.{Layout, outcome_at}
@@ -25,7 +25,7 @@ use Rattle.ingest_engine.specs.Ingesting.{IsPlanFor, document_in}
 use Rattle.steady_volumes.specs.Steadiness.{EndsAs, IsLeftWhole, IsSteady}
 use Rattle.steady_volumes.proofs.LeftWhole.{documents_after}
 use Rattle.steady_volumes.proofs.LookedAt.{crashes_looked}
-use Rattle.steady_ingests.specs.Steadiness.{CrashesLeaveIngest, HoldsOneMore, IsLeftByIngest}
+use Rattle.steady_ingests.specs.Steadiness.{CrashesLeaveIngest, IsLeftByIngest}
 use Rattle.steady_ingests.proofs.LeftByIngest.{of_whole}
 use Rattle.steady_ingests.proofs.PlanPhases.{left_in}
 use Rattle.steady_ingests.proofs.WellPlanned.{ends_as, plan_of, was_sound, well_planned}
@@ -81,8 +81,8 @@ module _ (id body : List ℕ) (old looked new : DeviceState) (r : Ready) (p : Pl
     left : IsLeftByIngest id body old image
     left =
         let w = well_made.1 in
-        let f = left_in g r.horizon p id body looked.image well_made.0 plans.document plans.suits w image l.phase l.begun
-        kept l.all (l.only still_put) in
+        let f = left_in g r.horizon p id body looked.image well_made.0 plans.document plans.suits w image l.phase
+        l.begun kept l.all (l.only still_put) in
         let s = plan_leaves_sound w image f.0 f.1 in
         record {
           sound = inr (subst (λ (k : ℕ). Sound k image) cells_are s.sound);

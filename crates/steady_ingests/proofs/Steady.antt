@@ -18,7 +18,8 @@ module _ (id body : List ℕ) (old new : DeviceState) (device : IsDevice old) (d
   comes_steady (nothing same) = nothing_done id body old new same steady
   comes_steady (settling refusal s) = by_whole id body old new (stays_steady old new device steady s.called.cells
       (settling_left old new _ device tells s still steady))
-  comes_steady (settled r h) = by_whole id body old new (looking_steady old new r tells h still device device_new steady)
+  comes_steady (settled r h) = by_whole id body old new
+      (looking_steady old new r tells h still device device_new steady)
   comes_steady (put looked r p h device_looked less plans puts) = stays_by id body old new steady
       (crashes_put id body old looked new r p tells h device device_looked less plans puts still steady)
       (puts.called.cells ∙ (from.called r h).cells)

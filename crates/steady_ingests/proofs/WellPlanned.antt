@@ -4,7 +4,7 @@ use Rattle.std.specs.Prelude.{IsTrue, length}
 use Rattle.std.proofs.lemmas.Option.{none-some}
 use Rattle.sha2.specs.Sha256.{sha256}
 use Rattle.cell_types.specs.Bytes.{AreBytes}
-use Rattle.cell_types.specs.Image.{Image, Extends}
+use Rattle.cell_types.specs.Image.{Image}
 use Rattle.cell_types.specs.Layout.{Layout, root_at}
 use Rattle.stored_documents.specs.Documents.{Stands, stored_bytes}
 use Rattle.stored_documents.specs.Slots.{EndsBelow, IsHorizon, cells_for}
@@ -28,12 +28,10 @@ use Rattle.recovery_engine.specs.declared.settling.Ready.{Ready}
 use Rattle.hash_tree.specs.Levels.{node_of}
 use Rattle.hash_tree.specs.Steps.{IsOpenAt}
 use Rattle.hash_tree.specs.declared.level.Level.{Level}
-use Rattle.hash_tree.specs.declared.path.Open.{Open}
 use Rattle.tree_growth.specs.Readiness.{PassedDown, blank_in}
 use Rattle.settled_growth.specs.Laws.{EndsPath}
 use Rattle.identifier_lookup.specs.Walks.{EndsThere, IsBlankIn, IsPassedAbove, IsPassedUpToPlace, NoneHasTrail}
 use Rattle.ingest_plan.specs.Planning.{IsPlanned}
-use Rattle.ingest_plan.specs.declared.plan.PlannedIndex.{PlannedIndex}
 use Rattle.settled_plans.specs.Laws.{TakesSlot}
 use Rattle.settled_plans.proofs.Answered.{answered}
 use Rattle.settled_plans.proofs.Well.{well}
@@ -126,7 +124,8 @@ module _ (old looked : DeviceState) (r : Ready) (tells : IsTrue old.tells) (h : 
     tells_walked = subst IsTrue (sym walk.called.tells) tells_then
 
     -- the path of the identifier ends there
-    there : EndsThere g id (seen_directly h.settled 0) (seen_directly plans.has.walked 0) plans.has.place plans.has.level
+    there : EndsThere g id (seen_directly h.settled 0) (seen_directly plans.has.walked 0) plans.has.place
+        plans.has.level
     there = walk.path.4 tells_then
 
     walked_cells : plans.has.walked.cells ≡ g.cells
@@ -139,8 +138,8 @@ module _ (old looked : DeviceState) (r : Ready) (tells : IsTrue old.tells) (h : 
         (there.passed volume_then))
 
     passed_down : PassedDown g looked.image (sought_in g.cells g id) plans.has.level plans.has.place.child
-    passed_down = down g g.cells looked.image id plans.has.level plans.has.place.bucket plans.has.place.child walk.path.2
-        passed_there.passed passed_there.above
+    passed_down = down g g.cells looked.image id plans.has.level plans.has.place.bucket plans.has.place.child
+        walk.path.2 passed_there.passed passed_there.above
 
     digest_is : plans.has.level.digest ≡ sha256 id
     digest_is = walk.path.0
@@ -211,6 +210,6 @@ module _ (old looked : DeviceState) (r : Ready) (tells : IsTrue old.tells) (h : 
         plans.journal
         (subst (λ (i : Image). EndsPath g i plans.has.level plans.has.place) same_walked ends_path)
         digest_is
-        (subst (λ (i : Image). PassedDown g i (sought_in g.cells g id) plans.has.level plans.has.place.child) same_walked
-        passed_down)
+        (subst (λ (i : Image). PassedDown g i (sought_in g.cells g id) plans.has.level plans.has.place.child)
+        same_walked passed_down)
         planned))

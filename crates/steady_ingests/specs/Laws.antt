@@ -1,6 +1,5 @@
 -- Laws of ingests on steady devices.
-use Rattle.std.specs.Prelude.{◌≡◌, ◌≢◌, ℕ, List, Result, Ok, Err, IsTrue}
-use Rattle.cell_types.specs.Image.{Image}
+use Rattle.std.specs.Prelude.{◌≢◌, ℕ, List, Result, Ok, Err, IsTrue}
 use Rattle.cell_types.specs.declared.refusal.Evidence.{Evidence}
 use Rattle.cell_types.specs.declared.refusal.Refusal.{Refusal}
 use Rattle.cell_types.specs.declared.refusal.Refusal.TheVariants.{DeviceFault, Tampered}

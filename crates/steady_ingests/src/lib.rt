@@ -18,8 +18,8 @@
 //!
 //! There is no code here, only laws. Stands on `ingest_engine`, which says what an ingest does; on `settled_plans`, by
 //! which what it plans is well made; on `volume_growth`, by which a well made plan that is cut short leaves a sound
-//! volume; and on `steady_volumes`, which says this of settling. Begin with specs/Steadiness.antt; specs/Laws.antt has the
-//! laws' sentences.
+//! volume; and on `steady_volumes`, which says this of settling. Begin with specs/Steadiness.antt; specs/Laws.antt has
+//! the laws' sentences.
 #![tactic(auto)]
 
 mod laws;

@@ -101,7 +101,11 @@ module _ (old : DeviceState) (device : IsDevice old) (steady : IsSteady old) (im
 
     left_goes : IsLeftWhole old image
     left_goes = record {
-      sound = inr (record { after = entry_sound.after; is = all_on entry_sound.after entry_sound.is; settled = entry_sound.settled });
+      sound = inr (record {
+        after = entry_sound.after;
+        is = all_on entry_sound.after entry_sound.is;
+        settled = entry_sound.settled;
+      });
       holds = inr goes_held;
     }
 
@@ -113,7 +117,8 @@ module _ (old : DeviceState) (device : IsDevice old) (steady : IsSteady old) (im
     between_of state l never = inl (record { above = l.sure; below = by_none never (l.only still) })
 
     by_state : (state : SlotState) → (1 ≤ end_phases state → IsEnding old.cells old.image old.image n state)
-        → LeavesPhases (settle_plan old.image n state) 3 old new image → Between old.sure old.image image ⊎ GoesOn old image
+        → LeavesPhases (settle_plan old.image n state) 3 old new image
+        → Between old.sure old.image image ⊎ GoesOn old image
     by_state Unused ending l = between_of Unused l (λ put h. ends_none old.image n Unused refl h.0 put h.2)
     by_state (Abandoned s r) ending l = between_of (Abandoned s r) l
         (λ put h. ends_none old.image n (Abandoned s r) refl h.0 put h.2)
