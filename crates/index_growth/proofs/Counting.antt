@@ -21,7 +21,7 @@ use Rattle.list_growth.specs.Inserting.{PlansEntry}
 use Rattle.tree_growth.specs.Inserting as trees
 use Rattle.tree_growth.specs.Inserting.{PlansBucket}
 use Rattle.tree_growth.specs.Readiness.{cost_in, cost_of}
-use Rattle.index_growth.specs.Counts.{HasCells, PlansAtCost}
+use Rattle.index_growth.specs.Counts.{HasCells, PlansAtCost, PlansOneOrTwoEach}
 
 -- so many numbers have this: these are all of them, and each is named once
 record AreAll (P : ℕ → Type 0) (count : ℕ) : Type 0 where
@@ -204,23 +204,50 @@ insertion_at_cost tells still (lists.with_pointer pointer target one other apart
       omega (arith, cost_is),
     )
 
+-- nothing more is planned for no entry
+pub none_each : (image : Image) → PlansOneOrTwoEach image image 0
+none_each image before has = (before, has, omega arith, omega arith)
+
+-- and one or two cells more are for a posting more
+pub posting_each : {head floor next to at : ℕ} {p : PostingFields} {first : Image} {old new : ViewState} (entries : ℕ)
+    → PlansOneOrTwoEach first old.planned entries → PlansEntry head floor next to p at old new
+    → PlansOneOrTwoEach first new.planned (entries + 1)
+posting_each entries each (lists.alone one rest same) before has =
+    let x = each before has in (
+      x.0 + 1,
+      one_planned x.1 one.free (written_by one.held) (λ c differs. (rest c differs).planned),
+      omega (arith, x.2),
+      omega (arith, x.3),
+    )
+posting_each entries each (lists.with_pointer pointer target one other apart rest taken) before has =
+    let x = each before has in (
+      x.0 + 2,
+      two_planned x.1 one.free other.free apart (written_by one.held) (written_by other.held)
+          (λ c differs also. (rest c differs also).planned),
+      omega (arith, x.2),
+      omega (arith, x.3),
+    )
+
 -- a child cell is no bucket
 no_bucket_leads : (target slot : ℕ) (fingerprint : List ℕ) → Child target ≡ Bucket slot fingerprint → ⊥
 no_bucket_leads target slot fingerprint same = cc
 
--- and so does a bucket
-pub bucket_at_cost : (g : Layout) (level : Level) (place : Open) (slot at : ℕ) (pool rest : Pool) (old new : ViewState)
-    → PlansBucket g level place slot at pool rest old new
-    → PlansAtCost old.planned new.planned pool.next rest.next (cost_of place)
-bucket_at_cost g level place slot at pool rest old new
-    (trees.alone none same_at holds others small same_pool) before has =
+-- a bucket plans one or two cells, as many as it costs without what the pool gave
+bucket_planned : (g : Layout) (level : Level) (place : Open) (slot at before : ℕ) (pool rest : Pool)
+    (old new : ViewState) → PlansBucket g level place slot at pool rest old new → HasCells old.planned before
+    → (after : ℕ) × HasCells new.planned after × (after + (rest.next - pool.next) ≡ before + cost_of place)
+    × (before + 1 ≤ after) × (after ≤ before + 2)
+bucket_planned g level place slot at before pool rest old new
+    (trees.alone none same_at holds others small same_pool) has =
     let costs : cost_of place ≡ 1 = ap cost_in none in (
       before + 1,
       one_planned has holds.free (written_by holds.planned) (λ c differs. (others c differs).planned),
       omega (arith, costs, ap (λ (p : Pool). p.next) same_pool),
+      omega arith,
+      omega arith,
     )
-bucket_at_cost g level place slot at pool rest old new
-    (trees.with_node child is_child child_is less leads at_is holds others small below takes) before has =
+bucket_planned g level place slot at before pool rest old new
+    (trees.with_node child is_child child_is less leads at_is holds others small below takes) has =
     let costs : cost_of place ≡ 34 = ap cost_in is_child in
     let apart : at ≢ child = λ same. no_bucket_leads pool.next slot _
     (one_record_holds new.planned child (Child pool.next) (trees.entry_of level slot) leads.planned
@@ -229,7 +256,25 @@ bucket_at_cost g level place slot at pool rest old new
       two_planned has leads.free holds.free apart (written_by leads.planned) (written_by holds.planned)
           (λ c differs also. (others c differs also).planned),
       omega (arith, costs, takes.next),
+      omega arith,
+      omega arith,
     )
+
+-- so a bucket plans and takes what it costs
+pub bucket_at_cost : (g : Layout) (level : Level) (place : Open) (slot at : ℕ) (pool rest : Pool) (old new : ViewState)
+    → PlansBucket g level place slot at pool rest old new
+    → PlansAtCost old.planned new.planned pool.next rest.next (cost_of place)
+bucket_at_cost g level place slot at pool rest old new plans before has =
+    let x = bucket_planned g level place slot at before pool rest old new plans has in (x.0, x.1, x.2)
+
+-- and one or two cells more are for a bucket
+pub bucket_each : (g : Layout) (level : Level) (place : Open) (slot at : ℕ) (pool rest : Pool) (first : Image)
+    (old new : ViewState) (entries : ℕ) → PlansOneOrTwoEach first old.planned entries
+    → PlansBucket g level place slot at pool rest old new → PlansOneOrTwoEach first new.planned (entries + 1)
+bucket_each g level place slot at pool rest first old new entries each plans before has =
+    let x = each before has in
+    let y = bucket_planned g level place slot at x.0 pool rest old new plans x.1 in
+    (y.0, y.1, omega (arith, x.2, y.3), omega (arith, x.3, y.4))
 
 -- a list without the element at a place
 without : List ℕ → ℕ → List ℕ

@@ -42,7 +42,7 @@ use Rattle.index_growth.specs.Indexes.{IndexEnds, IndexStandsAtCost, Indexes, Is
 use Rattle.index_growth.specs.Rows.{AreInOrder, AreInserted, InsertsRow, IsRowCell, of_posting, of_pointer, LiesInLists, in_first, in_pool}
 use Rattle.index_growth.specs.Counts.{PlansAtCost}
 use Rattle.index_growth.specs.Standing.{IndexStands, ListsStand, RowStands}
-use Rattle.index_growth.proofs.Counting.{bucket_at_cost, costs_then, none_planned}
+use Rattle.index_growth.proofs.Counting.{bucket_at_cost, bucket_each, costs_then, none_planned}
 use Rattle.index_growth.proofs.Granted.{StaysQuiet, gives_more, gives_on}
 use Rattle.index_growth.proofs.Licensing.{licensable}
 
@@ -290,6 +290,8 @@ module _ (g : Layout) (n : ℕ) (rows : List Posting) (level : Level) (place : O
     index_is_done first view last below same_base further = record {
       only = only_now inserted.plans;
       before = inserted.beyond;
+      taken =
+          bucket_each g level place n at pool rest old.planned mid new (length rows) row.taken inserted.plans;
       grants = given_now inserted.plans;
       trails = λ tells image has_lower has_planned i p is.
           let stands = row.stand tells i p (slice_get_within rows i p is) is in

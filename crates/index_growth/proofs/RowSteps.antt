@@ -31,7 +31,7 @@ use Rattle.list_growth.specs.Readiness.{IsReady, IsUntouched}
 use Rattle.index_growth.specs.Rows.{AreInOrder, AreInserted, AreUntouched, InsertsRow, IsRowCell, of_posting, of_pointer, LiesInLists, in_first, in_pool, RowSoFar, StandsInList}
 use Rattle.index_growth.specs.Granting.{GivesWhatIsLedTo, to_block}
 use Rattle.index_growth.specs.Counts.{PlansAtCost}
-use Rattle.index_growth.proofs.Counting.{insertion_at_cost}
+use Rattle.index_growth.proofs.Counting.{insertion_at_cost, none_each, posting_each}
 use Rattle.index_growth.proofs.Granted.{gives_more, gives_nothing, gives_on, quiet_then}
 use Rattle.list_growth.proofs.Untouched.{stays_untouched, untouched_ready}
 use Rattle.index_growth.proofs.Others.{IsNear, IsHeld, held_before, held_posting, held_pointer, IsOwned, as_before, anew, held_in, owned_in, plans_blank, plans_keep, plans_no_other}
@@ -60,6 +60,7 @@ row_begins g n rows pool s free untouched = record {
     lie = λ cell value is. inl is;
     for_lists = λ cell owner is. inl is;
     free = free;
+    taken = none_each s.planned;
     grants = gives_nothing s.planned pool.next;
     shown = λ tells. extends_self s.image;
     blank = λ tells cell none value is. absurd (none-some value (sym none ∙ is));
@@ -278,6 +279,7 @@ module _ (g : Layout) (n : ℕ) (rows : List Posting) (i : ℕ) (first pool late
       lie = λ cell value is. lies_now cell value (held_in plans cell value is);
       for_lists = λ cell owner is. for_now cell owner (owned_in plans cell owner is);
       free = inserts.ends.4;
+      taken = posting_each i so.inserted.taken plans;
       grants = granted_now plans;
       shown = λ tells. extends_then (so.inserted.shown tells) (inserts.ends.5 (told tells)).shown;
       blank = λ tells cell none value is. blank_now tells cell none value is (mid.planned cell) refl;

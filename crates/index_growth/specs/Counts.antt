@@ -1,5 +1,5 @@
 -- How many cells are planned.
-use Rattle.std.specs.Prelude.{◌≡◌, ◌<◌, ◌+◌, ◌-◌, ℕ, List, length, slice_get, Some}
+use Rattle.std.specs.Prelude.{◌≡◌, ◌<◌, ◌≤◌, ◌+◌, ◌*◌, ◌-◌, ℕ, List, length, slice_get, Some}
 use Rattle.cell_types.specs.Image.{Image}
 use Rattle.stored_documents.specs.Volumes.{IsWritten}
 
@@ -14,6 +14,12 @@ pub record HasCells (image : Image) (count : ℕ) : Type 0 where
 -- an image has one number of written cells
 abbrev pub CountIsOne : Type 0
 CountIsOne = (image : Image) (a b : ℕ) → HasCells image a → HasCells image b → a ≡ b
+
+-- Between one image of what is planned and the next, one or two cells were planned for each of so many entries.
+abbrev pub PlansOneOrTwoEach : Image → Image → ℕ → Type 0
+PlansOneOrTwoEach old new entries =
+    (before : ℕ) → HasCells old before
+    → (after : ℕ) × HasCells new after × (before + entries ≤ after) × (after ≤ before + 2 * entries)
 
 -- The cells that were planned between one image of what is planned and the next, and those that the pool gave, from one
 -- up to another, are together as many as this cost.

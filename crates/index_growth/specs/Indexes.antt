@@ -1,5 +1,5 @@
 -- What planning the whole index of a document does: its postings, and its bucket.
-use Rattle.std.specs.Prelude.{◌≡◌, ◌≤◌, ◌+◌, ◌*◌, ◌-◌, ℕ, List, slice_get, Some, None, Result, Ok, Err, IsTrue, ⊤}
+use Rattle.std.specs.Prelude.{◌≡◌, ◌≤◌, ◌+◌, ◌*◌, ◌-◌, ℕ, List, length, slice_get, Some, None, Result, Ok, Err, IsTrue, ⊤}
 use Rattle.cell_types.specs.Image.{Image, Extends, IsUnchanged}
 use Rattle.cell_types.specs.Layout.{Layout, list_at, pool_at}
 use Rattle.cell_types.specs.Records.{IsRecordCell}
@@ -22,7 +22,7 @@ use Rattle.hash_tree.specs.declared.path.Open.{Open}
 use Rattle.list_growth.specs.Evidence.{ShowsBelow}
 use Rattle.tree_growth.specs.Inserting as tree
 use Rattle.tree_growth.specs.Readiness.{blank_of, cost_of}
-use Rattle.index_growth.specs.Counts.{HasCells}
+use Rattle.index_growth.specs.Counts.{HasCells, PlansOneOrTwoEach}
 use Rattle.index_growth.specs.Granting.{GivesWhatIsLedTo}
 use Rattle.index_growth.specs.Licensing.{IsLicensable}
 use Rattle.index_growth.specs.Standing.{IndexStands, ListsStand}
@@ -48,16 +48,18 @@ pub record IndexStandsAtCost (g : Layout) (n : ℕ) (rows : List Posting) (level
   pub cells : HasCells planned count
   pub cost : count + (to - from) ≡ stands.lists.cost + cost_of place
 
--- The index of slot n's document is planned, before the pool's next cell, and nothing but index cells is. What the pool
--- gave, from its next cell before, are blocks and a node that planned cells lead to. In each image that has
--- what stands below and what is planned each posting has its trail; and the slot has its hash trail in each image that
--- has what is planned and in which the path is passed. Where nobody else wrote, what is planned is all that is shown
--- besides what was, and where the place was blank, too, none of it stood in a written cell; and where all lists stood as
--- they should with keys of earlier slots, the whole index does, at the cost that it must have.
+-- The index of slot n's document is planned, before the pool's next cell, and nothing but index cells is: one or two
+-- for each posting, and for the bucket. What the pool gave, from its next cell before, are blocks and a node that
+-- planned cells lead to. In each image that has what stands below and what is planned each posting has its trail; and
+-- the slot has its hash trail in each image that has what is planned and in which the path is passed. Where nobody else
+-- wrote, what is planned is all that is shown besides what was, and where the place was blank, too, none of it stood in
+-- a written cell; and where all lists stood as they should with keys of earlier slots, the whole index does, at the
+-- cost that it must have.
 pub record IsIndexed (g : Layout) (n : ℕ) (rows : List Posting) (level : Level) (place : Open) (from to : ℕ)
     (old new : ViewState) : Type 0 where
   pub only : (cell : ℕ) (value : List ℕ) → new.planned cell ≡ Some value → IsIndexCell g cell value
   pub before : (cell : ℕ) → to ≤ cell → new.planned cell ≡ None
+  pub taken : PlansOneOrTwoEach old.planned new.planned (length rows + 1)
   pub grants : GivesWhatIsLedTo new.planned from to
   pub trails : IsTrue old.base.tells → (image : Image) → Extends new.lower image → Extends new.planned image
       → (i : ℕ) (p : Posting) → slice_get rows i ≡ Some p → HasTrailIn g image to (listed n p)

@@ -19,7 +19,7 @@ use Rattle.worm_device.specs.Views.{ViewState}
 use Rattle.worm_device.specs.declared.owner.Owner.{Owner}
 use Rattle.list_growth.specs.Evidence.{AreInTheirPlaces, ShowsBelow}
 use Rattle.list_growth.specs.Readiness.{IsReady, IsUntouched}
-use Rattle.index_growth.specs.Counts.{PlansAtCost}
+use Rattle.index_growth.specs.Counts.{PlansAtCost, PlansOneOrTwoEach}
 use Rattle.index_growth.specs.Granting.{GivesWhatIsLedTo}
 use Rattle.index_growth.specs.Licensing.{IsLicensable}
 use Rattle.index_growth.specs.Standing.{KeysSoFar, ListsStand, RowStands}
@@ -53,11 +53,12 @@ pub data IsRowCell (n : ℕ) (rows : List Posting) (count cell : ℕ) (value : L
   of_pointer : (target : ℕ) → IsRecordCell (Jump target) cell value → IsRowCell n rows count cell value
 
 -- The first so many postings of the row are inserted. What was planned is planned still, for whom it was; what is
--- planned besides are these postings, and pointers, for their lists, and lies before the pool's next cell. What the pool
--- gave are blocks that planned pointers lead to. Where the view tells its image, what was shown is shown still, what is
--- planned besides read blank, and each of these postings has its trail. Where nobody else wrote, too, nothing else has
--- changed; and where all lists stood as they should with keys of earlier slots, they stand so still, and these postings
--- cost what they must: as many cells as are planned for them and as the pool gave.
+-- planned besides are these postings, and pointers, for their lists, one or two cells for each posting, and lies before
+-- the pool's next cell. What the pool gave are blocks that planned pointers lead to. Where the view tells its image,
+-- what was shown is shown still, what is planned besides read blank, and each of these postings has its trail. Where
+-- nobody else wrote, too, nothing else has changed; and where all lists stood as they should with keys of earlier
+-- slots, they stand so still, and these postings cost what they must: as many cells as are planned for them and as the
+-- pool gave.
 pub record AreInserted (g : Layout) (n : ℕ) (rows : List Posting) (count from to : ℕ) (old new : ViewState)
     : Type 0 where
   pub kept : Extends old.planned new.planned
@@ -70,6 +71,7 @@ pub record AreInserted (g : Layout) (n : ℕ) (rows : List Posting) (count from 
       → (old.owners cell ≡ Some owner)
       ⊎ ((i : ℕ) × (p : Posting) × (i < count) × (slice_get rows i ≡ Some p) × (owner.head ≡ list_at g p.list))
   pub free : (cell : ℕ) → to ≤ cell → new.planned cell ≡ None
+  pub taken : PlansOneOrTwoEach old.planned new.planned count
   pub grants : GivesWhatIsLedTo new.planned from to
   pub shown : IsTrue old.base.tells → Extends old.image new.image
   pub blank : IsTrue old.base.tells → (cell : ℕ) → old.planned cell ≡ None → (value : List ℕ)

@@ -31,13 +31,13 @@ use Rattle.index_growth.specs.Counts.{HasCells}
 use Rattle.index_growth.specs.Indexes.{IndexEnds, IndexStandsAtCost, Indexes, IsIndexed}
 use Rattle.index_growth.specs.Journal.{IsJournal}
 use Rattle.index_growth.specs.Standing.{ListsStand}
-use Rattle.index_growth.proofs.Counting.{count_is_one}
+use Rattle.index_growth.proofs.Counting.{count_is_one, none_planned}
 use Rattle.index_growth.proofs.Granted.{StaysQuiet}
 use Rattle.ingest_plan.specs.Over.{IsPlannedOver, IsRefusalOf, OverEnds, PlansOver}
 use Rattle.ingest_plan.specs.Planning.{KeepsDocument, PlanEnds, PlansIndex, StandsAtCost, cut_at, laid_over}
 use Rattle.ingest_plan.specs.declared.plan.PlannedIndex.{PlannedIndex}
 use Rattle.ingest_plan.proofs.Licence.{names_cell}
-use Rattle.ingest_plan.proofs.Postings.{in_order}
+use Rattle.ingest_plan.proofs.Postings.{few, in_order}
 
 -- the posting that stands at a place of the row
 posting_at : (n : ℕ) (l : ℕ) (q : PostingFields) (found : Option Posting) → option_map (listed n) found ≡ Some (record { list = l; posting = q })
@@ -106,6 +106,16 @@ stands_at_cost {g} {n} {edge} {rows} {level} {place} {p} {old} {new} {planned} s
     count_is_one planned (length p.journal.items) there.count (journal_counts journal) there.cells in
     record { stands = there.stands; cost = omega (arith, count, there.cost) }
 
+-- over nothing planned a posting and the bucket have one or two cells of the journal each
+journal_each : {g : Layout} {n edge : ℕ} {rows : List Posting} {level : Level} {place : Open} {p : PlannedIndex}
+    {old new : ViewState} → ((cell : ℕ) → old.planned cell ≡ None)
+    → IsPlannedOver g n edge rows level place p old new
+    → (length rows + 1 ≤ length p.journal.items) × (length p.journal.items ≤ 2 * (length rows + 1))
+journal_each {rows = rows} {p = p} {new = new} nothing h =
+    let taken = h.indexed.taken 0 (none_planned nothing) in
+    let count = count_is_one new.planned (length p.journal.items) taken.0 (journal_counts h.journal.is) taken.1 in
+    (omega (arith, count, taken.2), omega (arith, count, taken.3))
+
 -- what the rows are, whose words are the body's, gives what is said of the device
 pub plans_index : (g : Layout) (n edge : ℕ) (body : List ℕ) (rows : List Posting) (level : Level) (place : Open)
     (start : DeviceState) (old new : ViewState) (result : Result PlannedIndex Refusal) (done : DeviceState)
@@ -145,9 +155,9 @@ plans_index g n edge body rows level place start old new result done are inside 
       why (Ok p) h = record {
         rows = rows;
         are = are;
-        few = ?;
-        least = ?;
-        most = ?;
+        few = few g.lists body n rows are;
+        least = (journal_each nothing h).0;
+        most = omega (arith, (journal_each nothing h).1, h.blocks);
         planned = new.planned;
         journal = h.journal;
         grants = h.indexed.grants;
@@ -172,12 +182,14 @@ plans_index g n edge body rows level place start old new result done are inside 
 
 -- what was planned, and its journal
 pub planned_over : (g : Layout) (n edge from next : ℕ) (rows : List Posting) (level : Level) (place : Open) (p : PlannedIndex)
-    (old new : ViewState) (held : Image) → from ≡ edge → edge + p.block_length ≡ next → IsIndexed g n rows level place from next old new
+    (old new : ViewState) (held : Image) → from ≡ edge → edge + p.block_length ≡ next
+    → next ≤ from + 256 * length rows + 32 → IsIndexed g n rows level place from next old new
     → ((cell : ℕ) → held cell ≡ new.planned cell) → IsJournal held p.journal.items
     → IsPlannedOver g n edge rows level place p old new
-planned_over g n edge from next rows level place p old new held begins ends indexed same journal = record {
+planned_over g n edge from next rows level place p old new held begins ends most indexed same journal = record {
   indexed = subst (λ (to : ℕ). IsIndexed g n rows level place edge to old new) (sym ends)
       (subst (λ (e : ℕ). IsIndexed g n rows level place e next old new) begins indexed);
+  blocks = omega (arith, begins, ends, most);
   journal = record {
     is = record {
       numbers = journal.numbers;

@@ -15,6 +15,7 @@ use Rattle.worm_device.specs.Counts.{IsStill}
 use Rattle.worm_device.specs.State.{DeviceState}
 use Rattle.worm_device.specs.Views.{IsView, ViewState}
 use Rattle.worm_device.specs.declared.owner.Owner.{Owner}
+use Rattle.hash_tree.specs.Levels.{IsChildPlace, IsLedWithin}
 use Rattle.hash_tree.specs.declared.level.ChildCell.{ChildCell}
 use Rattle.hash_tree.specs.declared.level.Level.{Level}
 use Rattle.hash_tree.specs.declared.path.Open.{Open}

@@ -1,5 +1,5 @@
 -- What planning over a view does.
-use Rattle.std.specs.Prelude.{◌≡◌, ◌+◌, ℕ, List, Result, Ok, Err, IsTrue, ⊤}
+use Rattle.std.specs.Prelude.{◌≡◌, ◌≤◌, ◌+◌, ◌*◌, ℕ, List, length, Result, Ok, Err, IsTrue, ⊤}
 use Rattle.cell_types.specs.Layout.{Layout}
 use Rattle.cell_types.specs.declared.refusal.Fault.TheVariants as faults
 use Rattle.cell_types.specs.declared.refusal.Evidence.{Evidence}
@@ -25,10 +25,11 @@ IsRefusalOf (growth.Fault (faults.Tampered e)) refusal = refusal ≡ Tampered e
 IsRefusalOf (growth.Fault faults.ReadFault) refusal = refusal ≡ DeviceFault
 IsRefusalOf growth.NoMemory refusal = refusal ≡ NoMemory
 
--- the index is planned, and this is its journal
+-- the index is planned, with at most a block for each posting and a node, and this is its journal
 pub record IsPlannedOver (g : Layout) (n edge : ℕ) (rows : List Posting) (level : Level) (place : Open) (p : PlannedIndex)
     (old new : ViewState) : Type 0 where
   pub indexed : IsIndexed g n rows level place edge (edge + p.block_length) old new
+  pub blocks : p.block_length ≤ 256 * length rows + 32
   pub journal : IsJournalBefore g (edge + p.block_length) new.planned p.journal.items
 
 -- One of the rows' lists or the level's child cell is named, and licensed over what stands below, where new cells begin

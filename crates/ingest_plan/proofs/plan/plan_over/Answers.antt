@@ -24,5 +24,5 @@ returns-in-Ok g c =
       ends = planned_over c.args.volume.now.geometry c.args.slot c.args.edge c.over-pool.result.next c.insert_document.new.pool.next c.args.rows.now c.args.level.now c.args.place
           (record { block_length = c.next.result - c.args.edge; journal = c.in-Ok.journal })
           (of_overlay g.V.View.seen c.args.overlay.now) (of_overlay g.V.View.seen c.insert_document.new.overlay) _
-          c.over-pool.ensures.next (omega (arith, c.next.ensures, c.insert_document.ensures.from, c.over-pool.ensures.next)) indexes.ends c.planned.ensures (rw c.in-Ok.is at c.copies_of.ensures);
+          c.over-pool.ensures.next (omega (arith, c.next.ensures, c.insert_document.ensures.from, c.over-pool.ensures.next)) c.insert_document.ensures.to indexes.ends c.planned.ensures (rw c.in-Ok.is at c.copies_of.ensures);
     }
