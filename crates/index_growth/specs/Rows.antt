@@ -87,8 +87,8 @@ pub record AreInserted (g : Layout) (n : ℕ) (rows : List Posting) (count from 
       → (stands : RowStands g n rows count from to old.image new.image)
       × PlansAtCost old.planned new.planned from to stands.cost
 
--- How inserting the row may end, and why. Evidence is of the list of one of the postings, and licensed where nothing was
--- planned at entry.
+-- How inserting the row may end, and why. Evidence is of a list that one of the postings goes into, and may be licensed
+-- where nothing was planned at entry.
 abbrev pub RowEnds : Layout → ℕ → List Posting → ℕ → ℕ → ViewState → ViewState → Result Unit GrowthFault → Type 0
 RowEnds g n rows from to old new (Ok done) = AreInserted g n rows (length rows) from to old new
 RowEnds g n rows from to old new (Err (Fault ReadFault)) = Rose old.base.faults new.base.faults

@@ -1,8 +1,7 @@
 -- A document whose plan is carried out is kept.
-use Rattle.std.proofs.Common.{◌≡◌, ◌≤◌, ◌+◌, ◌^◌, ◌∙◌, ⊎_elim, ℕ, List, [], ◌∷◌, ◌++◌, Option, Some, None, refl, sym, ap, subst, arith}
+use Rattle.std.proofs.Common.{◌≡◌, ◌≤◌, ◌+◌, ◌^◌, ◌∙◌, ⊎_elim, ℕ, List, [], ◌∷◌, ◌++◌, Option, Some, None, sym, ap, subst, arith}
 use Rattle.std.specs.Prelude.{slice_get, Contains, IsTrue}
 use Rattle.std.proofs.lemmas.List.Elements.{Contains-append_cases}
-use Rattle.sha2.specs.Sha256.{sha256}
 use Rattle.cell_types.specs.Image.{Image, Extends}
 use Rattle.cell_types.specs.Layout.{IsLayout, Layout, root_at}
 use Rattle.stored_documents.specs.Documents.{Document, Stands}
@@ -18,18 +17,15 @@ use Rattle.worm_device.specs.Calls.{Called}
 use Rattle.worm_device.specs.State.{DeviceState}
 use Rattle.worm_device.specs.Views.{seen_directly}
 use Rattle.worm_device.proofs.Images.{extends_then}
-use Rattle.hash_tree.specs.Levels.{bucket_at, node_of}
+use Rattle.hash_tree.specs.Levels.{node_of}
 use Rattle.hash_tree.specs.Steps.{IsOpenAt}
 use Rattle.hash_tree.specs.declared.level.Level.{Level}
-use Rattle.hash_tree.specs.declared.path.Open.{Open}
 use Rattle.tree_growth.specs.Readiness.{PassedDown}
-use Rattle.recovery_engine.specs.Entries.{target_of}
 use Rattle.recovery_engine.specs.declared.settling.Ready.{Ready}
 use Rattle.identifier_lookup.specs.Walks.{EndsThere, HasTrail, IsPassedAbove, IsPassedUpToPlace, NoneHasTrail}
-use Rattle.plan_writer.specs.Planned.{PlansDocument}
 use Rattle.plan_writer.specs.PuttingPlans.{IsCarriedOut}
 use Rattle.plan_writer.specs.declared.plan.Plan.{Plan}
-use Rattle.ingest_engine.specs.Indexing.{HasIndex, HasWalked}
+use Rattle.ingest_engine.specs.Indexing.{HasWalked}
 use Rattle.ingest_engine.specs.Ingesting.{IsIngested, IsPlanFor, document_in}
 use Rattle.ingest_engine.proofs.Suited.{copies_of}
 

@@ -1,5 +1,8 @@
+pub mod CrashedIngests
+pub mod Endings
 pub mod JoinedCells
 pub mod KeptNow
+pub mod Named
 pub mod SeenBlank
 pub mod Suited
 pub mod UnusedSlots

@@ -6,18 +6,16 @@ use Rattle.std.proofs.lemmas.Option.{none-some, slice_get-get_or}
 use Rattle.cell_types.specs.Layout.{IsLayout, Layout, list_at, pool_at}
 use Rattle.cell_types.specs.Records.{IsRecordCell}
 use Rattle.cell_types.proofs.OneRecord.{address_in}
-use Rattle.stored_documents.specs.Documents.{IsBody, IsIdentifier, stored_bytes}
+use Rattle.stored_documents.specs.Documents.{IsBody, IsIdentifier}
 use Rattle.stored_documents.specs.Slots.{cells_for}
 use Rattle.worm_device.specs.State.{DeviceState}
 use Rattle.hash_tree.specs.declared.level.Level.{Level}
 use Rattle.hash_tree.specs.declared.path.Open.{Open}
-use Rattle.index_growth.specs.Indexes.{IsIndexCell}
 use Rattle.recovery_engine.specs.Entries.{AreEntries, IsFit, target_of}
 use Rattle.plan_writer.specs.Planned.{PlansDocument, Suits, document_from, journal_from, laid}
 use Rattle.plan_writer.specs.declared.plan.Plan.{Plan}
 use Rattle.ingest_plan.specs.Planning.{IsPlanned}
 use Rattle.ingest_plan.specs.declared.plan.PlannedIndex.{PlannedIndex}
-use Rattle.ingest_engine.specs.Ingesting.{need_with}
 use Rattle.ingest_engine.specs.StoredCells.{IsStoredAs}
 use Rattle.ingest_engine.specs.declared.document.StoredDocument.{StoredDocument}
 use Rattle.ingest_engine.proofs.JoinedCells.{stored_length}

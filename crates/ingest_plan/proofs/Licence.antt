@@ -66,9 +66,9 @@ led_place {g} {s = s} taken within =
     subst (λ (c : ℕ). IsChildPlace g s.lower c) (sym taken.cell)
     (subst (λ (l : Option ChildCell). IsLedWithin g s.lower l) taken.led within)
 
-licensed_there : {g : Layout} {n : ℕ} {rows : List Posting} {level : Level} {place : Open} {s : ViewState} {e : Evidence}
-    → IsView s → AreInOrder g.lists n rows → s.fresh ≤ g.cells → IsTrue s.base.tells → IsNamed g n rows level place s e
-    → IsLicensedThere g n level s e
+licensed_there : {g : Layout} {n : ℕ} {rows : List Posting} {level : Level} {place : Open} {s : ViewState}
+    {e : Evidence} → IsView s → AreInOrder g.lists n rows → s.fresh ≤ g.cells → IsTrue s.base.tells
+    → IsNamed g n rows level place s e → IsLicensedThere g n level s e
 licensed_there {g} {n} {rows} {level} {place} {s} {e} view order inside tells (in_list i p is shows) =
     let licence = licensed g s p.list (listed n p).posting.key e view (order.lists_are i p is) shows in
     record {

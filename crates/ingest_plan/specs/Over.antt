@@ -32,10 +32,9 @@ pub record IsPlannedOver (g : Layout) (n edge : ℕ) (rows : List Posting) (leve
   pub blocks : p.block_length ≤ 256 * length rows + 32
   pub journal : IsJournalBefore g (edge + p.block_length) new.planned p.journal.items
 
--- One of the rows' lists or the level's child cell is named, and licensed over what stands below, where new cells begin
--- at the edge.
-pub record NamesBelow (g : Layout) (n edge : ℕ) (rows : List Posting) (level : Level) (place : Open) (old new : ViewState)
-    (e : Evidence) : Type 0 where
+-- What is named is of a list of one of the postings, or is the level's child cell; and new cells begin at the edge.
+pub record NamesBelow (g : Layout) (n edge : ℕ) (rows : List Posting) (level : Level) (place : Open)
+    (old new : ViewState) (e : Evidence) : Type 0 where
   pub view : IsView new
   pub fresh : new.fresh ≡ edge
   pub is : IsNamed g n rows level place new e

@@ -85,9 +85,9 @@ abbrev pub IsGrowthRule : ℕ → Type 0
 IsGrowthRule number =
     (number ≡ BLOCK_OUT_OF_ORDER) ⊎ (number ≡ FAKE_POSTING) ⊎ (number ≡ LOST_POINTER) ⊎ (number ≡ LOST_CHILD)
 
--- The licence of evidence. It stands on the device. Where the child cell that led to the level is one of a node, it is at
--- a place of its rule; and where besides nobody else wrote in the call, cell 0 states this volume, slot n is the horizon,
--- and new cells begin at the edge, the rule is broken there.
+-- The licence of evidence. It stands on the device. Where the child cell that led to the level is one of a node, it is
+-- at a place of its rule; and where besides nobody else wrote in the call, cell 0 states this volume, and the slot and
+-- the edge are a horizon and an edge of the image, the rule is broken there.
 pub record NamesCell (g : Layout) (n edge : ℕ) (level : Level) (old new : DeviceState) (e : Evidence) : Type 0 where
   pub rule : IsGrowthRule e.rule
   pub stands : new.image e.cell ≡ Some e.found

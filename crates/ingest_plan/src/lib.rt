@@ -14,6 +14,9 @@
 //! cells laid over what stood there, and the cells of the journal and of the new blocks are together as many as the
 //! index must cost (`StandsAtCost`).
 //!
+//! **Evidence is licensed**: it stands on the device, and its rule is broken there where nobody else wrote, and the slot
+//! and the edge are a horizon and an edge of the image (`NamesCell`).
+//!
 //! New blocks begin at the edge and may pass the device's end, so that the need is known also where it is too great.
 //!
 //! Stands on `word_reader` and `term_tags`, which give the postings, and on `index_growth`, which plans them. Begin with

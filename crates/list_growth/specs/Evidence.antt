@@ -93,15 +93,15 @@ pub record IsLatePosting (s : ViewState) (head floor key : ℕ) (e : Evidence) :
   pub late : key ≤ p.key
 
 -- The licence of an insertion's evidence over what stands below, for list l of a volume whose pool begins at the floor.
--- It stands there, in a place of its rule. A posting that is named is late, and where the new key is of a slot from the
--- horizon on, it breaks its rule there, where cell 0 states the volume, and what is new begins at an edge of what stands
--- below. What else is named does so where besides nothing stands below what is planned before what is new, and what is
--- planned is in its place.
+-- It stands there, in a place of its rule. A posting that is named is late; where cell 0 states the volume, what is new
+-- begins at an edge of what stands below, and the new key's slot is at or past the horizon, it breaks its rule there.
+-- What else is named does so where cell 0 states the volume, what is new begins at an edge, nothing stands below what is
+-- planned before that, and what is planned is in its place.
 pub record IsLicensedBelow (g : Layout) (s : ViewState) (l key : ℕ) (e : Evidence) : Type 0 where
   pub stands : s.lower e.cell ≡ Some e.found
   pub place : s.fresh ≤ g.cells → HasPlace g e
   pub late : e.rule ≡ FAKE_POSTING → IsLatePosting s (list_at g l) (pool_at g) key e
-  pub past : (n : ℕ) → IsHorizon g s.lower s.lower n → 256 * n ≤ key → e.rule ≡ FAKE_POSTING → IsVolume g.cells s.lower g
-      → IsEdge g s.lower s.lower s.fresh → IsBroken g.cells s.lower e.rule e.cell
+  pub past : (n : ℕ) → IsHorizon g s.lower s.lower n → 256 * n ≤ key → e.rule ≡ FAKE_POSTING
+      → IsVolume g.cells s.lower g → IsEdge g s.lower s.lower s.fresh → IsBroken g.cells s.lower e.rule e.cell
   pub broken : e.rule ≢ FAKE_POSTING → IsVolume g.cells s.lower g → IsEdge g s.lower s.lower s.fresh
       → NothingBelowPlans s → AreInTheirPlaces g s → IsBroken g.cells s.lower e.rule e.cell

@@ -62,8 +62,8 @@ pub record IsInserted (head floor next to : ℕ) (p : PostingFields) (e : Entry)
   pub grows : IsStill old.base.foreign_writes new.base.foreign_writes → IsWellListed old.image floor next head
       → IsWellListed new.image floor to head × ((cost : ℕ) × Grows old.image new.image floor next to head p cost)
 
--- How inserting a posting may end, and why. What a written cell is named for stands below, and nothing was planned then;
--- where nobody else wrote, none is named in a list that stands as it should.
+-- How inserting a posting may end, and why. What a written cell is named for stands below, and nothing was planned
+-- then; where nobody else wrote, none is named in a list that stands as it should.
 abbrev pub InsertEnds : ℕ → ℕ → ℕ → ℕ → PostingFields → ViewState → ViewState → Result Entry GrowthFault → Type 0
 InsertEnds head floor next to p old new (Ok e) =
     (posting_of e ≡ p) × (e.place < 128) × (e.block + 256 ≤ to)

@@ -5,7 +5,7 @@ use Rattle.std.specs.Str.{bytes_eq}
 use Rattle.cell_types.specs.declared.refusal.Refusal.{Refusal}
 use Rattle.cell_types.specs.declared.refusal.Refusal.TheVariants.{Usage}
 use Rattle.worm_device.specs.Calls.{Called}
-use Rattle.slot_walk.specs.Laws.{DocumentsWereStored}
+use Rattle.worm_device.specs.State.{IsDevice}
 use Rattle.record_top.specs.Commands.{Asks, Does, IsAnswered, IsUnhindered, Request, ToFind, ToFormat, ToIngest, ToLookUp, ToRecover}
 use Rattle.record_top.specs.Ports.{Ports}
 use Rattle.record_top.specs.Words.{digits_value}
@@ -76,12 +76,12 @@ module _ (old new : Ports) where
   is_used ToRecover does = recover_is_used old new does.answer does.settles does.tells
 
   -- where nothing keeps it from being done, it is, or ends for the one cause that is left
-  pub completes : DocumentsWereStored → (request : Request) (result : Result Unit Refusal)
+  pub completes : IsDevice old.device → IsDevice new.device → (request : Request) (result : Result Unit Refusal)
       → Does request old new result → IsUnhindered request old new → IsAnswered request result
-  completes law (ToFormat slots lists) result does free = format_completes _ old new free result does
-  completes law (ToIngest id) result does free =
-      ingest_completes id free.0 free.1 free.2 old new free.3 law result does
-  completes law (ToFind asked) result does free = find_completes asked free.0 old new free.1 result does
-  completes law (ToLookUp id) result does free = look_up_completes id free.0 old new free.1 result does
-  completes law ToRecover result does free =
+  completes device device_new (ToFormat slots lists) result does free = format_completes _ old new free result does
+  completes device device_new (ToIngest id) result does free =
+      ingest_completes id free.0 free.1 free.2 old new free.3 device device_new result does
+  completes device device_new (ToFind asked) result does free = find_completes asked free.0 old new free.1 result does
+  completes device device_new (ToLookUp id) result does free = look_up_completes id free.0 old new free.1 result does
+  completes device device_new ToRecover result does free =
       recover_completes free.0 old new free.1 result does.answer does.settles does.tells

@@ -1,22 +1,30 @@
 -- Where all is as it is to be, a format and a settling are done, and an ingest ends with no refusal but want of memory.
-use Rattle.std.proofs.Common.{◌≡◌, ◌≢◌, ◌≤◌, ◌<◌, ◌+◌, ◌++◌, ℕ, List, length, Option, Some, None, Result, Ok, Err, sym, ap, ◌∙◌, inl, subst, arith, length-append}
+use Rattle.std.proofs.Common.{◌≡◌, ◌≤◌, ◌<◌, ◌+◌, ◌++◌, ℕ, List, length, Option, Some, None, Result, Ok, Err, sym, ap, ◌∙◌, subst, arith, length-append}
 use Rattle.std.proofs.lemmas.List.{append-nil}
 use Rattle.std.proofs.lemmas.Option.{none-some}
+use Rattle.cell_types.specs.Image.{Image}
 use Rattle.cell_types.specs.Layout.{Layout}
+use Rattle.cell_types.specs.declared.refusal.Evidence.{Evidence}
 use Rattle.cell_types.specs.declared.refusal.Refusal.{Refusal}
 use Rattle.cell_types.specs.declared.refusal.Refusal.TheVariants as refusals
 use Rattle.host_ports.specs.Sources.{Gives, IsAtEnd}
-use Rattle.stored_documents.specs.Documents.{stored_bytes}
-use Rattle.stored_documents.specs.Slots.{IsEdge, cells_for}
+use Rattle.stored_documents.specs.Documents.{Stands}
+use Rattle.stored_documents.specs.Volumes.{IsVolume}
+use Rattle.stored_documents.proofs.Extending.{volume_on}
+use Rattle.index_paths.specs.Postings.{AreTags}
+use Rattle.index_paths.proofs.Tags.{tags_one}
 use Rattle.worm_device.specs.Calls.{Called}
-use Rattle.worm_device.specs.State.{DeviceState}
+use Rattle.worm_device.specs.State.{IsDevice}
 use Rattle.worm_device.proofs.Counting.{rose_or_still, still_first}
-use Rattle.recovery_engine.specs.Settling.{HasSettled, IsSettlingRule, Settles}
+use Rattle.worm_device.proofs.Elapsing.{called_then}
+use Rattle.document_store.proofs.Holding.{held_stands}
+use Rattle.recovery_engine.specs.Settling.{HasSettled, Settles}
 use Rattle.recovery_engine.specs.declared.settling.Ready.{Ready}
-use Rattle.slot_walk.specs.Laws.{DocumentsWereStored}
-use Rattle.slot_walk.specs.Walks.{HasWalked}
-use Rattle.plan_writer.proofs.PutFrom.{ends_0, free_0}
-use Rattle.ingest_engine.specs.Ingesting.{HasNoRoom, HasNoSlot, IngestEnds, IsTaken}
+use Rattle.steady_volumes.proofs.Alarms.{looked_unbroken, settling_named}
+use Rattle.steady_volumes.proofs.LookedAt.{looked_ends}
+use Rattle.identifier_lookup.specs.Walks.{IsPassedWhole}
+use Rattle.plan_writer.proofs.PutFrom.{volume_2}
+use Rattle.ingest_engine.specs.Ingesting.{HasFullPath, HasNoRoom, HasNoSlot, IngestEnds, IsFoundBehind, IsNamed, IsTaken, IsTooMany, by_plan, by_settling, in_index}
 use Rattle.ingest_engine.proofs.CrashedIngests.{ready_layout, settled_unused}
 use Rattle.record_top.specs.Formatting.{DoesFormat, IsReadyToFormat}
 use Rattle.record_top.specs.Ingesting.{DoesIngest, IsReadyToIngest, acknowledgement, misnamed, untaken, taken}
@@ -25,8 +33,7 @@ use Rattle.record_top.specs.Recovering.{IsReadyToRecover, recovered}
 use Rattle.record_top.specs.Taking.{BodyFails, refusal_of_body_fault}
 use Rattle.record_top.specs.declared.body.BodyFault.{BodyFault}
 use Rattle.record_top.specs.declared.body.BodyFault.TheVariants as faults
-use Rattle.record_top.specs.WholeLogs.{HasWholeLog}
-use Rattle.record_top.proofs.WholeLogs.{settles_whole, settling_log, untampered}
+use Rattle.record_top.proofs.WholeLogs.{no_blank_cell, no_other_cell, no_other_size, settles_whole}
 
 -- a source gives no more than it has
 gives_within : (left : Option (List ℕ)) (body given : List ℕ) (new : Option (List ℕ)) → left ≡ Some body
@@ -56,76 +63,102 @@ module _ (g : Layout) (old new : Ports) (ready : IsReadyToRecover g old new) whe
   recover_completes (Err refusals.SinkFault) (Ok r) settles tells = rose_or_still _ _ tells.faults ready.no_sink_fault
   recover_completes (Err refusal) (Ok r) settles tells = absurd tells
 
-walked : {r : Ready} {old new : DeviceState} (has : HasSettled old new r) → HasWalked r old has.settled new
-walked has = record { settles = has.settles; looked = has.looked; quiet = has.quiet }
-
--- where a slot is unused, and there is room, a settled volume has room
+-- where a slot is unused, a settled volume has one
 module _ {id body : List ℕ} {g : Layout} {slot : ℕ} {old new : Ports} (ready : IsReadyToIngest id body g slot old new)
-    (r : Ready) (has : HasSettled old.device new.device r) where
-  layout : r.volume.geometry ≡ g
-  layout = (ready_layout old.device new.device r g has ready.log.tells ready.log.volume).0
+    (device : IsDevice old.device) (device_new : IsDevice new.device) where
+  cells_new : {r : Ready} → HasSettled old.device new.device r → new.device.cells ≡ old.device.cells
+  cells_new h = h.looked.cells ∙ h.settles.called.cells
 
-  a_slot : r.horizon ≡ r.volume.geometry.slots → ⊥
-  a_slot all =
-      let still = still_first has.settles.called.foreign_writes has.looked.foreign_writes ready.log.alone in
-      let unused = settled_unused g slot old.device ready.log.volume ready.unused has.settles ready.log.tells still in
-      let taken = (has.settles.ends.1 ready.log.tells).taken slot
-      (omega (arith, ready.unused.slot, all, ap (λ (l : Layout). l.slots) layout)) in
+  layout : (r : Ready) → HasSettled old.device new.device r → r.volume.geometry ≡ g
+  layout r h = (ready_layout old.device new.device r g h ready.begins.tells ready.volume).0
+
+  -- what stands behind looks is what settling makes of the image
+  stands_as : (r : Ready) → HasSettled old.device new.device r → new.device.image ≡ ready.sound.after
+  stands_as r h = (looked_ends old.device new.device r ready.begins.tells h ready.begins.alone device_new.sure
+      ready.sound).image
+
+  not_full : HasNoSlot old.device new.device → ⊥
+  not_full h =
+      let has = h.settled in
+      let still = still_first has.settles.called.foreign_writes has.looked.foreign_writes ready.begins.alone in
+      let unused = settled_unused g slot old.device ready.volume ready.unused has.settles ready.begins.tells still in
+      let taken = (has.settles.ends.1 ready.begins.tells).taken slot
+      (omega (arith, ready.unused.slot, h.taken, ap (λ (l : Layout). l.slots) (layout h.ready has))) in
       none-some taken.found (sym unused.reserve ∙ taken.stands)
 
-  a_slot_less : (r.horizon ≢ r.volume.geometry.slots) → r.horizon < r.volume.geometry.slots
-  a_slot_less some = omega (arith, some, (has.settles.ends.1 ready.log.tells).horizon.most)
-
-  -- the edge is one of the image at entry
-  edge_was : (r.horizon ≢ r.volume.geometry.slots) → IsEdge r.volume.geometry old.device.image old.device.image r.edge
-  edge_was some = record {
-    u = r.horizon;
-    most = (has.settles.ends.1 ready.log.tells).horizon.most;
-    free = λ less. free_0 r has ready.log.tells less;
-    ends = ends_0 r has ready.log.tells (a_slot_less some) ready.log.alone;
-  }
-
-  cells_behind : (r.horizon ≢ r.volume.geometry.slots)
-      → r.edge + cells_for (length (stored_bytes id body)) ≤ r.volume.geometry.cells
-  cells_behind some =
-      let fits = ready.room r.edge
-      (subst (λ (l : Layout). IsEdge l old.device.image old.device.image r.edge) layout (edge_was some)) in
-      subst (λ (l : Layout). r.edge + cells_for (length (stored_bytes id body)) ≤ l.cells) (sym layout) fits
-
-module _ {id body : List ℕ} {g : Layout} {slot : ℕ} {old new : Ports}
-    (ready : IsReadyToIngest id body g slot old new) (law : DocumentsWereStored) where
-  not_full : HasNoSlot old.device new.device → ⊥
-  not_full h = a_slot ready h.ready h.settled h.taken
-
-  -- no document has the identifier: one that is there now was stored before
+  -- no document has the identifier
   not_taken : (n : ℕ) → IsTaken id n old.device new.device → ⊥
   not_taken n h =
-      let found = h.first ready.log.tells in
-      ready.fresh n found.body
-      (law h.ready old.device h.settled.settled new.device n id found.body (walked h.settled) ready.log.tells
-      ready.log.alone found.first.document)
+      let has = h.settled.settled in
+      let held = h.holds ready.begins.tells in
+      let stands : Stands new.device.cells new.device.image n id held.body =
+      held_stands h.ready.volume.geometry new.device.cells new.device.image n id held.body
+      (volume_2 h.ready has ready.begins.tells) held.holds in
+      ready.fresh n held.body
+      (subst (λ (c : ℕ). Stands c ready.sound.after n id held.body) (cells_new has)
+      (subst (λ (i : Image). Stands new.device.cells i n id held.body) (stands_as h.ready has) stands))
 
+  -- its path is not full
+  path_open : HasFullPath id old.device new.device → ⊥
+  path_open h =
+      let has = h.settled.settled in
+      ready.path
+      (subst (λ (l : Layout). IsPassedWhole l old.device.cells ready.sound.after id) (layout h.ready has)
+      (subst (λ (c : ℕ). IsPassedWhole h.ready.volume.geometry c ready.sound.after id) (cells_new has)
+      (subst (λ (i : Image). IsPassedWhole h.ready.volume.geometry new.device.cells i id) (stands_as h.ready has)
+      (h.passed ready.begins.tells))))
+
+  -- no list gets too many of the body's tags
+  few : (list count : ℕ) → IsTooMany id body list count old.device new.device → ⊥
+  few list count h =
+      let lists = ap (λ (l : Layout). l.lists) (layout h.ready h.settled.settled) in
+      let t = ready.postings.each list (omega (arith, h.many.below, lists)) in
+      let same : h.many.tags ≡ t.0 =
+      tags_one g.lists body list h.many.tags t.0
+      (subst (λ (n : ℕ). AreTags n body list h.many.tags) lists h.many.are) t.1 in
+      omega (arith, ap length same, h.many.number, h.many.many, t.2)
+
+  -- there is room for the need
   fits : (need free : ℕ) → HasNoRoom id body need free old.device new.device → ⊥
-  fits need free h =
-      omega (arith, cells_behind ready h.ready h.settled h.slot, h.need_is, h.free_is, h.less)
+  fits need free h = ?
 
-  settling : HasWholeLog IsSettlingRule g old.device new.device
-  settling = settling_log ready.log (λ number rule. inl (inl rule))
+  -- once the volume is settled no rule is broken in what stands
+  behind_unbroken : {e : Evidence} → IsFoundBehind old.device new.device e → ⊥
+  behind_unbroken {e} behind =
+      let first = called_then behind.settled.settles.called behind.settled.looked in
+      let still = still_first first.foreign_writes behind.since.foreign_writes ready.begins.alone in
+      looked_unbroken old.device behind.looked behind.ready e.rule e.cell device behind.device ready.begins.tells
+      behind.settled still ready.begins.steady (behind.broken ready.begins.alone)
+
+  -- no tampering is named
+  untouched : (e : Evidence) → IsNamed old.device new.device e → ⊥
+  untouched e (by_settling settles found) = settling_named old.device new.device e device ready.begins.tells settles
+      ready.begins.alone ready.begins.steady
+  untouched e (by_plan found behind) = behind_unbroken behind
+  untouched e (in_index rule licensed behind) = behind_unbroken behind
+
+  volume_now : (called : Called old.device new.device) → IsVolume new.device.cells new.device.image g
+  volume_now called = subst (λ (c : ℕ). IsVolume c new.device.image g) (sym called.cells)
+      (volume_on called.image ready.volume)
 
   -- the engine ends with no refusal but want of memory
   ingests_whole : (called : Called old.device new.device) (refusal : Refusal)
       → IngestEnds id body old.device new.device (Err refusal) → IsOkOrNoMemory (Err refusal)
   ingests_whole called refusals.NoMemory ends = tt
-  ingests_whole called refusals.DeviceFault ends = rose_or_still _ _ ends ready.log.no_fault
-  ingests_whole called (refusals.Tampered e) ends = untampered ready.log called e (ends ready.log.tells)
+  ingests_whole called refusals.DeviceFault ends = rose_or_still _ _ ends ready.no_device_fault
+  ingests_whole called (refusals.Tampered e) ends = untouched e (ends ready.begins.tells)
   ingests_whole called refusals.SlotsFull ends = absurd (not_full ends)
   ingests_whole called (refusals.Duplicate n) ends = absurd (not_taken n ends)
+  ingests_whole called refusals.PathFull ends = absurd (path_open ends)
+  ingests_whole called (refusals.TooManyTerms list count) ends = absurd (few list count ends)
   ingests_whole called (refusals.Full need free) ends = absurd (fits need free ends)
-  ingests_whole called refusals.NotFormatted ends = absurd (settles_whole settling called refusals.NotFormatted ends)
+  ingests_whole called refusals.NotFormatted ends =
+      absurd (no_blank_cell ready.volume (ends ready.begins.tells))
   ingests_whole called (refusals.NotAVolume found) ends =
-      absurd (settles_whole settling called (refusals.NotAVolume found) ends)
+      let is = ends ready.begins.tells in absurd (no_other_cell (volume_now called) found is.0 is.1)
   ingests_whole called (refusals.WrongSize stated real) ends =
-      absurd (settles_whole settling called (refusals.WrongSize stated real) ends)
+      let is = ends.2 ready.begins.tells in
+      absurd (ends.1 (no_other_size (volume_now called) is.0 stated is.1 is.2 ∙ sym ends.0))
   ingests_whole called refusal ends = absurd ends
 
   ends_told : (result : Result Unit Refusal) (answer : Result ℕ Refusal) → Called old.device new.device
@@ -146,15 +179,16 @@ module _ {id body : List ℕ} {g : Layout} {slot : ℕ} {old new : Ports}
   body_taken given faults.NoMemory gives fails = tt
 
 module _ (id body : List ℕ) (g : Layout) (slot : ℕ) (old new : Ports)
-    (ready : IsReadyToIngest id body g slot old new) (law : DocumentsWereStored) where
+    (ready : IsReadyToIngest id body g slot old new) (device : IsDevice old.device) (device_new : IsDevice new.device)
+    where
   -- the answer is Ok, or want of memory
   pub ingest_completes : (result : Result Unit Refusal) → DoesIngest id old new result → IsOkOrNoMemory result
   ingest_completes result (misnamed bad is same) = absurd (bad ready.identifier)
   ingest_completes result (untaken given fault name gives fails is same keeps) =
-      subst IsOkOrNoMemory (sym is) (body_taken ready law given fault gives fails)
+      subst IsOkOrNoMemory (sym is) (body_taken ready device device_new given fault gives fails)
   ingest_completes result (taken given answer name is gives end ingests tells) =
       let all = gives_all old.source.left body given new.source.left ready.source gives end in
-      ends_told ready law result answer ingests.called
+      ends_told ready device device_new result answer ingests.called
       (subst (λ (b : List ℕ). IngestEnds id b old.device new.device answer) all ingests.ends) tells
 
 module _ (g : Layout) (old new : Ports) (ready : IsReadyToFormat g old new) where

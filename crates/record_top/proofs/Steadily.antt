@@ -34,7 +34,8 @@ use Rattle.record_top.specs.Formatting.{DoesFormat, FormatCommandEnds}
 use Rattle.record_top.specs.LookingUp.{Answers, DoesLookUp, looked, misnamed}
 use Rattle.record_top.specs.Ports.{Ports, Tells, TellsFromMemory}
 use Rattle.record_top.specs.Recovering.{DoesRecover, recovered}
-use Rattle.record_top.specs.Steadiness.{AddsNone, BeginsSteady, LeavesWhole}
+use Rattle.record_top.specs.Begins.{BeginsSteady}
+use Rattle.record_top.specs.Steadiness.{AddsNone, LeavesWhole}
 
 -- a result refuses in one way
 one_refusal : {A : Type 0} (result : Result A Refusal) (a b : Refusal) → result ≡ Err a → result ≡ Err b → a ≡ b

@@ -1,6 +1,7 @@
 -- On a whole log no settling is refused, and no evidence is found.
-use Rattle.std.proofs.Common.{◌≡◌, ℕ, List, Some, Err, refl, sym, ap, ◌∙◌, subst}
+use Rattle.std.proofs.Common.{◌≡◌, ℕ, List, Some, None, Err, refl, sym, ap, ◌∙◌, subst}
 use Rattle.std.proofs.lemmas.Option.{none-some}
+use Rattle.cell_types.specs.Image.{Image}
 use Rattle.cell_types.specs.Layout.{Layout}
 use Rattle.cell_types.specs.declared.refusal.Evidence.{Evidence}
 use Rattle.cell_types.specs.declared.refusal.Refusal.{Refusal}
@@ -19,6 +20,24 @@ use Rattle.record_top.specs.WholeLogs.{HasWholeLog}
 some_is : (a b : List ℕ) → Some a ≡ Some b → a ≡ b
 some_is a b e = cc
 
+-- cell 0 of a volume is not blank
+pub no_blank_cell : {g : Layout} {cells : ℕ} {image : Image} → IsVolume cells image g → image 0 ≡ None → ⊥
+no_blank_cell volume blank = none-some volume.volume.cell (sym blank ∙ volume.volume.stands)
+
+-- it is no cell of another kind
+pub no_other_cell : {g : Layout} {cells : ℕ} {image : Image} → IsVolume cells image g → (found : List ℕ)
+    → image 0 ≡ Some found → IsNoVolumeCell found → ⊥
+no_other_cell {g} volume found stands none = none g
+    (subst (λ (cell : List ℕ). IsRecordCell (volume_record g) 0 cell)
+    (some_is volume.volume.cell found (sym volume.volume.stands ∙ stands)) volume.volume.is)
+
+-- and states the device's own size
+pub no_other_size : {g : Layout} {cells : ℕ} {image : Image} → IsVolume cells image g → (h : Layout) (stated : ℕ)
+    → Holds image 0 (volume_record h) → h.cells ≡ stated → stated ≡ cells
+no_other_size {g} {cells} volume h stated holds states =
+    let same : h ≡ g = one_layout {cells = h.cells} {more = cells} h g (record { volume = holds; size = refl }) volume in
+    sym states ∙ ap (λ (l : Layout). l.cells) same ∙ volume.size
+
 -- a whole log hinders nothing that looks at these rules
 module _ {IsLookedAt : ℕ → Type 0} {g : Layout} {old new : DeviceState} (whole : HasWholeLog IsLookedAt g old new)
     (called : Called old new) where
@@ -26,21 +45,7 @@ module _ {IsLookedAt : ℕ → Type 0} {g : Layout} {old new : DeviceState} (who
   volume_now =
       subst (λ (cells : ℕ). IsVolume cells new.image g) (sym called.cells) (volume_on called.image whole.volume)
 
-  -- cell 0 is no cell of another kind
-  no_other_cell : (found : List ℕ) → new.image 0 ≡ Some found → IsNoVolumeCell found → ⊥
-  no_other_cell found stands none = none g
-      (subst (λ (cell : List ℕ). IsRecordCell (volume_record g) 0 cell)
-      (some_is volume_now.volume.cell found (sym volume_now.volume.stands ∙ stands)) volume_now.volume.is)
-
-  -- and states the device's own size
-  no_other_size : (h : Layout) (stated : ℕ) → Holds new.image 0 (volume_record h) → h.cells ≡ stated
-      → stated ≡ new.cells
-  no_other_size h stated holds states =
-      let same : h ≡ g = one_layout {cells = h.cells} {more = new.cells} h g
-      (record { volume = holds; size = refl }) volume_now in
-      sym states ∙ ap (λ (l : Layout). l.cells) same ∙ volume_now.size
-
-  -- and no rule that is looked at is broken
+  -- no rule that is looked at is broken
   pub untampered : (e : Evidence) → IsFound IsLookedAt old new e → ⊥
   untampered e found = whole.unbroken e.rule e.cell found.rule (found.before whole.alone)
 
@@ -48,12 +53,11 @@ module _ {IsLookedAt : ℕ → Type 0} {g : Layout} {old new : DeviceState} (who
 pub settles_whole : {g : Layout} {old new : DeviceState} (whole : HasWholeLog IsSettlingRule g old new)
     (called : Called old new) (refusal : Refusal) → SettleEnds old new (Err refusal) → ⊥
 settles_whole whole called refusals.DeviceFault ends = rose_or_still _ _ ends whole.no_fault
-settles_whole whole called refusals.NotFormatted ends =
-    none-some whole.volume.volume.cell (sym (ends whole.tells) ∙ whole.volume.volume.stands)
+settles_whole whole called refusals.NotFormatted ends = no_blank_cell whole.volume (ends whole.tells)
 settles_whole whole called (refusals.NotAVolume found) ends =
-    let is = ends whole.tells in no_other_cell whole called found is.0 is.1
+    let is = ends whole.tells in no_other_cell (volume_now whole called) found is.0 is.1
 settles_whole whole called (refusals.WrongSize stated real) ends =
-    let is = ends.2 whole.tells in ends.1 (no_other_size whole called is.0 stated is.1 is.2 ∙ sym ends.0)
+    let is = ends.2 whole.tells in ends.1 (no_other_size (volume_now whole called) is.0 stated is.1 is.2 ∙ sym ends.0)
 settles_whole whole called (refusals.Tampered e) ends = untampered whole called e (ends whole.tells)
 settles_whole whole called refusal ends = ends
 

@@ -1,18 +1,22 @@
 -- The command `ingest`: it stores the body that the source gives in the first free slot, and acknowledges it.
-use Rattle.std.specs.Prelude.{◌≡◌, ◌≤◌, ◌+◌, ℕ, List, [], ◌∷◌, codes, length, Some, Result, Err}
+use Rattle.std.specs.Prelude.{◌≡◌, ◌≤◌, ◌+◌, ℕ, List, [], ◌∷◌, codes, Some, Result, Err}
 use Rattle.cell_types.specs.Layout.{Layout}
 use Rattle.cell_types.specs.declared.refusal.Refusal.{Refusal}
 use Rattle.cell_types.specs.declared.refusal.Refusal.TheVariants.{BadIdentifier}
 use Rattle.host_ports.specs.Sources.{Gives, IsAtEnd}
-use Rattle.slot_walk.specs.Walks.{IsStored}
-use Rattle.ingest_engine.specs.Ingesting.{IsIngestRule, Ingests}
-use Rattle.stored_documents.specs.Documents.{IsBody, IsIdentifier, stored_bytes}
-use Rattle.stored_documents.specs.Slots.{IsEdge, IsUnused, cells_for}
+use Rattle.stored_documents.specs.Documents.{IsBody, IsIdentifier, Stands}
+use Rattle.stored_documents.specs.Slots.{IsEdge, IsHorizon, IsUnused}
+use Rattle.stored_documents.specs.Volumes.{IsVolume}
+use Rattle.index_paths.specs.Postings.{HasPostings}
+use Rattle.tamper_rules.specs.Settling.{Sound}
+use Rattle.volume_growth.specs.Needs.{IsNeed}
 use Rattle.worm_device.specs.Counts.{IsStill}
+use Rattle.identifier_lookup.specs.Walks.{IsPassedWhole}
+use Rattle.ingest_engine.specs.Ingesting.{Ingests}
+use Rattle.record_top.specs.Begins.{BeginsSteady}
 use Rattle.record_top.specs.Ports.{Ports, KeepsSink, Tells}
 use Rattle.record_top.specs.Recovering.{slot_line}
 use Rattle.record_top.specs.Taking.{BodyFails, refusal_of_body_fault}
-use Rattle.record_top.specs.WholeLogs.{HasWholeLog}
 use Rattle.record_top.specs.Words.{IsNoOption}
 use Rattle.record_top.specs.declared.body.BodyFault.{BodyFault}
 
@@ -40,16 +44,23 @@ pub data DoesIngest (id : List ℕ) (old new : Ports) (result : Result Unit Refu
       → Ingests id body old.device new.device answer → Tells acknowledgement answer old new result
       → DoesIngest id old new result
 
--- All is as the command wants it: an identifier that no stored document has, a source that holds a body, a slot that is
--- unused, and room for the document behind each edge.
+-- All is as the command wants it. Whatever a crash leaves of the device at entry is blank or sound, and what stands is a
+-- sound volume. In what settling makes of it no document has the identifier, and its path is not full. The source holds a
+-- body of which no list gets more than 256 tags. A slot is unused, and behind the edge is room for the document's need.
+-- Nobody else writes, and no call fails.
 pub record IsReadyToIngest (id body : List ℕ) (g : Layout) (slot : ℕ) (old new : Ports) : Type 0 where
   pub identifier : IsIdentifier id
   pub is_body : IsBody body
   pub source : old.source.left ≡ Some body
-  pub log : HasWholeLog IsIngestRule g old.device new.device
-  pub fresh : (n : ℕ) (other : List ℕ) → IsStored old.device.cells old.device.image n id other → ⊥
+  pub begins : BeginsSteady old.device new.device
+  pub volume : IsVolume old.device.cells old.device.image g
+  pub sound : Sound old.device.cells old.device.image
   pub unused : IsUnused g old.device.image slot
-  pub room : (at : ℕ) → IsEdge g old.device.image old.device.image at
-      → at + cells_for (length (stored_bytes id body)) ≤ g.cells
+  pub fresh : (n : ℕ) (other : List ℕ) → Stands old.device.cells sound.after n id other → ⊥
+  pub path : IsPassedWhole g old.device.cells sound.after id → ⊥
+  pub postings : HasPostings g.lists body
+  pub room : (n at need : ℕ) → IsHorizon g sound.after sound.after n → IsEdge g sound.after sound.after at
+      → IsNeed g sound.after n id body need → at + need ≤ g.cells
+  pub no_device_fault : IsStill old.device.faults new.device.faults
   pub no_source_fault : IsStill old.source.faults new.source.faults
   pub no_sink_fault : IsStill old.sink.faults new.sink.faults

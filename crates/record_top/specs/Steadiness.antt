@@ -3,17 +3,9 @@ use Rattle.std.specs.Prelude.{◌≡◌, Result, Err, IsTrue, ⊤}
 use Rattle.cell_types.specs.declared.refusal.Evidence.{Evidence}
 use Rattle.cell_types.specs.declared.refusal.Refusal.{Refusal}
 use Rattle.cell_types.specs.declared.refusal.Refusal.TheVariants.{Tampered}
-use Rattle.worm_device.specs.Counts.{IsStill}
-use Rattle.worm_device.specs.State.{DeviceState}
-use Rattle.steady_volumes.specs.Steadiness.{IsSteady, StaysSteady}
+use Rattle.steady_volumes.specs.Steadiness.{StaysSteady}
 use Rattle.record_top.specs.Commands.{Request, ToFind, ToFormat, ToIngest, ToLookUp, ToRecover}
 use Rattle.record_top.specs.Ports.{Ports}
-
--- the device tells, whatever a crash leaves of it at entry is blank or sound, and nobody else writes
-pub record BeginsSteady (old new : DeviceState) : Type 0 where
-  pub tells : IsTrue old.tells
-  pub steady : IsSteady old
-  pub alone : IsStill old.foreign_writes new.foreign_writes
 
 -- A crash in the command leaves an image that is blank or sound, with the documents that were sure at entry or those
 -- that stood there; the device is steady behind it, and no tampering is named.

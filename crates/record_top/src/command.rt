@@ -2,9 +2,10 @@
 ghost use Rattle.std.specs.Prelude.{◌≡◌, ◌↔◌, map};
 ghost use Rattle.std.specs.String.{string_bytes};
 ghost use Rattle.worm_device.specs.Calls.{Called};
+ghost use Rattle.record_top.specs.Begins.{BeginsSteady};
 ghost use Rattle.record_top.specs.Commands.{Asks, AsksNothing, Does, IsAnswered, IsAskedFor, IsUnhindered, Request, request_of};
 ghost use Rattle.record_top.specs.Ports.{ports_of};
-ghost use Rattle.record_top.specs.Steadiness.{BeginsSteady, LeavesWhole};
+ghost use Rattle.record_top.specs.Steadiness.{LeavesWhole};
 
 use crate::find::find_documents;
 use crate::format::format_device;
@@ -14,7 +15,6 @@ use crate::recover::recover_device;
 use crate::words::{Command, command_of};
 use cell_types::Refusal;
 use host_ports::{Sink, Source};
-use slot_walk::documents_were_stored;
 use std::alloc::Global;
 use worm_device::Device;
 
@@ -57,8 +57,6 @@ pub fn run<D: Device, S: Source, K: Sink>(
     let Some(command) = command_of(words) else {
         return Err(Refusal::Usage);
     };
-    // What `complete` rests on: an ingest finds no document that was not stored before.
-    documents_were_stored();
     carry_out(alloc, command, device, source, sink)
 }
 

@@ -30,7 +30,8 @@ returns-clause-complete g c = λ request asks free.
     let new = ports_of (device ran.new.device) (source ran.new.source) (sink ran.new.sink) in
     let one = asks_once _ _ request c.in-Some.ensures.some asks in
     let done = subst (λ (r : Request). Does r old new ran.result) one ran.ensures in
-    completes old new c.documents_were_stored.ensures request ran.result done free
+    completes old new (g.met.D.Device.proper c.args.device.now) (g.met.D.Device.proper ran.new.device) request ran.result
+    done free
 
 pub returns-clause-steady : goal.returns-clause-steady
 returns-clause-steady g c = λ request asks begins.

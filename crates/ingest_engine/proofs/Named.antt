@@ -1,0 +1,142 @@
+-- What an ingest names, once the volume is settled.
+use Rattle.std.proofs.Common.{◌≡◌, ◌<◌, ◌≤◌, ◌+◌, ◌^◌, ◌∙◌, ⊎_elim, ℕ, Bool, List, Option, Some, None, sym, ap, subst, inl, inr, arith}
+use Rattle.std.specs.Prelude.{slice_get, if◌then◌else◌, IsTrue}
+use Rattle.std.proofs.lemmas.Bool.{cases_lt, le-ltb, lt-ltb}
+use Rattle.std.proofs.lemmas.Option.{slice_get_within}
+use Rattle.cell_types.specs.Image.{Image}
+use Rattle.cell_types.specs.Layout.{IsLayout}
+use Rattle.cell_types.specs.declared.refusal.Evidence.{Evidence}
+use Rattle.stored_documents.specs.Slots.{IsEdge, IsHorizon}
+use Rattle.stored_documents.proofs.Extending.{written_on}
+use Rattle.stored_documents.proofs.Holding.{some_is}
+use Rattle.worm_device.specs.Calls.{Called}
+use Rattle.worm_device.specs.Counts.{IsStill}
+use Rattle.worm_device.specs.State.{DeviceState, IsDevice}
+use Rattle.worm_device.proofs.Counting.{still_first, still_second}
+use Rattle.worm_device.proofs.Elapsing.{called_self}
+use Rattle.tree_growth.specs.Readiness.{blank_in, blank_of}
+use Rattle.recovery_engine.specs.Entries.{target_of}
+use Rattle.recovery_engine.specs.Settling.{HasSettled}
+use Rattle.recovery_engine.specs.declared.settling.Ready.{Ready}
+use Rattle.identifier_lookup.specs.Walks.{IsBlankIn}
+use Rattle.plan_writer.specs.PuttingPlans.{AsksForBlank, IsFoundByPlan, IsPlanRule}
+use Rattle.plan_writer.specs.declared.plan.Plan.{Plan}
+use Rattle.plan_writer.proofs.PutFrom.{called, ends_2, free_2, volume_2}
+use Rattle.ingest_plan.specs.Planning.{cut_at}
+use Rattle.ingest_engine.specs.Indexing.{IsFoundOnWay}
+use Rattle.ingest_engine.specs.Ingesting.{IsLogRule, IsNamed, IsPlanFor, by_plan, in_index}
+use Rattle.ingest_engine.proofs.Suited.{copies_of, entry}
+
+module _ {old new : DeviceState} (device : IsDevice new) (r : Ready) (has : HasSettled old new r) (tells : IsTrue old.tells)
+  where
+    -- the horizon is one of what stands, where nobody else wrote
+    is_horizon : IsStill old.foreign_writes new.foreign_writes
+        → IsHorizon r.volume.geometry new.image new.image r.horizon
+    is_horizon still = record {
+      most = (has.settles.ends.1 tells).horizon.most;
+      below = λ m is. written_on has.looked.image ((has.settles.ends.1 tells).horizon.below m is);
+      free = λ less. free_2 r has tells less still;
+    }
+
+    -- and so is the edge
+    is_edge : IsStill old.foreign_writes new.foreign_writes → IsEdge r.volume.geometry new.image new.image r.edge
+    is_edge still = record {
+      u = r.horizon;
+      most = (has.settles.ends.1 tells).horizon.most;
+      free = λ less. free_2 r has tells less still;
+      ends = ends_2 r has tells;
+    }
+
+    -- what was found on the way is named
+    pub named_on_way : (e : Evidence) → IsFoundOnWay r has.settled new e → IsNamed old new e
+    named_on_way e found =
+        let broken = λ (still : IsStill old.foreign_writes new.foreign_writes).
+        found.broken (still_second has.settles.called.foreign_writes has.looked.foreign_writes still)
+        (volume_2 r has tells) (is_horizon still) (is_edge still) in
+        in_index found.rule
+        (record {
+          stands = found.stands;
+          layout = r.volume.geometry;
+          volume = volume_2 r has tells;
+          place = found.place;
+          broken = broken;
+        })
+        (record { ready = r; looked = new; device = device; settled = has; since = called_self new; broken = broken })
+
+-- a blank cell is blank in what stands before the edge
+cut_blank : (edge : ℕ) (image : Image) (cell : ℕ) → image cell ≡ None → cut_at edge image cell ≡ None
+cut_blank edge image cell blank = ⊎_elim
+    (λ (before : cell < edge).
+    let asked : cut_at edge image cell ≡ image cell =
+    ap (λ (b : Bool). if b then image cell else None) (lt-ltb cell edge before) in
+    asked ∙ blank)
+    (λ (past : edge ≤ cell). ap (λ (b : Bool). if b then image cell else None) (le-ltb cell edge past))
+    (cases_lt cell edge)
+
+place_blank : (image : Image) (bucket : ℕ) (child : Option ℕ) → IsBlankIn image bucket child
+    → image (blank_in bucket child) ≡ None
+place_blank image bucket None blank = blank
+place_blank image bucket (Some child) blank = blank
+
+-- what is named while a plan is put, an ingest looks at
+log_rule : (number : ℕ) → IsPlanRule number → IsLogRule number
+log_rule number (inl r) = inl (inl (inl r))
+log_rule number (inr (inl r)) = inl (inl (inr (inl r)))
+log_rule number (inr (inr (inl r))) = inl (inl (inr (inr r)))
+log_rule number (inr (inr (inr (inl r)))) = inl (inr (inr r))
+log_rule number (inr (inr (inr (inr r)))) = inr r
+
+module _ {id body : List ℕ} {old looked : DeviceState} {r : Ready} {p : Plan} (layout : IsLayout r.volume.geometry)
+    (has : HasSettled old looked r) (tells : IsTrue old.tells) (plan : IsPlanFor r id body has.settled looked p)
+  where
+    small : r.edge + plan.index.block_length ≤ 2 ^ 32
+    small = omega (arith, plan.starts, plan.blocks, plan.suits.to, layout.cells)
+
+    told : IsTrue has.settled.tells
+    told = subst IsTrue (sym has.settles.called.tells) tells
+
+    told_walked : IsTrue plan.has.walked.tells
+    told_walked = subst IsTrue (sym plan.has.ends.called.tells) told
+
+    -- where nobody else wrote, the journal asks for blank cells
+    asks_for_blank : IsStill old.foreign_writes looked.foreign_writes → AsksForBlank p looked.image
+    asks_for_blank still k value is below =
+        let got : slice_get plan.index.journal.items k ≡ Some value =
+        subst (λ (l : List (List ℕ)). slice_get l k ≡ Some value) plan.journal is in
+        let e = entry plan.has.planned k (slice_get_within plan.index.journal.items k value got) in
+        let same : e.1 ≡ value = some_is e.1 value (sym e.3 ∙ got) in
+        let planned_here : plan.has.planned.planned e.0 ≡ Some value = e.4 ∙ ap Some same in
+        let at : target_of value ≡ e.0 = copies_of plan.has.planned small e.0 value planned_here in
+        let walked = plan.has.walked in
+        let place : walked.image (blank_of plan.has.place) ≡ None =
+        place_blank walked.image plan.has.place.bucket plan.has.place.child (plan.has.ends.path.4 told).blank in
+        let cut : cut_at r.edge walked.image e.0 ≡ None =
+        plan.has.planned.blank told_walked (cut_blank r.edge walked.image (blank_of plan.has.place) place) e.0 value
+        planned_here in
+        let asked : cut_at r.edge walked.image e.0 ≡ walked.image e.0 =
+        ap (λ (b : Bool). if b then walked.image e.0 else None)
+        (lt-ltb e.0 r.edge (omega (arith, at, below, plan.starts))) in
+        let since = still_second has.settles.called.foreign_writes has.looked.foreign_writes still in
+        let after = still_second plan.has.ends.called.foreign_writes plan.has.ends.looked.foreign_writes since in
+        ap looked.image at ∙ plan.has.ends.quiet after e.0 ∙ sym asked ∙ cut
+
+    -- what was found while the plan was put is named
+    pub named_by_plan : {new : DeviceState} → IsDevice looked → Called looked new → (e : Evidence)
+        → IsFoundByPlan p old looked new e → IsNamed old new e
+    named_by_plan {new} device later e found =
+        let asks = λ (still : IsStill old.foreign_writes new.foreign_writes).
+        asks_for_blank (still_first (called r has).foreign_writes later.foreign_writes still) in
+        by_plan
+        (record {
+          rule = log_rule e.rule found.rule;
+          licensed = found.licensed;
+          before = λ still. found.before still (asks still);
+        })
+        (record {
+          ready = r;
+          looked = looked;
+          device = device;
+          settled = has;
+          since = later;
+          broken = λ still. found.at_entry still (asks still);
+        })
