@@ -1,5 +1,5 @@
 -- What a crash leaves of a settling: an image that is blank or sound, with the documents of one of two.
-use Rattle.std.proofs.Common.{◌≡◌, ◌≤◌, ◌<◌, ◌+◌, ℕ, zero, suc, List, Some, None, refl, sym, ◌∙◌, inl, inr, ⊎_elim, subst, arith}
+use Rattle.std.proofs.Common.{◌≡◌, ◌≤◌, ◌<◌, ◌+◌, ◌⊎◌, ℕ, zero, suc, List, Some, None, refl, sym, ◌∙◌, inl, inr, ⊎_elim, subst, arith}
 use Rattle.std.specs.Prelude.{IsTrue, Result}
 use Rattle.std.proofs.lemmas.Option.{none-some}
 use Rattle.cell_types.specs.Image.{Image, Extends, Between, IsUnchanged}
@@ -70,6 +70,12 @@ first_none : (image : Image) (n : ℕ) (state : SlotState) (j : ℕ) (put : Put)
 first_none image n state j put less h = ⊎_elim (λ (a : (j ≡ 1) × IsFirstEnd image n state put). omega
     (arith, a.0, less)) (λ (b : (j ≡ 2) × IsLastEnd n state put). omega (arith, b.0, less)) h
 
+-- settling makes the same of this image as of the one at entry
+record GoesOn (old : DeviceState) (image : Image) : Type 0 where
+  layout : Layout
+  volume : IsVolume old.cells old.image layout
+  goes : (after : Image) → After old.cells old.image after → Settled old.cells after → After old.cells image after
+
 module _ (old : DeviceState) (device : IsDevice old) (steady : IsSteady old) (image : Image) where
   -- what is left of what stood at entry
   pub left_between : Between old.sure old.image image → IsLeftWhole old image
@@ -78,33 +84,41 @@ module _ (old : DeviceState) (device : IsDevice old) (steady : IsSteady old) (im
     holds = steady_two (λ other e f. steady.each other (record { above = e; below = f })) b.above b.below;
   }
 
-  -- what settling makes the same of as of the image at entry
-  left_goes : (g : Layout) → IsVolume old.cells old.image g →
-      ((after : Image) → After old.cells old.image after → Settled old.cells after → After old.cells image after)
-      → IsLeftWhole old image
-  left_goes g v goes =
-      let s : Sound old.cells old.image = sound_written v.volume.cell v.volume.stands
-      (steady.each old.image (record { above = device.sure; below = extends_self old.image })) in
-      let all : (after : Image) → After old.cells old.image after → After old.cells image after = λ after a.
-      goes after a (subst (Settled old.cells) (one_after old.cells old.image s.after after s.is a) s.settled) in
-      let held : (documents : List Document) → Held old.cells old.image documents → Held old.cells image documents =
-      λ documents h. held_on s all documents h in
-      record { sound = inr (record { after = s.after; is = all s.after s.is; settled = s.settled }); holds = inr held }
-    where
-      held_on : Sound old.cells old.image → ((after : Image) → After old.cells old.image after
-          → After old.cells image after) → (documents : List Document) → Held old.cells old.image documents
-          → Held old.cells image documents
-      held_on s all documents (none blank is) = absurd (not_blank s.is (blank 0))
-      held_on s all documents (of_after after a are) = of_after after (all after a) are
+  module _ (c : GoesOn old image) where
+    entry_sound : Sound old.cells old.image
+    entry_sound = sound_written c.volume.volume.cell c.volume.volume.stands
+        (steady.each old.image (record { above = device.sure; below = extends_self old.image }))
+
+    all_on : (after : Image) → After old.cells old.image after → After old.cells image after
+    all_on after a = c.goes after a
+        (subst (Settled old.cells) (one_after old.cells old.image entry_sound.after after entry_sound.is a)
+        entry_sound.settled)
+
+    -- so it holds the same documents
+    goes_held : (documents : List Document) → Held old.cells old.image documents → Held old.cells image documents
+    goes_held documents (none blank is) = absurd (not_blank entry_sound.is (blank 0))
+    goes_held documents (of_after after a are) = of_after after (all_on after a) are
+
+    left_goes : IsLeftWhole old image
+    left_goes = record {
+      sound = inr (record {
+        after = entry_sound.after;
+        is = all_on entry_sound.after entry_sound.is;
+        settled = entry_sound.settled;
+      });
+      holds = inr goes_held;
+    }
 
   module _ (new : DeviceState) (still : IsStill old.foreign_writes new.foreign_writes) (n : ℕ) where
     -- nothing was put so far
     between_of : (state : SlotState) (l : LeavesPhases (settle_plan old.image n state) 3 old new image) →
-        ((put : Put) → IsInFirst (settle_plan old.image n state) (l.phase + 1) put → ⊥) → IsLeftWhole old image
-    between_of state l never = left_between (record { above = l.sure; below = by_none never (l.only still) })
+        ((put : Put) → IsInFirst (settle_plan old.image n state) (l.phase + 1) put → ⊥)
+        → Between old.sure old.image image ⊎ GoesOn old image
+    between_of state l never = inl (record { above = l.sure; below = by_none never (l.only still) })
 
     by_state : (state : SlotState) → (1 ≤ end_phases state → IsEnding old.cells old.image old.image n state)
-        → LeavesPhases (settle_plan old.image n state) 3 old new image → IsLeftWhole old image
+        → LeavesPhases (settle_plan old.image n state) 3 old new image
+        → Between old.sure old.image image ⊎ GoesOn old image
     by_state Unused ending l = between_of Unused l (λ put h. ends_none old.image n Unused refl h.0 put h.2)
     by_state (Abandoned s r) ending l = between_of (Abandoned s r) l
         (λ put h. ends_none old.image n (Abandoned s r) refl h.0 put h.2)
@@ -112,31 +126,38 @@ module _ (old : DeviceState) (device : IsDevice old) (steady : IsSteady old) (im
         (λ put h. ends_none old.image n (Done s r b j) refl h.0 put h.2)
     by_state (Reserved s r) ending l = at l.phase refl
       where
-        at : (phase : ℕ) → l.phase ≡ phase → IsLeftWhole old image
+        at : (phase : ℕ) → l.phase ≡ phase → Between old.sure old.image image ⊎ GoesOn old image
         at zero is = between_of (Reserved s r) l (λ put h. first_none old.image n (Reserved s r) h.0 put
             (omega (arith, h.1, is)) h.2)
         at (suc k) is =
             let e = ending (omega arith) in
-            left_goes e.layout e.volume (λ after a settled.
-            reserved_goes_on e.layout e.volume n e.horizon after a settled image (l.synced (omega (arith, is))) l.phase s r e.is
-            (l.only still))
+            inr (record {
+              layout = e.layout;
+              volume = e.volume;
+              goes = λ after a settled. reserved_goes_on e.layout e.volume n e.horizon after a settled image
+                  (l.synced (omega (arith, is))) l.phase s r e.is (l.only still);
+            })
     by_state (Committed s r b j) ending l = at l.phase refl
       where
-        at : (phase : ℕ) → l.phase ≡ phase → IsLeftWhole old image
+        at : (phase : ℕ) → l.phase ≡ phase → Between old.sure old.image image ⊎ GoesOn old image
         at zero is = between_of (Committed s r b j) l (λ put h. first_none old.image n (Committed s r b j) h.0 put
             (omega (arith, h.1, is)) h.2)
         at (suc k) is =
             let e = ending (omega arith) in
-            left_goes e.layout e.volume (λ after a settled.
-            committed_goes_on e.layout e.volume n e.horizon after a settled image
-            (l.synced (omega (arith, is))) l.phase s r b j e.is (l.only still) l.all)
+            inr (record {
+              layout = e.layout;
+              volume = e.volume;
+              goes = λ after a settled. committed_goes_on e.layout e.volume n e.horizon after a settled image
+                  (l.synced (omega (arith, is))) l.phase s r b j e.is (l.only still) l.all;
+            })
 
 -- a crash in settling
-pub settling_left : (old new : DeviceState) (result : Result Ready Refusal) → IsDevice old → IsTrue old.tells
+settling_image : (old new : DeviceState) (result : Result Ready Refusal) → IsDevice old → IsTrue old.tells
     → Settles old new result
     → IsStill old.foreign_writes new.foreign_writes → IsSteady old
-    → CrashesLeaveWhole old new
-settling_left old new result device tells settles still steady since image le left =
+    → (since : ℕ) (image : Image) → since ≤ old.moment → LeftSince new since image
+    → LeftSince old since image ⊎ Between old.sure old.image image ⊎ GoesOn old image
+settling_image old new result device tells settles still steady since image le left =
     let w = settles.writes tells in
     let same : w.between ≡ old.image = same_image (w.quiet still) in
     ⊎_elim inl
@@ -145,6 +166,33 @@ settling_left old new result device tells settles still steady since image le le
     (λ some. subst (λ (i : Image). IsEnding old.cells old.image i w.slot w.state) same (w.ending some))
     (subst (λ (i : Image). LeavesPhases (settle_plan i w.slot w.state) 3 old new image) same l)))
     (w.crashes tells since image le left)
+
+pub settling_left : (old new : DeviceState) (result : Result Ready Refusal) → IsDevice old → IsTrue old.tells
+    → Settles old new result
+    → IsStill old.foreign_writes new.foreign_writes → IsSteady old
+    → CrashesLeaveWhole old new
+settling_left old new result device tells settles still steady since image le left = ⊎_elim inl
+    (λ (l : Between old.sure old.image image ⊎ GoesOn old image).
+    inr (⊎_elim (left_between old device steady image) (left_goes old device steady image) l))
+    (settling_image old new result device tells settles still steady since image le left)
+
+-- what stands behind settling, whatever it answers, holds the documents that stood at entry
+pub settling_keeps : (old new : DeviceState) (result : Result Ready Refusal) → IsDevice old → IsDevice new
+    → IsTrue old.tells → Settles old new result
+    → IsStill old.foreign_writes new.foreign_writes → IsSteady old
+    → (documents : List Document) → Held old.cells old.image documents → Held old.cells new.image documents
+settling_keeps old new result device device_new tells settles still steady documents held = ⊎_elim
+    (λ (before : LeftSince old old.moment new.image). ⊎_elim unmoved
+    (λ (m : (m : ℕ) × (old.moment ≤ m) × (m < old.moment)
+    × Between (old.past m).sure (old.past m).image new.image). absurd (omega (arith, m.1, m.2)))
+    before)
+    (λ (l : Between old.sure old.image new.image ⊎ GoesOn old new.image). ⊎_elim unmoved
+    (λ (c : GoesOn old new.image). goes_held old device steady new.image c documents held) l)
+    (settling_image old new result device tells settles still steady old.moment new.image (omega arith)
+    (inl (record { above = device_new.sure; below = extends_self new.image })))
+  where
+    unmoved : Between old.sure old.image new.image → Held old.cells new.image documents
+    unmoved b = subst (λ (i : Image). Held old.cells i documents) (same_both b.below settles.called.image) held
 
 -- what a crash could leave from a steady state on is whole
 pub whole_from : (old new : DeviceState) (image : Image) → IsDevice old → IsSteady old → CrashesLeaveWhole old new

@@ -62,7 +62,7 @@ module _ (old new : DeviceState) (r : Ready) (tells : IsTrue old.tells) (h : Has
               (of_after looked_sound.after whole.is (documents_after looked_sound documents held)));
         }
 
-    crashes_looked : CrashesLeaveWhole old new
+    pub crashes_looked : CrashesLeaveWhole old new
     crashes_looked since image le left = ⊎_elim
         (λ (before : LeftSince h.settled since image).
         settling_left old h.settled (Ok r) device tells h.settles first steady since image le before)

@@ -1,0 +1,9 @@
+pub mod AddsOne
+pub mod Alarms
+pub mod Kept
+pub mod LeftByIngest
+pub mod PlanPhases
+pub mod PutPlans
+pub mod ReserveCells
+pub mod Steady
+pub mod WellPlanned
