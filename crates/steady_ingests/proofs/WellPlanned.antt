@@ -7,7 +7,7 @@ use Rattle.cell_types.specs.Bytes.{AreBytes}
 use Rattle.cell_types.specs.Image.{Image}
 use Rattle.cell_types.specs.Layout.{Layout, root_at}
 use Rattle.stored_documents.specs.Documents.{Stands, stored_bytes}
-use Rattle.stored_documents.specs.Slots.{EndsBelow, IsHorizon, cells_for}
+use Rattle.stored_documents.specs.Slots.{EndsBelow, IsEdge, IsHorizon, cells_for}
 use Rattle.stored_documents.specs.Volumes.{IsVolume, IsWritten}
 use Rattle.stored_documents.proofs.Extending.{written_on}
 use Rattle.index_paths.specs.HashPaths.{IsPassed, PassedTo}
@@ -19,6 +19,7 @@ use Rattle.tamper_rules.proofs.GivenUp.{one_layout}
 use Rattle.tamper_rules.proofs.Images.{same_image}
 use Rattle.volume_growth.specs.Filling.{IsWellPlanned}
 use Rattle.volume_growth.specs.Ingesting as growing
+use Rattle.volume_growth.specs.Needs.{IsNeed}
 use Rattle.worm_device.specs.Counts.{IsStill}
 use Rattle.worm_device.specs.State.{DeviceState, IsDevice}
 use Rattle.worm_device.specs.Views.{seen_directly}
@@ -34,12 +35,14 @@ use Rattle.identifier_lookup.specs.Walks.{EndsThere, IsBlankIn, IsPassedAbove, I
 use Rattle.ingest_plan.specs.Planning.{IsPlanned}
 use Rattle.settled_plans.specs.Laws.{TakesSlot}
 use Rattle.settled_plans.proofs.Answered.{answered}
+use Rattle.settled_plans.proofs.Needed.{needed}
 use Rattle.settled_plans.proofs.Well.{well}
-use Rattle.plan_writer.specs.Planned.{reserved_by}
+use Rattle.plan_writer.specs.Planned.{PlansDocument, Suits, reserved_by}
 use Rattle.plan_writer.specs.declared.plan.Plan.{Plan}
 use Rattle.plan_writer.proofs.PutFrom.{ends_2, free_2, volume_2}
-use Rattle.ingest_engine.specs.Indexing.{HasWalked}
-use Rattle.ingest_engine.specs.Ingesting.{IsPlanFor}
+use Rattle.ingest_plan.specs.declared.plan.PlannedIndex.{PlannedIndex}
+use Rattle.ingest_engine.specs.Indexing.{HasIndex, HasWalked}
+use Rattle.ingest_engine.specs.Ingesting.{need_with}
 use Rattle.steady_volumes.specs.Steadiness.{EndsAs, IsSteady}
 use Rattle.steady_volumes.proofs.LookedAt.{looked_ends, looked_sound}
 
@@ -103,57 +106,54 @@ module _ (old looked : DeviceState) (r : Ready) (tells : IsTrue old.tells) (h : 
   volume_then : IsVolume h.settled.cells h.settled.image g
   volume_then = (h.settles.ends.1 tells).volume
 
-  module _ (p : Plan) (id body : List ℕ) (less : r.horizon < r.volume.geometry.slots)
-      (plans : IsPlanFor r id body h.settled looked p) where
-    walked : DeviceState
-    walked = plans.has.walked
+  module _ (id body : List ℕ) (index : PlannedIndex) (less : r.horizon < r.volume.geometry.slots)
+      (has : HasIndex r id body index h.settled looked) where
+    walk : HasWalked r id has.place has.level h.settled has.walked looked
+    walk = has.ends
 
-    walk : HasWalked r id plans.has.place plans.has.level h.settled plans.has.walked looked
-    walk = plans.has.ends
-
-    still_walked : IsStill plans.has.walked.foreign_writes looked.foreign_writes
+    still_walked : IsStill has.walked.foreign_writes looked.foreign_writes
     still_walked = still_second walk.called.foreign_writes walk.looked.foreign_writes still_looks
 
-    same_walked : looked.image ≡ plans.has.walked.image
+    same_walked : looked.image ≡ has.walked.image
     same_walked = same_image (walk.quiet still_walked)
 
     tells_then : IsTrue h.settled.tells
     tells_then = subst IsTrue (sym h.settles.called.tells) tells
 
-    tells_walked : IsTrue plans.has.walked.tells
+    tells_walked : IsTrue has.walked.tells
     tells_walked = subst IsTrue (sym walk.called.tells) tells_then
 
     -- the path of the identifier ends there
-    there : EndsThere g id (seen_directly h.settled 0) (seen_directly plans.has.walked 0) plans.has.place
-        plans.has.level
+    there : EndsThere g id (seen_directly h.settled 0) (seen_directly has.walked 0) has.place
+        has.level
     there = walk.path.4 tells_then
 
-    walked_cells : plans.has.walked.cells ≡ g.cells
+    walked_cells : has.walked.cells ≡ g.cells
     walked_cells = walk.called.cells ∙ sym volume_then.size
 
-    passed_there : IsPassedUpToPlace g g.cells looked.image id plans.has.place plans.has.level
+    passed_there : IsPassedUpToPlace g g.cells looked.image id has.place has.level
     passed_there =
-        subst (λ (i : Image). IsPassedUpToPlace g g.cells i id plans.has.place plans.has.level) (sym same_walked)
-        (subst (λ (k : ℕ). IsPassedUpToPlace g k plans.has.walked.image id plans.has.place plans.has.level) walked_cells
+        subst (λ (i : Image). IsPassedUpToPlace g g.cells i id has.place has.level) (sym same_walked)
+        (subst (λ (k : ℕ). IsPassedUpToPlace g k has.walked.image id has.place has.level) walked_cells
         (there.passed volume_then))
 
-    passed_down : PassedDown g looked.image (sought_in g.cells g id) plans.has.level plans.has.place.child
-    passed_down = down g g.cells looked.image id plans.has.level plans.has.place.bucket plans.has.place.child
+    passed_down : PassedDown g looked.image (sought_in g.cells g id) has.level has.place.child
+    passed_down = down g g.cells looked.image id has.level has.place.bucket has.place.child
         walk.path.2 passed_there.passed passed_there.above
 
-    digest_is : plans.has.level.digest ≡ sha256 id
+    digest_is : has.level.digest ≡ sha256 id
     digest_is = walk.path.0
 
-    ends_path : EndsPath g looked.image plans.has.level plans.has.place
-    ends_path = subst (λ (i : Image). EndsPath g i plans.has.level plans.has.place) (sym same_walked) (record {
+    ends_path : EndsPath g looked.image has.level has.place
+    ends_path = subst (λ (i : Image). EndsPath g i has.level has.place) (sym same_walked) (record {
       digest = subst AreBytes (sym digest_is) (digest_is_bytes id);
       number = walk.path.1.number;
       open_at = walk.path.2;
       node = there.reached;
-      blank = blank g g.cells plans.has.walked.image id plans.has.level plans.has.place.bucket plans.has.place.child
+      blank = blank g g.cells has.walked.image id has.level has.place.bucket has.place.child
           there.blank;
-      bucket = λ child is. above_written g plans.has.walked.cells plans.has.walked.image id plans.has.level
-          plans.has.place.bucket plans.has.place.child (there.passed volume_then).above child is;
+      bucket = λ child is. above_written g has.walked.cells has.walked.image id has.level
+          has.place.bucket has.place.child (there.passed volume_then).above child is;
     })
 
     none_now : NoneHasTrail g g.cells looked.image id
@@ -168,48 +168,71 @@ module _ (old looked : DeviceState) (r : Ready) (tells : IsTrue old.tells) (h : 
         m id other refl stands in
         none_now m (record { body = other; stands = stands; trail = rule.path })
 
-    horizon_now : IsHorizon g looked.image looked.image r.horizon
+    pub horizon_now : IsHorizon g looked.image looked.image r.horizon
     horizon_now = record {
       most = h.settles.ends.0.horizon;
       below = λ m is. written_on h.looked.image ((h.settles.ends.1 tells).horizon.below m is);
       free = λ inside. free_2 r h tells inside still;
     }
 
-    takes : TakesSlot g looked.image (plan_of r.horizon p id body) (p.start + plans.index.block_length)
-    takes = record {
-      layout = h.settles.ends.0.layout;
-      volume = record { volume = volume_now.volume; size = refl };
-      settled = settled_now;
-      horizon = horizon_now;
-      slot = less;
-      begins = subst (EndsBelow g looked.image r.horizon) (sym plans.starts) (ends_2 r h tells);
-      room =
-          let count : length p.document.now ≡ cells_for (length (stored_bytes id body)) = plans.suits.document
-          ∙ ap cells_for plans.document.bytes in
-          omega (arith, count, plans.blocks);
-      inside = plans.suits.to;
-      identifier = plans.document.identifier;
-      body = plans.document.is_body;
-      absent = absent;
+    -- what it takes is the document's need
+    pub need : IsNeed g looked.image r.horizon id body (need_with id body index)
+    need = subst (λ (i : Image). IsNeed g i r.horizon id body (need_with id body index)) (sym same_walked)
+        (needed tells_walked still_walked h.settles.ends.0.layout
+        (subst (λ (i : Image). IsSettled g i) same_walked settled_now)
+        (subst (λ (i : Image). IsHorizon g i i r.horizon) same_walked horizon_now) less
+        (subst (λ (i : Image). EndsBelow g i r.horizon r.edge) same_walked (ends_2 r h tells))
+        (subst (λ (i : Image). EndsPath g i has.level has.place) same_walked ends_path) digest_is
+        (subst (λ (i : Image). PassedDown g i (sought_in g.cells g id) has.level has.place.child) same_walked passed_down)
+        has.planned)
+
+    -- the edge is one of what stands
+    pub edge_now : IsEdge g looked.image looked.image r.edge
+    edge_now = record {
+      u = r.horizon;
+      most = h.settles.ends.0.horizon;
+      free = horizon_now.free;
+      ends = ends_2 r h tells;
     }
 
-    planned : IsPlanned g r.horizon p.start plans.has.level plans.has.place body plans.index plans.has.walked looked
-    planned = subst
-        (λ (k : ℕ). IsPlanned g r.horizon k plans.has.level plans.has.place body plans.index plans.has.walked looked)
-        (sym plans.starts) plans.has.planned
+    -- it is put by a plan of the document
+    module _ (p : Plan) (starts : p.start ≡ r.edge) (suits : Suits g p) (document : PlansDocument p id body)
+        (blocks : p.block_length ≡ index.block_length) (journal : p.journal.now ≡ index.journal.items) where
+      takes : TakesSlot g looked.image (plan_of r.horizon p id body) (p.start + index.block_length)
+      takes = record {
+        layout = h.settles.ends.0.layout;
+        volume = record { volume = volume_now.volume; size = refl };
+        settled = settled_now;
+        horizon = horizon_now;
+        slot = less;
+        begins = subst (EndsBelow g looked.image r.horizon) (sym starts) (ends_2 r h tells);
+        room =
+            let count : length p.document.now ≡ cells_for (length (stored_bytes id body)) = suits.document
+            ∙ ap cells_for document.bytes in
+            omega (arith, count, blocks);
+        inside = suits.to;
+        identifier = document.identifier;
+        body = document.is_body;
+        absent = absent;
+      }
 
-    -- so the plan is well made
-    pub well_planned : (after : Image) × IsWellPlanned g looked.image after (plan_of r.horizon p id body)
-    well_planned =
-        let at : Image → Type 0 = λ i. (after : Image) × IsWellPlanned g i after (plan_of r.horizon p id body) in
-        subst (λ (i : Image). (after : Image) × IsWellPlanned g i after (plan_of r.horizon p id body)) (sym same_walked)
-        (well (answered {g = g} {p = plan_of r.horizon p id body} {old = plans.has.walked} {new = looked} tells_walked
-        still_walked (walk.quiet still_walked)
-        (subst (λ (i : Image). TakesSlot g i (plan_of r.horizon p id body) (p.start + plans.index.block_length))
-        same_walked takes)
-        plans.journal
-        (subst (λ (i : Image). EndsPath g i plans.has.level plans.has.place) same_walked ends_path)
-        digest_is
-        (subst (λ (i : Image). PassedDown g i (sought_in g.cells g id) plans.has.level plans.has.place.child)
-        same_walked passed_down)
-        planned))
+      planned : IsPlanned g r.horizon p.start has.level has.place body index has.walked looked
+      planned = subst
+          (λ (k : ℕ). IsPlanned g r.horizon k has.level has.place body index has.walked looked)
+          (sym starts) has.planned
+
+      -- so the plan is well made
+      pub well_planned : (after : Image) × IsWellPlanned g looked.image after (plan_of r.horizon p id body)
+      well_planned =
+          let at : Image → Type 0 = λ i. (after : Image) × IsWellPlanned g i after (plan_of r.horizon p id body) in
+          subst (λ (i : Image). (after : Image) × IsWellPlanned g i after (plan_of r.horizon p id body)) (sym same_walked)
+          (well (answered {g = g} {p = plan_of r.horizon p id body} {old = has.walked} {new = looked} tells_walked
+          still_walked (walk.quiet still_walked)
+          (subst (λ (i : Image). TakesSlot g i (plan_of r.horizon p id body) (p.start + index.block_length))
+          same_walked takes)
+          journal
+          (subst (λ (i : Image). EndsPath g i has.level has.place) same_walked ends_path)
+          digest_is
+          (subst (λ (i : Image). PassedDown g i (sought_in g.cells g id) has.level has.place.child)
+          same_walked passed_down)
+          planned))
