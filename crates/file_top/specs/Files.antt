@@ -1,13 +1,12 @@
 -- What a command does to the bytes of a file.
 use Rattle.std.specs.Prelude.{ℕ, List, Option, Some, None, Result, Ok, Err, ⊤}
 use Rattle.cell_types.specs.declared.refusal.Refusal.{Refusal}
-use Rattle.cell_types.specs.declared.refusal.Refusal.TheVariants.{SinkFault}
 use Rattle.host_files.specs.Cells.{image_of}
 use Rattle.host_files.specs.Crashes.{CrashLeaves}
 use Rattle.host_files.specs.File.{Told}
 use Rattle.host_ports.specs.Sinks.{SinkState, Gets}
 use Rattle.host_ports.specs.Sources.{SourceState, Gives}
-use Rattle.record_top.specs.Ingesting.{acknowledgement}
+use Rattle.record_top.specs.Ingesting.{HasStored, acknowledgement}
 use Rattle.stored_documents.specs.Documents.{IsDocument}
 
 -- what the file below tells, the source and the sink that a command is given, as they are at one moment
@@ -38,12 +37,6 @@ pub record IsKeptIn (cells : ℕ) (told : Told) (n : ℕ) (id body : List ℕ) :
 abbrev pub KeepsAll : ℕ → List ℕ → Told → Type 0
 KeepsAll cells bytes told =
     (n : ℕ) (id body : List ℕ) → IsDocument cells (image_of cells bytes) n id body → IsKeptIn cells told n id body
-
--- `ingest` has stored its document: it was acknowledged, or the sink failed then
-abbrev pub HasStored : Result Unit Refusal → Type 0
-HasStored (Ok _) = ⊤
-HasStored (Err SinkFault) = ⊤
-HasStored (Err refusal) = ⊥
 
 -- at Ok this slot was acknowledged
 abbrev pub Acknowledges : Result Unit Refusal → ℕ → SinkState → SinkState → Type 0

@@ -9,10 +9,12 @@ use Rattle.cell_types.specs.declared.refusal.Refusal.{Refusal}
 use Rattle.cell_types.specs.declared.refusal.Refusal.TheVariants as refusals
 use Rattle.host_ports.specs.Sources.{Gives, IsAtEnd}
 use Rattle.stored_documents.specs.Documents.{Stands}
+use Rattle.stored_documents.specs.Slots.{IsEdge, IsHorizon}
 use Rattle.stored_documents.specs.Volumes.{IsVolume}
 use Rattle.stored_documents.proofs.Extending.{volume_on}
 use Rattle.index_paths.specs.Postings.{AreTags}
 use Rattle.index_paths.proofs.Tags.{tags_one}
+use Rattle.volume_growth.specs.Needs.{IsNeed}
 use Rattle.worm_device.specs.Calls.{Called}
 use Rattle.worm_device.specs.State.{IsDevice}
 use Rattle.worm_device.proofs.Counting.{rose_or_still, still_first}
@@ -22,6 +24,7 @@ use Rattle.recovery_engine.specs.Settling.{HasSettled, Settles}
 use Rattle.recovery_engine.specs.declared.settling.Ready.{Ready}
 use Rattle.steady_volumes.proofs.Alarms.{looked_unbroken, settling_named}
 use Rattle.steady_volumes.proofs.LookedAt.{looked_ends}
+use Rattle.steady_ingests.proofs.WellPlanned as planned
 use Rattle.identifier_lookup.specs.Walks.{IsPassedWhole}
 use Rattle.plan_writer.proofs.PutFrom.{volume_2}
 use Rattle.ingest_engine.specs.Ingesting.{HasFullPath, HasNoRoom, HasNoSlot, IngestEnds, IsFoundBehind, IsNamed, IsTaken, IsTooMany, by_plan, by_settling, in_index}
@@ -120,7 +123,26 @@ module _ {id body : List ℕ} {g : Layout} {slot : ℕ} {old new : Ports} (ready
 
   -- there is room for the need
   fits : (need free : ℕ) → HasNoRoom id body need free old.device new.device → ⊥
-  fits need free h = ?
+  fits need free h =
+      let has = h.settled.settled in
+      let same = stands_as h.ready has in
+      let one = layout h.ready has in
+      let horizon = planned.horizon_now old.device new.device h.ready ready.begins.tells has ready.begins.alone device
+      device_new ready.begins.steady id body h.index h.settled.slot h.has in
+      let edge = planned.edge_now old.device new.device h.ready ready.begins.tells has ready.begins.alone device
+      device_new ready.begins.steady id body h.index h.settled.slot h.has in
+      let need_now : IsNeed h.ready.volume.geometry new.device.image h.ready.horizon id body need =
+      subst (λ (n : ℕ). IsNeed h.ready.volume.geometry new.device.image h.ready.horizon id body n) (sym h.need_is)
+      (planned.need old.device new.device h.ready ready.begins.tells has ready.begins.alone device device_new
+      ready.begins.steady id body h.index h.settled.slot h.has) in
+      let room : h.ready.edge + need ≤ g.cells = ready.room h.ready.horizon h.ready.edge need
+      (subst (λ (l : Layout). IsHorizon l ready.sound.after ready.sound.after h.ready.horizon) one
+      (subst (λ (i : Image). IsHorizon h.ready.volume.geometry i i h.ready.horizon) same horizon))
+      (subst (λ (l : Layout). IsEdge l ready.sound.after ready.sound.after h.ready.edge) one
+      (subst (λ (i : Image). IsEdge h.ready.volume.geometry i i h.ready.edge) same edge))
+      (subst (λ (l : Layout). IsNeed l ready.sound.after h.ready.horizon id body need) one
+      (subst (λ (i : Image). IsNeed h.ready.volume.geometry i h.ready.horizon id body need) same need_now)) in
+      omega (arith, room, h.free_is, h.less, ap (λ (l : Layout). l.cells) one)
 
   -- once the volume is settled no rule is broken in what stands
   behind_unbroken : {e : Evidence} → IsFoundBehind old.device new.device e → ⊥

@@ -5,6 +5,7 @@ pub mod Finds
 pub mod Listed
 pub mod LookUps
 pub mod MatchLines
+pub mod OneMore
 pub mod Options
 pub mod Pieces
 pub mod Steadily

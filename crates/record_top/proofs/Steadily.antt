@@ -1,4 +1,4 @@
--- What a crash leaves of each command that adds no document, from a steady device on, where nobody else writes.
+-- What a crash leaves of each command, from a steady device on, where nobody else writes.
 use Rattle.std.proofs.Common.{◌≡◌, ◌⊎◌, ℕ, List, [], Some, None, Result, Ok, Err, refl, sym, ap, ◌∙◌, inl, inr, ⊎_elim, subst, arith}
 use Rattle.std.specs.Global.{Vec}
 use Rattle.std.proofs.lemmas.Option.{none-some}
@@ -34,6 +34,7 @@ use Rattle.record_top.specs.Formatting.{DoesFormat, FormatCommandEnds}
 use Rattle.record_top.specs.LookingUp.{Answers, DoesLookUp, looked, misnamed}
 use Rattle.record_top.specs.Ports.{Ports, Tells, TellsFromMemory}
 use Rattle.record_top.specs.Recovering.{DoesRecover, recovered}
+use Rattle.record_top.proofs.OneMore.{ingest_adds}
 use Rattle.record_top.specs.Begins.{BeginsSteady}
 use Rattle.record_top.specs.Steadiness.{AddsNone, LeavesWhole}
 
@@ -273,7 +274,7 @@ module _ (old new : Ports) (device : IsDevice old.device) (device_new : IsDevice
       → LeavesWhole request old new result
   leaves_whole (ToFormat slots lists) result does =
       format_adds (layout_on old slots lists) result refl does
-  leaves_whole (ToIngest id) result does = tt
+  leaves_whole (ToIngest id) result does = ingest_adds id old new device device_new begins result does
   leaves_whole (ToFind asked) result does = find_adds asked result does
   leaves_whole (ToLookUp id) result does = look_up_adds id result does
   leaves_whole ToRecover result does = recover_adds result does

@@ -1,8 +1,8 @@
 -- The command `ingest`: it stores the body that the source gives in the first free slot, and acknowledges it.
-use Rattle.std.specs.Prelude.{◌≡◌, ◌≤◌, ◌+◌, ℕ, List, [], ◌∷◌, codes, Some, Result, Err}
+use Rattle.std.specs.Prelude.{◌≡◌, ◌≤◌, ◌+◌, ℕ, List, [], ◌∷◌, codes, Some, Result, Ok, Err, ⊤}
 use Rattle.cell_types.specs.Layout.{Layout}
 use Rattle.cell_types.specs.declared.refusal.Refusal.{Refusal}
-use Rattle.cell_types.specs.declared.refusal.Refusal.TheVariants.{BadIdentifier}
+use Rattle.cell_types.specs.declared.refusal.Refusal.TheVariants.{BadIdentifier, DeviceFault, SinkFault}
 use Rattle.host_ports.specs.Sources.{Gives, IsAtEnd}
 use Rattle.stored_documents.specs.Documents.{IsBody, IsIdentifier, Stands}
 use Rattle.stored_documents.specs.Slots.{IsEdge, IsHorizon, IsUnused}
@@ -43,6 +43,19 @@ pub data DoesIngest (id : List ℕ) (old new : Ports) (result : Result Unit Refu
       → Gives old.source.left new.source.left body → IsAtEnd new.source.left
       → Ingests id body old.device new.device answer → Tells acknowledgement answer old new result
       → DoesIngest id old new result
+
+-- the document is stored: it was acknowledged, or the sink failed then
+abbrev pub HasStored : Result Unit Refusal → Type 0
+HasStored (Ok _) = ⊤
+HasStored (Err SinkFault) = ⊤
+HasStored (Err refusal) = ⊥
+
+-- it is refused, with no fault of the device
+abbrev pub HasRefused : Result Unit Refusal → Type 0
+HasRefused (Ok _) = ⊥
+HasRefused (Err SinkFault) = ⊥
+HasRefused (Err DeviceFault) = ⊥
+HasRefused (Err refusal) = ⊤
 
 -- All is as the command wants it. Whatever a crash leaves of the device at entry is blank or sound, and what stands is a
 -- sound volume. In what settling makes of it no document has the identifier, and its path is not full. The source holds a

@@ -1,10 +1,20 @@
 -- What a crash leaves of a command, at whichever moment of it.
-use Rattle.std.specs.Prelude.{◌≡◌, Result, Err, IsTrue, ⊤}
+use Rattle.std.specs.Prelude.{◌≡◌, ◌<◌, ◌-◌, ℕ, List, Result, Err}
+use Rattle.cell_types.specs.Layout.{Layout}
 use Rattle.cell_types.specs.declared.refusal.Evidence.{Evidence}
 use Rattle.cell_types.specs.declared.refusal.Refusal.{Refusal}
-use Rattle.cell_types.specs.declared.refusal.Refusal.TheVariants.{Tampered}
+use Rattle.cell_types.specs.declared.refusal.Refusal.TheVariants.{Full, Tampered}
+use Rattle.host_ports.specs.Sources.{Gives}
+use Rattle.stored_documents.specs.Documents.{Document}
+use Rattle.stored_documents.specs.Slots.{IsEdge, IsHorizon}
+use Rattle.stored_documents.specs.Volumes.{IsVolume}
+use Rattle.tamper_rules.specs.Settling.{Held, Sound}
+use Rattle.volume_growth.specs.Needs.{IsNeed}
+use Rattle.worm_device.specs.State.{DeviceState}
 use Rattle.steady_volumes.specs.Steadiness.{StaysSteady}
+use Rattle.steady_ingests.specs.Steadiness.{HasOneMore, StaysSteadyBy}
 use Rattle.record_top.specs.Commands.{Request, ToFind, ToFormat, ToIngest, ToLookUp, ToRecover}
+use Rattle.record_top.specs.Ingesting.{HasRefused, HasStored}
 use Rattle.record_top.specs.Ports.{Ports}
 
 -- A crash in the command leaves an image that is blank or sound, with the documents that were sure at entry or those
@@ -13,10 +23,39 @@ pub record AddsNone (old new : Ports) (result : Result Unit Refusal) : Type 0 wh
   pub stays : StaysSteady old.device new.device
   pub no_alarm : (e : Evidence) → result ≡ Err (Tampered e) → ⊥
 
--- what a crash leaves of a command, by what was asked for; of an ingest it is not said yet
+-- So much was needed of the sound volume that stood, once it is settled, for the document in its first free slot; and so
+-- many cells are free behind its edge, which are fewer.
+pub record IsExactlyTooMany (id body : List ℕ) (need free : ℕ) (old : DeviceState) : Type 0 where
+  pub sound : Sound old.cells old.image
+  pub layout : Layout
+  pub volume : IsVolume old.cells sound.after layout
+  pub slot : ℕ
+  pub horizon : IsHorizon layout sound.after sound.after slot
+  pub edge : ℕ
+  pub is_edge : IsEdge layout sound.after sound.after edge
+  pub need_is : IsNeed layout sound.after slot id body need
+  pub free_is : free ≡ layout.cells - edge
+  pub less : free < need
+
+-- A crash in an ingest leaves an image that is blank or sound, with the documents that were sure at entry, those that
+-- stood there, or these and the new one behind them; the device is steady behind it, and no tampering is named. Where
+-- the document is stored, the volume is settled, all of it sure, and has it behind the documents that it held; any
+-- refusal but a fault of the device leaves the documents as they were; and where there was no room, the need is exact.
+-- The body is what the source gave.
+pub record AddsOne (id : List ℕ) (old new : Ports) (result : Result Unit Refusal) : Type 0 where
+  pub body : List ℕ
+  pub gives : Gives old.source.left new.source.left body
+  pub stays : StaysSteadyBy id body old.device new.device
+  pub no_alarm : (e : Evidence) → result ≡ Err (Tampered e) → ⊥
+  pub adds : HasStored result → (n : ℕ) × HasOneMore id body n old.device new.device
+  pub keeps : HasRefused result → (documents : List Document)
+      → Held old.device.cells old.device.image documents → Held new.device.cells new.device.image documents
+  pub needs : (need free : ℕ) → result ≡ Err (Full need free) → IsExactlyTooMany id body need free old.device
+
+-- what a crash leaves of a command, by what was asked for
 abbrev pub LeavesWhole : Request → Ports → Ports → Result Unit Refusal → Type 0
 LeavesWhole (ToFormat slots lists) old new result = AddsNone old new result
-LeavesWhole (ToIngest id) old new result = ⊤
+LeavesWhole (ToIngest id) old new result = AddsOne id old new result
 LeavesWhole (ToFind asked) old new result = AddsNone old new result
 LeavesWhole (ToLookUp id) old new result = AddsNone old new result
 LeavesWhole ToRecover old new result = AddsNone old new result
