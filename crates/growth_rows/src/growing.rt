@@ -1,7 +1,5 @@
 //! A list that grows by 2,000 rising keys.
-use crate::lists::{
-    CELLS, FLOOR, HEAD, are_found_or_named, insert_key, key_of, new_device, plan_key,
-};
+use crate::lists::{CELLS, FLOOR, HEAD, are_found, insert_key, key_of, new_device, plan_key};
 use std::test::Fail;
 use worm_device::Device;
 
@@ -52,10 +50,7 @@ fn each_key_costs_a_block_at_most_and_is_found_again(rt: HostRuntime) -> Result<
         }
     }
     assert_eq!(rt; next, FLOOR + 256 * BLOCKS_BEHIND);
-    assert!(rt;
-        are_found_or_named(&mut device, KEYS, next, None)?,
-        "a key was lost"
-    );
+    assert!(rt; are_found(&mut device, KEYS, next)?, "a key was lost");
     // A posting alone; or with its jump cell and its block.
     assert_eq!(rt; cells.least, 1);
     assert_eq!(rt; cells.most, 258);

@@ -162,35 +162,31 @@ pub fn key_of(slot: u32) -> u32 {
     slot.saturating_mul(256)
 }
 
-/// Whether each key of the first so many slots is found as its own, or this cell is named where it is looked for.
-pub fn are_found_or_named(
-    device: &mut MemoryDevice,
-    count: u32,
-    edge: u32,
-    named: Option<u32>,
-) -> Result<bool, Fail>
-    ensures { (memory_of device.new).cells ≡ (memory_of device.old).cells }
-{
-    if device.cells() < HEAD + 256 || edge > device.cells() {
-        return Err(Fail::from("the device is too small"));
-    }
-    let bounds = Bounds { pool: FLOOR, edge };
+/// Whether each key of the first so many slots is found as its own.
+pub fn are_found(device: &mut MemoryDevice, count: u32, edge: u32) -> Result<bool, Fail> {
     for slot in 0..count {
-        match find_key(device, key_of(slot), bounds) {
-            Ok(Some(found)) => {
-                if found != key_of(slot) {
-                    return Ok(false);
-                }
-            }
-            Err(Fault::Tampered(evidence)) => {
-                if named != Some(evidence.cell) {
-                    return Ok(false);
-                }
-            }
-            _ => return Ok(false),
+        if !is_found_or_named(device, slot, edge, None)? {
+            return Ok(false);
         }
     }
     Ok(true)
+}
+
+/// Whether the key of a slot is found as its own, or this cell is named where it is looked for.
+pub fn is_found_or_named(
+    device: &mut MemoryDevice,
+    slot: u32,
+    edge: u32,
+    named: Option<u32>,
+) -> Result<bool, Fail> {
+    if device.cells() < HEAD + 256 || edge > device.cells() {
+        return Err(Fail::from("the device is too small"));
+    }
+    match find_key(device, key_of(slot), Bounds { pool: FLOOR, edge }) {
+        Ok(Some(found)) => Ok(found == key_of(slot)),
+        Err(Fault::Tampered(evidence)) => Ok(named == Some(evidence.cell)),
+        _ => Ok(false),
+    }
 }
 
 /// The first key of the list at or past this one.
