@@ -11,17 +11,19 @@ use Rattle.host_files.specs.File.{Told}
 use Rattle.host_ports.specs.Sinks.{SinkState}
 use Rattle.host_ports.specs.Sources.{Gives, SourceState}
 use Rattle.ingest_engine.specs.Ingesting.{IngestEnds, Ingests, IsIngested}
-use Rattle.record_top.specs.Ingesting.{DoesIngest, acknowledgement, misnamed, untaken, taken}
+use Rattle.record_top.specs.Ingesting.{DoesIngest, HasStored, acknowledgement, misnamed, untaken, taken}
 use Rattle.record_top.specs.Ports.{Ports, Tells, ports_of}
 use Rattle.record_top.specs.Taking.{refusal_of_body_fault}
 use Rattle.record_top.specs.declared.body.BodyFault.{BodyFault}
 use Rattle.record_top.specs.declared.body.BodyFault.TheVariants as faults
 use Rattle.record_top.proofs.Pieces.{gives_nothing}
-use Rattle.stored_documents.specs.Documents.{IsDocument}
+use Rattle.stored_documents.specs.Documents.{Document, IsDocument}
+use Rattle.index_paths.specs.Keeping.{Kept}
+use Rattle.index_paths.proofs.KeepingLaws.{kept_on}
 use Rattle.stored_documents.proofs.Extending.{document_on}
 use Rattle.worm_device.specs.Calls.{Called}
 use Rattle.worm_device.specs.State.{DeviceState, LeftSince}
-use Rattle.file_top.specs.Files.{Acknowledges, HasStored, IsKeptIn, IsStored, KeepsAll, KeepsIn, WhereTold, file_ports}
+use Rattle.file_top.specs.Files.{Acknowledges, IsKeptIn, IsLedToIn, IsStored, KeepsAll, KeepsIn, WhereTold, file_ports}
 
 -- what a crash from now on leaves has what is sure
 left_now : (s : DeviceState) (image : Image) → LeftSince s s.moment image → Between s.sure s.image image
@@ -38,6 +40,18 @@ kept_told cells reads faults parts told seen n id body stands = record {
       let now = left_now (device_at cells reads faults parts (Some told)) (image_of cells bytes)
       (seen told told.moment bytes refl (inl leaves)) in
       document_on now.above stands;
+}
+
+-- what the index leads to in the sure image it goes on leading to
+led_told : (cells reads faults parts : ℕ) (told : Told)
+    → CrashesAreSeen (device_at cells reads faults parts (Some told)) (Some told) → {documents : List Document}
+    → Kept cells (image_of cells told.now.sure) documents → IsLedToIn cells told documents
+led_told cells reads faults parts told seen kept = record {
+  sure = kept;
+  left = λ bytes leaves.
+      let now = left_now (device_at cells reads faults parts (Some told)) (image_of cells bytes)
+      (seen told told.moment bytes refl (inl leaves)) in
+      kept_on now.above kept;
 }
 
 -- what stands in these bytes is sure, and so each of their documents is kept
@@ -71,7 +85,7 @@ stored : (b r f p cells reads faults parts : ℕ) (old new : Option Told) (id bo
     → (IsTrue (is_some old) → IsIngested id body slot (device_at b r f p old) (device_at cells reads faults parts new))
     → Acknowledges result slot sink sink'
     → WhereTold old new (λ before after.
-    IsStored cells id body after sink sink' result × KeepsAll cells before.now.bytes after)
+    IsStored cells id body before after sink sink' result × KeepsAll cells before.now.bytes after)
 stored b r f p cells reads faults parts None None id body slot sink sink' result called seen ingested named = tt
 stored b r f p cells reads faults parts None (Some u) id body slot sink sink' result called seen ingested named =
     one_tells called.tells
@@ -82,6 +96,8 @@ stored b r f p cells reads faults parts (Some t) (Some u) id body slot sink sink
       record {
         slot = slot;
         kept = kept_told cells reads faults parts u seen slot id body is.document;
+        led = λ documents before. led_told cells reads faults parts u seen
+            (is.keeps documents (subst (λ (k : ℕ). Kept k (image_of k t.now.bytes) documents) called.cells before));
         named = named;
       },
       keeps_all b cells reads faults parts t.now.bytes u (sym called.cells) seen is.synced,
@@ -106,7 +122,7 @@ module _ (b r f p cells reads faults parts : ℕ) (told told' : Option Told) (id
       → Tells acknowledgement answer (ports_of device source sink) (ports_of later source' sink') result
       → HasStored result
       → WhereTold told told' (λ before after.
-      IsStored cells id given after sink sink' result × KeepsAll cells before.now.bytes after)
+      IsStored cells id given before after sink sink' result × KeepsAll cells before.now.bytes after)
   told_of (Ok u) given (Ok slot) ingests tells has =
       stored b r f p cells reads faults parts told told' id given slot sink sink' (Ok u) ingests.called seen
       ingests.ends tells

@@ -1,5 +1,5 @@
 -- What a command does to the bytes of a file.
-use Rattle.std.specs.Prelude.{ℕ, List, Option, Some, None, Result, Ok, Err, ⊤}
+use Rattle.std.specs.Prelude.{ℕ, List, [], ◌∷◌, ◌++◌, Option, Some, None, Result, Ok, Err, ⊤}
 use Rattle.cell_types.specs.declared.refusal.Refusal.{Refusal}
 use Rattle.host_files.specs.Cells.{image_of}
 use Rattle.host_files.specs.Crashes.{CrashLeaves}
@@ -7,7 +7,9 @@ use Rattle.host_files.specs.File.{Told}
 use Rattle.host_ports.specs.Sinks.{SinkState, Gets}
 use Rattle.host_ports.specs.Sources.{SourceState, Gives}
 use Rattle.record_top.specs.Ingesting.{HasStored, acknowledgement}
-use Rattle.stored_documents.specs.Documents.{IsDocument}
+use Rattle.stored_documents.specs.Documents.{Document, IsDocument}
+use Rattle.index_paths.specs.Keeping.{Kept}
+use Rattle.ingest_engine.specs.Ingesting.{document_in}
 
 -- what the file below tells, the source and the sink that a command is given, as they are at one moment
 pub record FilePorts : Type 0 where
@@ -43,11 +45,19 @@ abbrev pub Acknowledges : Result Unit Refusal → ℕ → SinkState → SinkStat
 Acknowledges (Ok _) n old new = Gets old.held new.held (acknowledgement n)
 Acknowledges (Err refusal) n old new = ⊤
 
--- the document is kept in a slot, which was acknowledged at Ok
-pub record IsStored (cells : ℕ) (id body : List ℕ) (told : Told) (old new : SinkState) (result : Result Unit Refusal)
-    : Type 0 where
+-- The index leads to these documents in the bytes that no crash takes, and in each file that a crash leaves from now on.
+pub record IsLedToIn (cells : ℕ) (told : Told) (documents : List Document) : Type 0 where
+  pub sure : Kept cells (image_of cells told.now.sure) documents
+  pub left : (bytes : List ℕ) → CrashLeaves told.now bytes → Kept cells (image_of cells bytes) documents
+
+-- The document is kept in a slot, which was acknowledged at Ok. The index leads to it, and to each document to which it
+-- led in the bytes before.
+pub record IsStored (cells : ℕ) (id body : List ℕ) (before after : Told) (old new : SinkState)
+    (result : Result Unit Refusal) : Type 0 where
   pub slot : ℕ
-  pub kept : IsKeptIn cells told slot id body
+  pub kept : IsKeptIn cells after slot id body
+  pub led : (documents : List Document) → Kept cells (image_of cells before.now.bytes) documents
+      → IsLedToIn cells after (documents ++ document_in slot id body ∷ [])
   pub named : Acknowledges result slot old new
 
 -- Where `ingest` of an identifier has stored its document over a file that tells its bytes, the file keeps the
@@ -56,4 +66,4 @@ pub record KeepsIn (cells : ℕ) (id : List ℕ) (old new : FilePorts) (result :
   pub given : List ℕ
   pub gives : Gives old.source.left new.source.left given
   pub kept : HasStored result → WhereTold old.told new.told (λ before after.
-      IsStored cells id given after old.sink new.sink result × KeepsAll cells before.now.bytes after)
+      IsStored cells id given before after old.sink new.sink result × KeepsAll cells before.now.bytes after)
