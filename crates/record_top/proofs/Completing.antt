@@ -202,16 +202,16 @@ module _ {id body : List ℕ} {g : Layout} {slot : ℕ} {old new : Ports} (ready
 
 module _ (id body : List ℕ) (g : Layout) (slot : ℕ) (old new : Ports)
     (ready : IsReadyToIngest id body g slot old new) (device : IsDevice old.device) (device_new : IsDevice new.device)
-    where
-  -- the answer is Ok, or want of memory
-  pub ingest_completes : (result : Result Unit Refusal) → DoesIngest id old new result → IsOkOrNoMemory result
-  ingest_completes result (misnamed bad is same) = absurd (bad ready.identifier)
-  ingest_completes result (untaken given fault name gives fails is same keeps) =
-      subst IsOkOrNoMemory (sym is) (body_taken ready device device_new given fault gives fails)
-  ingest_completes result (taken given answer name is gives end ingests tells) =
-      let all = gives_all old.source.left body given new.source.left ready.source gives end in
-      ends_told ready device device_new result answer ingests.called
-      (subst (λ (b : List ℕ). IngestEnds id b old.device new.device answer) all ingests.ends) tells
+  where
+    -- the answer is Ok, or want of memory
+    pub ingest_completes : (result : Result Unit Refusal) → DoesIngest id old new result → IsOkOrNoMemory result
+    ingest_completes result (misnamed bad is same) = absurd (bad ready.identifier)
+    ingest_completes result (untaken given fault name gives fails is same keeps) =
+        subst IsOkOrNoMemory (sym is) (body_taken ready device device_new given fault gives fails)
+    ingest_completes result (taken given answer name is gives end ingests tells) =
+        let all = gives_all old.source.left body given new.source.left ready.source gives end in
+        ends_told ready device device_new result answer ingests.called
+        (subst (λ (b : List ℕ). IngestEnds id b old.device new.device answer) all ingests.ends) tells
 
 module _ (g : Layout) (old new : Ports) (ready : IsReadyToFormat g old new) where
   -- the answer is Ok, since no memory is taken
