@@ -16,29 +16,8 @@ use worm_memory::{Change, MemoryDevice};
 /// The volume cell of 8 slots and 2 lists on 1,000 cells.
 const VOLUME: [u8; 16] = [1, 1, 0, 0, 0, 8, 0, 2, 0, 0, 3, 0xe8, 0, 0, 0, 0];
 
-/// Slot 0 reserves one cell, cell 580.
-const RESERVE: [u8; 16] = [2, 0, 0, 2, 0x44, 0, 0, 0, 1, 0, 0, 0, 0, 0, 0, 4];
-
-/// The document `a` with the body `hello world`.
-const DOCUMENT: [u8; 16] = *b"\x1d\x01ahello world\0\0";
-
-/// Slot 0 has a document of 13 stored bytes.
-const COMMIT: [u8; 16] = [3, 0, 0, 0, 13, 0, 0, 0, 0, 0, 0, 0, 0, 0, 0, 5];
-
 /// Slot 0 is done.
 const DONE: [u8; 16] = [5, 0, 0, 0, 0, 0, 0, 0, 0, 0, 0, 0, 0, 0, 0, 6];
-
-/// Slot 1 reserves one cell, cell 581.
-const RESERVE_1: [u8; 16] = [2, 0, 0, 2, 0x45, 0, 0, 0, 1, 0, 0, 0, 0, 0, 0, 8];
-
-/// The document `b` with an empty body.
-const DOCUMENT_1: [u8; 16] = [0x12, 1, 0x62, 0, 0, 0, 0, 0, 0, 0, 0, 0, 0, 0, 0, 0];
-
-/// Slot 1 has a document of 2 stored bytes.
-const COMMIT_1: [u8; 16] = [3, 0, 0, 0, 2, 0, 0, 0, 0, 0, 0, 0, 0, 0, 0, 9];
-
-/// Slot 1 is done.
-const DONE_1: [u8; 16] = [5, 0, 0, 0, 1, 0, 0, 0, 0, 0, 0, 0, 0, 0, 0, 10];
 
 /// Slot 1 was given up.
 const ABANDON_1: [u8; 16] = [4, 0, 0, 0, 0, 0, 0, 0, 0, 0, 0, 0, 0, 0, 0, 9];
@@ -75,63 +54,6 @@ fn letters(alloc: Global, count: usize) -> Result<Vec<u8>, Fail> {
     Ok(vec![in alloc; b'a'; count]?)
 }
 
-/// Whether the record of changes holds these four cells from this place on, each with a sync behind it.
-fn has_four_steps(
-    device: &MemoryDevice,
-    from: usize,
-    cells: [(u32, [u8; 16]); 4],
-) -> Result<bool, &'static str> {
-    let mut at = from;
-    for (address, bytes) in cells {
-        let wrote = Change::Wrote {
-            at: address,
-            value: cell(bytes)?,
-        };
-        let changes = device.changes();
-        if changes.get(at) != Some(&wrote)
-            || changes.get(at.saturating_add(1)) != Some(&Change::Synced)
-        {
-            return Ok(false);
-        }
-        at = at.saturating_add(2);
-    }
-    Ok(true)
-}
-
-#[test]
-fn a_document_is_stored_in_eight_steps(rt: HostRuntime) -> Result<(), Fail> {
-    let alloc = rt.alloc();
-    let mut device = formatted(alloc, 1_000, 64)?;
-    assert_eq!(rt; state_of_slot(&mut device, 0), State::Unused);
-    let (outcome, put) = outcome_of(alloc, "ingest|a", &mut device, b"hello world")?;
-    assert_eq!(rt; outcome, Ok(()));
-    assert_eq!(rt; put.as_slice(), b"acknowledged 0\n".as_slice());
-    // The volume cell and its sync stood before. All is sure at entry, so settling adds no change.
-    let first = [(4, RESERVE), (580, DOCUMENT), (5, COMMIT), (6, DONE)];
-    assert!(rt; has_four_steps(&device, 2, first)?);
-    assert_eq!(rt; device.changes().len(), 10);
-    assert_eq!(rt; state_of_slot(&mut device, 0), State::Done);
-
-    // The next document goes into the next slot, behind the cells of this one.
-    let (outcome, put) = outcome_of(alloc, "ingest|b", &mut device, b"")?;
-    assert_eq!(rt; outcome, Ok(()));
-    assert_eq!(rt; put.as_slice(), b"acknowledged 1\n".as_slice());
-    let next = [
-        (8, RESERVE_1),
-        (581, DOCUMENT_1),
-        (9, COMMIT_1),
-        (10, DONE_1),
-    ];
-    assert!(rt; has_four_steps(&device, 10, next)?);
-    assert_eq!(rt; device.changes().len(), 18);
-
-    let (outcome, put) = outcome_of(alloc, "recover", &mut device, b"")?;
-    assert_eq!(rt; outcome, Ok(()));
-    assert_eq!(rt; put.as_slice(), b"nothing to settle\n".as_slice());
-    assert_eq!(rt; device.changes().len(), 18);
-    Ok(())
-}
-
 #[test]
 fn what_was_written_decodes_to_the_documents(rt: HostRuntime) -> Result<(), Fail> {
     let alloc = rt.alloc();
@@ -144,7 +66,7 @@ fn what_was_written_decodes_to_the_documents(rt: HostRuntime) -> Result<(), Fail
             "Invoice 4711 paid, and a good deal more than one cell holds",
         ),
     ];
-    let mut device = formatted(alloc, 1_000, 64)?;
+    let mut device = formatted(alloc, 1_000, 256)?;
     for (id, body) in documents {
         let words = format!(in alloc; "ingest|{id}")?;
         let (outcome, _) = outcome_of(alloc, words.as_str(), &mut device, body.as_bytes())?;
@@ -346,58 +268,24 @@ fn a_body_has_a_greatest_length(rt: HostRuntime) -> Result<(), Fail> {
     let alloc = rt.alloc();
     let most = letters(alloc, MAX_BODY_BYTES)?;
     let more = letters(alloc, MAX_BODY_BYTES + 1)?;
-    // Its 1,048,578 stored bytes take 69,906 cells, from cell 580 on.
+    // Its 1,048,578 stored bytes take 69,906 cells, from cell 580 on, and its journal two: one word, and the identifier.
     let one_less = Refusal::Full {
-        need: 69_906,
-        free: 69_905,
+        need: 69_908,
+        free: 69_907,
     };
+    // A document cell, and three of the journal.
+    let short = b"hello world".as_slice();
     for (cells, body, want) in [
-        (70_486, most.as_slice(), Ok(())),
-        (70_485, most.as_slice(), Err(one_less)),
-        (70_486, more.as_slice(), Err(Refusal::TooLong)),
-        (581, [].as_slice(), Ok(())),
-        (580, [].as_slice(), Err(Refusal::Full { need: 1, free: 0 })),
+        (70_488, most.as_slice(), Ok(())),
+        (70_487, most.as_slice(), Err(one_less)),
+        (70_488, more.as_slice(), Err(Refusal::TooLong)),
+        (584, short, Ok(())),
+        (583, short, Err(Refusal::Full { need: 4, free: 3 })),
+        (580, short, Err(Refusal::Full { need: 4, free: 0 })),
     ] {
         let mut device = formatted(alloc, cells, 70_000)?;
         let (outcome, _) = outcome_of(alloc, "ingest|a", &mut device, body)?;
         assert_eq!(rt; outcome, want, "{cells} cells");
-    }
-    Ok(())
-}
-
-/// The first change is settling's sync, of the cells that fill the record. Then come the eight steps.
-#[test]
-fn the_device_fails_at_each_change_in_turn(rt: HostRuntime) -> Result<(), Fail> {
-    let alloc = rt.alloc();
-    for room in 0..10 {
-        let mut device = formatted(alloc, 1_000, 64)?;
-        // The record is filled up to so much room by cells that the document does not need.
-        for at in 600..1_000 {
-            if device.room() > room && at < device.cells() {
-                let _ = device.write(at, cell(DONE)?)?;
-            }
-        }
-        assert_eq!(rt; device.room(), room);
-        let (outcome, put) = outcome_of(alloc, "ingest|a", &mut device, b"hello world")?;
-        if room < 9 {
-            assert_eq!(rt; outcome, Err(Refusal::DeviceFault), "{room}");
-            assert_eq!(rt; put.len(), 0);
-        } else {
-            assert_eq!(rt; outcome, Ok(()));
-        }
-
-        // With the reserve cell alone the slot is given up, and with the commit cell it is completed.
-        device.reserve(64)?;
-        let (text, state) = match room {
-            0..=1 => ("nothing to settle\n", State::Unused),
-            2..=5 => ("slot 0 abandoned\n", State::Abandoned),
-            6..=7 => ("slot 0 completed\n", State::Done),
-            _ => ("nothing to settle\n", State::Done),
-        };
-        let (outcome, put) = outcome_of(alloc, "recover", &mut device, b"")?;
-        assert_eq!(rt; outcome, Ok(()));
-        assert_eq!(rt; put.as_slice(), text.as_bytes(), "{room}");
-        assert_eq!(rt; state_of_slot(&mut device, 0), state, "{room}");
     }
     Ok(())
 }

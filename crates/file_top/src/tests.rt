@@ -10,30 +10,74 @@ use std::test::Fail;
 /// How many cells the file has, and 7 bytes behind them.
 const CELLS: usize = 600;
 
-/// The volume cell of 8 slots and 2 lists on 600 cells.
-const VOLUME: [u8; 16] = [1, 1, 0, 0, 0, 8, 0, 2, 0, 0, 2, 0x58, 0, 0, 0, 0];
+/// The volume cell of 8 slots and 2 lists on 600 cells. A cell is given by its 32 hexadecimal digits.
+const VOLUME: u128 = 0x01_01_00000008_0002_00000258_00000000;
 
-/// The cells of the document `a` with the body `hello world` in slot 0, in the order in which they are written.
-const DOCUMENT: [(usize, [u8; 16]); 4] = [
-    (4, [2, 0, 0, 2, 0x44, 0, 0, 0, 1, 0, 0, 0, 0, 0, 0, 4]),
-    (580, *b"\x1d\x01ahello world\0\0"),
-    (5, [3, 0, 0, 0, 13, 0, 0, 0, 0, 0, 0, 0, 0, 0, 0, 5]),
-    (6, [5, 0, 0, 0, 0, 0, 0, 0, 0, 0, 0, 0, 0, 0, 0, 6]),
+/// The cells of the document `a` with the body `hello world` in slot 0, in the order in which they are written: the
+/// reserve cell, the document with its journal, the commit cell, the journal's targets, the done cell.
+const DOCUMENT: [(usize, u128); 10] = [
+    (4, 0x02_00000244_00000004_000000_00000004),
+    (580, 0x1d_01_61_68656c6c6f20776f726c64_0000),
+    (581, 0x06_00000000_01_2cf24dba5fb0_00000024),
+    (582, 0x06_00000001_01_486ea46224d1_00000025),
+    (583, 0x08_00000000_ca978112ca1bbd_00000230),
+    (5, 0x03_0000000d_00000003_000000_00000005),
+    (36, 0x06_00000000_01_2cf24dba5fb0_00000024),
+    (37, 0x06_00000001_01_486ea46224d1_00000025),
+    (560, 0x08_00000000_ca978112ca1bbd_00000230),
+    (6, 0x05_00000000_00000000000000_00000006),
 ];
 
-/// The content cell of the document `b` with the same body.
-const NEXT_CONTENT: [u8; 16] = *b"\x1d\x01bhello world\0\0";
+/// The calls that write them. Settling's sync and a page are read for cell 0, and a page for cell 560. Then each cell is
+/// asked for and written, and each of the five phases ends with a sync.
+const WRITES: [u32; 10] = [5, 8, 10, 12, 14, 17, 20, 22, 24, 27];
 
-/// The cells of that document in slot 1, behind the cell of slot 0.
-const NEXT_DOCUMENT: [(usize, [u8; 16]); 4] = [
-    (8, [2, 0, 0, 2, 0x45, 0, 0, 0, 1, 0, 0, 0, 0, 0, 0, 8]),
-    (581, NEXT_CONTENT),
-    (9, [3, 0, 0, 0, 13, 0, 0, 0, 0, 0, 0, 0, 0, 0, 0, 9]),
-    (10, [5, 0, 0, 0, 1, 0, 0, 0, 0, 0, 0, 0, 0, 0, 0, 10]),
+/// The last of the calls, a sync.
+const CALLS: u32 = 28;
+
+/// The cells of the document `b` with the same body: in slot 0, in slot 1 where slot 0 was given up, and in slot 1 behind
+/// the document `a`.
+const NEXT_DOCUMENT: [[(usize, u128); 10]; 3] = [
+    [
+        (4, 0x02_00000244_00000004_000000_00000004),
+        (580, 0x1d_01_62_68656c6c6f20776f726c64_0000),
+        (581, 0x06_00000000_01_2cf24dba5fb0_00000024),
+        (582, 0x06_00000001_01_486ea46224d1_00000025),
+        (583, 0x08_00000000_3e23e816003959_00000227),
+        (5, 0x03_0000000d_00000003_000000_00000005),
+        (36, 0x06_00000000_01_2cf24dba5fb0_00000024),
+        (37, 0x06_00000001_01_486ea46224d1_00000025),
+        (551, 0x08_00000000_3e23e816003959_00000227),
+        (6, 0x05_00000000_00000000000000_00000006),
+    ],
+    [
+        (8, 0x02_00000248_00000004_000000_00000008),
+        (584, 0x1d_01_62_68656c6c6f20776f726c64_0000),
+        (585, 0x06_00000100_01_2cf24dba5fb0_00000024),
+        (586, 0x06_00000101_01_486ea46224d1_00000025),
+        (587, 0x08_00000001_3e23e816003959_00000227),
+        (9, 0x03_0000000d_00000003_000000_00000009),
+        (36, 0x06_00000100_01_2cf24dba5fb0_00000024),
+        (37, 0x06_00000101_01_486ea46224d1_00000025),
+        (551, 0x08_00000001_3e23e816003959_00000227),
+        (10, 0x05_00000001_00000000000000_0000000a),
+    ],
+    [
+        (8, 0x02_00000248_00000004_000000_00000008),
+        (584, 0x1d_01_62_68656c6c6f20776f726c64_0000),
+        (585, 0x06_00000100_01_2cf24dba5fb0_00000026),
+        (586, 0x06_00000101_01_486ea46224d1_00000027),
+        (587, 0x08_00000001_3e23e816003959_00000227),
+        (9, 0x03_0000000d_00000003_000000_00000009),
+        (38, 0x06_00000100_01_2cf24dba5fb0_00000026),
+        (39, 0x06_00000101_01_486ea46224d1_00000027),
+        (551, 0x08_00000001_3e23e816003959_00000227),
+        (10, 0x05_00000001_00000000000000_0000000a),
+    ],
 ];
 
 /// Slot 0 was given up.
-const ABANDON: (usize, [u8; 16]) = (5, [4, 0, 0, 0, 0, 0, 0, 0, 0, 0, 0, 0, 0, 0, 0, 5]);
+const ABANDON: (usize, u128) = (5, 0x04_0000000000000000000000_00000005);
 
 /// The first eight bytes of sixteen.
 const FIRST_EIGHT: [bool; 16] = [
@@ -42,20 +86,20 @@ const FIRST_EIGHT: [bool; 16] = [
 ];
 
 /// What is written in a cell, where these cells are and no other.
-fn written_at(cells: &[(usize, [u8; 16])], at: usize) -> [u8; 16] {
+fn written_at(cells: &[(usize, u128)], at: usize) -> u128 {
     for (other, cell) in cells {
         if *other == at {
             return *cell;
         }
     }
-    [0; 16]
+    0
 }
 
 /// The bytes of a file in which these cells are written, and no other.
-fn with_cells(alloc: Global, cells: &[(usize, [u8; 16])]) -> Result<Vec<u8>, Fail> {
+fn with_cells(alloc: Global, cells: &[(usize, u128)]) -> Result<Vec<u8>, Fail> {
     let mut bytes = Vec::new(alloc);
     for at in 0..CELLS {
-        bytes.extend_from_slice(&written_at(cells, at))?;
+        bytes.extend_from_slice(&written_at(cells, at).to_be_bytes())?;
     }
     bytes.extend_from_slice(&[0; 7])?;
     Ok(bytes)
@@ -95,14 +139,12 @@ fn carry_out(
 }
 
 /// What a write of a cell has left, where it failed and of a part got the first eight bytes.
-fn left_of(cell: [u8; 16], leaving: Leaving) -> [u8; 16] {
-    let mut left = [0; 16];
+fn left_of(cell: u128, leaving: Leaving) -> u128 {
     match leaving {
-        Leaving::Nothing => {}
-        Leaving::All => left = cell,
-        Leaving::Part(_) => left[..8].copy_from_slice(&cell[..8]),
+        Leaving::Nothing => 0,
+        Leaving::All => cell,
+        Leaving::Part(_) => cell & 0xffffffffffffffff_0000000000000000,
     }
-    left
 }
 
 /// Three pages are read, cell 0 is asked for and written, and synced: six calls.
@@ -127,7 +169,7 @@ fn each_call_of_the_file_fails_in_turn_under_format(rt: HostRuntime) -> Result<(
             let left = match fails {
                 5 => left_of(VOLUME, leaving),
                 6 => VOLUME,
-                _ => [0; 16],
+                _ => 0,
             };
             let bytes = with_cells(alloc, &[(0, left)])?;
             assert_eq!(rt;
@@ -136,7 +178,7 @@ fn each_call_of_the_file_fails_in_turn_under_format(rt: HostRuntime) -> Result<(
                 "call {fails} {leaving:?}"
             );
 
-            if left == [0; 16] {
+            if left == 0 {
                 let again = carry_out(alloc, "format|8|2", b"", &mut device, text)?;
                 assert_eq!(rt; again, (Ok(()), true), "call {fails} {leaving:?}");
                 assert_eq!(rt;
@@ -162,81 +204,63 @@ fn each_call_of_the_file_fails_in_turn_under_format(rt: HostRuntime) -> Result<(
     Ok(())
 }
 
-/// How many cells of the document are written whole where this call fails, and whether it is the next one's write.
-/// Settling's sync and a page are read for cell 0, and a page for cell 580. Then each of four cells is asked for and
-/// written, and synced, with a sync of no cells before the last: sixteen calls.
-fn steps_before(fails: u32) -> (usize, bool) {
-    match fails {
-        0..=4 => (0, false),
-        5 => (0, true),
-        6..=7 => (1, false),
-        8 => (1, true),
-        9..=10 => (2, false),
-        11 => (2, true),
-        12..=14 => (3, false),
-        15 => (3, true),
-        _ => (4, false),
-    }
-}
-
-/// The cells that are left of the volume where this call fails, and the torn cell among them that tells a slot's
-/// state.
+/// The cells that are left of the volume where this call fails, and what the next command names, where it is a torn one.
 fn left_by_ingest(
     alloc: Global,
     fails: u32,
     leaving: Leaving,
-) -> Result<(Vec<(usize, [u8; 16])>, Option<Evidence>), Fail> {
+) -> Result<(Vec<(usize, u128)>, Option<Evidence>), Fail> {
     let mut cells = vec![in alloc; (0usize, VOLUME); 1]?;
     let mut torn = None;
-    let (written, in_a_write) = steps_before(fails);
-    for (step, (at, cell)) in DOCUMENT.iter().enumerate() {
-        if step < written {
+    for ((at, cell), call) in DOCUMENT.iter().zip(&WRITES) {
+        if *call < fails {
             cells.push((*at, *cell))?;
-        } else if step == written && in_a_write && leaving != Leaving::Nothing {
+        } else if *call == fails && leaving != Leaving::Nothing {
             let left = left_of(*cell, leaving);
             cells.push((*at, left))?;
             if left != *cell {
-                torn = evidence_of(*at as u32, left);
+                torn = evidence_of(*at, *cell, left);
             }
         }
     }
     Ok((cells, torn))
 }
 
-/// A torn cell of slot 0, as it is named: the reserve cell breaks rule 1, the outcome cell 2 and the done cell 3. What
-/// stands in the cells that the slot reserves is not looked at.
-fn evidence_of(at: u32, left: [u8; 16]) -> Option<Evidence> {
-    let rule = match at {
-        4 => 1,
-        5 => 2,
-        6 => 3,
+/// A torn cell, as it is named: slot 0's reserve cell breaks rule 1, the outcome cell 2 and the done cell 3. Of an index
+/// cell the journal cell is named that asks for it, by rule 6. What stands in the cells that the slot reserves is not
+/// looked at.
+fn evidence_of(at: usize, whole: u128, left: u128) -> Option<Evidence> {
+    let (rule, cell, digits) = match at {
+        4 => (1, 4, left),
+        5 => (2, 5, left),
+        6 => (3, 6, left),
+        36 => (6, 581, whole),
+        37 => (6, 582, whole),
+        560 => (6, 583, whole),
         _ => return None,
     };
-    let found = Cell::from_bytes(left)?;
-    Some(Evidence {
-        rule,
-        cell: at,
-        found,
-    })
+    let found = Cell::from_bytes(digits.to_be_bytes())?;
+    Some(Evidence { rule, cell, found })
 }
 
-/// What the next ingest leaves of these cells, where no cell of slot 0 is torn: it gives slot 0 up where that is
+/// What the next ingest leaves of these cells, where none is torn that it looks at: it gives slot 0 up where that is
 /// reserved alone, completes it where it is committed, and stores its document in slot 1; or in slot 0, where that is
 /// unused.
-fn left_by_the_next(alloc: Global, cells: &[(usize, [u8; 16])]) -> Result<(Vec<u8>, u32), Fail> {
+fn left_by_the_next(alloc: Global, cells: &[(usize, u128)]) -> Result<(Vec<u8>, u32), Fail> {
     let mut all = Vec::new(alloc);
     all.extend_from_slice(cells)?;
-    let [reserve, (content, _), commit, done] = DOCUMENT;
-    if written_at(cells, 4) == [0; 16] {
-        all.extend_from_slice(&[reserve, (content, NEXT_CONTENT), commit, done])?;
+    let [first, behind_abandoned, behind_done] = NEXT_DOCUMENT;
+    if written_at(cells, 4) == 0 {
+        all.extend_from_slice(&first)?;
         return Ok((with_cells(alloc, &all)?, 0));
     }
-    if written_at(cells, 5) == [0; 16] {
+    if written_at(cells, 5) == 0 {
         all.push(ABANDON)?;
-    } else if written_at(cells, 6) == [0; 16] {
-        all.push(done)?;
+        all.extend_from_slice(&behind_abandoned)?;
+    } else {
+        all.extend_from_slice(&DOCUMENT)?;
+        all.extend_from_slice(&behind_done)?;
     }
-    all.extend_from_slice(&NEXT_DOCUMENT)?;
     Ok((with_cells(alloc, &all)?, 1))
 }
 
@@ -267,15 +291,16 @@ fn fails_and_goes_on(alloc: Global, fails: u32, leaving: Leaving) -> Result<bool
 fn each_call_of_the_file_fails_in_turn_under_ingest(rt: HostRuntime) -> Result<(), Fail> {
     let alloc = rt.alloc();
     let (body, text) = (b"hello world", b"acknowledged 0\n");
-    let [reserve, content, commit, done] = DOCUMENT;
-    let whole = with_cells(alloc, &[(0, VOLUME), reserve, content, commit, done])?;
+    let mut cells = vec![in alloc; (0usize, VOLUME); 1]?;
+    cells.extend_from_slice(&DOCUMENT)?;
+    let whole = with_cells(alloc, &cells)?;
     let volume = with_cells(alloc, &[(0, VOLUME)])?;
-    let mut device = failing(alloc, volume, 17, Leaving::Nothing)?;
+    let mut device = failing(alloc, volume, CALLS + 1, Leaving::Nothing)?;
     let done = carry_out(alloc, "ingest|a", body, &mut device, text)?;
     assert_eq!(rt; done, (Ok(()), true));
     assert_eq!(rt; device.file().bytes(), whole.as_slice());
     for leaving in [Leaving::Nothing, Leaving::All, Leaving::Part(FIRST_EIGHT)] {
-        for fails in 1..17u32 {
+        for fails in 1..CALLS + 1 {
             let holds = fails_and_goes_on(alloc, fails, leaving)?;
             assert!(rt; holds, "call {fails} {leaving:?}");
         }

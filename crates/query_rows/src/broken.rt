@@ -10,15 +10,20 @@ use worm_memory::MemoryDevice;
 /// The number of the rule: the cells of a slot spell a document.
 const BROKEN_DOCUMENT: u8 = 4;
 
-/// Slot 0 reserves 14 cells, from cell 580 on.
-const RESERVE: [u8; 16] = [2, 0, 0, 2, 0x44, 0, 0, 0, 14, 0, 0, 0, 0, 0, 0, 4];
+/// Slot 0 reserves 15 cells, from cell 580 on: 14 of the document and one of the journal.
+const RESERVE: [u8; 16] = [2, 0, 0, 2, 0x44, 0, 0, 0, 15, 0, 0, 0, 0, 0, 0, 4];
+
+/// The bucket that names slot 0 on the path of the identifier `z`, in the root's cell 553.
+const BUCKET: [u8; 16] = [
+    8, 0, 0, 0, 0, 0x59, 0x4e, 0x51, 0x9a, 0xe4, 0x99, 0x31, 0, 0, 2, 0x29,
+];
 
 /// Slot 0 is done.
 const DONE: [u8; 16] = [5, 0, 0, 0, 0, 0, 0, 0, 0, 0, 0, 0, 0, 0, 0, 6];
 
-/// The commit cell of slot 0, for so many stored bytes.
+/// The commit cell of slot 0, for so many stored bytes and a journal of one cell.
 fn commit(bytes: u8) -> [u8; 16] {
-    [3, 0, 0, 0, bytes, 0, 0, 0, 0, 0, 0, 0, 0, 0, 0, 5]
+    [3, 0, 0, 0, bytes, 0, 0, 0, 1, 0, 0, 0, 0, 0, 0, 5]
 }
 
 /// A content cell that holds so many bytes: the first, and then the letter `e`.
@@ -34,8 +39,8 @@ fn content(held: u8, first: u8) -> [u8; 16] {
     cell
 }
 
-/// Writes slot 0: the document of so many stored bytes, in content cells from this one up to cell 593. `None` leaves a
-/// cell blank.
+/// Writes slot 0: the document of so many stored bytes, in content cells from this one up to cell 593, and its bucket.
+/// `None` leaves a cell blank.
 fn write_slot(
     device: &mut MemoryDevice,
     bytes: u8,
@@ -50,6 +55,8 @@ fn write_slot(
         }
         at = at.saturating_add(1);
     }
+    write_foreign(device, 594, BUCKET)?;
+    write_foreign(device, 553, BUCKET)?;
     write_foreign(device, 5, commit(bytes))?;
     write_foreign(device, 6, DONE)?;
     begin(device)

@@ -134,21 +134,6 @@ fn words_are_refused_before_the_device_is_asked(rt: HostRuntime) -> Result<(), F
 }
 
 #[test]
-fn an_identifier_is_stored_once(rt: HostRuntime) -> Result<(), Fail> {
-    let alloc = rt.alloc();
-    let mut device = volume_with_a(alloc)?;
-    let changes = device.changes().len();
-    for body in ["hello world", "", "another"] {
-        let (outcome, put) = outcome_of(alloc, "ingest|a", &mut device, body.as_bytes())?;
-        assert_eq!(rt; outcome, Err(Refusal::Duplicate(0)));
-        assert_eq!(rt; put.len(), 0);
-    }
-    // Settling's sync finds all sure, which is no change.
-    assert_eq!(rt; device.changes().len(), changes);
-    Ok(())
-}
-
-#[test]
 fn cell_0_has_to_state_the_device(rt: HostRuntime) -> Result<(), Fail> {
     let alloc = rt.alloc();
     let stray = Refusal::NotAVolume(Cell::from_bytes([0xff; 16]).ok_or("a blank cell")?);
@@ -205,11 +190,11 @@ fn the_sink_fails(rt: HostRuntime) -> Result<(), Fail> {
     Ok(())
 }
 
-/// The steps are: sync; cell 4; sync; cell 580; sync; cell 5; sync; sync; cell 6; sync.
+/// The steps are: sync; cell 4; sync; cells 580 to 583; sync; cell 5; sync; cells 36, 37 and 560; sync; cell 6; sync.
 #[test]
 fn a_document_is_found_once_its_commit_cell_stands(rt: HostRuntime) -> Result<(), Fail> {
     let alloc = rt.alloc();
-    for step in 1..11 {
+    for step in 1..17 {
         let mut device = small_volume(alloc)?;
         begin(&mut device)?;
         device.fail_at(Moment::Step(step))?;
@@ -219,7 +204,7 @@ fn a_document_is_found_once_its_commit_cell_stands(rt: HostRuntime) -> Result<()
         begin(&mut device)?;
         let (outcome, put) = outcome_of(alloc, "find|hello", &mut device, b"")?;
         assert_eq!(rt; outcome, Ok(()), "{step}");
-        let text = if step < 7 {
+        let text = if step < 10 {
             "0 found\n"
         } else {
             "0 a 11\n1 found\n"
@@ -236,7 +221,7 @@ fn an_outcome_that_somebody_else_writes_is_named(rt: HostRuntime) -> Result<(), 
     begin(&mut device)?;
     let abandon = Cell::from_bytes(ABANDON).ok_or("a blank cell")?;
     if 5 < device.cells() {
-        device.foreign_before(Moment::Step(6), 5, abandon)?;
+        device.foreign_before(Moment::Step(9), 5, abandon)?;
     }
     let (outcome, _) = outcome_of(alloc, "ingest|a", &mut device, b"hello world")?;
     let evidence = Evidence {

@@ -33,6 +33,27 @@ pub fn bytes_at(device: &mut MemoryDevice, at: u32) -> [u8; 16] {
     }
 }
 
+/// The bytes of a cell as one number, whose 32 hexadecimal digits they are. It is 0 where the cell is blank.
+pub fn digits_at(device: &mut MemoryDevice, at: u32) -> u128 {
+    u128::from_be_bytes(bytes_at(device, at))
+}
+
+/// Whether these cells are written so, and no other cell of the device is written.
+pub fn holds_alone(device: &mut MemoryDevice, cells: &[(u32, u128)]) -> bool {
+    for at in 0..device.cells() {
+        let mut want = 0;
+        for &(other, digits) in cells {
+            if other == at {
+                want = digits;
+            }
+        }
+        if digits_at(device, at) != want {
+            return false;
+        }
+    }
+    true
+}
+
 /// The number in four bytes of a cell.
 fn number(bytes: [u8; 4]) -> u32 {
     u32::from_be_bytes(bytes)

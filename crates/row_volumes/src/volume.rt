@@ -17,7 +17,7 @@ const CELLS: u32 = 3_000;
 const CHANGES: u32 = 200;
 
 /// How many bytes may be put out.
-const SINK_BYTES: u32 = 1_024;
+const SINK_BYTES: u32 = 4_096;
 
 /// The words of a command, between bars.
 pub fn words_of(alloc: Global, text: &str) -> Result<Vec<String>, Fail> {
@@ -66,7 +66,7 @@ pub fn begin(device: &mut MemoryDevice) -> Result<(), Fail> {
 }
 
 /// A blank device that was made a volume by these words.
-fn formatted(alloc: Global, cells: u32, words: &str) -> Result<MemoryDevice, Fail>
+pub fn formatted(alloc: Global, cells: u32, words: &str) -> Result<MemoryDevice, Fail>
     requires some { 1 ≤ cells }
     requires most { cells ≤ MAX_CELLS }
 {
