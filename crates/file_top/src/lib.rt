@@ -5,8 +5,9 @@
 //!
 //!     bytes 9,280 to 9,295     1d 01 61 `hello world` 00 00
 //!
-//! are in the bytes that a sync made sure, with the four cells that say that it stands; and whatever a crash leaves of
-//! the file from then on, they are there. So is each document that stood before.
+//! are in the bytes that a sync made sure, with the four cells that say that it stands and the three of its index; and
+//! whatever a crash leaves of the file from then on, they are there. So is each document that stood before, and the
+//! index still leads to each that it led to.
 //!
 //! Stands on `record_top` and `host_files`. Begin with `run_over_file`; `specs/Files.antt` says what is kept.
 #![tactic(auto)]

@@ -3,23 +3,24 @@
 //! On a blank device, with `hello world` in the source at the `ingest`:
 //!
 //!     format 8 2      makes a volume of 8 slots and 2 lists                        formatted
-//!     ingest a        takes the body to the source's end, and stores it            acknowledged 0
+//!     ingest a        takes the body to the source's end, stores it and its index  acknowledged 0
 //!     find hello      searches the documents: slot 0, identifier `a`, 11 bytes     0 a 11
 //!                                                                                  1 found
 //!     lookup a        looks for the document, and puts out its body                hello world
 //!     recover         settles the volume                                           nothing to settle
 //!
 //! A `find` makes its text before the first byte goes out, and a `lookup` checks the document whole before that.
-//! Whatever keeps a command from being done is a refusal that names its cause. And whatever a crash leaves of any of
-//! these but `ingest`, at any moment, is blank or sound: settling makes a settled volume of it, with the documents that
-//! were sure before the command or those that stood then.
+//! Whatever keeps a command from being done is a refusal that names its cause. And where nobody else writes, whatever a
+//! crash leaves of any of these, at any moment, from a blank device on, is blank or sound: settling makes a settled
+//! volume of it, with the documents that were sure before the command or those that stood then, or of an `ingest` these
+//! and the new one.
 //!
 //! A further command is one case in each relation of specs/Commands.antt and of specs/Steadiness.antt, a file of its
 //! own there and here, and one arm in `command.rt`.
 //!
 //! Stands on `ingest_engine` and `recovery_engine`, which write, on `record_query`, which searches and looks up, on
-//! `steady_volumes`, and on `host_ports`. Begin with `command.rt`; specs/Commands.antt says which commands there are,
-//! and leads to what each does; specs/Steadiness.antt says what a crash leaves of it.
+//! `steady_volumes` and `steady_ingests`, and on `host_ports`. Begin with `command.rt`; specs/Commands.antt says which
+//! commands there are, and leads to what each does; specs/Steadiness.antt says what a crash leaves of it.
 #![tactic(auto)]
 
 mod body;
