@@ -5,8 +5,8 @@
 //! first seven bytes of a digest, its fingerprint. On a volume of 8 slots and 2 lists, whose root is at cell 548:
 //!
 //!     digest 3f 79 ..    level 0, half byte 3      bucket 551, another fingerprint: its child cell 567 leads on
-//!                        level 1, half byte 15     node 580: bucket 595 has the fingerprint, a candidate
-//!                                                  asked again: child cell 611 is blank, the path is open there
+//!                        level 1, half byte 15     node 582: bucket 597 has the fingerprint, a candidate
+//!                                                  asked again: child cell 613 is blank, the path is open there
 //!
 //! **None is passed over.** Each bucket before a candidate has another fingerprint, or was answered before. So whatever
 //! is sought by this digest, its hash trail lies further on, where the caller has turned down each candidate.

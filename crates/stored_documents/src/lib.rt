@@ -1,16 +1,16 @@
 //! What a volume is, in which state a slot is, when a document stands, and which words it has.
 //!
 //! All is said of images alone, so that it holds of a device whoever wrote it. In the volume of 8 slots and 2 lists on
-//! 1,000 cells that holds the document `a` with the body `hello world`, and no index yet:
+//! 1,000 cells that holds the document `a` with the body `hello world`:
 //!
 //!     cell 0    volume             the layout: the pool begins at cell 580
-//!     cell 4    reserve 580, 1     slot 0 reserves cell 580
-//!     cell 5    commit 13, 0       its document has 13 stored bytes, in one cell, and no journal
+//!     cell 4    reserve 580, 4     slot 0 reserves cells 580 to 583
+//!     cell 5    commit 13, 3       its document has 13 stored bytes, in one cell, and its journal 3 cells
 //!     cell 6    done 0             slot 0 is done
 //!     cell 580  content            01 61 `hello world`: a length, the identifier, the body
 //!
 //! so `Stands 1000 image 0 "a" "hello world"`, and the words of the body are `hello` and `world`. Slot 1 is unused: 1 is
-//! a **horizon**, and the end of slot 0's cells, 581, an **edge**. On an image that somebody else has written there may
+//! a **horizon**, and the end of slot 0's cells, 584, an **edge**. On an image that somebody else has written there may
 //! be several.
 //!
 //! A state is said of two images: what it needs written stands in the later one, and what it needs blank was blank in
