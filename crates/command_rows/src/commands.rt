@@ -209,7 +209,8 @@ fn a_body_has_a_greatest_length(rt: HostRuntime) -> Result<(), Fail> {
     let alloc = rt.alloc();
     let most = letters(alloc, MAX_BODY_BYTES)?;
     let more = letters(alloc, MAX_BODY_BYTES + 1)?;
-    // Its 1,048,578 stored bytes take 69,906 cells, from cell 580 on, and its journal two: one word, and the identifier.
+    // Its 1,048,578 stored bytes take 69,906 cells, from cell 580 on, and its journal two: one word, and the
+    // identifier.
     let one_less = Refusal::Full {
         need: 69_908,
         free: 69_907,
