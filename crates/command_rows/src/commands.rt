@@ -2,11 +2,9 @@
 ghost use Rattle.std.specs.Prelude.{◌≤◌};
 ghost use Rattle.cell_types.specs.declared.geometry.TheConstants.{MAX_CELLS};
 
-use cell_types::{Cell, Evidence, Refusal};
+use cell_types::{Cell, Refusal};
 use record_top::run;
-use row_volumes::{
-    Document, State, document_of_slot, outcome_of, sink, source_of, state_of_slot, words_of,
-};
+use row_volumes::{State, outcome_of, sink, source_of, state_of_slot, words_of};
 use std::alloc::Global;
 use std::test::Fail;
 use stored_documents::{MAX_BODY_BYTES, MAX_IDENTIFIER_BYTES};
@@ -18,9 +16,6 @@ const VOLUME: [u8; 16] = [1, 1, 0, 0, 0, 8, 0, 2, 0, 0, 3, 0xe8, 0, 0, 0, 0];
 
 /// Slot 0 is done.
 const DONE: [u8; 16] = [5, 0, 0, 0, 0, 0, 0, 0, 0, 0, 0, 0, 0, 0, 0, 6];
-
-/// Slot 1 was given up.
-const ABANDON_1: [u8; 16] = [4, 0, 0, 0, 0, 0, 0, 0, 0, 0, 0, 0, 0, 0, 0, 9];
 
 /// The cell of these bytes.
 fn cell(bytes: [u8; 16]) -> Result<Cell, &'static str> {
@@ -55,39 +50,6 @@ fn letters(alloc: Global, count: usize) -> Result<Vec<u8>, Fail> {
 }
 
 #[test]
-fn what_was_written_decodes_to_the_documents(rt: HostRuntime) -> Result<(), Fail> {
-    let alloc = rt.alloc();
-    let documents = [
-        ("a", ""),
-        ("b", "hello world"),
-        ("ab", "hello there!"),
-        (
-            "2024-03-07/0001",
-            "Invoice 4711 paid, and a good deal more than one cell holds",
-        ),
-    ];
-    let mut device = formatted(alloc, 1_000, 256)?;
-    for (id, body) in documents {
-        let words = format!(in alloc; "ingest|{id}")?;
-        let (outcome, _) = outcome_of(alloc, words.as_str(), &mut device, body.as_bytes())?;
-        assert_eq!(rt; outcome, Ok(()));
-    }
-    let mut slot = 0;
-    for (id, body) in documents {
-        assert_eq!(rt; state_of_slot(&mut device, slot), State::Done);
-        let Document {
-            id: found_id,
-            body: found_body,
-        } = document_of_slot(alloc, &mut device, slot)?.ok_or("no document")?;
-        assert_eq!(rt; found_id.as_slice(), id.as_bytes());
-        assert_eq!(rt; found_body.as_slice(), body.as_bytes());
-        slot = slot.saturating_add(1);
-    }
-    assert_eq!(rt; state_of_slot(&mut device, slot), State::Unused);
-    Ok(())
-}
-
-#[test]
 fn a_volume_has_so_many_slots(rt: HostRuntime) -> Result<(), Fail> {
     let alloc = rt.alloc();
     let mut device = blank(alloc, 400, 64)?;
@@ -98,27 +60,6 @@ fn a_volume_has_so_many_slots(rt: HostRuntime) -> Result<(), Fail> {
     assert_eq!(rt; put.as_slice(), b"acknowledged 0\n".as_slice());
     let (outcome, put) = outcome_of(alloc, "ingest|b", &mut device, b"")?;
     assert_eq!(rt; outcome, Err(Refusal::SlotsFull));
-    assert_eq!(rt; put.len(), 0);
-    Ok(())
-}
-
-#[test]
-fn a_written_cell_of_the_next_slot_is_named(rt: HostRuntime) -> Result<(), Fail> {
-    let alloc = rt.alloc();
-    let mut device = formatted(alloc, 1_000, 64)?;
-    let (outcome, _) = outcome_of(alloc, "ingest|a", &mut device, b"hello world")?;
-    assert_eq!(rt; outcome, Ok(()));
-    let found = cell(ABANDON_1)?;
-    if device.cells() == 1_000 {
-        let _ = device.write(9, found)?;
-    }
-    let (outcome, put) = outcome_of(alloc, "ingest|b", &mut device, b"")?;
-    let evidence = Evidence {
-        rule: 2,
-        cell: 9,
-        found,
-    };
-    assert_eq!(rt; outcome, Err(Refusal::Tampered(evidence)));
     assert_eq!(rt; put.len(), 0);
     Ok(())
 }
@@ -268,7 +209,8 @@ fn a_body_has_a_greatest_length(rt: HostRuntime) -> Result<(), Fail> {
     let alloc = rt.alloc();
     let most = letters(alloc, MAX_BODY_BYTES)?;
     let more = letters(alloc, MAX_BODY_BYTES + 1)?;
-    // Its 1,048,578 stored bytes take 69,906 cells, from cell 580 on, and its journal two: one word, and the identifier.
+    // Its 1,048,578 stored bytes take 69,906 cells, from cell 580 on, and its journal two: one word, and the
+    // identifier.
     let one_less = Refusal::Full {
         need: 69_908,
         free: 69_907,

@@ -1,7 +1,7 @@
 //! An ingest with its index, cell by cell, and what is left of one that is cut short.
 //!
-//! Where nothing else is said, the volume has 8 slots and 2 lists on 1,000 cells: slot 0 has cells 4 to 7 and slot 1 cells
-//! 8 to 11, the lists begin at cells 36 and 292, the root at 548 and the pool at 580.
+//! Where nothing else is said, the volume has 8 slots and 2 lists on 1,000 cells: slot 0 has cells 4 to 7 and slot 1
+//! cells 8 to 11, the lists begin at cells 36 and 292, the root at 548 and the pool at 580.
 use cell_types::{Cell, Refusal};
 use row_volumes::{
     begin, digits_at, formatted, holds_alone, outcome_of, small_volume, write_foreign,
@@ -10,8 +10,8 @@ use std::alloc::Global;
 use std::test::Fail;
 use worm_memory::{Change, Crash, MemoryDevice, Moment};
 
-/// What goes onto the new volume with the document `a`, whose body is `hello world`, phase by phase: the reserve cell, the
-/// document and the journal behind it, the commit cell, the journal's targets, and the done cell.
+/// What goes onto the new volume with the document `a`, whose body is `hello world`, phase by phase: the reserve
+/// cell, the document and the journal behind it, the commit cell, the journal's targets, and the done cell.
 const FIRST: [&[(u32, u128)]; 5] = [
     &[(4, 0x02_00000244_00000004_000000_00000004)],
     &[
@@ -41,8 +41,8 @@ const SECOND: [&[(u32, u128)]; 5] = [
     &[(10, 0x05_00000001_00000000000000_0000000a)],
 ];
 
-/// All that stands with `b` in slot 0 and `e` in slot 1, both with empty bodies. Their paths begin in the same bucket of
-/// the root, so the cells of `e` begin with a node, 582 to 613, and its bucket is the fifteenth there.
+/// All that stands with `b` in slot 0 and `e` in slot 1, both with empty bodies. Their paths begin in the same bucket
+/// of the root, so the cells of `e` begin with a node, 582 to 613, and there its bucket is number 15.
 const WITH_NODE: [(u32, u128); 15] = [
     (0, 0x01_01_00000008_0002_000003e8_00000000),
     (4, 0x02_00000244_00000002_000000_00000004),
@@ -138,8 +138,9 @@ fn a_bucket_that_is_taken_gets_a_node_below(rt: HostRuntime) -> Result<(), Fail>
     Ok(())
 }
 
-/// The list's first block is 804 to 1059, and the pool begins at 1092. The 129th posting has the key 32,768, which is 256
-/// behind the block's greatest: pointer (2, 1), at place 158. The documents before have taken the cells up to 2630.
+/// The list's first block is 804 to 1059, and the pool begins at 1092. The 129th posting has the key 32,768, which is
+/// 256 behind the block's greatest: pointer (2, 1), at place 158. The documents before have taken the cells up to
+/// 2630.
 #[test]
 fn a_full_block_leads_on_by_a_pointer(rt: HostRuntime) -> Result<(), Fail> {
     let alloc = rt.alloc();
@@ -241,8 +242,8 @@ fn write_level(device: &mut MemoryDevice, bucket: u32, leads_to: Option<u32>) ->
     )
 }
 
-/// A document that is given up has reserved cells 580 to 2648. Somebody else makes 63 nodes of them, one behind the other,
-/// for the path of `a`, with a bucket in each that has another fingerprint.
+/// A document that is given up has reserved cells 580 to 2648. Somebody else makes 63 nodes of them, one behind the
+/// other, for the path of `a`, with a bucket in each that has another fingerprint.
 #[test]
 fn a_path_is_full(rt: HostRuntime) -> Result<(), Fail> {
     let alloc = rt.alloc();

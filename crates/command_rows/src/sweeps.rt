@@ -223,8 +223,8 @@ fn an_ingest_that_is_cut_is_whole_or_given_up(rt: HostRuntime) -> Result<(), Fai
     Ok(())
 }
 
-/// Cuts `recover` at each call, over an ingest whose step of this number failed and a crash that kept these cells. Answers
-/// how many cuts there are, none where there are no such cells; `None` where one is not made up for.
+/// Cuts `recover` at each call, over an ingest whose step of this number failed and a crash that kept these cells.
+/// Answers how many cuts there are, none where there are no such cells; `None` where one is not made up for.
 fn cuts_of_recover(
     alloc: Global,
     case: &Case,

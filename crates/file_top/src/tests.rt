@@ -28,15 +28,15 @@ const DOCUMENT: [(usize, u128); 10] = [
     (6, 0x05_00000000_00000000000000_00000006),
 ];
 
-/// The calls that write them. Settling's sync and a page are read for cell 0, and a page for cell 560. Then each cell is
-/// asked for and written, and each of the five phases ends with a sync.
+/// The calls that write them. Settling's sync and a page are read for cell 0, and a page for cell 560. Then each cell
+/// is asked for and written, and each of the five phases ends with a sync.
 const WRITES: [u32; 10] = [5, 8, 10, 12, 14, 17, 20, 22, 24, 27];
 
 /// The last of the calls, a sync.
 const CALLS: u32 = 28;
 
-/// The cells of the document `b` with the same body: in slot 0, in slot 1 where slot 0 was given up, and in slot 1 behind
-/// the document `a`.
+/// The cells of the document `b` with the same body: in slot 0, in slot 1 where slot 0 was given up, and in slot 1
+/// behind the document `a`.
 const NEXT_DOCUMENT: [[(usize, u128); 10]; 3] = [
     [
         (4, 0x02_00000244_00000004_000000_00000004),
@@ -204,7 +204,8 @@ fn each_call_of_the_file_fails_in_turn_under_format(rt: HostRuntime) -> Result<(
     Ok(())
 }
 
-/// The cells that are left of the volume where this call fails, and what the next command names, where it is a torn one.
+/// The cells that are left of the volume where this call fails, and what the next command names, where it is a torn
+/// one.
 fn left_by_ingest(
     alloc: Global,
     fails: u32,
@@ -226,9 +227,9 @@ fn left_by_ingest(
     Ok((cells, torn))
 }
 
-/// A torn cell, as it is named: slot 0's reserve cell breaks rule 1, the outcome cell 2 and the done cell 3. Of an index
-/// cell the journal cell is named that asks for it, by rule 6. What stands in the cells that the slot reserves is not
-/// looked at.
+/// A torn cell, as it is named: slot 0's reserve cell breaks rule 1, the outcome cell 2 and the done cell 3. Of an
+/// index cell the journal cell is named that asks for it, by rule 6. What stands in the cells that the slot reserves
+/// is not looked at.
 fn evidence_of(at: usize, whole: u128, left: u128) -> Option<Evidence> {
     let (rule, cell, digits) = match at {
         4 => (1, 4, left),

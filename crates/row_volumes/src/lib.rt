@@ -12,9 +12,7 @@
 mod decoder;
 mod volume;
 
-pub use decoder::{
-    Document, State, bytes_at, digits_at, document_of_slot, holds_alone, state_of_slot,
-};
+pub use decoder::{State, bytes_at, digits_at, holds_alone, state_of_slot};
 pub use volume::{
     begin, formatted, holds, ingest, outcome_of, sink, small_volume, source_of, unsure,
     volume_with, volume_with_a, words_of, write_foreign,
