@@ -85,7 +85,7 @@ module _ (id body : List ℕ) (old new : DeviceState) where
     }
     unplanned_ends DeviceFault plans ends = rose_sooner old.faults settled.faults new.faults s.called.faults ends
     unplanned_ends (Tampered e) plans ends = λ tells.
-        named_on_way device r (planned_behind s plans) tells e (ends (told tells))
+        named_on_way r slot (planned_behind s plans) tells e (ends (told tells))
     unplanned_ends NoMemory plans ends = inr (r, planned_behind s plans)
     unplanned_ends refusal plans ends = absurd ends
 
@@ -158,7 +158,7 @@ module _ (id body : List ℕ) (old new : DeviceState) where
         → IngestEnds id body old new (Err (refusal_of_fault fault))
     put_refused faults.ReadFault ends = ends
     put_refused (faults.Tampered e) ends = λ tells.
-        named_by_plan layout has tells plan device puts.called e (ends tells)
+        named_by_plan layout slot has tells plan puts.called e (ends tells)
 
     -- and then the plan was not put
     pub unput : (fault : Fault) → PlanEnds r.volume.geometry p r.horizon old looked new (Err fault)

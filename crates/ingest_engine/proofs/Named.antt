@@ -11,9 +11,9 @@ use Rattle.stored_documents.proofs.Extending.{written_on}
 use Rattle.stored_documents.proofs.Holding.{some_is}
 use Rattle.worm_device.specs.Calls.{Called}
 use Rattle.worm_device.specs.Counts.{IsStill}
-use Rattle.worm_device.specs.State.{DeviceState, IsDevice}
+use Rattle.worm_device.specs.State.{DeviceState}
 use Rattle.worm_device.proofs.Counting.{still_first, still_second}
-use Rattle.worm_device.proofs.Elapsing.{called_self}
+use Rattle.worm_device.proofs.Elapsing.{called_then}
 use Rattle.tree_growth.specs.Readiness.{blank_in, blank_of}
 use Rattle.recovery_engine.specs.Entries.{target_of}
 use Rattle.recovery_engine.specs.Settling.{HasSettled}
@@ -27,7 +27,8 @@ use Rattle.ingest_engine.specs.Indexing.{IsFoundOnWay}
 use Rattle.ingest_engine.specs.Ingesting.{IsLogRule, IsNamed, IsPlanFor, by_plan, in_index}
 use Rattle.ingest_engine.proofs.Suited.{copies_of, entry}
 
-module _ {old new : DeviceState} (device : IsDevice new) (r : Ready) (has : HasSettled old new r) (tells : IsTrue old.tells)
+module _ {old new : DeviceState} (r : Ready) (slot : r.horizon < r.volume.geometry.slots) (has : HasSettled old new r)
+    (tells : IsTrue old.tells)
   where
     -- the horizon is one of what stands, where nobody else wrote
     is_horizon : IsStill old.foreign_writes new.foreign_writes
@@ -50,18 +51,14 @@ module _ {old new : DeviceState} (device : IsDevice new) (r : Ready) (has : HasS
     -- what was found on the way is named
     pub named_on_way : (e : Evidence) → IsFoundOnWay r has.settled new e → IsNamed old new e
     named_on_way e found =
-        let broken = λ (still : IsStill old.foreign_writes new.foreign_writes).
-        found.broken (still_second has.settles.called.foreign_writes has.looked.foreign_writes still)
-        (volume_2 r has tells) (is_horizon still) (is_edge still) in
-        in_index found.rule
-        (record {
+        in_index r (record { settled = has; slot = slot }) found.rule (record {
           stands = found.stands;
           layout = r.volume.geometry;
           volume = volume_2 r has tells;
           place = found.place;
-          broken = broken;
+          broken = λ still. found.broken (still_second has.settles.called.foreign_writes has.looked.foreign_writes still)
+              (volume_2 r has tells) (is_horizon still) (is_edge still);
         })
-        (record { ready = r; looked = new; device = device; settled = has; since = called_self new; broken = broken })
 
 -- a blank cell is blank in what stands before the edge
 cut_blank : (edge : ℕ) (image : Image) (cell : ℕ) → image cell ≡ None → cut_at edge image cell ≡ None
@@ -87,7 +84,8 @@ log_rule number (inr (inr (inr (inl r)))) = inl (inr (inr r))
 log_rule number (inr (inr (inr (inr r)))) = inr r
 
 module _ {id body : List ℕ} {old looked : DeviceState} {r : Ready} {p : Plan} (layout : IsLayout r.volume.geometry)
-    (has : HasSettled old looked r) (tells : IsTrue old.tells) (plan : IsPlanFor r id body has.settled looked p)
+    (slot : r.horizon < r.volume.geometry.slots) (has : HasSettled old looked r) (tells : IsTrue old.tells)
+    (plan : IsPlanFor r id body has.settled looked p)
   where
     small : r.edge + plan.index.block_length ≤ 2 ^ 32
     small = omega (arith, plan.starts, plan.blocks, plan.suits.to, layout.cells)
@@ -121,22 +119,24 @@ module _ {id body : List ℕ} {old looked : DeviceState} {r : Ready} {p : Plan} 
         ap looked.image at ∙ plan.has.ends.quiet after e.0 ∙ sym asked ∙ cut
 
     -- what was found while the plan was put is named
-    pub named_by_plan : {new : DeviceState} → IsDevice looked → Called looked new → (e : Evidence)
-        → IsFoundByPlan p old looked new e → IsNamed old new e
-    named_by_plan {new} device later e found =
+    pub named_by_plan : {new : DeviceState} → Called looked new → (e : Evidence) → IsFoundByPlan p old looked new e
+        → IsNamed old new e
+    named_by_plan {new} later e found =
         let asks = λ (still : IsStill old.foreign_writes new.foreign_writes).
         asks_for_blank (still_first (called r has).foreign_writes later.foreign_writes still) in
-        by_plan
+        by_plan r
+        (λ still. record {
+          settled = record {
+            settled = has.settled;
+            settles = has.settles;
+            looked = called_then has.looked later;
+            quiet = λ later_still cell. found.unput still (asks still) cell
+                ∙ has.quiet (still_first has.looked.foreign_writes later.foreign_writes later_still) cell;
+          };
+          slot = slot;
+        })
         (record {
           rule = log_rule e.rule found.rule;
           licensed = found.licensed;
           before = λ still. found.before still (asks still);
-        })
-        (record {
-          ready = r;
-          looked = looked;
-          device = device;
-          settled = has;
-          since = later;
-          broken = λ still. found.at_entry still (asks still);
         })

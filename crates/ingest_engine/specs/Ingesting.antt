@@ -9,7 +9,6 @@ use Rattle.stored_documents.specs.Documents.{Document, IsDocument, stored_bytes}
 use Rattle.stored_documents.specs.Slots.{IsUnused, cells_for}
 use Rattle.stored_documents.specs.Volumes.{IsVolume}
 use Rattle.index_paths.specs.Keeping.{IsKept, Kept}
-use Rattle.tamper_rules.specs.Rules.{IsBroken}
 use Rattle.tamper_rules.specs.declared.numbers.TheConstants.{STRAY_CELL}
 use Rattle.term_tags.specs.Listing.{GetsTooMany}
 use Rattle.worm_device.specs.Calls.{Called}
@@ -143,22 +142,14 @@ IsUnput old new = (new ≡ old) ⊎ ((r : Ready) × HasSettled old new r)
 abbrev pub IsLogRule : ℕ → Type 0
 IsLogRule number = IsSettlingRule number ⊎ (number ≡ STRAY_CELL)
 
--- Evidence that was found behind settling, where the volume was only looked at: it may be named; and where nobody else
--- wrote, its rule was broken there once the volume was settled.
-pub record IsFoundBehind (old new : DeviceState) (e : Evidence) : Type 0 where
-  pub ready : Ready
-  pub looked : DeviceState
-  pub device : IsDevice looked
-  pub settled : HasSettled old looked ready
-  pub since : Called looked new
-  pub broken : IsStill old.foreign_writes new.foreign_writes → IsBroken looked.cells looked.image e.rule e.cell
-
--- How tampering is named: in the log, where nobody else wrote its rule was broken there before the command; or on the way
--- through the index, as settling has left it.
+-- How tampering is named: while the volume was settled; in the way of the plan, where nobody else wrote its rule was
+-- broken there before the command, too; or on the way through the index. Of the latter two nothing of the document was put,
+-- where nobody else wrote: the volume was settled and had a free slot, and was only looked at.
 pub data IsNamed (old new : DeviceState) (e : Evidence) : Type 0 where
   by_settling : Settles old new (Err (Tampered e)) → IsFound IsSettlingRule old new e → IsNamed old new e
-  by_plan : IsFound IsLogRule old new e → IsFoundBehind old new e → IsNamed old new e
-  in_index : IsPathRule e.rule → IsLicensed old new e → IsFoundBehind old new e → IsNamed old new e
+  by_plan : (ready : Ready) → (IsStill old.foreign_writes new.foreign_writes → HasSlot old new ready)
+      → IsFound IsLogRule old new e → IsNamed old new e
+  in_index : (ready : Ready) → HasSlot old new ready → IsPathRule e.rule → IsLicensed old new e → IsNamed old new e
 
 -- how an ingest may end, and why
 abbrev pub IngestEnds : List ℕ → List ℕ → DeviceState → DeviceState → Result ℕ Refusal → Type 0

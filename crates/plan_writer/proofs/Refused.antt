@@ -108,6 +108,7 @@ module _ (p : Plan) {s0 s2 s3 : DeviceState} (r : Ready) (has : HasSettled s0 s2
       };
       at_entry = λ still asks. broken_2 still;
       before = λ still asks. broken_0 still;
+      unput = λ still asks. same still;
     }
 
 -- a read failed, or a written cell is named

@@ -91,6 +91,7 @@ module _ (g : Layout) (n : ℕ) (p : Plan) {s0 s2 s4 : DeviceState} (layout : Is
         };
         at_entry = λ still asks. absurd (never still (blank (still_2 still)) once);
         before = λ still asks. absurd (never still (blank (still_2 still)) once);
+        unput = λ still asks. absurd (never still (blank (still_2 still)) once);
       })
 
   -- a target holds something else, where all phases before are sure
@@ -192,6 +193,8 @@ module _ (g : Layout) (n : ℕ) (p : Plan) {s0 s2 s4 : DeviceState} (layout : Is
           at_entry = λ still asks. absurd (never still (ap s2.image a.at ∙ target_blank asks)
               (once_asked g n p less suits t.taken.put a));
           before = λ still asks. absurd (never still (ap s2.image a.at ∙ target_blank asks)
+              (once_asked g n p less suits t.taken.put a));
+          unput = λ still asks. absurd (never still (ap s2.image a.at ∙ target_blank asks)
               (once_asked g n p less suits t.taken.put a));
         })
 

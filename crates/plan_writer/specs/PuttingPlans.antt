@@ -1,6 +1,6 @@
 -- What it means that a plan is put onto a volume that was settled, or that this was ended.
 use Rattle.std.specs.Prelude.{◌≡◌, ◌<◌, ◌⊎◌, ℕ, List, length, slice_get, Some, None, Result, Ok, Err, IsTrue}
-use Rattle.cell_types.specs.Image.{Image, Extends}
+use Rattle.cell_types.specs.Image.{Image, Extends, IsUnchanged}
 use Rattle.cell_types.specs.Layout.{Layout}
 use Rattle.cell_types.specs.declared.refusal.Evidence.{Evidence}
 use Rattle.cell_types.specs.declared.refusal.Fault.{Fault}
@@ -52,8 +52,8 @@ IsPlanRule number =
 
 -- Evidence that was found while a plan was put, from entry on, seen from before the volume was settled: it names one of
 -- these rules, and may be named; and where nobody else wrote, and the journal asked for cells that were blank at entry,
--- its rule was broken at entry, and before settling, too. (Cells that were blank before settling would not do: it may have
--- carried another journal out into them.)
+-- its rule was broken at entry, and before settling, too, and nothing of the plan is put. (Cells that were blank before
+-- settling would not do: it may have carried another journal out into them.)
 pub record IsFoundByPlan (p : Plan) (old entry new : DeviceState) (e : Evidence) : Type 0 where
   pub rule : IsPlanRule e.rule
   pub licensed : IsLicensed old new e
@@ -61,6 +61,8 @@ pub record IsFoundByPlan (p : Plan) (old entry new : DeviceState) (e : Evidence)
       → IsBroken entry.cells entry.image e.rule e.cell
   pub before : IsStill old.foreign_writes new.foreign_writes → AsksForBlank p entry.image
       → IsBroken old.cells old.image e.rule e.cell
+  pub unput : IsStill old.foreign_writes new.foreign_writes → AsksForBlank p entry.image
+      → IsUnchanged entry.image new.image
 
 -- how putting a plan may end, and why: from before the volume was settled, and from the call's entry
 abbrev pub PlanEnds : Layout → Plan → ℕ → DeviceState → DeviceState → DeviceState → Result ℕ Fault → Type 0

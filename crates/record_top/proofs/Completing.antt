@@ -18,7 +18,7 @@ use Rattle.volume_growth.specs.Needs.{IsNeed}
 use Rattle.worm_device.specs.Calls.{Called}
 use Rattle.worm_device.specs.State.{IsDevice}
 use Rattle.worm_device.proofs.Counting.{rose_or_still, still_first}
-use Rattle.worm_device.proofs.Elapsing.{called_then}
+use Rattle.commit_record.specs.Licences.{IsLicensed}
 use Rattle.document_store.proofs.Holding.{held_stands}
 use Rattle.recovery_engine.specs.Settling.{HasSettled, Settles}
 use Rattle.recovery_engine.specs.declared.settling.Ready.{Ready}
@@ -27,7 +27,7 @@ use Rattle.steady_volumes.proofs.LookedAt.{looked_ends}
 use Rattle.steady_ingests.proofs.WellPlanned as planned
 use Rattle.identifier_lookup.specs.Walks.{IsPassedWhole}
 use Rattle.plan_writer.proofs.PutFrom.{volume_2}
-use Rattle.ingest_engine.specs.Ingesting.{HasFullPath, HasNoRoom, HasNoSlot, IngestEnds, IsFoundBehind, IsNamed, IsTaken, IsTooMany, by_plan, by_settling, in_index}
+use Rattle.ingest_engine.specs.Ingesting.{HasFullPath, HasNoRoom, HasNoSlot, HasSlot, IngestEnds, IsNamed, IsTaken, IsTooMany, by_plan, by_settling, in_index}
 use Rattle.ingest_engine.proofs.CrashedIngests.{ready_layout, settled_unused}
 use Rattle.record_top.specs.Formatting.{DoesFormat, IsReadyToFormat}
 use Rattle.record_top.specs.Ingesting.{DoesIngest, IsReadyToIngest, acknowledgement, misnamed, untaken, taken}
@@ -145,19 +145,17 @@ module _ {id body : List ℕ} {g : Layout} {slot : ℕ} {old new : Ports} (ready
       omega (arith, room, h.free_is, h.less, ap (λ (l : Layout). l.cells) one)
 
   -- once the volume is settled no rule is broken in what stands
-  behind_unbroken : {e : Evidence} → IsFoundBehind old.device new.device e → ⊥
-  behind_unbroken {e} behind =
-      let first = called_then behind.settled.settles.called behind.settled.looked in
-      let still = still_first first.foreign_writes behind.since.foreign_writes ready.begins.alone in
-      looked_unbroken old.device behind.looked behind.ready e.rule e.cell device behind.device ready.begins.tells
-      behind.settled still ready.begins.steady (behind.broken ready.begins.alone)
+  behind_unbroken : {e : Evidence} (r : Ready) → HasSlot old.device new.device r → IsLicensed old.device new.device e → ⊥
+  behind_unbroken {e} r slot licensed =
+      looked_unbroken old.device new.device r e.rule e.cell device device_new ready.begins.tells slot.settled
+      ready.begins.alone ready.begins.steady (licensed.broken ready.begins.alone)
 
   -- no tampering is named
   untouched : (e : Evidence) → IsNamed old.device new.device e → ⊥
   untouched e (by_settling settles found) = settling_named old.device new.device e device ready.begins.tells settles
       ready.begins.alone ready.begins.steady
-  untouched e (by_plan found behind) = behind_unbroken behind
-  untouched e (in_index rule licensed behind) = behind_unbroken behind
+  untouched e (by_plan r slot found) = behind_unbroken r (slot ready.begins.alone) found.licensed
+  untouched e (in_index r slot rule licensed) = behind_unbroken r slot licensed
 
   volume_now : (called : Called old.device new.device) → IsVolume new.device.cells new.device.image g
   volume_now called = subst (λ (c : ℕ). IsVolume c new.device.image g) (sym called.cells)

@@ -123,7 +123,7 @@ module _ (id : List ℕ) (old new : Ports) (device : IsDevice old.device) (devic
         → Tells acknowledgement answer old new (Err (refusals.Tampered e)) → ⊥
     named_alarms (Ok n) e ingests tells = tells
     named_alarms (Err refused) e ingests tells =
-        none_named old.device new.device e device begins.tells begins.alone begins.steady
+        none_named old.device new.device e device device_new begins.tells begins.alone begins.steady
         ((subst (λ (r : Refusal). IngestEnds id body old.device new.device (Err r)) (sym tells.0) ingests.ends)
         begins.tells)
 

@@ -3,19 +3,19 @@ use Rattle.std.specs.Prelude.{IsTrue}
 use Rattle.cell_types.specs.declared.refusal.Evidence.{Evidence}
 use Rattle.worm_device.specs.Counts.{IsStill}
 use Rattle.worm_device.specs.State.{DeviceState, IsDevice}
-use Rattle.worm_device.proofs.Counting.{still_first}
-use Rattle.plan_writer.proofs.PutFrom as from
-use Rattle.ingest_engine.specs.Ingesting.{IsFoundBehind, IsNamed, by_plan, by_settling, in_index}
+use Rattle.commit_record.specs.Licences.{IsLicensed}
+use Rattle.recovery_engine.specs.declared.settling.Ready.{Ready}
+use Rattle.ingest_engine.specs.Ingesting.{HasSlot, IsNamed, by_plan, by_settling, in_index}
 use Rattle.steady_volumes.specs.Steadiness.{IsSteady}
 use Rattle.steady_volumes.proofs.Alarms.{looked_unbroken, settling_named}
 
-module _ (old new : DeviceState) (e : Evidence) (device : IsDevice old) (tells : IsTrue old.tells)
-    (still : IsStill old.foreign_writes new.foreign_writes) (steady : IsSteady old) where
-  none_behind : IsFoundBehind old new e → ⊥
-  none_behind b = looked_unbroken old b.looked b.ready e.rule e.cell device b.device tells b.settled
-      (still_first (from.called b.ready b.settled).foreign_writes b.since.foreign_writes still) steady (b.broken still)
+module _ (old new : DeviceState) (e : Evidence) (device : IsDevice old) (device_new : IsDevice new)
+    (tells : IsTrue old.tells) (still : IsStill old.foreign_writes new.foreign_writes) (steady : IsSteady old) where
+  none_behind : (r : Ready) → HasSlot old new r → IsLicensed old new e → ⊥
+  none_behind r slot licensed = looked_unbroken old new r e.rule e.cell device device_new tells slot.settled still steady
+      (licensed.broken still)
 
   pub none_named : IsNamed old new e → ⊥
   none_named (by_settling settles found) = settling_named old new e device tells settles still steady
-  none_named (by_plan found behind) = none_behind behind
-  none_named (in_index rule licensed behind) = none_behind behind
+  none_named (by_plan r slot found) = none_behind r (slot still) found.licensed
+  none_named (in_index r slot rule licensed) = none_behind r slot licensed

@@ -58,7 +58,7 @@ module _ (id body : List ℕ) (old new : DeviceState) (called : Called old new) 
   pub refused_keeps : (refusal : Refusal) → refusal ≢ refusals.DeviceFault → ComesTo id body old new
       → IngestEnds id body old new (Err refusal) → Held new.cells new.image documents
   refused_keeps refusals.DeviceFault other comes ends = absurd (other refl)
-  refused_keeps (refusals.Tampered e) other comes ends = absurd (none_named old new e device tells still steady
+  refused_keeps (refusals.Tampered e) other comes ends = absurd (none_named old new e device device_new tells still steady
       (ends tells))
   refused_keeps refusals.SlotsFull other comes ends = settled_keeps ends.ready ends.settled
   refused_keeps (refusals.Duplicate n) other comes ends = settled_keeps ends.ready ends.settled.settled

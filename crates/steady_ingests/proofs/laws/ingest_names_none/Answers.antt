@@ -4,4 +4,4 @@ use Rattle.steady_ingests.proofs.laws.ingest_names_none.Goals as goal
 
 pub returns : goal.returns
 returns c = λ id body old new e device device_new tells ingests still steady.
-    none_named old new e device tells still steady (ingests.ends tells)
+    none_named old new e device device_new tells still steady (ingests.ends tells)
