@@ -81,7 +81,9 @@ module _ (old new : Ports) where
   completes device device_new (ToFormat slots lists) result does free = format_completes _ old new free result does
   completes device device_new (ToIngest id) result does free =
       ingest_completes id free.0 free.1 free.2 old new free.3 device device_new result does
-  completes device device_new (ToFind asked) result does free = find_completes asked free.0 old new free.1 result does
-  completes device device_new (ToLookUp id) result does free = look_up_completes id free.0 old new free.1 result does
+  completes device device_new (ToFind asked) result does free = find_completes asked free.0 old new free.1 device device_new
+      result does
+  completes device device_new (ToLookUp id) result does free = look_up_completes id free.0 old new free.1 device
+      device_new result does
   completes device device_new ToRecover result does free =
-      recover_completes free.0 old new free.1 result does.answer does.settles does.tells
+      recover_completes free.0 old new free.1 device result does.answer does.settles does.tells

@@ -36,6 +36,7 @@ use Rattle.record_top.specs.Recovering.{IsReadyToRecover, recovered}
 use Rattle.record_top.specs.Taking.{BodyFails, refusal_of_body_fault}
 use Rattle.record_top.specs.declared.body.BodyFault.{BodyFault}
 use Rattle.record_top.specs.declared.body.BodyFault.TheVariants as faults
+use Rattle.record_top.proofs.Alarms.{settling_alarms}
 use Rattle.record_top.proofs.WholeLogs.{no_blank_cell, no_other_cell, no_other_size, settles_whole}
 
 -- a source gives no more than it has
@@ -56,13 +57,15 @@ gives_all left body given new e gives end = all new (subst (λ (l : Option (List
     all None h at_end = absurd h
     all (Some rest) h at_end = sym (append-nil given) ∙ ap (λ (r : List ℕ). given ++ r) (sym at_end) ∙ sym h
 
-module _ (g : Layout) (old new : Ports) (ready : IsReadyToRecover g old new) where
+module _ (g : Layout) (old new : Ports) (ready : IsReadyToRecover g old new) (device : IsDevice old.device) where
   -- the answer is Ok, since no memory is taken
   pub recover_completes : (result : Result Unit Refusal) (answer : Result Ready Refusal)
       → Settles old.device new.device answer → Tells recovered answer old new result → IsOkAlone result
   recover_completes (Ok u) answer settles tells = tt
   recover_completes (Err refusal) (Err refused) settles tells =
-      absurd (settles_whole ready.log settles.called refused settles.ends)
+      absurd (settles_whole ready.log settles.called refused (λ e same steady.
+      settling_alarms old.device new.device device ready.log.tells ready.log.alone steady refused e settles same)
+      settles.ends)
   recover_completes (Err refusals.SinkFault) (Ok r) settles tells = rose_or_still _ _ tells.faults ready.no_sink_fault
   recover_completes (Err refusal) (Ok r) settles tells = absurd tells
 

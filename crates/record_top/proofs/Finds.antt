@@ -8,15 +8,17 @@ use Rattle.cell_types.specs.Layout.{Layout}
 use Rattle.cell_types.specs.declared.refusal.Refusal.{Refusal}
 use Rattle.cell_types.specs.declared.refusal.Refusal.TheVariants as refusals
 use Rattle.worm_device.specs.Calls.{Called}
+use Rattle.worm_device.specs.State.{IsDevice}
 use Rattle.worm_device.proofs.Counting.{rose_or_still}
 use Rattle.worm_device.proofs.Elapsing.{called_self}
 use Rattle.recovery_engine.specs.Settling.{IsSettlingRule}
-use Rattle.record_query.specs.Finding.{FindEnds}
+use Rattle.record_query.specs.Finding.{ComesTo, FindEnds, Searches}
 use Rattle.record_query.specs.declared.found.Match.{Match}
 use Rattle.record_top.specs.Finding.{DoesFind, IsFirstBadWord, IsReadyToFind, TermsEnd, found_text, misworded, searched, unread}
 use Rattle.record_top.specs.Ports.{Ports, IsOkOrNoMemory, TellsFromMemory}
 use Rattle.record_top.specs.WholeLogs.{HasWholeLog}
-use Rattle.record_top.proofs.WholeLogs.{settles_whole, settling_log, untampered}
+use Rattle.record_top.proofs.Alarms.{query_alarms}
+use Rattle.record_top.proofs.WholeLogs.{none_found, settles_whole, settling_log}
 
 -- where the terms can't be read, nothing is done
 pub not_searched : (asked : List (List ℕ)) (ports : Ports) (refusal : Refusal) → TermsEnd asked (Err refusal)
@@ -52,33 +54,40 @@ module _ (asked : List (List ℕ)) (old new : Ports) where
   find_is_used (unread is same) = no_lack (Err refusals.Usage) refl is
   find_is_used (searched terms answer are searches source tells) = told_is_used terms answer searches.ends tells
 
-module _ (asked : List (List ℕ)) (g : Layout) (old new : Ports) (ready : IsReadyToFind asked g old new) where
+module _ (asked : List (List ℕ)) (g : Layout) (old new : Ports) (ready : IsReadyToFind asked g old new)
+    (device : IsDevice old.device) (device_new : IsDevice new.device) where
   settling : HasWholeLog IsSettlingRule g old.device new.device
   settling = settling_log ready.log (λ number rule. inl rule)
 
-  searches_whole : (terms : List (List ℕ)) (called : Called old.device new.device) (refusal : Refusal)
-      → FindEnds terms old.device new.device (Err refusal) → IsOkOrNoMemory (Err refusal)
-  searches_whole terms called refusals.NoMemory ends = tt
-  searches_whole terms called refusals.DeviceFault ends = rose_or_still _ _ ends ready.log.no_fault
-  searches_whole terms called (refusals.Tampered e) ends = untampered ready.log called e (ends ready.log.tells)
-  searches_whole terms called refusals.NotFormatted ends =
-      absurd (settles_whole settling called refusals.NotFormatted ends)
-  searches_whole terms called (refusals.NotAVolume found) ends =
-      absurd (settles_whole settling called (refusals.NotAVolume found) ends)
-  searches_whole terms called (refusals.WrongSize stated real) ends =
-      absurd (settles_whole settling called (refusals.WrongSize stated real) ends)
-  searches_whole terms called refusal ends = absurd ends
+  module _ (terms : List (List ℕ)) (called : Called old.device new.device) where
+    searches_whole : (refusal : Refusal) → ComesTo (Vec Match) old.device new.device (Err refusal)
+        → FindEnds terms old.device new.device (Err refusal) → IsOkOrNoMemory (Err refusal)
+    searches_whole refusals.NoMemory comes ends = tt
+    searches_whole refusals.DeviceFault comes ends = rose_or_still _ _ ends ready.log.no_fault
+    searches_whole (refusals.Tampered e) comes ends =
+        let found = ends ready.log.tells in
+        none_found ready.log called e
+        (λ steady. query_alarms old.device new.device device ready.log.tells ready.log.alone steady device_new comes e refl
+        found)
+        found
+    searches_whole refusals.NotFormatted comes ends =
+        absurd (settles_whole settling called refusals.NotFormatted (λ e same. absurd cc) ends)
+    searches_whole (refusals.NotAVolume found) comes ends =
+        absurd (settles_whole settling called (refusals.NotAVolume found) (λ e same. absurd cc) ends)
+    searches_whole (refusals.WrongSize stated real) comes ends =
+        absurd (settles_whole settling called (refusals.WrongSize stated real) (λ e same. absurd cc) ends)
+    searches_whole refusal comes ends = absurd ends
 
   find_told : (terms : List (List ℕ)) (result : Result Unit Refusal) (answer : Result (Vec Match) Refusal)
-      → Called old.device new.device → FindEnds terms old.device new.device answer
-      → TellsFromMemory found_text answer old new result → IsOkOrNoMemory result
-  find_told terms (Ok u) answer called ends tells = tt
-  find_told terms (Err refusal) (Err refused) called ends tells =
-      subst (λ (r : Refusal). IsOkOrNoMemory (Err r)) (sym tells.0) (searches_whole terms called refused ends)
-  find_told terms (Err refusals.NoMemory) (Ok matches) called ends tells = tt
-  find_told terms (Err refusals.SinkFault) (Ok matches) called ends tells =
+      → Searches terms old.device new.device answer → TellsFromMemory found_text answer old new result → IsOkOrNoMemory result
+  find_told terms (Ok u) answer searches tells = tt
+  find_told terms (Err refusal) (Err refused) searches tells =
+      subst (λ (r : Refusal). IsOkOrNoMemory (Err r)) (sym tells.0)
+      (searches_whole terms searches.called refused searches.comes searches.ends)
+  find_told terms (Err refusals.NoMemory) (Ok matches) searches tells = tt
+  find_told terms (Err refusals.SinkFault) (Ok matches) searches tells =
       rose_or_still _ _ tells.faults ready.no_sink_fault
-  find_told terms (Err refusal) (Ok matches) called ends tells = absurd tells
+  find_told terms (Err refusal) (Ok matches) searches tells = absurd tells
 
   no_bad_word : (i : ℕ) → IsFirstBadWord asked i → ⊥
   no_bad_word i first =
@@ -94,4 +103,4 @@ module _ (asked : List (List ℕ)) (g : Layout) (old new : Ports) (ready : IsRea
   find_completes result (misworded i bad is same) = absurd (no_bad_word i bad)
   find_completes result (unread is same) = subst IsOkOrNoMemory (sym is) tt
   find_completes result (searched terms answer are searches source tells) =
-      find_told terms result answer searches.called searches.ends tells
+      find_told terms result answer searches tells

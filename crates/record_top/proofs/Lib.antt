@@ -1,3 +1,4 @@
+pub mod Alarms
 pub mod Asking
 pub mod Completing
 pub mod Ending

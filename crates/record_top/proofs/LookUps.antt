@@ -5,24 +5,24 @@ use Rattle.cell_types.specs.Layout.{Layout}
 use Rattle.cell_types.specs.declared.refusal.Refusal.{Refusal}
 use Rattle.cell_types.specs.declared.refusal.Refusal.TheVariants as refusals
 use Rattle.worm_device.specs.Calls.{Called}
+use Rattle.worm_device.specs.State.{IsDevice}
 use Rattle.worm_device.proofs.Counting.{rose_or_still}
 use Rattle.worm_device.proofs.Elapsing.{called_self}
 use Rattle.recovery_engine.specs.Settling.{IsSettlingRule}
-use Rattle.record_query.specs.LookingUp.{LookUpEnds}
+use Rattle.record_query.specs.Finding.{ComesTo}
+use Rattle.record_query.specs.LookingUp.{LookUpEnds, LooksUp}
 use Rattle.record_query.specs.declared.found.Found.{Found}
 use Rattle.record_top.specs.LookingUp.{Answers, DoesLookUp, IsReadyToLookUp, looked, misnamed}
 use Rattle.record_top.specs.Ports.{Ports, IsOkOrAbsent}
 use Rattle.record_top.specs.WholeLogs.{HasWholeLog}
-use Rattle.record_top.proofs.WholeLogs.{settles_whole, settling_log, untampered}
+use Rattle.record_top.proofs.Alarms.{one_refusal, query_alarms}
+use Rattle.record_top.proofs.WholeLogs.{none_found, settles_whole, settling_log}
 
 no_name : (result : Result Unit Refusal) → result ≡ Err refusals.Usage → result ≡ Err refusals.BadIdentifier → ⊥
 no_name result e f = absurd cc
 
 no_answer : (result : Result Unit Refusal) → result ≡ Err refusals.Usage → result ≡ Ok tt → ⊥
 no_answer result e f = absurd cc
-
-one_refusal : (result : Result Unit Refusal) (a b : Refusal) → result ≡ Err a → result ≡ Err b → a ≡ b
-one_refusal result a b e f = cc
 
 module _ (id : List ℕ) (old new : Ports) where
   -- a look-up keeps what every call of the device keeps
@@ -43,32 +43,38 @@ module _ (id : List ℕ) (old new : Ports) where
   look_up_is_used (misnamed bad is same) = no_name (Err refusals.Usage) refl is
   look_up_is_used (looked answer name looks source answers) = answers_used answer looks.ends answers
 
-module _ (id : List ℕ) (g : Layout) (old new : Ports) (ready : IsReadyToLookUp id g old new) where
+module _ (id : List ℕ) (g : Layout) (old new : Ports) (ready : IsReadyToLookUp id g old new) (device : IsDevice old.device)
+    (device_new : IsDevice new.device) where
   settling : HasWholeLog IsSettlingRule g old.device new.device
   settling = settling_log ready.log (λ number rule. inl rule)
 
-  looks_whole : (called : Called old.device new.device) (refusal : Refusal)
-      → LookUpEnds id old.device new.device old.sink new.sink (Err refusal) → IsOkOrAbsent (Err refusal)
-  looks_whole called refusals.Absent ends = tt
-  looks_whole called refusals.DeviceFault ends = rose_or_still _ _ ends.0 ready.log.no_fault
-  looks_whole called refusals.SinkFault ends = rose_or_still _ _ ends.0 ready.no_sink_fault
-  looks_whole called (refusals.Tampered e) ends =
-      let found = ends.1 ready.log.tells in untampered ready.log called e found.1
-  looks_whole called refusals.NotFormatted ends = absurd (settles_whole settling called refusals.NotFormatted ends.1)
-  looks_whole called (refusals.NotAVolume found) ends =
-      absurd (settles_whole settling called (refusals.NotAVolume found) ends.1)
-  looks_whole called (refusals.WrongSize stated real) ends =
-      absurd (settles_whole settling called (refusals.WrongSize stated real) ends.1)
-  looks_whole called refusal ends = absurd ends
+  module _ (called : Called old.device new.device) where
+    looks_whole : (refusal : Refusal) → ComesTo Found old.device new.device (Err refusal)
+        → LookUpEnds id old.device new.device old.sink new.sink (Err refusal) → IsOkOrAbsent (Err refusal)
+    looks_whole refusals.Absent comes ends = tt
+    looks_whole refusals.DeviceFault comes ends = rose_or_still _ _ ends.0 ready.log.no_fault
+    looks_whole refusals.SinkFault comes ends = rose_or_still _ _ ends.0 ready.no_sink_fault
+    looks_whole (refusals.Tampered e) comes ends =
+        let found = (ends.1 ready.log.tells).1 in
+        none_found ready.log called e
+        (λ steady. query_alarms old.device new.device device ready.log.tells ready.log.alone steady device_new comes e refl
+        found)
+        found
+    looks_whole refusals.NotFormatted comes ends =
+        absurd (settles_whole settling called refusals.NotFormatted (λ e same. absurd cc) ends.1)
+    looks_whole (refusals.NotAVolume found) comes ends =
+        absurd (settles_whole settling called (refusals.NotAVolume found) (λ e same. absurd cc) ends.1)
+    looks_whole (refusals.WrongSize stated real) comes ends =
+        absurd (settles_whole settling called (refusals.WrongSize stated real) (λ e same. absurd cc) ends.1)
+    looks_whole refusal comes ends = absurd ends
 
-  answered : (result : Result Unit Refusal) (answer : Result Found Refusal) → Called old.device new.device
-      → LookUpEnds id old.device new.device old.sink new.sink answer → Answers answer result → IsOkOrAbsent result
-  answered result (Ok found) called ends answers = subst IsOkOrAbsent (sym answers) tt
-  answered result (Err refusal) called ends answers =
-      subst IsOkOrAbsent (sym answers) (looks_whole called refusal ends)
+  answered : (result : Result Unit Refusal) (answer : Result Found Refusal)
+      → LooksUp id old.device new.device old.sink new.sink answer → Answers answer result → IsOkOrAbsent result
+  answered result (Ok found) looks answers = subst IsOkOrAbsent (sym answers) tt
+  answered result (Err refusal) looks answers =
+      subst IsOkOrAbsent (sym answers) (looks_whole looks.called refusal looks.comes looks.ends)
 
   -- the answer is Ok, or no document has the identifier
   pub look_up_completes : (result : Result Unit Refusal) → DoesLookUp id old new result → IsOkOrAbsent result
   look_up_completes result (misnamed bad is same) = absurd (bad ready.identifier)
-  look_up_completes result (looked answer name looks source answers) =
-      answered result answer looks.called looks.ends answers
+  look_up_completes result (looked answer name looks source answers) = answered result answer looks answers

@@ -2,7 +2,7 @@
 use Rattle.std.proofs.Common.{◌≡◌, ◌⊎◌, ℕ, List, [], Some, None, Result, Ok, Err, refl, sym, ap, ◌∙◌, inl, inr, ⊎_elim, subst, arith}
 use Rattle.std.specs.Global.{Vec}
 use Rattle.std.proofs.lemmas.Option.{none-some}
-use Rattle.cell_types.specs.Image.{Image, Between, ChangesOnly}
+use Rattle.cell_types.specs.Image.{Image, Between, ChangesOnly, Extends}
 use Rattle.cell_types.specs.Layout.{IsLayout, Layout}
 use Rattle.cell_types.specs.declared.refusal.Evidence.{Evidence}
 use Rattle.cell_types.specs.declared.refusal.Refusal.{Refusal}
@@ -15,13 +15,12 @@ use Rattle.tamper_rules.proofs.SettledLaws.{formatted}
 use Rattle.worm_device.specs.Calls.{Called}
 use Rattle.worm_device.specs.State.{DeviceState, IsDevice}
 use Rattle.worm_device.proofs.Elapsing.{elapses_of}
-use Rattle.worm_device.proofs.Images.{extends_self}
+use Rattle.worm_device.proofs.Images.{extends_self, extends_then}
 use Rattle.recovery_engine.specs.Settling.{IsFound, Settles}
 use Rattle.recovery_engine.specs.declared.settling.Ready.{Ready}
 use Rattle.steady_volumes.specs.Steadiness.{IsLeftWhole, IsSteady, StaysSteady}
-use Rattle.steady_volumes.proofs.Alarms.{looked_unbroken, settling_named}
-use Rattle.steady_volumes.proofs.LeftWhole.{left_between, not_blank, settling_left, stays_steady}
-use Rattle.steady_volumes.proofs.LookedAt.{looking_steady}
+use Rattle.steady_volumes.proofs.LeftWhole.{left_between, not_blank, settling_keeps, settling_left, stays_steady}
+use Rattle.steady_volumes.proofs.LookedAt.{looking_keeps, looking_steady}
 use Rattle.ingest_engine.specs.Formats.{volume_cell}
 use Rattle.slot_walk.specs.Walks.{IsQueryRule}
 use Rattle.record_query.specs.Finding.{ComesTo, FindEnds, settled, settling}
@@ -34,13 +33,10 @@ use Rattle.record_top.specs.Formatting.{DoesFormat, FormatCommandEnds}
 use Rattle.record_top.specs.LookingUp.{Answers, DoesLookUp, looked, misnamed}
 use Rattle.record_top.specs.Ports.{Ports, Tells, TellsFromMemory}
 use Rattle.record_top.specs.Recovering.{DoesRecover, recovered}
+use Rattle.record_top.proofs.Alarms.{one_refusal, query_alarms, settling_alarms}
 use Rattle.record_top.proofs.OneMore.{ingest_adds}
 use Rattle.record_top.specs.Begins.{BeginsSteady}
 use Rattle.record_top.specs.Steadiness.{AddsNone, LeavesWhole}
-
--- a result refuses in one way
-one_refusal : {A : Type 0} (result : Result A Refusal) (a b : Refusal) → result ≡ Err a → result ≡ Err b → a ≡ b
-one_refusal result a b p q = cc
 
 -- a device that nothing was done with stays steady
 module _ (old new : DeviceState) (device : IsDevice old) (steady : IsSteady old) where
@@ -154,6 +150,40 @@ module _ (g : Layout) (old new : DeviceState) (is : IsLayout g) (size : g.cells 
       (look old.image 0))
       (steady.each old.image (record { above = device.sure; below = extends_self old.image }))
 
+  -- what stands behind it holds the documents that stood: none where no cell was written
+  formatting_keeps : (documents : List Document) → Held old.cells old.image documents
+      → Held old.cells new.image documents
+  formatting_keeps documents held = ⊎_elim
+      (λ (none_there : old.image 0 ≡ None).
+      let blank = blank_all none_there in
+      let none_held : documents ≡ [] = holds_none blank documents held in
+      ⊎_elim
+      (λ (kept : (l : List Document) → Held old.cells old.sure l → Held old.cells new.image l).
+      kept documents (none (λ cell. sure_blank blank cell) none_held))
+      (λ (kept : (l : List Document) → Held old.cells old.image l → Held old.cells new.image l). kept documents held)
+      (by_first blank new.image (record { above = sure_below; below = extends_self new.image })).holds)
+      (λ (w : (v : List ℕ) × (old.image 0 ≡ Some v)).
+      subst (λ (i : Image). Held old.cells i documents) (sym (same_where w.0 w.1)) held)
+      (look old.image 0)
+    where
+      sure_below : Extends old.sure new.image
+      sure_below = extends_then device.sure called.image
+
+      blank_all : old.image 0 ≡ None → (cell : ℕ) → old.image cell ≡ None
+      blank_all none_there = ⊎_elim (λ (blank : (cell : ℕ) → old.image cell ≡ None). blank)
+          (λ (sound : Sound old.cells old.image). absurd (not_blank sound.is none_there))
+          (steady.each old.image (record { above = device.sure; below = extends_self old.image }))
+
+      holds_none : ((cell : ℕ) → old.image cell ≡ None) → (l : List Document) → Held old.cells old.image l → l ≡ []
+      holds_none blank l (none free is) = is
+      holds_none blank l (of_after after a are) = absurd (not_blank a (blank 0))
+
+      sure_blank : ((cell : ℕ) → old.image cell ≡ None) → (cell : ℕ) → old.sure cell ≡ None
+      sure_blank blank cell = ⊎_elim (λ free. free)
+          (λ (w : (v : List ℕ) × (old.sure cell ≡ Some v)).
+          absurd (none-some w.0 (sym (blank cell) ∙ device.sure.keeps cell w.0 w.1)))
+          (look old.sure cell)
+
 -- the layout may be, or nothing was done
 format_layout : (g : Layout) (old new : Ports) (result : Result Unit Refusal) → FormatCommandEnds g old new result
     → IsLayout g ⊎ (new.device ≡ old.device)
@@ -166,6 +196,12 @@ format_layout g old new (Err refusal) ends = absurd ends.0
 
 module _ (old new : Ports) (device : IsDevice old.device) (device_new : IsDevice new.device)
     (begins : BeginsSteady old.device new.device) where
+  -- what is not begun leaves the documents
+  unused_held : new.device ≡ old.device → (documents : List Document)
+      → Held old.device.cells old.device.image documents → Held new.device.cells new.device.image documents
+  unused_held same documents held =
+      subst (λ (s : DeviceState). Held s.cells s.image documents) (sym same) held
+
   format_adds : (g : Layout) (result : Result Unit Refusal) → g.cells ≡ old.device.cells → DoesFormat g old new result
       → AddsNone old new result
   format_adds g result size does = record {
@@ -174,22 +210,35 @@ module _ (old new : Ports) (device : IsDevice old.device) (device_new : IsDevice
         (does.only begins.alone))
         (λ same. unused_steady old.device new.device device begins.steady same)
         (format_layout g old new result does.ends);
+    keeps = λ documents held. ⊎_elim
+        (λ (is : IsLayout g). subst (λ (k : ℕ). Held k new.device.image documents) (sym does.called.cells)
+        (formatting_keeps g old.device new.device is size device begins.steady does.called (does.only begins.alone)
+        documents held))
+        (λ same. unused_held same documents held)
+        (format_layout g old new result does.ends);
     no_alarm = λ e is. (subst (FormatCommandEnds g old new) is does.ends).0;
   }
+
+  settled_held : (answer : Result Ready Refusal) → Settles old.device new.device answer → (documents : List Document)
+      → Held old.device.cells old.device.image documents → Held new.device.cells new.device.image documents
+  settled_held answer settles documents held =
+      subst (λ (k : ℕ). Held k new.device.image documents) (sym settles.called.cells)
+      (settling_keeps old.device new.device answer device device_new begins.tells settles begins.alone begins.steady
+      documents held)
 
   recover_adds : (result : Result Unit Refusal) → DoesRecover old new result → AddsNone old new result
   recover_adds result does = record {
     stays = stays_steady old.device new.device device begins.steady does.settles.called.cells
         (settling_left old.device new.device does.answer device begins.tells does.settles begins.alone begins.steady);
+    keeps = settled_held does.answer does.settles;
     no_alarm = λ e is. told does.answer does.settles e (subst (Tells recovered does.answer old new) is does.tells);
   }
     where
       told : (answer : Result Ready Refusal) → Settles old.device new.device answer → (e : Evidence)
           → Tells recovered answer old new (Err (refusals.Tampered e)) → ⊥
       told (Ok r) settles e tells = tells
-      told (Err refused) settles e tells = settling_named old.device new.device e device begins.tells
-          (subst (λ (r : Refusal). Settles old.device new.device (Err r)) (sym tells.0) settles) begins.alone
-          begins.steady
+      told (Err refused) settles e tells = settling_alarms old.device new.device device begins.tells begins.alone
+          begins.steady refused e settles (sym tells.0)
 
   -- queries settle, and then look alone
   query_stays : {X : Type 0} {answer : Result X Refusal} → ComesTo X old.device new.device answer
@@ -202,18 +251,21 @@ module _ (old new : Ports) (device : IsDevice old.device) (device_new : IsDevice
 
   query_names : {X : Type 0} {answer : Result X Refusal} → ComesTo X old.device new.device answer → (e : Evidence)
       → answer ≡ Err (refusals.Tampered e) → IsFound IsQueryRule old.device new.device e → ⊥
-  query_names {X} {answer} (settling refusal is settles) e named found =
-      let same : refusal ≡ refusals.Tampered e = one_refusal answer refusal (refusals.Tampered e) is named in
-      settling_named old.device new.device e device begins.tells
-      (subst (λ (r : Refusal). Settles old.device new.device (Err r)) same settles) begins.alone begins.steady
-  query_names (settled r has) e named found =
-      looked_unbroken old.device new.device r e.rule e.cell device device_new begins.tells has begins.alone
-      begins.steady (found.licensed.broken begins.alone)
+  query_names comes e named found =
+      query_alarms old.device new.device device begins.tells begins.alone begins.steady device_new comes e named found
+
+  query_keeps : {X : Type 0} {answer : Result X Refusal} → ComesTo X old.device new.device answer
+      → (documents : List Document) → Held old.device.cells old.device.image documents
+      → Held new.device.cells new.device.image documents
+  query_keeps (settling refusal is settles) documents held = settled_held (Err refusal) settles documents held
+  query_keeps (settled r has) documents held = looking_keeps old.device new.device r begins.tells has begins.alone
+      device device_new begins.steady documents held
 
   find_adds : (asked : List (List ℕ)) (result : Result Unit Refusal) → DoesFind asked old new result
       → AddsNone old new result
   find_adds asked result (misworded i bad is same) = record {
     stays = unused_steady old.device new.device device begins.steady (ap (λ (p : Ports). p.device) same);
+    keeps = unused_held (ap (λ (p : Ports). p.device) same);
     no_alarm = λ e named. no_word result i e is named;
   }
     where
@@ -222,6 +274,7 @@ module _ (old new : Ports) (device : IsDevice old.device) (device_new : IsDevice
       no_word r n e p q = absurd cc
   find_adds asked result (unread is same) = record {
     stays = unused_steady old.device new.device device begins.steady (ap (λ (p : Ports). p.device) same);
+    keeps = unused_held (ap (λ (p : Ports). p.device) same);
     no_alarm = λ e named. no_lack result e is named;
   }
     where
@@ -230,6 +283,7 @@ module _ (old new : Ports) (device : IsDevice old.device) (device_new : IsDevice
       no_lack r e p q = absurd cc
   find_adds asked result (searched terms answer are searches source tells) = record {
     stays = query_stays searches.comes;
+    keeps = query_keeps searches.comes;
     no_alarm = λ e named. told answer searches.comes searches.ends e
         (subst (TellsFromMemory found_text answer old new) named tells);
   }
@@ -244,6 +298,7 @@ module _ (old new : Ports) (device : IsDevice old.device) (device_new : IsDevice
   look_up_adds : (id : List ℕ) (result : Result Unit Refusal) → DoesLookUp id old new result → AddsNone old new result
   look_up_adds id result (misnamed bad is same) = record {
     stays = unused_steady old.device new.device device begins.steady (ap (λ (p : Ports). p.device) same);
+    keeps = unused_held (ap (λ (p : Ports). p.device) same);
     no_alarm = λ e named. no_name result e is named;
   }
     where
@@ -252,6 +307,7 @@ module _ (old new : Ports) (device : IsDevice old.device) (device_new : IsDevice
       no_name r e p q = absurd cc
   look_up_adds id result (looked answer name looks source answers) = record {
     stays = query_stays looks.comes;
+    keeps = query_keeps looks.comes;
     no_alarm = λ e named. told answer looks.comes looks.ends e (subst (Answers answer) named answers);
   }
     where

@@ -15,7 +15,8 @@ use Rattle.worm_device.specs.State.{DeviceState}
 use Rattle.worm_device.proofs.Counting.{rose_or_still}
 use Rattle.commit_record.specs.Opening.{IsNoVolumeCell}
 use Rattle.recovery_engine.specs.Settling.{IsFound, IsSettlingRule, SettleEnds}
-use Rattle.record_top.specs.WholeLogs.{HasWholeLog}
+use Rattle.steady_volumes.specs.Steadiness.{IsSteady}
+use Rattle.record_top.specs.WholeLogs.{HasWholeLog, IsUntampered, steady, unbroken}
 
 some_is : (a b : List ℕ) → Some a ≡ Some b → a ≡ b
 some_is a b e = cc
@@ -45,29 +46,38 @@ module _ {IsLookedAt : ℕ → Type 0} {g : Layout} {old new : DeviceState} (who
   volume_now =
       subst (λ (cells : ℕ). IsVolume cells new.image g) (sym called.cells) (volume_on called.image whole.volume)
 
-  -- no rule that is looked at is broken
-  pub untampered : (e : Evidence) → IsFound IsLookedAt old new e → ⊥
-  untampered e found = whole.unbroken e.rule e.cell found.rule (found.before whole.alone)
+  -- what is named of a steady device nobody names, and no rule that is looked at is broken
+  pub none_found : (e : Evidence) → (IsSteady old → ⊥) → IsFound IsLookedAt old new e → ⊥
+  none_found e alarm found = by_cause whole.untampered
+    where
+      by_cause : IsUntampered IsLookedAt old → ⊥
+      by_cause (steady is) = alarm is
+      by_cause (unbroken none) = none e.rule e.cell found.rule (found.before whole.alone)
 
 -- settling ends with no refusal
 pub settles_whole : {g : Layout} {old new : DeviceState} (whole : HasWholeLog IsSettlingRule g old new)
-    (called : Called old new) (refusal : Refusal) → SettleEnds old new (Err refusal) → ⊥
-settles_whole whole called refusals.DeviceFault ends = rose_or_still _ _ ends whole.no_fault
-settles_whole whole called refusals.NotFormatted ends = no_blank_cell whole.volume (ends whole.tells)
-settles_whole whole called (refusals.NotAVolume found) ends =
+    (called : Called old new) (refusal : Refusal)
+    → ((e : Evidence) → refusal ≡ refusals.Tampered e → IsSteady old → ⊥) → SettleEnds old new (Err refusal) → ⊥
+settles_whole whole called refusals.DeviceFault alarm ends = rose_or_still _ _ ends whole.no_fault
+settles_whole whole called refusals.NotFormatted alarm ends = no_blank_cell whole.volume (ends whole.tells)
+settles_whole whole called (refusals.NotAVolume found) alarm ends =
     let is = ends whole.tells in no_other_cell (volume_now whole called) found is.0 is.1
-settles_whole whole called (refusals.WrongSize stated real) ends =
+settles_whole whole called (refusals.WrongSize stated real) alarm ends =
     let is = ends.2 whole.tells in ends.1 (no_other_size (volume_now whole called) is.0 stated is.1 is.2 ∙ sym ends.0)
-settles_whole whole called (refusals.Tampered e) ends = untampered whole called e (ends whole.tells)
-settles_whole whole called refusal ends = ends
+settles_whole whole called (refusals.Tampered e) alarm ends = none_found whole called e (alarm e refl) (ends whole.tells)
+settles_whole whole called refusal alarm ends = ends
 
 -- nothing hinders settling either, where its rules are looked at, too
 pub settling_log : {IsLookedAt : ℕ → Type 0} {g : Layout} {old new : DeviceState} → HasWholeLog IsLookedAt g old new
     → ((number : ℕ) → IsSettlingRule number → IsLookedAt number) → HasWholeLog IsSettlingRule g old new
-settling_log whole too = record {
+settling_log {IsLookedAt} {g} {old} whole too = record {
   tells = whole.tells;
   volume = whole.volume;
-  unbroken = λ number cell rule broken. whole.unbroken number cell (too number rule) broken;
+  untampered = fewer whole.untampered;
   alone = whole.alone;
   no_fault = whole.no_fault;
 }
+  where
+    fewer : IsUntampered IsLookedAt old → IsUntampered IsSettlingRule old
+    fewer (steady is) = steady is
+    fewer (unbroken none) = unbroken (λ number cell rule broken. none number cell (too number rule) broken)

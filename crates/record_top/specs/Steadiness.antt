@@ -18,9 +18,12 @@ use Rattle.record_top.specs.Ingesting.{HasRefused, HasStored}
 use Rattle.record_top.specs.Ports.{Ports}
 
 -- A crash in the command leaves an image that is blank or sound, with the documents that were sure at entry or those
--- that stood there; the device is steady behind it, and no tampering is named.
+-- that stood there. Behind it, whatever it answers, the device is steady and holds the documents that stood at entry; and
+-- no tampering is named.
 pub record AddsNone (old new : Ports) (result : Result Unit Refusal) : Type 0 where
   pub stays : StaysSteady old.device new.device
+  pub keeps : (documents : List Document) → Held old.device.cells old.device.image documents
+      → Held new.device.cells new.device.image documents
   pub no_alarm : (e : Evidence) → result ≡ Err (Tampered e) → ⊥
 
 -- So much was needed of the sound volume that stood, once it is settled, for the document in its first free slot; and so

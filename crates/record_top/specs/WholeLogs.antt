@@ -5,12 +5,20 @@ use Rattle.stored_documents.specs.Volumes.{IsVolume}
 use Rattle.tamper_rules.specs.Rules.{IsBroken}
 use Rattle.worm_device.specs.Counts.{IsStill}
 use Rattle.worm_device.specs.State.{DeviceState}
+use Rattle.steady_volumes.specs.Steadiness.{IsSteady}
 
--- The device holds a volume of this layout, and none of the rules that are looked at is broken at any cell. Nobody else
--- writes, and no call of the device fails.
+-- Nothing can be named as evidence: whatever a crash leaves of the device is blank or sound, as each command leaves it
+-- where nobody else writes; or, whoever has written, none of the rules that are looked at is broken at any cell.
+pub data IsUntampered (IsLookedAt : ℕ → Type 0) (s : DeviceState) : Type 0 where
+  steady : IsSteady s → IsUntampered IsLookedAt s
+  unbroken : ((number cell : ℕ) → IsLookedAt number → IsBroken s.cells s.image number cell → ⊥)
+      → IsUntampered IsLookedAt s
+
+-- The device holds a volume of this layout, and nothing there can be named. Nobody else writes, and no call of the
+-- device fails.
 pub record HasWholeLog (IsLookedAt : ℕ → Type 0) (g : Layout) (old new : DeviceState) : Type 0 where
   pub tells : IsTrue old.tells
   pub volume : IsVolume old.cells old.image g
-  pub unbroken : (number cell : ℕ) → IsLookedAt number → IsBroken old.cells old.image number cell → ⊥
+  pub untampered : IsUntampered IsLookedAt old
   pub alone : IsStill old.foreign_writes new.foreign_writes
   pub no_fault : IsStill old.faults new.faults

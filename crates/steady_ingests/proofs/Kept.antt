@@ -23,8 +23,8 @@ use Rattle.plan_writer.proofs.PutFrom as from
 use Rattle.ingest_engine.specs.Ingesting as ingesting
 use Rattle.ingest_engine.specs.Ingesting.{ComesTo, IngestEnds, Ingests, put, settled, settling}
 use Rattle.steady_volumes.specs.Steadiness.{IsSteady}
-use Rattle.steady_volumes.proofs.LeftWhole.{documents_after, settling_keeps}
-use Rattle.steady_volumes.proofs.LookedAt.{looked_ends, looked_sound}
+use Rattle.steady_volumes.proofs.LeftWhole.{settling_keeps}
+use Rattle.steady_volumes.proofs.LookedAt.{looking_keeps}
 use Rattle.steady_ingests.proofs.Alarms.{none_named}
 
 module _ (id body : List ℕ) (old new : DeviceState) (called : Called old new) (device : IsDevice old)
@@ -37,13 +37,7 @@ module _ (id body : List ℕ) (old new : DeviceState) (called : Called old new) 
 
   -- the volume was settled, and then looked at
   settled_keeps : (r : Ready) → HasSettled old new r → Held new.cells new.image documents
-  settled_keeps r h =
-      let sound = looked_sound old new r tells h still device device_new steady in
-      let ends = looked_ends old new r tells h still device_new.sure sound in
-      let after : Held old.cells sound.after documents =
-      of_after sound.after (nothing sound.settled (λ cell. refl)) (documents_after sound documents held) in
-      subst (λ (k : ℕ). Held k new.image documents) (sym (from.called r h).cells)
-      (subst (λ (i : Image). Held old.cells i documents) (sym ends.image) after)
+  settled_keeps r h = looking_keeps old new r tells h still device device_new steady documents held
 
   -- a plan is put only where a volume of the device's size stood
   module _ (none_stood : (g : Layout) → IsVolume old.cells old.image g → ⊥) where

@@ -1,7 +1,8 @@
 -- A volume that was settled, and looked at since.
-use Rattle.std.proofs.Common.{◌≡◌, Ok, sym, ◌∙◌, inr, ⊎_elim, subst, refl, arith}
+use Rattle.std.proofs.Common.{◌≡◌, ℕ, List, Ok, sym, ◌∙◌, inr, ⊎_elim, subst, refl, arith}
 use Rattle.std.specs.Prelude.{IsTrue}
 use Rattle.cell_types.specs.Image.{Image, Between, Extends}
+use Rattle.stored_documents.specs.Documents.{Document}
 use Rattle.tamper_rules.specs.Settling.{Held, Sound, nothing, of_after}
 use Rattle.tamper_rules.proofs.Images.{same_both, same_image}
 use Rattle.worm_device.specs.Counts.{IsStill}
@@ -47,6 +48,17 @@ module _ (old new : DeviceState) (r : Ready) (tells : IsTrue old.tells) (h : Has
   module _ (device : IsDevice old) (device_new : IsDevice new) (steady : IsSteady old) where
     pub looked_sound : Sound old.cells old.image
     looked_sound = settled_sound old h.settled r device tells h.settles first steady
+
+    -- it holds the documents that stood at entry
+    pub looking_keeps : (documents : List Document) → Held old.cells old.image documents
+        → Held new.cells new.image documents
+    looking_keeps documents held =
+        let ends = looked_ends device_new.sure looked_sound in
+        let after : Held old.cells looked_sound.after documents =
+        of_after looked_sound.after (nothing looked_sound.settled (λ cell. refl))
+        (documents_after looked_sound documents held) in
+        subst (λ (k : ℕ). Held k new.image documents) (sym (h.looked.cells ∙ h.settles.called.cells))
+        (subst (λ (i : Image). Held old.cells i documents) (sym ends.image) after)
 
     looked_left : (image : Image) → Between h.settled.sure new.image image → IsLeftWhole old image
     looked_left image b =
