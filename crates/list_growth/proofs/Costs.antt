@@ -12,11 +12,12 @@ use Rattle.tamper_rules.proofs.GivenUp.{jumps, leads_further}
 use Rattle.tamper_rules.proofs.Writing.{same_or_not}
 use Rattle.volume_growth.specs.ListShapes.{IsWellListed, Adds}
 use Rattle.volume_growth.specs.Needs as needs
-use Rattle.volume_growth.specs.Needs.{IsBlankEntry, EndsAtPointer, WalksTo, IsTail, AddsBoth, PostingCosts}
+use Rattle.volume_growth.specs.Needs.{IsBlankEntry, EndsAtPointer, WalksTo, IsTail, AddsBoth, PostingCosts, TrailTo, at_end, through}
+use Rattle.volume_growth.proofs.TrailEnds.{end_front, of_end, one_end, to_end}
 use Rattle.jump_block.proofs.Knowing.{front_below}
 use Rattle.list_growth.specs.Costs.{HaveTrails, HaveKeysBelow}
 use Rattle.list_growth.specs.Growing.{Steps, Walks, ends, hops, Rises, PutsTwo, IsTop, IsLast, IsLastFull, Grows, in_block, in_tail, in_new_block}
-use Rattle.list_growth.proofs.Greatest.{Goes, stays, leaves, goes, trail_listed, front_end, greatest_from}
+use Rattle.list_growth.proofs.Greatest.{trail_listed, front_end, greatest_from}
 
 -- a walk goes along the list
 pub walk_leads : {image : Image} {from to key last block head : ℕ} → Walks image from to key last block
@@ -68,10 +69,10 @@ first_blank {old} {new} {block} {place} {key} below adds rises = record {
 
 -- A walk for a greater key goes along the trail of the list's greatest: behind each pointer of the walk stands a key of
 -- the pointer's span, so the greatest lies in this span too.
-module _ {image : Image} {floor next head at key : ℕ} {q : PostingFields} (top : IsTop image floor next head q)
+module _ {image : Image} {floor next head end place key : ℕ} {q : PostingFields} (top : IsTop image floor next head q)
     (less : q.key < key) where
   step_through : {block target : ℕ} → Steps image floor next block key target → Leads image floor next block head
-      → Goes image floor next at q block → Trail image floor next at q target
+      → TrailTo image floor next end place q block → TrailTo image floor next end place q target
   step_through {block} {target} step leads gone =
       let p = top.listed.pointers block step.level step.digit leads step.span.levels step.span.some step.span.digits
       (record { found = step.jump.cell; stands = step.jump.stands }) in
@@ -110,48 +111,37 @@ module _ {image : Image} {floor next head at key : ℕ} {q : PostingFields} (top
       } in
       by_step hop gone
     where
-      by_step : Hop image floor next block q.key target → Goes image floor next at q block
-          → Trail image floor next at q target
-      by_step hop (stays place is below here) =
-          absurd (omega (arith, span_above hop.span, rises_or_same here hop.full (omega arith)))
-      by_step hop (leaves there other rest) =
-          subst (λ (b : ℕ). Trail image floor next at q b) (one_target other hop) rest
+      by_step : Hop image floor next block q.key target → TrailTo image floor next end place q block
+          → TrailTo image floor next end place q target
+      by_step hop (at_end _ is below here) =
+          let there = subst (λ (b : ℕ). InFront image b place q) (sym is) here in
+          absurd (omega (arith, span_above hop.span, rises_or_same there hop.full (omega (arith, below))))
+      by_step hop (through _ other next_hop rest) =
+          subst (λ (b : ℕ). TrailTo image floor next end place q b) (one_target next_hop hop) rest
 
   pub trail_through : {last block : ℕ} → Walks image floor next key last block → Leads image floor next block head
-      → Trail image floor next at q block → Trail image floor next at q last
-  trail_through (ends block same) leads trail = subst (λ (b : ℕ). Trail image floor next at q b) same trail
+      → TrailTo image floor next end place q block → TrailTo image floor next end place q last
+  trail_through (ends block same) leads trail =
+      subst (λ (b : ℕ). TrailTo image floor next end place q b) same trail
   trail_through (hops block target step rest) leads trail =
       trail_through rest
       (leads_further leads step.level step.digit target step.span.levels step.span.some step.span.digits
       step.jump step.inside_from step.inside_to)
-      (step_through step leads (goes trail))
+      (step_through step leads trail)
 
--- this posting is the list's greatest, has a trail, and its key is below this one
-record IsGreatest (image : Image) (floor next head at : ℕ) (q : PostingFields) (key : ℕ) : Type 0 where
+-- this posting is the list's greatest, its trail ends in this place of this block, and its key is below this one
+record IsGreatest (image : Image) (floor next head end place : ℕ) (q : PostingFields) (key : ℕ) : Type 0 where
   top : IsTop image floor next head q
-  trail : Trail image floor next at q head
+  trail : TrailTo image floor next end place q head
   less : q.key < key
   most : (cell : ℕ) (r : PostingFields) → Trail image floor next cell r head → r.key ≤ q.key
-
--- the block in whose front it stands is the tail
-tail_at : {old : Image} {floor next head at tail place key : ℕ} {q : PostingFields}
-    → IsGreatest old floor next head at q key → at ≡ tail + place
-    → place < 128 → InFront old tail place q → IsTail old floor next head tail
-tail_at {old} {floor} {next} {head} {at} {tail} {place} {q} g is below front = record {
-  greatest = q;
-  place = place;
-  in_places = below;
-  in_front = front;
-  trail = subst (λ (c : ℕ). Trail old floor next c q head) is g.trail;
-  most = g.most;
-}
 
 module _ {old : Image} {floor next head key : ℕ} (w : IsWellListed old floor next head)
     (trails : HaveTrails old floor next head) (less : HaveKeysBelow old floor next head key)
     (small : key < 2 ^ 32) where
   -- where a walk ends at a full block, the list has one
   the_greatest : {home : ℕ} {f : PostingFields} → Walks old floor next key home head → IsFull old home f
-      → (at : ℕ) × (q : PostingFields) × IsGreatest old floor next head at q key
+      → (end : ℕ) × (place : ℕ) × (q : PostingFields) × IsGreatest old floor next head end place q key
   the_greatest walk full =
       let head_full = begins_full walk full in
       let first = front_end w 0 head 127 head_full.0 (arrived head refl) refl head_full.1 in
@@ -161,8 +151,9 @@ module _ {old : Image} {floor next head key : ℕ} (w : IsWellListed old floor n
       let below : r.key < key = less l.block l.place r l.leads l.in_places (front_holds l.in_front) in
       inr (trail, omega (arith, below))) in
       let holds = front_holds found.in_front in
-      let trail = trails found.block found.place found.q found.leads found.in_places holds in (
-        trail.0,
+      let end = to_end (trails found.block found.place found.q found.leads found.in_places holds).1 in (
+        end.0,
+        end.1,
         found.q,
         record {
           top = record {
@@ -170,32 +161,54 @@ module _ {old : Image} {floor next head key : ℕ} (w : IsWellListed old floor n
             top = λ b i r leads below front.
                 let other = trails b i r leads below (front_holds front) in found.most other.0 r other.1;
           };
-          trail = trail.1;
+          trail = end.3;
           less = less found.block found.place found.q found.leads found.in_places holds;
           most = found.most;
         },
       )
 
-  -- the tail where this has room
-  last_is_tail : {home last : ℕ} {f : PostingFields} → Walks old floor next key home head → IsFull old home f
-      → IsLast old floor next home key last → IsTail old floor next head last
-  last_is_tail walk full is_last =
-      let found = the_greatest walk full in
-      let g = found.2 in
-      let trail = trail_through g.top g.less walk (arrived head refl) g.trail in
-      let end = is_last head found.0 found.1 g.top (walk_leads walk (arrived head refl)) g.less trail in
-      tail_at g end.is end.in_places end.in_front
+  -- its trail goes through the block at which the walk ends, and ends where the trail from there does
+  module _ {home : ℕ} {f : PostingFields} (walk : Walks old floor next key home head) (full : IsFull old home f) where
+    abbrev end : ℕ
+    end = (the_greatest walk full).0
 
-  -- the tail where it is full
-  full_tail : {home : ℕ} {f : PostingFields} → Walks old floor next key home head → IsFull old home f
-      → IsLastFull old floor next home key
-      → (tail : ℕ) × IsTail old floor next head tail × ((i : ℕ) → i < 128 → IsWritten old (tail + i))
-  full_tail walk full is_last =
-      let found = the_greatest walk full in
-      let g = found.2 in
-      let trail = trail_through g.top g.less walk (arrived head refl) g.trail in
-      let end = is_last head found.0 found.1 g.top (walk_leads walk (arrived head refl)) g.less trail in
-      (end.0, tail_at g end.1 (omega arith) end.2, λ i below. front_written end.2 (omega arith))
+    abbrev place : ℕ
+    place = (the_greatest walk full).1
+
+    abbrev q : PostingFields
+    q = (the_greatest walk full).2
+
+    g : IsGreatest old floor next head end place q key
+    g = (the_greatest walk full).3
+
+    from_home : TrailTo old floor next end place q home
+    from_home = trail_through g.top g.less walk (arrived head refl) g.trail
+
+    tail_at : (tail other : ℕ) → TrailTo old floor next tail other q home → IsTail old floor next head tail
+    tail_at tail other trail = record {
+      greatest = q;
+      place = place;
+      trail = subst (λ (b : ℕ). TrailTo old floor next b place q head) (one_end from_home tail other q trail refl).0
+          g.trail;
+      most = g.most;
+    }
+
+    -- the tail where this has room
+    last_is_tail : {last : ℕ} → IsLast old floor next home key last → IsTail old floor next head last
+    last_is_tail {last} is_last =
+        let ended = is_last head (end + place) q g.top (walk_leads walk (arrived head refl)) g.less (of_end from_home) in
+        tail_at last ended.place ended.trail
+
+    -- the tail where it is full
+    full_tail : IsLastFull old floor next home key
+        → (tail : ℕ) × IsTail old floor next head tail × ((i : ℕ) → i < 128 → IsWritten old (tail + i))
+    full_tail is_last =
+        let ended = is_last head (end + place) q g.top (walk_leads walk (arrived head refl)) g.less (of_end from_home) in
+        (
+          ended.last,
+          tail_at ended.last 127 ended.trail,
+          λ i below. front_written (end_front ended.trail).1 (omega (arith, below)),
+        )
 
 -- the walk ends at the pointer that is set
 ends_there : {old new : Image} {home target place : ℕ} {p : PostingFields}

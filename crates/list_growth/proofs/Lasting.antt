@@ -1,5 +1,5 @@
 -- The tail that a search finds is the list's last block.
-use Rattle.std.proofs.Common.{◌≡◌, ◌<◌, ◌≤◌, ◌+◌, ◌*◌, ◌^◌, ⊎_elim, ℕ, Option, Some, None, Result, Ok, Err, ap, sym, subst, arith, ◌∙◌}
+use Rattle.std.proofs.Common.{◌≡◌, ◌<◌, ◌≤◌, ◌+◌, ◌*◌, ◌^◌, ⊎_elim, ℕ, Option, Some, None, Result, Ok, Err, ap, refl, sym, subst, arith, ◌∙◌}
 use Rattle.std.specs.Prelude.{IsTrue}
 use Rattle.std.proofs.lemmas.Bool.{cases_lt}
 use Rattle.std.proofs.lemmas.Option.{none-some}
@@ -8,11 +8,12 @@ use Rattle.cell_types.specs.Image.{Image}
 use Rattle.cell_types.specs.declared.record_cell.RecordCell.TheVariants.{Jump}
 use Rattle.cell_types.specs.declared.refusal.Fault.{Fault}
 use Rattle.stored_documents.specs.Volumes.{Holds}
-use Rattle.index_paths.specs.Blocks.{PostingFields, InFront, IsFull, InSpan, Trail, here, on, Leads, pointer_at}
+use Rattle.index_paths.specs.Blocks.{PostingFields, Hop, InFront, InSpan, Trail, here, on, Leads, pointer_at}
 use Rattle.index_paths.proofs.Fronts.{one_place, rises, rises_or_same}
 use Rattle.stored_documents.proofs.Holding.{one_record_holds}
 use Rattle.index_paths.proofs.Spans as spans
 use Rattle.tamper_rules.proofs.GivenUp.{leads_further}
+use Rattle.volume_growth.specs.Needs.{at_end, through}
 use Rattle.worm_device.specs.Counts.{IsStill}
 use Rattle.worm_device.specs.Views.{ViewState, Viewed}
 use Rattle.worm_device.proofs.Counting.{still_second}
@@ -21,7 +22,7 @@ use Rattle.jump_block.specs.declared.spans.Span.{Span}
 use Rattle.jump_index.specs.Evidence.{HasFull, HasPointer}
 use Rattle.jump_index.proofs.Behind.{jump_target}
 use Rattle.jump_index.proofs.Passing.{none_from_blank}
-use Rattle.list_growth.specs.Growing.{IsTop, EndsAt, IsLast, IsLastFull}
+use Rattle.list_growth.specs.Growing.{IsTop, EndsAt, EndsAtFull, IsLast, IsLastFull}
 use Rattle.list_growth.specs.Hopping.{BlankFrom, TailLast}
 use Rattle.list_growth.specs.declared.entries.Spot.{Spot}
 use Rattle.list_growth.proofs.Showing.{quiet_image}
@@ -29,17 +30,17 @@ use Rattle.list_growth.proofs.Showing.{quiet_image}
 -- behind a full block with no pointer for smaller keys there is nothing
 pub none_last : {image : Image} {floor next block head at l bound : ℕ} {q : PostingFields} → HasFull image block l
     → BlankFrom image block l 0 bound → IsTop image floor next head q → Leads image floor next block head
-    → q.key < bound → Trail image floor next at q block → (b : ℕ) × (at ≡ b + 127) × IsFull image b q
+    → q.key < bound → Trail image floor next at q block → EndsAtFull image floor next at q block
 none_last {image} {q = q} full blank top led less (here block place is below front) =
     let most : full.p.key ≤ q.key = top.top block 127 full.p led (omega arith) full.in_front in
     ⊎_elim
     (λ (before : place < 127). let up : q.key < full.p.key =
     rises full.in_front place q front before in absurd (omega (arith, up, most)))
-    (λ past. let last : place ≡ 127 = omega (arith, past, below) in (
-      block,
-      omega (arith, is, last),
-      subst (λ (n : ℕ). InFront image block n q) last front,
-    ))
+    (λ past. let last : place ≡ 127 = omega (arith, past, below) in record {
+      last = block;
+      is = omega (arith, is, last);
+      trail = at_end block refl (omega arith) (subst (λ (n : ℕ). InFront image block n q) last front);
+    })
     (cases_lt place 127)
 none_last {image} {q = q} full blank top led less (on block target hop rest) =
     let same : hop.greatest.key ≡ _ = ap (λ (f : PostingFields). f.key) (one_place hop.full full.in_front)
@@ -48,7 +49,8 @@ none_last {image} {q = q} full blank top led less (on block target hop rest) =
     absurd (none-some hop.jump.cell (sym (blank q.key hop.level hop.digit (omega arith) less within) ∙ hop.jump.stands))
 
 -- behind the greatest written pointer
-pub record Passes (image : Image) (floor next head at target high : ℕ) (q : PostingFields) : Type 0 where
+pub record Passes (image : Image) (floor next block head at target high : ℕ) (q : PostingFields) : Type 0 where
+  pub hop : Hop image floor next block q.key target
   pub trail : Trail image floor next at q target
   pub led : Leads image floor next target head
   pub below : q.key < high
@@ -56,7 +58,7 @@ pub record Passes (image : Image) (floor next head at target high : ℕ) (q : Po
 pub passes : {image : Image} {floor next block head at l bound target : ℕ} {q : PostingFields} (s : Span) → IsSpan l s
     → HasFull image block l → HasPointer image block s.level s.digit target
     → BlankFrom image block l s.high bound → IsTop image floor next head q → Leads image floor next block head
-    → q.key < bound → Trail image floor next at q block → Passes image floor next head at target s.high q
+    → q.key < bound → Trail image floor next at q block → Passes image floor next block head at target s.high q
 passes {image} {floor} {next} {block} {head} {at} {l} {bound} {target} {q} s is full led blank top there less trail =
     let p = top.listed.pointers block s.level s.digit there is.levels is.some is.digits
     (record { found = led.cell; stands = led.stands }) in
@@ -75,7 +77,7 @@ passes {image} {floor} {next} {block} {head} {at} {l} {bound} {target} {q} s is 
     go trail (omega (arith, within.low, is.low, most)) (omega (arith, past, most)) led_there
   where
     go : Trail image floor next at q block → s.low ≤ q.key → l < q.key → Leads image floor next target head
-        → Passes image floor next head at target s.high q
+        → Passes image floor next block head at target s.high q
     go (here _ place at_is below front) low over led_there =
         let le : q.key ≤ full.p.key = rises_or_same front full.in_front (omega (arith, below)) in absurd
         (omega (arith, le, full.same, over))
@@ -101,18 +103,37 @@ passes {image} {floor} {next} {block} {head} {at} {l} {bound} {target} {q} s is 
         let t : next_block ≡ target = jump_target next_block target
         (one_record_holds image (pointer_at block s.level s.digit) (Jump next_block) (Jump target)
         (subst (λ (c : ℕ). Holds image c (Jump next_block)) at_same hop.jump) led) in
-        record { trail = subst (λ (n : ℕ). Trail image floor next at q n) t rest; led = led_there; below = inside })
+        record {
+          hop = subst (λ (n : ℕ). Hop image floor next block q.key n) t hop;
+          trail = subst (λ (n : ℕ). Trail image floor next at q n) t rest;
+          led = led_there;
+          below = inside;
+        })
         (λ over_it. absurd (none-some hop.jump.cell
         (sym (blank q.key hop.level hop.digit over_it less within) ∙ hop.jump.stands)))
         (cases_lt q.key s.high)
 
 -- a block with a blank place is the last
 pub open_last : {image : Image} {floor next at block : ℕ} {q : PostingFields} (place : ℕ) → place < 128
-    → image (block + place) ≡ None → Trail image floor next at q block → EndsAt image at q block
+    → image (block + place) ≡ None → Trail image floor next at q block
+    → EndsAt image floor next at q block block
 open_last place small blank (here block at_place is below front) =
-    record { place = at_place; is = is; in_places = below; in_front = front }
+    record { place = at_place; is = is; trail = at_end block refl below front }
 open_last {image} place small blank (on block target hop rest) =
     absurd (omega (arith, none_from_blank image block place 127 hop.greatest blank hop.full, small))
+
+-- a trail that goes on behind a pointer ends where that ends
+pub ends_behind : {image : Image} {floor next at block target last : ℕ} {q : PostingFields}
+    → Hop image floor next block q.key target → EndsAt image floor next at q last target
+    → EndsAt image floor next at q last block
+ends_behind {block = block} {target = target} hop end =
+    record { place = end.place; is = end.is; trail = through block target hop end.trail }
+
+full_behind : {image : Image} {floor next at block target : ℕ} {q : PostingFields}
+    → Hop image floor next block q.key target → EndsAtFull image floor next at q target
+    → EndsAtFull image floor next at q block
+full_behind {block = block} {target = target} hop end =
+    record { last = end.last; is = end.is; trail = through block target hop end.trail }
 
 -- a tail behind a pointer
 pub tail_last_then : (floor next block target bound bound' l : ℕ) (s : Span) (old mid new : ViewState) → IsSpan l s
@@ -133,7 +154,7 @@ tail_last_then floor next block target bound bound' l s old mid new is viewed la
     (subst (λ (i : Image). IsTop i floor next head q) (sym same) top)
     (subst (λ (i : Image). Leads i floor next target head) (sym same) h.led) (narrow q.key h.below less)
     (subst (λ (i : Image). Trail i floor next at q target) (sym same) h.trail) in
-    subst (λ (i : Image). EndsAt i at q spot.block) same back
+    ends_behind h.hop (subst (λ (i : Image). EndsAt i floor next at q spot.block target) same back)
 tail_last_then floor next block target bound bound' l s old mid new is viewed later full led blank narrow
     (Ok None) last = λ tells still head at q top there less trail.
     let same : mid.image ≡ old.image = quiet_image viewed new.base.foreign_writes later still in
@@ -145,7 +166,7 @@ tail_last_then floor next block target bound bound' l s old mid new is viewed la
     (subst (λ (i : Image). IsTop i floor next head q) (sym same) top)
     (subst (λ (i : Image). Leads i floor next target head) (sym same) h.led) (narrow q.key h.below less)
     (subst (λ (i : Image). Trail i floor next at q target) (sym same) h.trail) in
-    (back.0, back.1, subst (λ (i : Image). IsFull i back.0 q) same back.2)
+    full_behind h.hop (subst (λ (i : Image). EndsAtFull i floor next at q target) same back)
 tail_last_then floor next block target bound bound' l s old mid new is viewed later full led blank narrow
     (Err fault) last = tt
 

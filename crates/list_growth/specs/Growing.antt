@@ -5,6 +5,7 @@ use Rattle.cell_types.specs.declared.record_cell.RecordCell.TheVariants.{Jump}
 use Rattle.stored_documents.specs.Volumes.{Holds}
 use Rattle.index_paths.specs.Blocks.{PostingFields, posting_record, InFront, IsFull, InSpan, Trail, Leads, pointer_at}
 use Rattle.volume_growth.specs.ListShapes.{IsWellListed, Adds}
+use Rattle.volume_growth.specs.Needs.{TrailTo}
 use Rattle.worm_device.specs.Views.{ViewState}
 use Rattle.list_growth.specs.Evidence.{NothingBelowPlans}
 use Rattle.list_growth.specs.Readiness.{IsOwnBlock}
@@ -53,24 +54,29 @@ pub record IsTop (image : Image) (floor next head : ℕ) (q : PostingFields) : T
   pub top : (b i : ℕ) (r : PostingFields) → Leads image floor next b head → i < 128 → InFront image b i r
       → r.key ≤ q.key
 
--- the posting in the cell at stands in the front of the block
-pub record EndsAt (image : Image) (at : ℕ) (q : PostingFields) (block : ℕ) : Type 0 where
+-- the trail of the posting in the cell at, from a block on, ends at the last one
+pub record EndsAt (image : Image) (from to at : ℕ) (q : PostingFields) (last block : ℕ) : Type 0 where
   pub place : ℕ
-  pub is : at ≡ block + place
-  pub in_places : place < 128
-  pub in_front : InFront image block place q
+  pub is : at ≡ last + place
+  pub trail : TrailTo image from to last place q block
+
+-- the trail of the posting in the cell at, from a block on, ends at a full one
+pub record EndsAtFull (image : Image) (from to at : ℕ) (q : PostingFields) (block : ℕ) : Type 0 where
+  pub last : ℕ
+  pub is : at ≡ last + 127
+  pub trail : TrailTo image from to last 127 q block
 
 -- the trail of the list's greatest key, from a block on, ends at this one
 abbrev pub IsLast : Image → ℕ → ℕ → ℕ → ℕ → ℕ → Type 0
 IsLast image floor next home key last =
     (head at : ℕ) (q : PostingFields) → IsTop image floor next head q → Leads image floor next home head
-    → q.key < key → Trail image floor next at q home → EndsAt image at q last
+    → q.key < key → Trail image floor next at q home → EndsAt image floor next at q last home
 
 -- the trail of the list's greatest key, from a block on, ends at a full block
 abbrev pub IsLastFull : Image → ℕ → ℕ → ℕ → ℕ → Type 0
 IsLastFull image floor next home key =
     (head at : ℕ) (q : PostingFields) → IsTop image floor next head q → Leads image floor next home head
-    → q.key < key → Trail image floor next at q home → (b : ℕ) × (at ≡ b + 127) × IsFull image b q
+    → q.key < key → Trail image floor next at q home → EndsAtFull image floor next at q home
 
 -- What an insertion that begins at a block adds, and what it costs: the cells that it plans, and those that the pool
 -- gave for it. The walk for the key ends at a block with a blank entry; or at a blank pointer, and the posting goes

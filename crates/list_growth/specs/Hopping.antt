@@ -4,7 +4,7 @@ use Rattle.cell_types.specs.Image.{Image}
 use Rattle.cell_types.specs.Records.{record_bytes}
 use Rattle.cell_types.specs.declared.refusal.Fault.{Fault}
 use Rattle.cell_types.specs.declared.refusal.Fault.TheVariants.{Tampered, ReadFault}
-use Rattle.index_paths.specs.Blocks.{PostingFields, posting_record, IsFull, InSpan, Trail, Leads, pointer_at}
+use Rattle.index_paths.specs.Blocks.{PostingFields, posting_record, InSpan, Trail, Leads, pointer_at}
 use Rattle.index_paths.specs.Nodes.{AreApart}
 use Rattle.tamper_rules.specs.declared.numbers.TheConstants.{FAKE_POSTING, LOST_POINTER}
 use Rattle.worm_device.specs.Counts.{IsStill, Rose}
@@ -16,7 +16,7 @@ use Rattle.jump_block.specs.declared.held_entry.Entry.{Entry}
 use Rattle.jump_block.specs.declared.spans.Span.{Span}
 use Rattle.jump_index.specs.Evidence.{HasPointer, IsPointerPlace}
 use Rattle.list_growth.specs.Evidence.{ShowsBelow}
-use Rattle.list_growth.specs.Growing.{Rises, IsTop, EndsAt}
+use Rattle.list_growth.specs.Growing.{Rises, IsTop, EndsAt, EndsAtFull}
 use Rattle.list_growth.specs.Readiness.{IsOwnBlock, IsReached, IsListCell, IsReady}
 use Rattle.list_growth.specs.declared.entries.Spot.{Spot}
 
@@ -132,9 +132,9 @@ abbrev pub TailLast : ℕ → ℕ → ℕ → ℕ → ViewState → ViewState �
 TailLast floor next block bound old new (Ok (Some spot)) =
     IsTrue old.base.tells → IsStill old.base.foreign_writes new.base.foreign_writes
     → (head at : ℕ) (q : PostingFields) → IsTop old.image floor next head q → Leads old.image floor next block head
-    → q.key < bound → Trail old.image floor next at q block → EndsAt old.image at q spot.block
+    → q.key < bound → Trail old.image floor next at q block → EndsAt old.image floor next at q spot.block block
 TailLast floor next block bound old new (Ok None) =
     IsTrue old.base.tells → IsStill old.base.foreign_writes new.base.foreign_writes
     → (head at : ℕ) (q : PostingFields) → IsTop old.image floor next head q → Leads old.image floor next block head
-    → q.key < bound → Trail old.image floor next at q block → (b : ℕ) × (at ≡ b + 127) × IsFull old.image b q
+    → q.key < bound → Trail old.image floor next at q block → EndsAtFull old.image floor next at q block
 TailLast floor next block bound old new (Err fault) = ⊤

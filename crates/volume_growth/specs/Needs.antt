@@ -10,7 +10,8 @@ use Rattle.cell_types.specs.declared.record_cell.RecordCell.TheVariants.{Jump}
 use Rattle.stored_documents.specs.Documents.{stored_bytes}
 use Rattle.stored_documents.specs.Slots.{cells_for, IsEdge}
 use Rattle.stored_documents.specs.Volumes.{Holds, IsWritten}
-use Rattle.index_paths.specs.Blocks.{PostingFields, posting_record, InFront, IsFull, InSpan, pointer_at, Trail}
+use Rattle.tamper_rules.specs.Settling.{IsSettled}
+use Rattle.index_paths.specs.Blocks.{PostingFields, posting_record, Hop, InFront, IsFull, InSpan, pointer_at, Trail}
 use Rattle.index_paths.specs.HashPaths.{IsPassed, PassedTo, nibble}
 use Rattle.index_paths.specs.Keeping.{sought_in}
 use Rattle.index_paths.specs.Postings.{ListedPosting, ArePostings}
@@ -47,14 +48,18 @@ pub data WalksTo (image : Image) (key last : ℕ) : ℕ → Type 0 where
   onwards : (block target : ℕ) → LeadsOn image block key target → WalksTo image key last target
       → WalksTo image key last block
 
+-- A trail of the posting that ends at the last block: the posting stands in this place of its front.
+pub data TrailTo (image : Image) (from to last place : ℕ) (p : PostingFields) : ℕ → Type 0 where
+  at_end : (block : ℕ) → block ≡ last → place < 128 → InFront image last place p → TrailTo image from to last place p block
+  through : (block target : ℕ) → Hop image from to block p.key target → TrailTo image from to last place p target
+      → TrailTo image from to last place p block
+
 -- The trail of the list's greatest key ends at this block, in a list that begins at head and has the range for its other
--- blocks: no posting with a trail from head has a greater key, and the posting stands in this block's front.
+-- blocks: no posting with a trail from head has a greater key.
 pub record IsTail (image : Image) (from to head block : ℕ) : Type 0 where
   pub greatest : PostingFields
   pub place : ℕ
-  pub in_places : place < 128
-  pub in_front : InFront image block place greatest
-  pub trail : Trail image from to (block + place) greatest head
+  pub trail : TrailTo image from to block place greatest head
   pub most : (at : ℕ) (p : PostingFields) → Trail image from to at p head → p.key ≤ greatest.key
 
 -- new is old with this posting in one cell, and with a jump cell to the target besides
@@ -116,3 +121,9 @@ NeedIsBounded =
     (g : Layout) (image : Image) (n : ℕ) (id body : List ℕ) (need : ℕ) → (is : IsNeed g image n id body need)
     → (cells_for (length (stored_bytes id body)) + length is.rows + 1 ≤ need)
     × (need ≤ cells_for (length (stored_bytes id body)) + 258 * length is.rows + 34)
+
+-- a document has one need on a settled image
+abbrev pub NeedIsOne : Type 0
+NeedIsOne =
+    (g : Layout) (image : Image) (n : ℕ) (id body : List ℕ) (one other : ℕ) → IsSettled g image
+    → IsNeed g image n id body one → IsNeed g image n id body other → one ≡ other

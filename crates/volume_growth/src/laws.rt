@@ -3,7 +3,7 @@
 ghost use Rattle.volume_growth.specs.Filling.{PlanAddsOne, PlanIsSettled, PlanLeavesSound};
 ghost use Rattle.volume_growth.specs.Ingesting.{IngestLeavesSound, PhasesLeaveSound};
 ghost use Rattle.volume_growth.specs.ListShapes.{WellApart, WellWider, WellWithEntry, WellWithJump};
-ghost use Rattle.volume_growth.specs.Needs.{NeedIsBounded};
+ghost use Rattle.volume_growth.specs.Needs.{NeedIsBounded, NeedIsOne};
 ghost use Rattle.volume_growth.specs.SettledShapes.{LastBucketIsSame, NodesHaveOneLevel, NodesHaveOneWay, SettledListed, SettledRooted, SettledTrails};
 ghost use Rattle.volume_growth.specs.TreeShapes.{RootedApart, RootedWider, RootedWithChild};
 
@@ -85,6 +85,11 @@ pub fn last_bucket_is_same()
 /// The need of a document with d cells and P postings is at least d + P + 1 and at most d + 258 P + 34.
 pub fn need_is_bounded()
     ensures { NeedIsBounded }
+{}
+
+/// A document has one need on a settled image.
+pub fn need_is_one()
+    ensures { NeedIsOne }
 {}
 
 /// Each posting of a list of a settled image has a trail from the list's first block.

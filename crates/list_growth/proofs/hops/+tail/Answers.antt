@@ -7,7 +7,7 @@ use Rattle.worm_device.specs.Overlays.{of_overlay}
 use Rattle.worm_device.proofs.Resting.{viewed_then}
 use Rattle.jump_block.proofs.Knowing.{key_on}
 use Rattle.jump_index.specs.Evidence.{HasPointer}
-use Rattle.list_growth.proofs.Lasting.{none_last, passes, open_last, tail_last_then}
+use Rattle.list_growth.proofs.Lasting.{ends_behind, none_last, passes, open_last, tail_last_then}
 use Rattle.list_growth.proofs.Naming.{greatest_fault, check_refused, named_fault, meets_home, no_key_there, front_fault, late_fault, fault_then, full_at_most, check_on}
 use Rattle.list_growth.proofs.Readying.{at_viewed, at_target, own_block_viewed, reached_viewed}
 use Rattle.list_growth.proofs.Showing.{is_view, quiet_image}
@@ -258,8 +258,8 @@ returns-in-Open-clause-last g t c = λ tells still head at q top there less trai
     c.in-Some.target)
     same (found.led tells) in
     let h = passes c.in-Some.span found.is (c.requires.full tells) led (found.blank tells) top there less trail in
-    open_last c.in-Open.place read.0
-    (blank_before (viewed_then viewed looked).image (read.1 (subst IsTrue (sym viewed.called.tells) tells)).0) h.trail
+    ends_behind h.hop (open_last c.in-Open.place read.0
+    (blank_before (viewed_then viewed looked).image (read.1 (subst IsTrue (sym viewed.called.tells) tells)).0) h.trail)
 
 pub returns-clause-last : goal.returns-clause-last
 returns-clause-last g t c =
