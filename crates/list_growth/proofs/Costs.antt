@@ -203,8 +203,7 @@ module _ {old : Image} {floor next head key : ℕ} (w : IsWellListed old floor n
     full_tail : IsLastFull old floor next home key
         → (tail : ℕ) × IsTail old floor next head tail × ((i : ℕ) → i < 128 → IsWritten old (tail + i))
     full_tail is_last =
-        let ended = is_last head (end + place) q g.top (walk_leads walk (arrived head refl)) g.less (of_end from_home) in
-        (
+        let ended = is_last head (end + place) q g.top (walk_leads walk (arrived head refl)) g.less (of_end from_home) in (
           ended.last,
           tail_at ended.last 127 ended.trail,
           λ i below. front_written (end_front ended.trail).1 (omega (arith, below)),

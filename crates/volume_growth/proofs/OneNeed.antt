@@ -208,7 +208,7 @@ one_row {g} {new} {to = to} (one a rows old mid next then cost first rest c cost
     (one _ _ _ mid' _ then' _ first' rest' c' costs' is') =
     let o = one_cost c mid' then' first' c' in
     let there = subst (λ (n : ℕ). PostingsCost g new to rows mid' n rest) o.ends
-        (subst (λ (i : Image). PostingsCost g new to rows i then rest) o.images costs) in
+    (subst (λ (i : Image). PostingsCost g new to rows i then rest) o.images costs) in
     let behind_it : rest ≡ rest' = one_row there rest' costs' in
     omega (arith, o.costs, behind_it, is, is')
 
@@ -348,7 +348,7 @@ need_one g image n id body first second settled a b =
     let edges : a.edge ≡ b.edge = one_edge g image settled a.edge b.edge a.is_edge b.is_edge in
     let rows : a.rows ≡ b.rows = one_rows g.lists body n a.rows b.rows a.are b.are in
     let costs = subst (λ (e : ℕ). PostingsCost g a.new a.to b.rows image e a.postings) edges
-        (subst (λ (r : List ListedPosting). PostingsCost g a.new a.to r image a.edge a.postings) rows a.costs) in
+    (subst (λ (r : List ListedPosting). PostingsCost g a.new a.to r image a.edge a.postings) rows a.costs) in
     let postings : a.postings ≡ b.postings = one_row costs b.postings b.costs in
     let buckets : a.bucket ≡ b.bucket = one_bucket a.bucket_costs b.bucket b.bucket_costs in
     omega (arith, a.sum, b.sum, postings, buckets)

@@ -25,8 +25,8 @@
 mod laws;
 
 pub use laws::{
-    ingest_leaves_sound, last_bucket_is_same, need_is_bounded, need_is_one,
-    nodes_have_one_level, nodes_have_one_way, phases_leave_sound, plan_adds_one, plan_is_settled, plan_leaves_sound,
+    ingest_leaves_sound, last_bucket_is_same, need_is_bounded, need_is_one, nodes_have_one_level,
+    nodes_have_one_way, phases_leave_sound, plan_adds_one, plan_is_settled, plan_leaves_sound,
     rooted_apart, rooted_wider, rooted_with_child, settled_listed, settled_rooted, settled_trails,
     well_apart, well_wider, well_with_entry, well_with_jump,
 };
