@@ -1,5 +1,5 @@
 -- From a steady device, where nobody else writes, settling names no tampering, and no query does.
-use Rattle.std.proofs.Common.{◌≡◌, Result, Err, ap, subst}
+use Rattle.std.proofs.Common.{◌≡◌, Result, Err, subst}
 use Rattle.std.specs.Prelude.{IsTrue}
 use Rattle.cell_types.specs.declared.refusal.Evidence.{Evidence}
 use Rattle.cell_types.specs.declared.refusal.Refusal.{Refusal}
@@ -7,7 +7,6 @@ use Rattle.cell_types.specs.declared.refusal.Refusal.TheVariants.{Tampered}
 use Rattle.worm_device.specs.Counts.{IsStill}
 use Rattle.worm_device.specs.State.{DeviceState, IsDevice}
 use Rattle.recovery_engine.specs.Settling.{IsFound, Settles}
-use Rattle.recovery_engine.specs.declared.settling.Ready.{Ready}
 use Rattle.steady_volumes.specs.Steadiness.{IsSteady}
 use Rattle.steady_volumes.proofs.Alarms.{looked_unbroken, settling_named}
 use Rattle.slot_walk.specs.Walks.{IsQueryRule}

@@ -3,6 +3,7 @@ pub mod Asking
 pub mod Completing
 pub mod Ending
 pub mod Finds
+pub mod HeldAnswers
 pub mod Listed
 pub mod LookUps
 pub mod MatchLines

@@ -1,5 +1,5 @@
 -- What a crash leaves of an ingest, from a steady device on, where nobody else writes; and what it ends with.
-use Rattle.std.proofs.Common.{◌≡◌, ◌≢◌, ◌-◌, ℕ, List, [], Result, Ok, Err, sym, ap, ◌∙◌, subst}
+use Rattle.std.proofs.Common.{◌≡◌, ◌≢◌, ℕ, List, [], Result, Ok, Err, sym, ap, ◌∙◌, subst}
 use Rattle.cell_types.specs.Image.{Image}
 use Rattle.cell_types.specs.Layout.{Layout}
 use Rattle.cell_types.specs.declared.refusal.Evidence.{Evidence}
@@ -14,7 +14,6 @@ use Rattle.volume_growth.specs.Needs.{IsNeed}
 use Rattle.worm_device.specs.State.{DeviceState, IsDevice}
 use Rattle.plan_writer.proofs.PutFrom.{volume_2}
 use Rattle.ingest_engine.specs.Ingesting.{HasNoRoom, IngestEnds, Ingests}
-use Rattle.steady_volumes.specs.Steadiness.{EndsAs}
 use Rattle.steady_ingests.specs.Steadiness.{HasOneMore}
 use Rattle.steady_ingests.proofs.AddsOne.{comes_more}
 use Rattle.steady_ingests.proofs.Alarms.{none_named}

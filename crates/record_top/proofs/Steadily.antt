@@ -34,6 +34,7 @@ use Rattle.record_top.specs.LookingUp.{Answers, DoesLookUp, looked, misnamed}
 use Rattle.record_top.specs.Ports.{Ports, Tells, TellsFromMemory}
 use Rattle.record_top.specs.Recovering.{DoesRecover, recovered}
 use Rattle.record_top.proofs.Alarms.{one_refusal, query_alarms, settling_alarms}
+use Rattle.record_top.proofs.HeldAnswers.{find_held, look_up_held}
 use Rattle.record_top.proofs.OneMore.{ingest_adds}
 use Rattle.record_top.specs.Begins.{BeginsSteady}
 use Rattle.record_top.specs.Steadiness.{AddsNone, LeavesWhole}
@@ -331,6 +332,8 @@ module _ (old new : Ports) (device : IsDevice old.device) (device_new : IsDevice
   leaves_whole (ToFormat slots lists) result does =
       format_adds (layout_on old slots lists) result refl does
   leaves_whole (ToIngest id) result does = ingest_adds id old new device device_new begins result does
-  leaves_whole (ToFind asked) result does = find_adds asked result does
-  leaves_whole (ToLookUp id) result does = look_up_adds id result does
+  leaves_whole (ToFind asked) result does =
+      (find_adds asked result does, find_held old new device device_new begins asked result does)
+  leaves_whole (ToLookUp id) result does =
+      (look_up_adds id result does, look_up_held old new device device_new begins id result does)
   leaves_whole ToRecover result does = recover_adds result does

@@ -1,21 +1,25 @@
 -- What a crash leaves of a command, at whichever moment of it.
-use Rattle.std.specs.Prelude.{◌≡◌, ◌<◌, ◌-◌, ℕ, List, Result, Err}
+use Rattle.std.specs.Prelude.{◌≡◌, ◌<◌, ◌-◌, ℕ, List, length, Contains, Result, Ok, Err, ⊤}
 use Rattle.cell_types.specs.Layout.{Layout}
 use Rattle.cell_types.specs.declared.refusal.Evidence.{Evidence}
 use Rattle.cell_types.specs.declared.refusal.Refusal.{Refusal}
-use Rattle.cell_types.specs.declared.refusal.Refusal.TheVariants.{Full, Tampered}
+use Rattle.cell_types.specs.declared.refusal.Refusal.TheVariants.{Absent, Full, Tampered}
 use Rattle.host_ports.specs.Sources.{Gives}
 use Rattle.stored_documents.specs.Documents.{Document}
 use Rattle.stored_documents.specs.Slots.{IsEdge, IsHorizon}
 use Rattle.stored_documents.specs.Volumes.{IsVolume}
+use Rattle.stored_documents.specs.Words.{Matches}
 use Rattle.tamper_rules.specs.Settling.{Held, Sound}
 use Rattle.volume_growth.specs.Needs.{IsNeed}
 use Rattle.worm_device.specs.State.{DeviceState}
 use Rattle.steady_volumes.specs.Steadiness.{StaysSteady}
 use Rattle.steady_ingests.specs.Steadiness.{HasOneMore, StaysSteadyBy}
+use Rattle.record_query.specs.Finding.{HasMatch, Rises}
+use Rattle.record_query.specs.declared.found.Match.{Match}
 use Rattle.record_top.specs.Commands.{Request, ToFind, ToFormat, ToIngest, ToLookUp, ToRecover}
 use Rattle.record_top.specs.Ingesting.{HasRefused, HasStored}
-use Rattle.record_top.specs.Ports.{Ports}
+use Rattle.record_top.specs.Finding.{AreTermsOf, find_text}
+use Rattle.record_top.specs.Ports.{Ports, PutsOut}
 
 -- A crash in the command leaves an image that is blank or sound, with the documents that were sure at entry or those
 -- that stood there. Behind it, whatever it answers, the device is steady and holds the documents that stood at entry; and
@@ -25,6 +29,33 @@ pub record AddsNone (old new : Ports) (result : Result Unit Refusal) : Type 0 wh
   pub keeps : (documents : List Document) → Held old.device.cells old.device.image documents
       → Held new.device.cells new.device.image documents
   pub no_alarm : (e : Evidence) → result ≡ Err (Tampered e) → ⊥
+
+-- These are the matches of just those documents that have the terms, by rising slot.
+pub record AreMatchesOf (terms : List (List ℕ)) (documents : List Document) (matches : List Match) : Type 0 where
+  pub all : (d : Document) → Contains documents d → Matches d.body terms → HasMatch matches d.slot d.id d.body
+  pub only : (found : Match) → Contains matches found → (body : List ℕ)
+      × Contains documents (record { slot = found.slot; id = found.identifier; body = body })
+      × (found.bytes ≡ length body) × Matches body terms
+  pub rise : Rises 0 matches
+
+-- A find that is done has told of just those documents that the volume held at entry and that have the words.
+abbrev pub FindsHeld : List (List ℕ) → Ports → Ports → Result Unit Refusal → Type 0
+FindsHeld asked old new (Ok u) =
+    (documents : List Document) → Held old.device.cells old.device.image documents
+    → (terms : List (List ℕ)) × (matches : List Match) × AreTermsOf asked terms × AreMatchesOf terms documents matches
+    × PutsOut (find_text matches) old new
+FindsHeld asked old new (Err refusal) = ⊤
+
+-- A look-up that is done has put out the body of a document that the volume held at entry, with the identifier; and where
+-- it answers that there is none, none had it.
+abbrev pub LooksUpHeld : List ℕ → Ports → Ports → Result Unit Refusal → Type 0
+LooksUpHeld id old new (Ok u) =
+    (documents : List Document) → Held old.device.cells old.device.image documents
+    → (n : ℕ) × (body : List ℕ) × Contains documents (record { slot = n; id = id; body = body }) × PutsOut body old new
+LooksUpHeld id old new (Err Absent) =
+    (documents : List Document) → Held old.device.cells old.device.image documents
+    → (d : Document) → Contains documents d → d.id ≡ id → ⊥
+LooksUpHeld id old new (Err refusal) = ⊤
 
 -- So much was needed of the sound volume that stood, once it is settled, for the document in its first free slot; and so
 -- many cells are free behind its edge, which are fewer.
@@ -59,6 +90,6 @@ pub record AddsOne (id : List ℕ) (old new : Ports) (result : Result Unit Refus
 abbrev pub LeavesWhole : Request → Ports → Ports → Result Unit Refusal → Type 0
 LeavesWhole (ToFormat slots lists) old new result = AddsNone old new result
 LeavesWhole (ToIngest id) old new result = AddsOne id old new result
-LeavesWhole (ToFind asked) old new result = AddsNone old new result
-LeavesWhole (ToLookUp id) old new result = AddsNone old new result
+LeavesWhole (ToFind asked) old new result = AddsNone old new result × FindsHeld asked old new result
+LeavesWhole (ToLookUp id) old new result = AddsNone old new result × LooksUpHeld id old new result
 LeavesWhole ToRecover old new result = AddsNone old new result

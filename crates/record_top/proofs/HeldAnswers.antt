@@ -1,0 +1,130 @@
+-- From a steady device, where nobody else writes, a query answers by just the documents that the volume held at entry.
+use Rattle.std.proofs.Common.{◌≡◌, ℕ, List, Result, Ok, Err, refl, sym, ap, ◌∙◌, subst}
+use Rattle.std.specs.Global.{Vec}
+use Rattle.cell_types.specs.Image.{Image}
+use Rattle.cell_types.specs.declared.refusal.Refusal.{Refusal}
+use Rattle.cell_types.specs.declared.refusal.Refusal.TheVariants as refusals
+use Rattle.stored_documents.specs.Documents.{AreDocuments, Document, IsDocument}
+use Rattle.tamper_rules.specs.Settling.{Held}
+use Rattle.worm_device.specs.State.{DeviceState, IsDevice}
+use Rattle.recovery_engine.specs.Settling.{HasSettled, Settles}
+use Rattle.recovery_engine.specs.declared.settling.Ready.{Ready}
+use Rattle.steady_volumes.proofs.LeftWhole.{documents_after}
+use Rattle.steady_volumes.proofs.LookedAt.{looked_ends, looked_sound}
+use Rattle.record_query.specs.Finding.{ComesTo, Finds, Searches, settled, settling}
+use Rattle.record_query.specs.LookingUp.{LookUpEnds, LooksUp}
+use Rattle.record_query.specs.declared.found.Found.{Found}
+use Rattle.record_query.specs.declared.found.Match.{Match}
+use Rattle.record_top.specs.Begins.{BeginsSteady}
+use Rattle.record_top.specs.Finding.{AreTermsOf, DoesFind, found_text, misworded, searched, unread}
+use Rattle.record_top.specs.LookingUp.{Answers, DoesLookUp, looked, misnamed}
+use Rattle.record_top.specs.Ports.{Ports, TellsFromMemory}
+use Rattle.record_top.specs.Steadiness.{AreMatchesOf, FindsHeld, LooksUpHeld}
+use Rattle.record_top.proofs.Alarms.{one_refusal}
+
+no_answer : {A : Type 0} (result : Result A Refusal) (a : A) (refusal : Refusal) → result ≡ Ok a → result ≡ Err refusal → ⊥
+no_answer result a refusal p q = cc
+
+not_misnamed : (result : Result Unit Refusal) → result ≡ Err refusals.Absent → result ≡ Err refusals.BadIdentifier → ⊥
+not_misnamed result p q = cc
+
+module _ (old new : DeviceState) (device : IsDevice old) (device_new : IsDevice new) (begins : BeginsSteady old new) where
+  -- behind a query that was not refused by settling stand just the documents that stood
+  documents_now : (r : Ready) → HasSettled old new r → (documents : List Document) → Held old.cells old.image documents
+      → AreDocuments new.cells new.image documents
+  documents_now r has documents held =
+      let sound = looked_sound old new r begins.tells has begins.alone device device_new begins.steady in
+      let ends = looked_ends old new r begins.tells has begins.alone device_new.sure sound in
+      let are : AreDocuments old.cells sound.after documents = documents_after sound documents held in
+      subst (λ (k : ℕ). AreDocuments k new.image documents) (sym (has.looked.cells ∙ has.settles.called.cells))
+      (subst (λ (i : Image). AreDocuments old.cells i documents) (sym ends.image) are)
+
+  -- a search has found just those of them that have the terms
+  just_these : (terms : List (List ℕ)) (documents : List Document) (matches : List Match)
+      → AreDocuments new.cells new.image documents → Finds terms old new matches → AreMatchesOf terms documents matches
+  just_these terms documents matches are finds = record {
+    all = λ d among has. finds.whole begins.alone d.slot d.id d.body ((are.each d).1 among) has;
+    only = λ found among.
+        let is = finds.only found among in (
+          is.body,
+          (are.each (record { slot = found.slot; id = found.identifier; body = is.body })).0 is.document,
+          is.bytes_is,
+          is.matches,
+        );
+    rise = finds.rise;
+  }
+
+module _ (old new : Ports) (device : IsDevice old.device) (device_new : IsDevice new.device)
+    (begins : BeginsSteady old.device new.device) where
+  module _ {X : Type 0} (a : X) (documents : List Document)
+      (held : Held old.device.cells old.device.image documents) where
+    stand_now : (answer : Result X Refusal) → answer ≡ Ok a → ComesTo X old.device new.device answer
+        → AreDocuments new.device.cells new.device.image documents
+    stand_now answer ok (settling refusal is settles) = absurd (no_answer answer a refusal ok is)
+    stand_now answer ok (settled r has) = documents_now old.device new.device device device_new begins r has documents held
+
+  find_told : (asked terms : List (List ℕ)) (answer : Result (Vec Match) Refusal) → AreTermsOf asked terms
+      → Searches terms old.device new.device answer → TellsFromMemory found_text answer old new (Ok tt)
+      → FindsHeld asked old new (Ok tt)
+  find_told asked terms (Ok matches) are searches tells = λ documents held. (
+    terms,
+    matches.items,
+    are,
+    just_these old.device new.device device device_new begins terms documents matches.items
+        (stand_now matches documents held (Ok matches) refl searches.comes) (searches.ends begins.tells),
+    tells,
+  )
+  find_told asked terms (Err refusal) are searches tells = absurd tells
+
+  pub find_held : (asked : List (List ℕ)) (result : Result Unit Refusal) → DoesFind asked old new result
+      → FindsHeld asked old new result
+  find_held asked (Err refusal) does = tt
+  find_held asked (Ok u) (misworded i bad is same) = absurd (no_answer (Ok u) u (refusals.BadWord i) refl is)
+  find_held asked (Ok u) (unread is same) = absurd (no_answer (Ok u) u refusals.NoMemory refl is)
+  find_held asked (Ok u) (searched terms answer are searches source tells) = find_told asked terms answer are searches tells
+
+  looked_up : (id : List ℕ) (answer : Result Found Refusal)
+      → LooksUp id old.device new.device old.sink new.sink answer → Answers answer (Ok tt)
+      → LooksUpHeld id old new (Ok tt)
+  looked_up id (Ok found) looks answers = λ documents held.
+      let are = stand_now found documents held (Ok found) refl looks.comes in
+      let puts = looks.ends in
+      let first = puts.first begins.tells in (
+        found.slot,
+        puts.body,
+        (are.each (record { slot = found.slot; id = id; body = puts.body })).0 first.document,
+        puts.gets,
+      )
+  looked_up id (Err refusal) looks answers = absurd (no_answer (Ok tt) tt refusal refl answers)
+
+  -- nothing is absent by settling
+  absent_settled : {answer : Result Found Refusal} → answer ≡ Err refusals.Absent
+      → ComesTo Found old.device new.device answer → (r : Ready) × HasSettled old.device new.device r
+  absent_settled {answer} absent (settling refusal is settles) =
+      let same : refusal ≡ refusals.Absent = one_refusal answer refusal refusals.Absent is absent in
+      absurd (subst (λ (x : Refusal). Settles old.device new.device (Err x)) same settles).ends
+  absent_settled absent (settled r has) = (r, has)
+
+  none_there : (id : List ℕ) (answer : Result Found Refusal) → answer ≡ Err refusals.Absent
+      → LooksUp id old.device new.device old.sink new.sink answer → LooksUpHeld id old new (Err refusals.Absent)
+  none_there id answer absent looks documents held d among named =
+      let found = absent_settled absent looks.comes in
+      let are = documents_now old.device new.device device device_new begins found.0 found.1 documents held in
+      let ends = subst (LookUpEnds id old.device new.device old.sink new.sink) absent looks.ends in
+      (ends.1 begins.tells).alone begins.alone d.slot d.body tt
+      (subst (λ (i : List ℕ). IsDocument new.device.cells new.device.image d.slot i d.body) named ((are.each d).1 among))
+
+  told_absent : (id : List ℕ) (answer : Result Found Refusal)
+      → LooksUp id old.device new.device old.sink new.sink answer → Answers answer (Err refusals.Absent)
+      → LooksUpHeld id old new (Err refusals.Absent)
+  told_absent id (Ok found) looks answers = absurd (no_answer (Err refusals.Absent) tt refusals.Absent answers refl)
+  told_absent id (Err refused) looks answers = none_there id (Err refused)
+      (ap Err (one_refusal (Err refusals.Absent) refused refusals.Absent answers refl)) looks
+
+  pub look_up_held : (id : List ℕ) (result : Result Unit Refusal) → DoesLookUp id old new result
+      → LooksUpHeld id old new result
+  look_up_held id (Ok u) (misnamed bad is same) = absurd (no_answer (Ok u) u refusals.BadIdentifier refl is)
+  look_up_held id (Ok u) (looked answer name looks source answers) = looked_up id answer looks answers
+  look_up_held id (Err refusals.Absent) (misnamed bad is same) = absurd (not_misnamed (Err refusals.Absent) refl is)
+  look_up_held id (Err refusals.Absent) (looked answer name looks source answers) = told_absent id answer looks answers
+  look_up_held id (Err refusal) does = tt
