@@ -24,7 +24,7 @@ use Rattle.plan_writer.specs.declared.plan.Plan.{Plan}
 use Rattle.plan_writer.proofs.PutFrom.{called, ends_2, free_2, volume_2}
 use Rattle.ingest_plan.specs.Planning.{cut_at}
 use Rattle.ingest_engine.specs.Indexing.{IsFoundOnWay}
-use Rattle.ingest_engine.specs.Ingesting.{IsLogRule, IsNamed, IsPlanFor, by_plan, in_index}
+use Rattle.ingest_engine.specs.Ingesting.{HasSlot, IsInTheWay, IsLogRule, IsNamed, IsPlanFor, by_plan, in_index}
 use Rattle.ingest_engine.proofs.Suited.{copies_of, entry}
 
 module _ {old new : DeviceState} (r : Ready) (slot : r.horizon < r.volume.geometry.slots) (has : HasSettled old new r)
@@ -124,19 +124,31 @@ module _ {id body : List ℕ} {old looked : DeviceState} {r : Ready} {p : Plan} 
     named_by_plan {new} later e found =
         let asks = λ (still : IsStill old.foreign_writes new.foreign_writes).
         asks_for_blank (still_first (called r has).foreign_writes later.foreign_writes still) in
-        by_plan r
-        (λ still. record {
-          settled = record {
-            settled = has.settled;
-            settles = has.settles;
-            looked = called_then has.looked later;
-            quiet = λ later_still cell. found.unput still (asks still) cell
-                ∙ has.quiet (still_first has.looked.foreign_writes later.foreign_writes later_still) cell;
+        by_plan (record {
+          found = record {
+            rule = log_rule e.rule found.rule;
+            licensed = found.licensed;
+            before = λ still. found.before still (asks still);
           };
-          slot = slot;
+          ready = r;
+          looked = looked;
+          slot = record { settled = has; slot = slot };
+          since = later;
+          unput = λ still. found.unput still (asks still);
         })
-        (record {
-          rule = log_rule e.rule found.rule;
-          licensed = found.licensed;
-          before = λ still. found.before still (asks still);
-        })
+
+-- where nobody else wrote, all was only looked at since the volume was settled
+pub slot_still : {old new : DeviceState} {e : Evidence} (way : IsInTheWay old new e)
+    → IsStill old.foreign_writes new.foreign_writes → HasSlot old new way.ready
+slot_still way still =
+    let has = way.slot.settled in
+    record {
+      settled = record {
+        settled = has.settled;
+        settles = has.settles;
+        looked = called_then has.looked way.since;
+        quiet = λ later cell. way.unput still cell
+            ∙ has.quiet (still_first has.looked.foreign_writes way.since.foreign_writes later) cell;
+      };
+      slot = way.slot.slot;
+    }

@@ -1,6 +1,6 @@
 -- What it means that a document is ingested, or that this was ended.
 use Rattle.std.specs.Prelude.{◌≡◌, ◌<◌, ◌≤◌, ◌+◌, ◌-◌, ◌⊎◌, ℕ, List, [], ◌∷◌, ◌++◌, length, Result, Ok, Err, IsTrue}
-use Rattle.cell_types.specs.Image.{Image, Extends}
+use Rattle.cell_types.specs.Image.{Image, Extends, IsUnchanged}
 use Rattle.cell_types.specs.Layout.{Layout}
 use Rattle.cell_types.specs.declared.refusal.Evidence.{Evidence}
 use Rattle.cell_types.specs.declared.refusal.Refusal.{Refusal}
@@ -142,13 +142,21 @@ IsUnput old new = (new ≡ old) ⊎ ((r : Ready) × HasSettled old new r)
 abbrev pub IsLogRule : ℕ → Type 0
 IsLogRule number = IsSettlingRule number ⊎ (number ≡ STRAY_CELL)
 
--- How tampering is named: while the volume was settled; in the way of the plan, where nobody else wrote its rule was
--- broken there before the command, too; or on the way through the index. Of the latter two nothing of the document was put,
--- where nobody else wrote: the volume was settled and had a free slot, and was only looked at.
+-- Evidence in the way of the plan, found once the volume was settled and had a free slot: where nobody else wrote, the
+-- volume was only looked at since, so nothing of the document was put, and the rule was broken there before the command.
+pub record IsInTheWay (old new : DeviceState) (e : Evidence) : Type 0 where
+  pub found : IsFound IsLogRule old new e
+  pub ready : Ready
+  pub looked : DeviceState
+  pub slot : HasSlot old looked ready
+  pub since : Called looked new
+  pub unput : IsStill old.foreign_writes new.foreign_writes → IsUnchanged looked.image new.image
+
+-- How tampering is named: while the volume was settled; in the way of the plan; or on the way through the index, where
+-- the volume was settled and had a free slot, and was only looked at.
 pub data IsNamed (old new : DeviceState) (e : Evidence) : Type 0 where
   by_settling : Settles old new (Err (Tampered e)) → IsFound IsSettlingRule old new e → IsNamed old new e
-  by_plan : (ready : Ready) → (IsStill old.foreign_writes new.foreign_writes → HasSlot old new ready)
-      → IsFound IsLogRule old new e → IsNamed old new e
+  by_plan : IsInTheWay old new e → IsNamed old new e
   in_index : (ready : Ready) → HasSlot old new ready → IsPathRule e.rule → IsLicensed old new e → IsNamed old new e
 
 -- how an ingest may end, and why

@@ -11,10 +11,7 @@ use Rattle.steady_volumes.specs.Steadiness.{IsSteady}
 use Rattle.steady_volumes.proofs.Alarms.{looked_unbroken, settling_named}
 use Rattle.slot_walk.specs.Walks.{IsQueryRule}
 use Rattle.record_query.specs.Finding.{ComesTo, settled, settling}
-
--- a result refuses in one way
-pub one_refusal : {A : Type 0} (result : Result A Refusal) (a b : Refusal) → result ≡ Err a → result ≡ Err b → a ≡ b
-one_refusal result a b p q = cc
+use Rattle.record_top.proofs.Results.{one_refusal}
 
 module _ (old new : DeviceState) (device : IsDevice old) (tells : IsTrue old.tells)
     (alone : IsStill old.foreign_writes new.foreign_writes) (steady : IsSteady old) where

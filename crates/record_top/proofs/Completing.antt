@@ -28,6 +28,7 @@ use Rattle.steady_ingests.proofs.WellPlanned as planned
 use Rattle.identifier_lookup.specs.Walks.{IsPassedWhole}
 use Rattle.plan_writer.proofs.PutFrom.{volume_2}
 use Rattle.ingest_engine.specs.Ingesting.{HasFullPath, HasNoRoom, HasNoSlot, HasSlot, IngestEnds, IsNamed, IsTaken, IsTooMany, by_plan, by_settling, in_index}
+use Rattle.ingest_engine.proofs.Named.{slot_still}
 use Rattle.ingest_engine.proofs.CrashedIngests.{ready_layout, settled_unused}
 use Rattle.record_top.specs.Formatting.{DoesFormat, IsReadyToFormat}
 use Rattle.record_top.specs.Ingesting.{DoesIngest, IsReadyToIngest, acknowledgement, misnamed, untaken, taken}
@@ -157,7 +158,7 @@ module _ {id body : List ℕ} {g : Layout} {slot : ℕ} {old new : Ports} (ready
   untouched : (e : Evidence) → IsNamed old.device new.device e → ⊥
   untouched e (by_settling settles found) = settling_named old.device new.device e device ready.begins.tells settles
       ready.begins.alone ready.begins.steady
-  untouched e (by_plan r slot found) = behind_unbroken r (slot ready.begins.alone) found.licensed
+  untouched e (by_plan way) = behind_unbroken way.ready (slot_still way ready.begins.alone) way.found.licensed
   untouched e (in_index r slot rule licensed) = behind_unbroken r slot licensed
 
   volume_now : (called : Called old.device new.device) → IsVolume new.device.cells new.device.image g

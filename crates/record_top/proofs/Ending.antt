@@ -14,10 +14,7 @@ use Rattle.record_top.specs.Recovering.{recovered}
 use Rattle.record_top.specs.Taking.{refusal_of_body_fault}
 use Rattle.record_top.specs.declared.body.BodyFault.{BodyFault}
 use Rattle.record_top.specs.declared.body.BodyFault.TheVariants as faults
-
--- a result refuses in one way
-one_refusal : (result : Result Unit Refusal) (a b : Refusal) → result ≡ Err a → result ≡ Err b → a ≡ b
-one_refusal result a b p q = cc
+use Rattle.record_top.proofs.Results.{one_refusal}
 
 no_name : Usage ≡ BadIdentifier → ⊥
 no_name e = absurd cc

@@ -1,6 +1,6 @@
 -- How a find ends: over what every call of the device keeps, never with `Usage`, and where nothing hinders it with no
 -- refusal but want of memory.
-use Rattle.std.proofs.Common.{◌≡◌, ◌-◌, ℕ, List, Result, Ok, Err, refl, subst, sym, inl}
+use Rattle.std.proofs.Common.{◌-◌, ℕ, List, Result, Ok, Err, refl, subst, sym, inl}
 use Rattle.std.proofs.lemmas.Option.{get_or_from_slice_get, slice_get_within}
 use Rattle.std.specs.Global.{Vec}
 use Rattle.std.specs.Prelude.{Contains}
@@ -18,6 +18,7 @@ use Rattle.record_top.specs.Finding.{DoesFind, IsFirstBadWord, IsReadyToFind, Te
 use Rattle.record_top.specs.Ports.{Ports, IsOkOrNoMemory, TellsFromMemory}
 use Rattle.record_top.specs.WholeLogs.{HasWholeLog}
 use Rattle.record_top.proofs.Alarms.{query_alarms}
+use Rattle.record_top.proofs.Results.{other_refusal}
 use Rattle.record_top.proofs.WholeLogs.{none_found, settles_whole, settling_log}
 
 -- where the terms can't be read, nothing is done
@@ -26,12 +27,6 @@ pub not_searched : (asked : List (List ℕ)) (ports : Ports) (refusal : Refusal)
 not_searched asked ports (refusals.BadWord i) ends = misworded i ends refl refl
 not_searched asked ports refusals.NoMemory ends = unread refl refl
 not_searched asked ports refusal ends = absurd ends
-
-no_word : (result : Result Unit Refusal) (i : ℕ) → result ≡ Err refusals.Usage → result ≡ Err (refusals.BadWord i) → ⊥
-no_word result i e f = absurd cc
-
-no_lack : (result : Result Unit Refusal) → result ≡ Err refusals.Usage → result ≡ Err refusals.NoMemory → ⊥
-no_lack result e f = absurd cc
 
 module _ (asked : List (List ℕ)) (old new : Ports) where
   -- a find keeps what every call of the device keeps
@@ -50,8 +45,10 @@ module _ (asked : List (List ℕ)) (old new : Ports) where
 
   -- and never ends with `Usage`
   pub find_is_used : DoesFind asked old new (Err refusals.Usage) → ⊥
-  find_is_used (misworded i bad is same) = no_word (Err refusals.Usage) i refl is
-  find_is_used (unread is same) = no_lack (Err refusals.Usage) refl is
+  find_is_used (misworded i bad is same) = other_refusal (Err refusals.Usage) refusals.Usage (refusals.BadWord i)
+      (λ s. absurd cc) refl is
+  find_is_used (unread is same) = other_refusal (Err refusals.Usage) refusals.Usage refusals.NoMemory
+      (λ s. absurd cc) refl is
   find_is_used (searched terms answer are searches source tells) = told_is_used terms answer searches.ends tells
 
 module _ (asked : List (List ℕ)) (g : Layout) (old new : Ports) (ready : IsReadyToFind asked g old new)

@@ -20,13 +20,7 @@ use Rattle.record_top.specs.Finding.{AreTermsOf, DoesFind, found_text, misworded
 use Rattle.record_top.specs.LookingUp.{Answers, DoesLookUp, looked, misnamed}
 use Rattle.record_top.specs.Ports.{Ports, TellsFromMemory}
 use Rattle.record_top.specs.Steadiness.{AreMatchesOf, FindsHeld, LooksUpHeld}
-use Rattle.record_top.proofs.Alarms.{one_refusal}
-
-no_answer : {A : Type 0} (result : Result A Refusal) (a : A) (refusal : Refusal) → result ≡ Ok a → result ≡ Err refusal → ⊥
-no_answer result a refusal p q = cc
-
-not_misnamed : (result : Result Unit Refusal) → result ≡ Err refusals.Absent → result ≡ Err refusals.BadIdentifier → ⊥
-not_misnamed result p q = cc
+use Rattle.record_top.proofs.Results.{no_answer, one_refusal, other_refusal}
 
 module _ (old new : DeviceState) (device : IsDevice old) (device_new : IsDevice new) (begins : BeginsSteady old new) where
   -- behind a query that was not refused by settling stand just the documents that stood
@@ -125,6 +119,7 @@ module _ (old new : Ports) (device : IsDevice old.device) (device_new : IsDevice
       → LooksUpHeld id old new result
   look_up_held id (Ok u) (misnamed bad is same) = absurd (no_answer (Ok u) u refusals.BadIdentifier refl is)
   look_up_held id (Ok u) (looked answer name looks source answers) = looked_up id answer looks answers
-  look_up_held id (Err refusals.Absent) (misnamed bad is same) = absurd (not_misnamed (Err refusals.Absent) refl is)
+  look_up_held id (Err refusals.Absent) (misnamed bad is same) = absurd (other_refusal
+      (Err refusals.Absent) refusals.Absent refusals.BadIdentifier (λ s. absurd cc) refl is)
   look_up_held id (Err refusals.Absent) (looked answer name looks source answers) = told_absent id answer looks answers
   look_up_held id (Err refusal) does = tt

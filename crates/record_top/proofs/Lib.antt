@@ -10,6 +10,7 @@ pub mod MatchLines
 pub mod OneMore
 pub mod Options
 pub mod Pieces
+pub mod Results
 pub mod Steadily
 pub mod Taken
 pub mod Terms

@@ -1,6 +1,6 @@
 -- How a look-up ends: over what every call of the device keeps, never with `Usage`, and where nothing hinders it with
 -- no refusal but that no document has the identifier.
-use Rattle.std.proofs.Common.{◌≡◌, ℕ, List, Result, Ok, Err, refl, subst, sym, inl}
+use Rattle.std.proofs.Common.{ℕ, List, Result, Ok, Err, refl, subst, sym, inl}
 use Rattle.cell_types.specs.Layout.{Layout}
 use Rattle.cell_types.specs.declared.refusal.Refusal.{Refusal}
 use Rattle.cell_types.specs.declared.refusal.Refusal.TheVariants as refusals
@@ -15,14 +15,9 @@ use Rattle.record_query.specs.declared.found.Found.{Found}
 use Rattle.record_top.specs.LookingUp.{Answers, DoesLookUp, IsReadyToLookUp, looked, misnamed}
 use Rattle.record_top.specs.Ports.{Ports, IsOkOrAbsent}
 use Rattle.record_top.specs.WholeLogs.{HasWholeLog}
-use Rattle.record_top.proofs.Alarms.{one_refusal, query_alarms}
+use Rattle.record_top.proofs.Alarms.{query_alarms}
+use Rattle.record_top.proofs.Results.{no_answer, one_refusal, other_refusal}
 use Rattle.record_top.proofs.WholeLogs.{none_found, settles_whole, settling_log}
-
-no_name : (result : Result Unit Refusal) → result ≡ Err refusals.Usage → result ≡ Err refusals.BadIdentifier → ⊥
-no_name result e f = absurd cc
-
-no_answer : (result : Result Unit Refusal) → result ≡ Err refusals.Usage → result ≡ Ok tt → ⊥
-no_answer result e f = absurd cc
 
 module _ (id : List ℕ) (old new : Ports) where
   -- a look-up keeps what every call of the device keeps
@@ -33,14 +28,15 @@ module _ (id : List ℕ) (old new : Ports) where
 
   answers_used : (answer : Result Found Refusal) → LookUpEnds id old.device new.device old.sink new.sink answer
       → Answers answer (Err refusals.Usage) → ⊥
-  answers_used (Ok found) ends answers = no_answer (Err refusals.Usage) refl answers
+  answers_used (Ok found) ends answers = no_answer (Err refusals.Usage) tt refusals.Usage answers refl
   answers_used (Err refused) ends answers =
       subst (λ (r : Refusal). LookUpEnds id old.device new.device old.sink new.sink (Err r))
       (sym (one_refusal (Err refusals.Usage) refusals.Usage refused refl answers)) ends
 
   -- and never ends with `Usage`
   pub look_up_is_used : DoesLookUp id old new (Err refusals.Usage) → ⊥
-  look_up_is_used (misnamed bad is same) = no_name (Err refusals.Usage) refl is
+  look_up_is_used (misnamed bad is same) = other_refusal (Err refusals.Usage) refusals.Usage
+      refusals.BadIdentifier (λ s. absurd cc) refl is
   look_up_is_used (looked answer name looks source answers) = answers_used answer looks.ends answers
 
 module _ (id : List ℕ) (g : Layout) (old new : Ports) (ready : IsReadyToLookUp id g old new) (device : IsDevice old.device)

@@ -1,5 +1,5 @@
 -- What a crash leaves of an ingest, from a steady device on, where nobody else writes; and what it ends with.
-use Rattle.std.proofs.Common.{◌≡◌, ◌≢◌, ℕ, List, [], Result, Ok, Err, sym, ap, ◌∙◌, subst}
+use Rattle.std.proofs.Common.{◌≡◌, ℕ, List, [], Result, Ok, Err, sym, ap, ◌∙◌, subst}
 use Rattle.cell_types.specs.Image.{Image}
 use Rattle.cell_types.specs.Layout.{Layout}
 use Rattle.cell_types.specs.declared.refusal.Evidence.{Evidence}
@@ -14,6 +14,7 @@ use Rattle.volume_growth.specs.Needs.{IsNeed}
 use Rattle.worm_device.specs.State.{DeviceState, IsDevice}
 use Rattle.plan_writer.proofs.PutFrom.{volume_2}
 use Rattle.ingest_engine.specs.Ingesting.{HasNoRoom, IngestEnds, Ingests}
+use Rattle.steady_volumes.proofs.LeftWhole.{held_unmoved}
 use Rattle.steady_ingests.specs.Steadiness.{HasOneMore}
 use Rattle.steady_ingests.proofs.AddsOne.{comes_more}
 use Rattle.steady_ingests.proofs.Alarms.{none_named}
@@ -29,14 +30,11 @@ use Rattle.record_top.specs.Taking.{refusal_of_body_fault}
 use Rattle.record_top.specs.declared.body.BodyFault.{BodyFault}
 use Rattle.record_top.specs.declared.body.BodyFault.TheVariants as faults
 use Rattle.record_top.proofs.Pieces.{gives_nothing}
+use Rattle.record_top.proofs.Results.{other_refusal}
 
 -- the answer that refuses in this way
 abbrev refuses : Refusal → Result Unit Refusal
 refuses refusal = Err refusal
-
--- a refusal is not another
-other_refusal : (result : Result Unit Refusal) (a b : Refusal) → a ≢ b → result ≡ Err a → result ≡ Err b → ⊥
-other_refusal result a b differs p q = differs cc
 
 module _ (id body : List ℕ) (need free : ℕ) (old new : DeviceState) (device : IsDevice old) (device_new : IsDevice new)
     (begins : BeginsSteady old new) (h : HasNoRoom id body need free old new) where
@@ -73,12 +71,6 @@ module _ (id body : List ℕ) (need free : ℕ) (old new : DeviceState) (device 
 
 module _ (id : List ℕ) (old new : Ports) (device : IsDevice old.device) (device_new : IsDevice new.device)
     (begins : BeginsSteady old.device new.device) where
-  -- what is not begun leaves the documents
-  held_still : new.device ≡ old.device → (documents : List Document)
-      → Held old.device.cells old.device.image documents → Held new.device.cells new.device.image documents
-  held_still same documents held =
-      subst (λ (s : DeviceState). Held s.cells s.image documents) (sym same) held
-
   -- no body is taken
   not_taken : (given : List ℕ) (fault : BodyFault) (result : Result Unit Refusal)
       → result ≡ Err (refusal_of_body_fault fault) → HasStored result → ⊥
@@ -153,7 +145,7 @@ module _ (id : List ℕ) (old new : Ports) (device : IsDevice old.device) (devic
     stays = nothing_done id [] old.device new.device (ap (λ (p : Ports). p.device) same) begins.steady;
     no_alarm = λ e named. other_refusal result refusals.BadIdentifier (refusals.Tampered e) (λ s. absurd cc) is named;
     adds = λ has. absurd (subst HasStored is has);
-    keeps = λ has documents held. held_still (ap (λ (p : Ports). p.device) same) documents held;
+    keeps = λ has documents held. held_unmoved (ap (λ (p : Ports). p.device) same) documents held;
     needs = λ need free full. absurd
         (other_refusal result refusals.BadIdentifier (refusals.Full need free) (λ s. absurd cc) is full);
   }
@@ -163,7 +155,7 @@ module _ (id : List ℕ) (old new : Ports) (device : IsDevice old.device) (devic
     stays = nothing_done id given old.device new.device same begins.steady;
     no_alarm = λ e named. not_named fault result e is named;
     adds = λ has. absurd (not_taken given fault result is has);
-    keeps = λ has documents held. held_still same documents held;
+    keeps = λ has documents held. held_unmoved same documents held;
     needs = λ need free full. absurd (not_full fault result need free is full);
   }
   ingest_adds result (taken given answer name is gives end ingests tells) = record {

@@ -19,7 +19,7 @@ use Rattle.worm_device.proofs.Images.{extends_self, extends_then}
 use Rattle.recovery_engine.specs.Settling.{IsFound, Settles}
 use Rattle.recovery_engine.specs.declared.settling.Ready.{Ready}
 use Rattle.steady_volumes.specs.Steadiness.{IsLeftWhole, IsSteady, StaysSteady}
-use Rattle.steady_volumes.proofs.LeftWhole.{left_between, not_blank, settling_keeps, settling_left, stays_steady}
+use Rattle.steady_volumes.proofs.LeftWhole.{held_unmoved, left_between, not_blank, settling_keeps, settling_left, stays_steady}
 use Rattle.steady_volumes.proofs.LookedAt.{looking_keeps, looking_steady}
 use Rattle.ingest_engine.specs.Formats.{volume_cell}
 use Rattle.slot_walk.specs.Walks.{IsQueryRule}
@@ -33,9 +33,10 @@ use Rattle.record_top.specs.Formatting.{DoesFormat, FormatCommandEnds}
 use Rattle.record_top.specs.LookingUp.{Answers, DoesLookUp, looked, misnamed}
 use Rattle.record_top.specs.Ports.{Ports, Tells, TellsFromMemory}
 use Rattle.record_top.specs.Recovering.{DoesRecover, recovered}
-use Rattle.record_top.proofs.Alarms.{one_refusal, query_alarms, settling_alarms}
+use Rattle.record_top.proofs.Alarms.{query_alarms, settling_alarms}
 use Rattle.record_top.proofs.HeldAnswers.{find_held, look_up_held}
 use Rattle.record_top.proofs.OneMore.{ingest_adds}
+use Rattle.record_top.proofs.Results.{no_answer, one_refusal, other_refusal}
 use Rattle.record_top.specs.Begins.{BeginsSteady}
 use Rattle.record_top.specs.Steadiness.{AddsNone, LeavesWhole}
 
@@ -197,12 +198,6 @@ format_layout g old new (Err refusal) ends = absurd ends.0
 
 module _ (old new : Ports) (device : IsDevice old.device) (device_new : IsDevice new.device)
     (begins : BeginsSteady old.device new.device) where
-  -- what is not begun leaves the documents
-  unused_held : new.device ≡ old.device → (documents : List Document)
-      → Held old.device.cells old.device.image documents → Held new.device.cells new.device.image documents
-  unused_held same documents held =
-      subst (λ (s : DeviceState). Held s.cells s.image documents) (sym same) held
-
   format_adds : (g : Layout) (result : Result Unit Refusal) → g.cells ≡ old.device.cells → DoesFormat g old new result
       → AddsNone old new result
   format_adds g result size does = record {
@@ -215,7 +210,7 @@ module _ (old new : Ports) (device : IsDevice old.device) (device_new : IsDevice
         (λ (is : IsLayout g). subst (λ (k : ℕ). Held k new.device.image documents) (sym does.called.cells)
         (formatting_keeps g old.device new.device is size device begins.steady does.called (does.only begins.alone)
         documents held))
-        (λ same. unused_held same documents held)
+        (λ same. held_unmoved same documents held)
         (format_layout g old new result does.ends);
     no_alarm = λ e is. (subst (FormatCommandEnds g old new) is does.ends).0;
   }
@@ -266,22 +261,14 @@ module _ (old new : Ports) (device : IsDevice old.device) (device_new : IsDevice
       → AddsNone old new result
   find_adds asked result (misworded i bad is same) = record {
     stays = unused_steady old.device new.device device begins.steady (ap (λ (p : Ports). p.device) same);
-    keeps = unused_held (ap (λ (p : Ports). p.device) same);
-    no_alarm = λ e named. no_word result i e is named;
+    keeps = held_unmoved (ap (λ (p : Ports). p.device) same);
+    no_alarm = λ e named. other_refusal result (refusals.BadWord i) (refusals.Tampered e) (λ s. absurd cc) is named;
   }
-    where
-      no_word : (r : Result Unit Refusal) (n : ℕ) (e : Evidence) → r ≡ Err (refusals.BadWord n)
-          → r ≡ Err (refusals.Tampered e) → ⊥
-      no_word r n e p q = absurd cc
   find_adds asked result (unread is same) = record {
     stays = unused_steady old.device new.device device begins.steady (ap (λ (p : Ports). p.device) same);
-    keeps = unused_held (ap (λ (p : Ports). p.device) same);
-    no_alarm = λ e named. no_lack result e is named;
+    keeps = held_unmoved (ap (λ (p : Ports). p.device) same);
+    no_alarm = λ e named. other_refusal result refusals.NoMemory (refusals.Tampered e) (λ s. absurd cc) is named;
   }
-    where
-      no_lack : (r : Result Unit Refusal) (e : Evidence) → r ≡ Err refusals.NoMemory → r ≡ Err (refusals.Tampered e)
-          → ⊥
-      no_lack r e p q = absurd cc
   find_adds asked result (searched terms answer are searches source tells) = record {
     stays = query_stays searches.comes;
     keeps = query_keeps searches.comes;
@@ -299,26 +286,20 @@ module _ (old new : Ports) (device : IsDevice old.device) (device_new : IsDevice
   look_up_adds : (id : List ℕ) (result : Result Unit Refusal) → DoesLookUp id old new result → AddsNone old new result
   look_up_adds id result (misnamed bad is same) = record {
     stays = unused_steady old.device new.device device begins.steady (ap (λ (p : Ports). p.device) same);
-    keeps = unused_held (ap (λ (p : Ports). p.device) same);
-    no_alarm = λ e named. no_name result e is named;
+    keeps = held_unmoved (ap (λ (p : Ports). p.device) same);
+    no_alarm = λ e named. other_refusal result refusals.BadIdentifier (refusals.Tampered e) (λ s. absurd cc) is named;
   }
-    where
-      no_name : (r : Result Unit Refusal) (e : Evidence) → r ≡ Err refusals.BadIdentifier
-          → r ≡ Err (refusals.Tampered e) → ⊥
-      no_name r e p q = absurd cc
   look_up_adds id result (looked answer name looks source answers) = record {
     stays = query_stays looks.comes;
     keeps = query_keeps looks.comes;
     no_alarm = λ e named. told answer looks.comes looks.ends e (subst (Answers answer) named answers);
   }
     where
-      no_answer : (r : Result Unit Refusal) (e : Evidence) → r ≡ Err (refusals.Tampered e) → r ≡ Ok tt → ⊥
-      no_answer r e p q = absurd cc
-
       told : (a : Result Found Refusal) → ComesTo Found old.device new.device a
           → LookUpEnds id old.device new.device old.sink new.sink a → (e : Evidence)
           → Answers a (Err (refusals.Tampered e)) → ⊥
-      told (Ok found) comes ends e answered = no_answer (Err (refusals.Tampered e)) e refl answered
+      told (Ok found) comes ends e answered = no_answer (Err (refusals.Tampered e)) tt (refusals.Tampered e)
+          answered refl
       told (Err refused) comes ends e answered =
           let same : refusals.Tampered e ≡ refused = one_refusal (Err (refusals.Tampered e))
           (refusals.Tampered e) refused refl answered in

@@ -1,4 +1,5 @@
--- What a crash leaves of a command, at whichever moment of it.
+-- A command from a steady device on, where nobody else writes: what a crash leaves of it, at whichever moment; which
+-- documents stand behind it; and that a query tells of just those.
 use Rattle.std.specs.Prelude.{◌≡◌, ◌<◌, ◌-◌, ℕ, List, length, Contains, Result, Ok, Err, ⊤}
 use Rattle.cell_types.specs.Layout.{Layout}
 use Rattle.cell_types.specs.declared.refusal.Evidence.{Evidence}
@@ -86,7 +87,7 @@ pub record AddsOne (id : List ℕ) (old new : Ports) (result : Result Unit Refus
       → Held old.device.cells old.device.image documents → Held new.device.cells new.device.image documents
   pub needs : (need free : ℕ) → result ≡ Err (Full need free) → IsExactlyTooMany id body need free old.device
 
--- what a crash leaves of a command, by what was asked for
+-- what a command leaves, and of a query what it tells, by what was asked for
 abbrev pub LeavesWhole : Request → Ports → Ports → Result Unit Refusal → Type 0
 LeavesWhole (ToFormat slots lists) old new result = AddsNone old new result
 LeavesWhole (ToIngest id) old new result = AddsOne id old new result

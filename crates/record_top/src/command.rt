@@ -48,7 +48,8 @@ pub fn run<D: Device, S: Source, K: Sink>(
         (ports_of (D.state device.old) (S.state source.old) (K.state sink.old))
         (ports_of (D.state device.new) (S.state source.new) (K.state sink.new)) → IsAnswered request result }
 
-    // From a steady device on, where nobody else writes, a crash leaves at every moment what settling makes whole.
+    // From a steady device on, where nobody else writes, a crash leaves at every moment what settling makes whole; and
+    // behind the command just the documents stand that should, of which the queries tell.
     ensures steady { (request : Request) → Asks (map string_bytes words.now) request
         → BeginsSteady (D.state device.old) (D.state device.new) → LeavesWhole request
         (ports_of (D.state device.old) (S.state source.old) (K.state sink.old))

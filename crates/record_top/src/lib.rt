@@ -20,7 +20,8 @@
 //!
 //! Stands on `ingest_engine` and `recovery_engine`, which write, on `record_query`, which searches and looks up, on
 //! `steady_volumes` and `steady_ingests`, and on `host_ports`. Begin with `command.rt`; specs/Commands.antt says which
-//! commands there are, and leads to what each does; specs/Steadiness.antt says what a crash leaves of it.
+//! commands there are, and leads to what each does; specs/Steadiness.antt says what a crash leaves of it, and which
+//! documents stand behind it.
 #![tactic(auto)]
 
 mod body;

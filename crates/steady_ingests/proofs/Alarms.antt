@@ -6,6 +6,7 @@ use Rattle.worm_device.specs.State.{DeviceState, IsDevice}
 use Rattle.commit_record.specs.Licences.{IsLicensed}
 use Rattle.recovery_engine.specs.declared.settling.Ready.{Ready}
 use Rattle.ingest_engine.specs.Ingesting.{HasSlot, IsNamed, by_plan, by_settling, in_index}
+use Rattle.ingest_engine.proofs.Named.{slot_still}
 use Rattle.steady_volumes.specs.Steadiness.{IsSteady}
 use Rattle.steady_volumes.proofs.Alarms.{looked_unbroken, settling_named}
 
@@ -17,5 +18,5 @@ module _ (old new : DeviceState) (e : Evidence) (device : IsDevice old) (device_
 
   pub none_named : IsNamed old new e → ⊥
   none_named (by_settling settles found) = settling_named old new e device tells settles still steady
-  none_named (by_plan r slot found) = none_behind r (slot still) found.licensed
+  none_named (by_plan way) = none_behind way.ready (slot_still way still) way.found.licensed
   none_named (in_index r slot rule licensed) = none_behind r slot licensed

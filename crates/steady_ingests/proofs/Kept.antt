@@ -2,7 +2,6 @@
 use Rattle.std.proofs.Common.{◌≡◌, ℕ, List, Err, refl, sym, ap, ◌∙◌, ⊎_elim, subst}
 use Rattle.std.specs.Prelude.{IsTrue, ◌≢◌}
 use Rattle.std.proofs.lemmas.Option.{none-some}
-use Rattle.cell_types.specs.Image.{Image}
 use Rattle.cell_types.specs.Layout.{Layout}
 use Rattle.cell_types.specs.Records.{IsRecordCell}
 use Rattle.cell_types.specs.declared.refusal.Refusal.{Refusal}
@@ -11,7 +10,7 @@ use Rattle.stored_documents.specs.Documents.{Document}
 use Rattle.stored_documents.specs.Volumes.{IsVolume, volume_record}
 use Rattle.stored_documents.proofs.Extending.{volume_on}
 use Rattle.stored_documents.proofs.Holding.{some_is}
-use Rattle.tamper_rules.specs.Settling.{Held, nothing, of_after}
+use Rattle.tamper_rules.specs.Settling.{Held}
 use Rattle.tamper_rules.proofs.GivenUp.{one_layout}
 use Rattle.worm_device.specs.Calls.{Called}
 use Rattle.worm_device.specs.Counts.{IsStill}
@@ -23,7 +22,7 @@ use Rattle.plan_writer.proofs.PutFrom as from
 use Rattle.ingest_engine.specs.Ingesting as ingesting
 use Rattle.ingest_engine.specs.Ingesting.{ComesTo, IngestEnds, Ingests, put, settled, settling}
 use Rattle.steady_volumes.specs.Steadiness.{IsSteady}
-use Rattle.steady_volumes.proofs.LeftWhole.{settling_keeps}
+use Rattle.steady_volumes.proofs.LeftWhole.{held_unmoved, settling_keeps}
 use Rattle.steady_volumes.proofs.LookedAt.{looking_keeps}
 use Rattle.steady_ingests.proofs.Alarms.{none_named}
 
@@ -33,7 +32,7 @@ module _ (id body : List ℕ) (old new : DeviceState) (called : Called old new) 
     (documents : List Document) (held : Held old.cells old.image documents) where
   -- nothing was done
   unmoved : new ≡ old → Held new.cells new.image documents
-  unmoved same = subst (λ (s : DeviceState). Held s.cells s.image documents) (sym same) held
+  unmoved same = held_unmoved same documents held
 
   -- the volume was settled, and then looked at
   settled_keeps : (r : Ready) → HasSettled old new r → Held new.cells new.image documents

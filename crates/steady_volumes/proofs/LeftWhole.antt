@@ -176,6 +176,11 @@ settling_left old new result device tells settles still steady since image le le
     inr (⊎_elim (left_between old device steady image) (left_goes old device steady image) l))
     (settling_image old new result device tells settles still steady since image le left)
 
+-- where nothing was done the documents stand
+pub held_unmoved : {old new : DeviceState} → new ≡ old → (documents : List Document)
+    → Held old.cells old.image documents → Held new.cells new.image documents
+held_unmoved same documents held = subst (λ (s : DeviceState). Held s.cells s.image documents) (sym same) held
+
 -- what stands behind settling, whatever it answers, holds the documents that stood at entry
 pub settling_keeps : (old new : DeviceState) (result : Result Ready Refusal) → IsDevice old → IsDevice new
     → IsTrue old.tells → Settles old new result
