@@ -54,6 +54,17 @@ first_given held p = record {
   over = p.over;
 }
 
+-- after all bytes of a cell that was read
+abbrev pub all_given : Content → Position → Position
+all_given held p = record {
+  start = p.start;
+  bytes = p.bytes;
+  read = p.read + 1;
+  held = held;
+  given = held.length;
+  over = p.over;
+}
+
 -- after a fault
 abbrev pub ended : Position → Position
 ended p = record {
@@ -110,3 +121,15 @@ ByteEnds v w old new (Err Broken) =
     × ((start bytes : ℕ) (given : List ℕ) → HasRead v start bytes old given → length given < bytes
     → IsTrue v.base.tells → HasBroken w.image start bytes)
 ByteEnds v w old new (Err ReadFault) = Rose v.base.faults w.base.faults
+
+-- how asking for the next cell of a part that has one more may end, and why
+abbrev pub CellEnds : ViewState → ViewState → Position → Position → Result Content ContentFault → Type 0
+CellEnds v w old new (Ok held) =
+    (w.base.faults ≡ v.base.faults) × (1 ≤ held.length) × (held.length ≤ 15)
+    × ((start bytes : ℕ) (given : List ℕ) → HasRead v start bytes old given
+    → HasRead w start bytes new (given ++ held_bytes held))
+CellEnds v w old new (Err Broken) =
+    (w.base.faults ≡ v.base.faults)
+    × ((start bytes : ℕ) (given : List ℕ) → HasRead v start bytes old given → length given < bytes
+    → IsTrue v.base.tells → HasBroken w.image start bytes)
+CellEnds v w old new (Err ReadFault) = Rose v.base.faults w.base.faults

@@ -28,5 +28,5 @@ mod tests;
 
 pub use cells::{CONTENT_BYTES, cells_for, content_cells, push_content};
 pub use piece::{ContentFault, read_piece};
-pub use position::{Position, next_byte, read_byte};
+pub use position::{Position, next_byte, next_cell, read_byte};
 pub use reader::Reader;

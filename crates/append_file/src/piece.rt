@@ -1,11 +1,12 @@
 //! One cell of a document part.
-ghost use Rattle.std.specs.Prelude.{◌<◌, ◌≤◌, ◌+◌, ◌*◌};
+ghost use Rattle.std.specs.Prelude.{◌≡◌, ◌<◌, ◌≤◌, ◌+◌, ◌*◌};
 ghost use Rattle.append_file.specs.Pieces.{PieceEnds};
+ghost use Rattle.append_file.specs.declared.piece.ContentFault.TheVariants as content_faults;
 ghost use Rattle.worm_device.specs.Views.{Viewed};
 
 use crate::CONTENT_BYTES;
 use cell_types::{Content, content_of};
-use worm_device::View;
+use worm_device::{Failed, View};
 
 /// Why bytes of a document are not read.
 #[derive(Clone, Copy, Debug, PartialEq, Eq)]
@@ -14,6 +15,14 @@ pub enum ContentFault {
     Broken,
     /// A read failed.
     ReadFault,
+}
+
+impl From<Failed> for ContentFault {
+    ghost from_gives = { λ _ fault. fault ≡ content_faults.ReadFault };
+
+    fn from(_: Failed) -> ContentFault {
+        ContentFault::ReadFault
+    }
 }
 
 /// The bytes that the cell of this place holds, places from 0, in a part of so many bytes in the cells from start on:
@@ -32,10 +41,7 @@ pub fn read_piece<V: View>(
 {
     // That its cells are fewer than 2 to the 32 is known to those who ask.
     let _cells = view.cells();
-    let Ok(found) = view.read(start + place) else {
-        return Err(ContentFault::ReadFault);
-    };
-    let Some(cell) = found else {
+    let Some(cell) = view.read(start + place)? else {
         return Err(ContentFault::Broken);
     };
     let Some(held) = content_of(cell) else {

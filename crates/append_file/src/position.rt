@@ -1,6 +1,6 @@
 //! How far a document part was read.
 ghost use Rattle.std.specs.Prelude.{◌≡◌, ◌<◌, ◌≤◌, ◌+◌, [], slice_index};
-ghost use Rattle.append_file.specs.Reading.{ByteEnds, HasRead, IsPosition, NextEnds, at_start, ended, first_given, one_given};
+ghost use Rattle.append_file.specs.Reading.{ByteEnds, CellEnds, HasRead, IsPosition, NextEnds, all_given, at_start, ended, first_given, one_given};
 ghost use Rattle.stored_documents.specs.Slots as slots;
 ghost use Rattle.worm_device.specs.Views.{ViewState, Viewed};
 
@@ -70,6 +70,16 @@ impl Position {
         held.bytes[0]
     }
 
+    /// Gives all bytes of a cell that was read.
+    fn give_all(&mut self, held: Content)
+        requires { self.old.read < self.old.bytes }
+        ensures { self.new ≡ all_given held self.old }
+    {
+        self.held = held;
+        self.given = held.length;
+        self.read += 1;
+    }
+
     /// There was a fault.
     fn end(&mut self)
         requires { self.old.read < self.old.bytes }
@@ -104,13 +114,9 @@ pub fn next_byte<V: View>(view: &mut V, position: &mut Position) -> Option<Resul
     }
     match read_piece(view, position.start, position.bytes, position.read) {
         Ok(held) => Some(Ok(position.give_first(held))),
-        Err(ContentFault::Broken) => {
+        Err(fault) => {
             position.end();
-            Some(Err(ContentFault::Broken))
-        }
-        Err(ContentFault::ReadFault) => {
-            position.end();
-            Some(Err(ContentFault::ReadFault))
+            Some(Err(fault))
         }
     }
 }
@@ -127,10 +133,34 @@ pub fn read_byte<V: View>(view: &mut V, position: &mut Position) -> Result<u8, C
         ≤ (V.seen view.old).base.reads + position.new.read }
     ensures ends { ByteEnds (V.seen view.old) (V.seen view.new) position.old position.new result }
 {
-    match next_byte(view, position) {
-        Some(Ok(byte)) => Ok(byte),
-        Some(Err(ContentFault::ReadFault)) => Err(ContentFault::ReadFault),
-        Some(Err(ContentFault::Broken)) => Err(ContentFault::Broken),
-        None => Err(ContentFault::Broken),
+    next_byte(view, position).unwrap_or(Err(ContentFault::Broken))
+}
+
+/// What the next cell holds of a part that has one more byte, where all bytes of the cell before were given. It makes
+/// one read at most, and each cell is read once.
+pub fn next_cell<V: View>(view: &mut V, position: &mut Position) -> Result<Content, ContentFault>
+    requires is { IsPosition position.old }
+    requires given { position.old.held.length ≤ position.old.given }
+    requires inside { position.old.start + slots.cells_for position.old.bytes ≤ (V.seen view.old).cells }
+    ensures is { IsPosition position.new }
+    ensures start { position.new.start ≡ position.old.start }
+    ensures bytes { position.new.bytes ≡ position.old.bytes }
+    ensures viewed { Viewed (V.seen view.old) (V.seen view.new) }
+    ensures reads { (V.seen view.new).base.reads + position.old.read
+        ≤ (V.seen view.old).base.reads + position.new.read }
+    ensures ends { CellEnds (V.seen view.old) (V.seen view.new) position.old position.new result }
+{
+    if cells_for(position.bytes) == position.read {
+        return Err(ContentFault::Broken);
+    }
+    match read_piece(view, position.start, position.bytes, position.read) {
+        Ok(held) => {
+            position.give_all(held);
+            Ok(held)
+        }
+        Err(fault) => {
+            position.end();
+            Err(fault)
+        }
     }
 }

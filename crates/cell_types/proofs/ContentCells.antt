@@ -1,8 +1,8 @@
 -- A content cell, read back: it is the one that is made of the bytes that it counts.
-use Rattle.std.proofs.Common.{◌≡◌, ◌≤◌, ◌+◌, ◌-◌, ℕ, List, ◌∷◌, ◌++◌, length, length-drop, take, drop, replicate, inl, inr, sym, ap, ◌∙◌, arith}
+use Rattle.std.proofs.Common.{◌≡◌, ◌≤◌, ◌+◌, ◌-◌, ℕ, List, [], ◌∷◌, ◌++◌, length, length-drop, take, drop, replicate, slice_index, subst, inl, inr, sym, ap, ◌∙◌, arith}
 use Rattle.std.proofs.Math.ListN.{get_or-eq_default}
 use Rattle.std.proofs.Math.Seq.{take-append_seam}
-use Rattle.std.proofs.lemmas.List.{get_or-drop, get_or-take, length-take, length-take-le, take_all}
+use Rattle.std.proofs.lemmas.List.{append-nil, get_or-drop, get_or-take, length-take, length-take-le, take_all}
 use Rattle.std.proofs.lemmas.Bool.{cases_lt}
 use Rattle.cell_types.specs.Bytes.{AreBytes, IsCell}
 use Rattle.cell_types.specs.Contents.{ContentsAreOne, IsContentCell, content_bytes}
@@ -31,6 +31,18 @@ content_found cell bytes n is copied some most same =
       record { some = omega arith; most = omega arith; fits = take_fits bytes n (behind_fits cell bytes is behind); same = same },
       rw count at end,
     )
+
+-- a cell of fifteen bytes has no zeros to check
+pub full_cell : (cell bytes : List ℕ) → IsCell cell → bytes ≡ take 15 (drop 1 cell) → slice_index cell 0 ≡ 31
+    → cell ≡ content_bytes (take 15 bytes)
+full_cell [] bytes is copied kind = absurd (omega (arith, is.sixteen))
+full_cell (k ∷ rest) bytes is copied kind =
+    let all : length rest ≡ 15 = omega (arith, is.sixteen) in
+    let whole : take 15 bytes ≡ rest = ap (take 15) (copied ∙ take_all 15 rest (omega (arith, all))) ∙ take_all 15 rest (omega (arith, all)) in
+    let here : (k ∷ rest) ≡ content_bytes rest =
+    subst (λ (n : ℕ). (k ∷ rest) ≡ ((16 + n) ∷ rest) ++ replicate (15 - n) 0) (sym all)
+    (ap (λ (x : ℕ). x ∷ rest) kind ∙ sym (append-nil (31 ∷ rest))) in
+    subst (λ (l : List ℕ). (k ∷ rest) ≡ content_bytes l) (sym whole) here
 
 tails : (a b : ℕ) (xs ys : List ℕ) → ◌≡◌ {A = List ℕ} (a ∷ xs) (b ∷ ys) → (a ≡ b) × (xs ≡ ys)
 tails a b xs ys e = (cc, cc)

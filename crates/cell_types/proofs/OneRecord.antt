@@ -8,7 +8,7 @@ use Rattle.byteorder.specs.Numbers.{big_number-reads_back}
 use Rattle.cell_types.specs.Bytes.{IsCell}
 use Rattle.cell_types.specs.Records.{Fits, IsRecordCell, RecordsAreOne, body_bytes, record_bytes}
 use Rattle.cell_types.specs.declared.record_cell.RecordCell.{RecordCell}
-use Rattle.cell_types.specs.declared.record_cell.RecordCell.TheVariants.{Volume, Reserve, Commit, Abandon, Done, Posting, Jump, Bucket, Child}
+use Rattle.cell_types.specs.declared.record_cell.RecordCell.TheVariants.{Volume, Reserve, Commit, Abandon, Done, Posting, Jump, Bucket, Child, Stamp}
 
 -- the record of a kind and a body, whatever stands there
 abbrev read_body : List ℕ → RecordCell
@@ -21,6 +21,7 @@ read_body b =
     if nat_eq (slice_index b 0) 7 then Jump (big_number 4 (drop 1 b)) else
     if nat_eq (slice_index b 0) 8 then Bucket (big_number 4 (drop 1 b)) (drop 5 b) else
     if nat_eq (slice_index b 0) 9 then Child (big_number 4 (drop 1 b)) else
+    if nat_eq (slice_index b 0) 10 then Stamp (big_number 4 (drop 1 b)) else
     Abandon
 
 -- a record is read from its kind and body
@@ -44,6 +45,7 @@ reads_back (Posting key last tag) (k, l, t) = ap (λ x. Posting x last tag) (big
 reads_back (Jump target) fits = ap Jump (big_number-reads_back 4 target [] fits)
 reads_back (Bucket slot fingerprint) (s, f) = ap (λ x. Bucket x fingerprint) (big_number-reads_back 4 slot [] s)
 reads_back (Child target) fits = ap Child (big_number-reads_back 4 target [] fits)
+reads_back (Stamp seconds) fits = ap Stamp (big_number-reads_back 4 seconds [] fits)
 
 -- a kind and a body are those of one record
 pub body_is_one : (r s : RecordCell) → Fits r → Fits s → body_bytes r ≡ body_bytes s → r ≡ s
@@ -60,6 +62,7 @@ length_body (Posting key last tag) (k, l, t) = omega (arith, t.count)
 length_body (Jump target) fits = refl
 length_body (Bucket slot fingerprint) (s, f) = omega (arith, f.count)
 length_body (Child target) fits = refl
+length_body (Stamp seconds) fits = refl
 
 -- the first twelve bytes of a record's cell are its kind and body
 pub body_in : (r : RecordCell) (address : ℕ) (cell : List ℕ) → IsRecordCell r address cell → body_bytes r ≡ take 12 cell

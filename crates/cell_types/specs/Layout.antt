@@ -1,13 +1,15 @@
 -- Where the parts of a volume lie: the volume cell, three cells that stay blank, four cells for each
--- slot, 256 cells for each list's first block, 32 cells for the root node, and the pool to the end.
-use Rattle.std.specs.Prelude.{◌≡◌, ◌<◌, ◌≤◌, ◌+◌, ◌-◌, ◌*◌, ℕ}
-use Rattle.cell_types.specs.declared.geometry.TheConstants.{MAX_SLOTS, MAX_LISTS, MAX_CELLS}
+-- slot, 256 cells for each list's first block, 32 cells for the root node, 256 cells for the first block of the time
+-- list where the version has one, and the pool to the end.
+use Rattle.std.specs.Prelude.{◌≡◌, ◌<◌, ◌≤◌, ◌+◌, ◌-◌, ◌*◌, min, ℕ}
+use Rattle.cell_types.specs.declared.geometry.TheConstants.{MAX_SLOTS, MAX_LISTS, MAX_CELLS, FIRST_VERSION, FOLDED_VERSION, NEWEST_VERSION}
 
--- the numbers of slots and lists of a volume, and of the cells of its device
+-- the numbers of slots and lists of a volume, of the cells of its device, and of its version
 pub record Layout : Type 0 where
   pub slots : ℕ
   pub lists : ℕ
   pub cells : ℕ
+  pub version : ℕ
 
 -- the four cells of slot n
 abbrev pub reserve_at : ℕ → ℕ
@@ -22,9 +24,22 @@ done_at n = 6 + 4 * n
 abbrev pub spare_at : ℕ → ℕ
 spare_at n = 7 + 4 * n
 
--- where the first block of list l begins
+-- how many time lists a volume has: one from version 3 on, and none before
+abbrev pub time_lists : Layout → ℕ
+time_lists g = min 1 (g.version - FOLDED_VERSION)
+
+-- how many lists it has with that one, which is the last
+abbrev pub all_lists : Layout → ℕ
+all_lists g = g.lists + time_lists g
+
+-- where the lists begin
+abbrev pub lists_at : Layout → ℕ
+lists_at g = 4 + 4 * g.slots
+
+-- where the first block of list l begins: the lists of words stand in a row, and the time list behind them and behind
+-- the 32 cells of the root node
 abbrev pub list_at : Layout → ℕ → ℕ
-list_at g l = 4 + 4 * g.slots + 256 * l
+list_at g l = 4 + 4 * g.slots + 256 * l + 32 * (l + 1 - g.lists)
 
 -- where the root node begins
 abbrev pub root_at : Layout → ℕ
@@ -32,7 +47,7 @@ root_at g = 4 + 4 * g.slots + 256 * g.lists
 
 -- where the pool begins
 abbrev pub pool_at : Layout → ℕ
-pool_at g = 36 + 4 * g.slots + 256 * g.lists
+pool_at g = 36 + 4 * g.slots + 256 * all_lists g
 
 -- a volume may have these numbers
 pub record IsLayout (g : Layout) : Type 0 where
@@ -41,6 +56,8 @@ pub record IsLayout (g : Layout) : Type 0 where
   pub some_lists : 1 ≤ g.lists
   pub lists : g.lists ≤ MAX_LISTS
   pub cells : g.cells ≤ MAX_CELLS
+  pub some_version : FIRST_VERSION ≤ g.version
+  pub version : g.version ≤ NEWEST_VERSION
   pub pool : pool_at g ≤ g.cells
 
 -- the parts of a volume
@@ -57,7 +74,7 @@ abbrev pub IsPart : Layout → Part → Type 0
 IsPart g VolumeCell = Unit {0}
 IsPart g BlankCells = Unit {0}
 IsPart g (Slot n) = n < g.slots
-IsPart g (FirstBlock l) = l < g.lists
+IsPart g (FirstBlock l) = l < all_lists g
 IsPart g Root = Unit {0}
 IsPart g Pool = Unit {0}
 

@@ -6,9 +6,9 @@ use Rattle.cell_types.specs.Bytes.{AreBytes}
 use Rattle.cell_types.specs.Contents.{IsContentCell}
 use Rattle.cell_types.specs.Layout.{IsLayout}
 use Rattle.cell_types.specs.declared.geometry.TheConstants.{MAX_SLOTS}
-use Rattle.cell_types.specs.declared.record_cell.TheConstants.{FORMAT_VERSION, MIN_STORED_BYTES, MAX_STORED_BYTES}
+use Rattle.cell_types.specs.declared.record_cell.TheConstants.{MIN_STORED_BYTES, MAX_STORED_BYTES}
 use Rattle.cell_types.specs.declared.record_cell.RecordCell.{RecordCell}
-use Rattle.cell_types.specs.declared.record_cell.RecordCell.TheVariants.{Volume, Reserve, Commit, Abandon, Done, Posting, Jump, Bucket, Child}
+use Rattle.cell_types.specs.declared.record_cell.RecordCell.TheVariants.{Volume, Reserve, Commit, Abandon, Done, Posting, Jump, Bucket, Child, Stamp}
 
 -- kind and body
 abbrev pub body_bytes : RecordCell → List ℕ
@@ -22,6 +22,7 @@ body_bytes (Posting key last tag) = (6 ∷ big_bytes 4 key) ++ (last ∷ tag)
 body_bytes (Jump target) = (7 ∷ big_bytes 4 target) ++ replicate 7 0
 body_bytes (Bucket slot fingerprint) = (8 ∷ big_bytes 4 slot) ++ fingerprint
 body_bytes (Child target) = (9 ∷ big_bytes 4 target) ++ replicate 7 0
+body_bytes (Stamp seconds) = (10 ∷ big_bytes 4 seconds) ++ replicate 7 0
 
 -- the record's cell at this address
 abbrev pub record_bytes : RecordCell → ℕ → List ℕ
@@ -43,12 +44,13 @@ Fits (Posting key last tag) = (key < 2 ^ 32) × (last < 2 ^ 8) × IsBytes 6 tag
 Fits (Jump target) = target < 2 ^ 32
 Fits (Bucket slot fingerprint) = (slot < 2 ^ 32) × IsBytes 7 fingerprint
 Fits (Child target) = target < 2 ^ 32
+Fits (Stamp seconds) = seconds < 2 ^ 32
 
 -- A record may stand in the cell of this number. A commit cell counts at least one journal cell: that of the document's
 -- bucket.
 abbrev pub IsWellFormed : RecordCell → ℕ → Type 0
 IsWellFormed (Volume version slots lists cells) address =
-    (version ≡ FORMAT_VERSION) × IsLayout (record { slots = slots; lists = lists; cells = cells }) × (address ≡ 0)
+    IsLayout (record { slots = slots; lists = lists; cells = cells; version = version }) × (address ≡ 0)
 IsWellFormed (Reserve start length) address = 1 ≤ length
 IsWellFormed (Commit bytes journal) address =
     (MIN_STORED_BYTES ≤ bytes) × (bytes ≤ MAX_STORED_BYTES) × (1 ≤ journal)
@@ -58,6 +60,7 @@ IsWellFormed (Posting key last tag) address = key % 256 ≤ last
 IsWellFormed (Jump target) address = ⊤
 IsWellFormed (Bucket slot fingerprint) address = slot < MAX_SLOTS
 IsWellFormed (Child target) address = ⊤
+IsWellFormed (Stamp seconds) address = ⊤
 
 -- the cell is the one of this record, well-formed at this address
 pub record IsRecordCell (r : RecordCell) (address : ℕ) (cell : List ℕ) : Type 0 where

@@ -26,6 +26,8 @@ const BUCKET: u8 = 8;
 
 const CHILD: u8 = 9;
 
+const STAMP: u8 = 10;
+
 /// The cell of a record that stands in the cell of this number.
 pub fn encode(value: RecordCell, address: u32) -> Cell
     requires { IsWellFormed value address }
@@ -91,6 +93,7 @@ fn body_of(value: RecordCell) -> [u8; 12]
         RecordCell::Jump { target } => number_and_bytes(JUMP, target, [0; 7]),
         RecordCell::Bucket { slot, fingerprint } => number_and_bytes(BUCKET, slot, fingerprint),
         RecordCell::Child { target } => number_and_bytes(CHILD, target, [0; 7]),
+        RecordCell::Stamp { seconds } => number_and_bytes(STAMP, seconds, [0; 7]),
     }
 }
 
@@ -176,6 +179,10 @@ fn record_of(body: &[u8]) -> Option<RecordCell>
         CHILD => {
             let target = number_of(body)?;
             Some(RecordCell::Child { target })
+        }
+        STAMP => {
+            let seconds = number_of(body)?;
+            Some(RecordCell::Stamp { seconds })
         }
         _ => None,
     }

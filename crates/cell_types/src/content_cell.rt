@@ -39,6 +39,9 @@ pub fn content_of(cell: Cell) -> Option<Content>
     let length = kind - CONTENT;
     let mut bytes = [0; 15];
     bytes.copy_from_slice(&all[1..]);
+    if length == MOST_BYTES {
+        return Some(Content { length, bytes });
+    }
     // Only zeros may stand behind the counted bytes, as in the cell that is made of them.
     if content(&bytes[..usize::from(length)]) == cell {
         return Some(Content { length, bytes });

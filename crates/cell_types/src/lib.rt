@@ -32,10 +32,9 @@ pub use cell::Cell;
 pub use codec::{address_of, decode, encode, no_record_is_content, records_are_one};
 pub use content_cell::{content, content_of, contents_are_one};
 pub use geometry::{
-    Geometry, MAX_CELLS, MAX_LISTS, MAX_SLOTS, Volume, parts_are_apart, parts_cover_the_device,
+    FIRST_VERSION, FOLDED_VERSION, Geometry, MAX_CELLS, MAX_LISTS, MAX_SLOTS, NEWEST_VERSION,
+    STAMPED_VERSION, Volume, parts_are_apart, parts_cover_the_device,
 };
 pub use held_bytes::Content;
-pub use record_cell::{
-    FORMAT_VERSION, MAX_STORED_BYTES, MIN_STORED_BYTES, RecordCell, is_well_formed,
-};
-pub use refusal::{Evidence, Fault, NoMemory, Refusal};
+pub use record_cell::{MAX_STORED_BYTES, MIN_STORED_BYTES, RecordCell, is_well_formed};
+pub use refusal::{CopyRefusal, Evidence, Fault, NoMemory, Refusal, breach};

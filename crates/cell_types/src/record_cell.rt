@@ -2,10 +2,7 @@
 ghost use Rattle.std.specs.Prelude.{◌≡◌, ◌↔◌, IsTrue};
 ghost use Rattle.cell_types.specs.Records.{IsWellFormed};
 
-use crate::{Geometry, MAX_SLOTS};
-
-/// The version of the format that this crate reads and writes.
-pub const FORMAT_VERSION: u8 = 1;
+use crate::{FIRST_VERSION, Geometry, MAX_SLOTS, NEWEST_VERSION};
 
 /// The least number of stored bytes of a document: the identifier's length and one byte of it.
 pub const MIN_STORED_BYTES: u32 = 2;
@@ -61,6 +58,10 @@ pub enum RecordCell {
     Child {
         target: u32,
     },
+    /// Kind 10: a slot's document has this stamp.
+    Stamp {
+        seconds: u32,
+    },
 }
 
 /// Whether the record may stand in the cell of this number.
@@ -73,15 +74,19 @@ pub fn is_well_formed(value: &RecordCell, address: u32) -> bool
             slots,
             lists,
             cells,
-        } => version == FORMAT_VERSION
+        } => FIRST_VERSION <= version
+            && version <= NEWEST_VERSION
             && address == 0
-            && Geometry::new(slots, lists, cells).is_some(),
+            && Geometry::new(slots, lists, cells, version).is_some(),
         RecordCell::Reserve { length, .. } => length >= 1,
         RecordCell::Commit { bytes, journal } => {
             MIN_STORED_BYTES <= bytes && bytes <= MAX_STORED_BYTES && journal >= 1
         }
         RecordCell::Done { slot } | RecordCell::Bucket { slot, .. } => slot < MAX_SLOTS,
         RecordCell::Posting { key, last, .. } => key % 256 <= u32::from(last),
-        RecordCell::Abandon | RecordCell::Jump { .. } | RecordCell::Child { .. } => true,
+        RecordCell::Abandon
+        | RecordCell::Jump { .. }
+        | RecordCell::Child { .. }
+        | RecordCell::Stamp { .. } => true,
     }
 }

@@ -1,6 +1,7 @@
 //! Why a call gives no answer.
 ghost use Rattle.std.specs.Prelude.{◌≡◌, ⊤};
-ghost use Rattle.cell_types.specs.Refusals.{refusal_of_fault, status_of};
+ghost use Rattle.cell_types.specs.Refusals.{refusal_of_fault, status_of, status_of_copy};
+ghost use Rattle.cell_types.specs.declared.refusal.Fault.TheVariants as faults;
 ghost use Rattle.cell_types.specs.declared.refusal.Refusal.TheVariants as refusals;
 
 use crate::Cell;
@@ -15,13 +16,28 @@ pub struct Evidence {
     pub found: Cell,
 }
 
-/// Why a search of a device gives no answer.
+/// Why a call over a device gives no answer.
 #[derive(Clone, Copy, Debug, PartialEq, Eq)]
 pub enum Fault {
     /// A written cell breaks a rule.
     Tampered(Evidence),
-    /// A read failed.
-    ReadFault,
+    /// A read, a write or a sync of the device failed.
+    Failed,
+}
+
+impl From<Evidence> for Fault {
+    ghost from_gives = { λ evidence fault. fault ≡ faults.Tampered evidence };
+
+    fn from(evidence: Evidence) -> Fault {
+        Fault::Tampered(evidence)
+    }
+}
+
+/// The fault of a cell that breaks a rule: it is named with what was read there.
+pub fn breach(rule: u8, cell: u32, found: Cell) -> Fault
+    ensures { result ≡ faults.Tampered (record { rule = rule; cell = cell; found = found }) }
+{
+    Fault::Tampered(Evidence { rule, cell, found })
 }
 
 /// No memory was to be had.
@@ -102,6 +118,59 @@ pub enum Refusal {
     /// No document has the identifier.
     #[error("absent")]
     Absent,
+    /// The volume stamps its documents, and no stamp is given.
+    #[error("a stamp is needed")]
+    StampNeeded,
+    /// A stamp is given, and the volume stamps no documents.
+    #[error("the volume takes no stamps")]
+    StampUnused,
+    /// The stamp that is given is not past the greatest one of the volume.
+    #[error("stamp {given} is not past {last}")]
+    StampTooEarly { given: u32, last: u32 },
+    /// The volume stamps no documents, so none can be found by its stamp.
+    #[error("the volume has no stamps")]
+    NoStamps,
+    /// The receipt would have so many cells, and 1,000,000 may be.
+    #[error("receipt has {0} cells")]
+    ReceiptTooLong(u32),
+    /// The line of this number, from 1, is the first that is not of a receipt's form.
+    #[error("receipt fault at line {0}")]
+    BadReceipt(u32),
+    /// This cell of the receipt, the least such one, stands otherwise on the device.
+    #[error("cell {0} differs")]
+    CellDiffers(u32),
+    /// The cells of the receipt show no document in this slot.
+    #[error("receipt shows no document in slot {0}")]
+    NotShown(u32),
+}
+
+/// Why a copy of a volume onto another device is not made. Prints as the line that a program shows for it.
+#[derive(Clone, Copy, Debug, PartialEq, Eq, Error)]
+pub enum CopyRefusal {
+    /// The words are no copy.
+    #[error("{}", Refusal::Usage)]
+    Usage,
+    /// No memory was to be had.
+    #[error("{}", Refusal::NoMemory)]
+    NoMemory,
+    /// A call of the sink failed.
+    #[error("{}", Refusal::SinkFault)]
+    SinkFault,
+    /// The volume that is copied refuses.
+    #[error("from: {0}")]
+    From(Refusal),
+    /// The volume that is copied to refuses.
+    #[error("to: {0}")]
+    To(Refusal),
+    /// The target is a volume of other slots or lists, or of another version; this is its volume cell.
+    #[error("target is another volume: {0}")]
+    OtherVolume(Cell),
+    /// The documents of these slots are the first pair that differs.
+    #[error("slot {old} differs from slot {new} of the target")]
+    Differs { old: u32, new: u32 },
+    /// The target has a document, in this slot, past all those of the volume that is copied.
+    #[error("target has a further document in slot {0}")]
+    Longer(u32),
 }
 
 impl From<AllocError> for Refusal {
@@ -126,13 +195,13 @@ impl From<Fault> for Refusal {
     fn from(fault: Fault) -> Refusal {
         match fault {
             Fault::Tampered(evidence) => Refusal::Tampered(evidence),
-            Fault::ReadFault => Refusal::DeviceFault,
+            Fault::Failed => Refusal::DeviceFault,
         }
     }
 }
 
 impl Refusal {
-    /// The status that a program ends with, 1 to 10.
+    /// The status that a program ends with, 1 to 11.
     pub fn status(&self) -> u8
         ensures { result ≡ status_of self.now }
     {
@@ -143,8 +212,15 @@ impl Refusal {
             | Refusal::TooLong
             | Refusal::TooManyTerms { .. }
             | Refusal::BadWord(_)
-            | Refusal::BadScript(_) => 2,
-            Refusal::Full { .. } | Refusal::SlotsFull | Refusal::PathFull => 3,
+            | Refusal::BadScript(_)
+            | Refusal::StampNeeded
+            | Refusal::StampUnused
+            | Refusal::StampTooEarly { .. }
+            | Refusal::BadReceipt(_) => 2,
+            Refusal::Full { .. }
+            | Refusal::SlotsFull
+            | Refusal::PathFull
+            | Refusal::ReceiptTooLong(_) => 3,
             Refusal::Tampered(_) => 4,
             Refusal::DeviceFault => 5,
             Refusal::SourceFault => 6,
@@ -154,8 +230,25 @@ impl Refusal {
             | Refusal::NotAVolume(_)
             | Refusal::WrongSize { .. }
             | Refusal::NotBlank(_)
-            | Refusal::TooSmall => 9,
+            | Refusal::TooSmall
+            | Refusal::NoStamps => 9,
             Refusal::Absent => 10,
+            Refusal::CellDiffers(_) | Refusal::NotShown(_) => 11,
+        }
+    }
+}
+
+impl CopyRefusal {
+    /// The status that a program ends with, 1 to 11.
+    pub fn status(&self) -> u8
+        ensures { result ≡ status_of_copy self.now }
+    {
+        match self {
+            CopyRefusal::Usage => Refusal::Usage.status(),
+            CopyRefusal::SinkFault => Refusal::SinkFault.status(),
+            CopyRefusal::NoMemory => Refusal::NoMemory.status(),
+            CopyRefusal::From(refusal) | CopyRefusal::To(refusal) => refusal.status(),
+            CopyRefusal::OtherVolume(_) | CopyRefusal::Differs { .. } | CopyRefusal::Longer(_) => 9,
         }
     }
 }

@@ -1,8 +1,8 @@
 //! Cells as they stand on a volume of 8 slots and 2 lists on 1,000 cells with the document `a`,
-//! `hello world`; each rule on both sides of its edge; and the lines that programs print.
+//! `hello world`, and a stamp; each rule on both sides of its edge; and the lines that programs print.
 use crate::{
-    Cell, Content, Evidence, Geometry, RecordCell, Refusal, address_of, content, content_of,
-    decode, encode, is_well_formed,
+    Cell, Content, CopyRefusal, Evidence, Geometry, RecordCell, Refusal, address_of, content,
+    content_of, decode, encode, is_well_formed,
 };
 use std::process::Abort;
 use std::test::Fail;
@@ -65,6 +65,11 @@ fn the_records_of_a_volume_are_read_and_written(rt: HostRuntime) {
             0x09_00000244_00000000000000_00000240,
             RecordCell::Child { target: 580 },
         ),
+        (
+            7,
+            0x0a_000003e8_00000000000000_00000007,
+            RecordCell::Stamp { seconds: 1000 },
+        ),
     ] {
         let cell = cell_of(&rt, digits);
         assert_eq!(rt; decode(cell, at), Some(value), "cell {at}");
@@ -95,12 +100,16 @@ fn each_rule_of_a_record_has_its_edge(rt: HostRuntime) {
         // no kinds
         (0, 0x00_00000000_00000000000000_00000001, false),
         (4, 0x00_00000000_00000000000000_00000004, false),
-        (4, 0x0a_00000000_00000000000000_00000004, false),
+        (4, 0x0b_00000000_00000000000000_00000004, false),
         // the version, the geometry and the address of a volume cell
         (0, 0x01_00_00000008_0002_000003e8_00000000, false),
         (0, 0x01_02_00000008_0002_000003e8_00000000, false),
+        (0, 0x01_04_00000008_0002_000003e8_00000000, false),
         (0, 0x01_01_00000008_0002_00000244_00000000, true),
         (0, 0x01_01_00000008_0002_00000243_00000000, false),
+        // any stamp, and its seven zeros
+        (7, 0x0a_ffffffff_00000000000000_00000007, true),
+        (7, 0x0a_000003e8_00000000000001_00000007, false),
         (1, 0x01_01_00000008_0002_000003e8_00000001, false),
         // the length of a reservation, and its three zeros
         (4, 0x02_00000244_00000000_000000_00000004, false),
@@ -189,10 +198,10 @@ fn a_volume_has_its_parts_in_order(rt: HostRuntime) {
         (1, 1, 2_147_483_648, true),
         (1, 1, 2_147_483_649, false),
     ] {
-        let geometry = Geometry::new(slots, lists, cells);
+        let geometry = Geometry::new(slots, lists, cells, 1);
         assert_eq!(rt; geometry.is_some(), is_some, "{slots} {lists} {cells}");
     }
-    let geometry = Geometry::new(8, 2, 1000).expect(&rt, "the pool begins at cell 580");
+    let geometry = Geometry::new(8, 2, 1000, 1).expect(&rt, "the pool begins at cell 580");
     let (slots, lists, cells) = (geometry.slots(), geometry.lists(), geometry.cells());
     assert_eq!(rt; (slots, lists, cells), (8, 2, 1000));
     assert_eq!(rt; geometry.reserve_at(0), 4);
@@ -204,6 +213,7 @@ fn a_volume_has_its_parts_in_order(rt: HostRuntime) {
     assert_eq!(rt; geometry.list_at(1), 292);
     assert_eq!(rt; geometry.root_at(), 548);
     assert_eq!(rt; geometry.pool_at(), 580);
+    assert_eq!(rt; geometry.version(), 1);
 }
 
 #[test]
@@ -266,6 +276,83 @@ fn each_refusal_has_its_line_and_status(rt: HostRuntime) -> Result<(), Fail> {
         (Refusal::NotBlank(999), 9, "cell 999 is written"),
         (Refusal::TooSmall, 9, "device is too small"),
         (Refusal::Absent, 10, "absent"),
+        (Refusal::StampNeeded, 2, "a stamp is needed"),
+        (Refusal::StampUnused, 2, "the volume takes no stamps"),
+        (
+            Refusal::StampTooEarly {
+                given: 5,
+                last: 4_294_967_295,
+            },
+            2,
+            "stamp 5 is not past 4294967295",
+        ),
+        (Refusal::NoStamps, 9, "the volume has no stamps"),
+        (
+            Refusal::ReceiptTooLong(1_000_001),
+            3,
+            "receipt has 1000001 cells",
+        ),
+        (Refusal::BadReceipt(10), 2, "receipt fault at line 10"),
+        (Refusal::CellDiffers(36), 11, "cell 36 differs"),
+        (
+            Refusal::NotShown(0),
+            11,
+            "receipt shows no document in slot 0",
+        ),
+    ] {
+        assert_eq!(rt; refusal.status(), status, "{refusal}");
+        assert_eq!(rt; format!(in rt.alloc(); "{refusal}")?.as_str(), line);
+    }
+    Ok(())
+}
+
+#[test]
+fn each_refusal_of_a_copy_has_its_line_and_status(rt: HostRuntime) -> Result<(), Fail> {
+    let evidence = Evidence {
+        rule: 7,
+        cell: 900,
+        found: cell_of(&rt, 0x1d_01_61_68656c6c6f20776f726c64_0000),
+    };
+    let other = cell_of(&rt, 0x01_01_00000010_0004_000007d0_00000000);
+    for (refusal, status, line) in [
+        (
+            CopyRefusal::Usage,
+            1,
+            "usage: worm IMAGE format SLOTS LISTS, ingest ID, find WORD.., lookup ID, audit, recover, replay, exercise N",
+        ),
+        (CopyRefusal::SinkFault, 7, "sink fault"),
+        (CopyRefusal::NoMemory, 8, "out of memory"),
+        (
+            CopyRefusal::From(Refusal::Tampered(evidence)),
+            4,
+            "from: tampered: rule 7 at cell 900: 1d016168656c6c6f20776f726c640000",
+        ),
+        (
+            CopyRefusal::From(Refusal::NotFormatted),
+            9,
+            "from: not formatted",
+        ),
+        (
+            CopyRefusal::To(Refusal::Full { need: 4, free: 3 }),
+            3,
+            "to: needs 4 cells, 3 are free",
+        ),
+        (CopyRefusal::To(Refusal::DeviceFault), 5, "to: device fault"),
+        (
+            CopyRefusal::OtherVolume(other),
+            9,
+            "target is another volume: 0101000000100004000007d000000000",
+        ),
+        (
+            CopyRefusal::Differs { old: 0, new: 1 },
+            9,
+            "slot 0 differs from slot 1 of the target",
+        ),
+        (
+            CopyRefusal::Longer(3),
+            9,
+            "target has a further document in slot 3",
+        ),
     ] {
         assert_eq!(rt; refusal.status(), status, "{refusal}");
         assert_eq!(rt; format!(in rt.alloc(); "{refusal}")?.as_str(), line);

@@ -49,7 +49,7 @@ module _ (cells : ℕ) (g : Layout) (image : Image) (n cell : ℕ) (volume : IsV
       (λ met. ⊎_elim
       (λ abandon. no_abandon (record { reserves = reserves; outcome = abandon }))
       (λ commit. no_commit commit.0 commit.1
-      (record { reserves = reserves; outcome = commit.2; fits = commit.3 start length reserves.reserve }))
+      (record { reserves = reserves; outcome = commit.2; fits = commit.3 start length reserves.reserve; stamped = commit.4 }))
       (met n less c).outcome)
   breaks number (done_unreserved r c no_reserve no_outcome) = broken number DoneCells r (n, less, c)
       (λ met. no_holds image (outcome_at n) _ no_outcome (met n less c).commit)

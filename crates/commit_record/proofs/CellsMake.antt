@@ -2,6 +2,7 @@
 use Rattle.std.proofs.Common.{◌≡◌, ◌<◌, ◌≤◌, ◌+◌, ℕ, List, Some, None, Result, Ok, Err, refl, sym, ◌∙◌, ap, subst}
 use Rattle.cell_types.specs.Image.{Image}
 use Rattle.cell_types.specs.Layout.{Layout, reserve_at, outcome_at, done_at, pool_at}
+use Rattle.cell_types.specs.declared.geometry.TheConstants.{STAMPED_VERSION}
 use Rattle.cell_types.specs.declared.record_cell.RecordCell.{RecordCell}
 use Rattle.cell_types.specs.declared.record_cell.RecordCell.TheVariants as records
 use Rattle.cell_types.specs.declared.refusal.Evidence.{Evidence}
@@ -11,8 +12,8 @@ use Rattle.tamper_rules.specs.Rules.{IsPlaceOf, ReserveCells, OutcomeCells, Done
 use Rattle.tamper_rules.specs.declared.numbers.TheConstants.{RESERVE_CELL, OUTCOME_CELL, DONE_CELL}
 use Rattle.commit_record.specs.SlotCells.{CellsEnd, SeenCells, SeenCommitted, SeenReserved, SeenUnreserved, cell_of}
 use Rattle.commit_record.specs.States.{reserves_none, ends_unreserved, ends_wrongly, done_unreserved, done_unended, done_abandoned, done_wrongly}
-use Rattle.commit_record.specs.declared.looks.Found.{Found}
-use Rattle.commit_record.specs.declared.looks.Found.TheVariants.{Blank, Record, Stray}
+use Rattle.worm_device.specs.declared.looks.Found.{Found}
+use Rattle.worm_device.specs.declared.looks.Found.TheVariants.{Blank, Record, Stray}
 use Rattle.commit_record.specs.declared.slot.SlotState.{SlotState}
 use Rattle.commit_record.proofs.CellsSeen.{stands, was_blank, record_stands, record_held, record_one, stray_stands, stray_none}
 
@@ -160,16 +161,16 @@ module _ (g : Layout) (n : ℕ) (less : n < g.slots) (reserve outcome done : Fou
       -- where the outcome cell states a document that fits, the slot commits it
       pub committed : (result : Result SlotState Evidence) (found : List ℕ) (held : RecordCell) → outcome ≡ Record
           found held
-          → held ≡ records.Commit bytes journal → cells_for bytes + journal ≤ length
+          → held ≡ records.Commit bytes journal → cells_for bytes + journal ≤ length → (g.version ≡ STAMPED_VERSION → ⊥)
           → CellsEnd (SeenCommitted g n start length bytes journal done) g n result
           → CellsEnd (SeenReserved g n start length outcome done) g n result
-      committed result found held is commit fits =
+      committed result found held is commit fits plain =
           narrower (SeenCommitted g n start length bytes journal done) (SeenReserved g n start length outcome done) g
           n result
           (λ before after seen.
           let states = subst (Holds after (outcome_at n)) commit (record_held before after (outcome_at n) outcome
           found seen.1 held is) in
-          (record { reserves = seen.0; outcome = states; fits = fits }, seen.2))
+          (record { reserves = seen.0; outcome = states; fits = fits; stamped = λ e. absurd (plain e) }, seen.2))
 
       -- the done cell holds no record
       pub done_stray : (at : ℕ) (found : List ℕ) → at ≡ done_at n → done ≡ Stray found

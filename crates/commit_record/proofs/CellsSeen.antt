@@ -9,10 +9,10 @@ use Rattle.cell_types.specs.declared.record_cell.RecordCell.{RecordCell}
 use Rattle.stored_documents.specs.Volumes.{Holds}
 use Rattle.stored_documents.proofs.Extending.{blank_before}
 use Rattle.stored_documents.proofs.Holding.{one_record_holds, some_is}
-use Rattle.commit_record.specs.Looks.{IsSeen}
+use Rattle.worm_device.specs.Looks.{IsSeen}
 use Rattle.commit_record.specs.SlotCells.{cell_of}
-use Rattle.commit_record.specs.declared.looks.Found.{Found}
-use Rattle.commit_record.specs.declared.looks.Found.TheVariants.{Blank, Record, Stray}
+use Rattle.worm_device.specs.declared.looks.Found.{Found}
+use Rattle.worm_device.specs.declared.looks.Found.TheVariants.{Blank, Record, Stray}
 
 -- what a `?` hands on is the error that it was given
 pub handed : {T E : Type 0} (r : Result T E) (e : E) → IsErrAnd r (λ d. d ≡ e) → r ≡ Err e

@@ -1,5 +1,5 @@
 -- Three looks, one after another, as one: what was seen between the first state of the view and the last.
-use Rattle.std.proofs.Common.{◌≡◌, ◌<◌, ◌≤◌, arith, ℕ, None, Ok, Err, refl, sym, ◌∙◌, subst}
+use Rattle.std.proofs.Common.{◌≡◌, ◌<◌, ◌≤◌, arith, ℕ, List, None, Some, Ok, Err, refl, sym, ◌∙◌, subst}
 use Rattle.std.specs.Prelude.{IsTrue}
 use Rattle.cell_types.specs.Image.{Image}
 use Rattle.cell_types.specs.Layout.{Layout, reserve_at, outcome_at, done_at}
@@ -10,11 +10,12 @@ use Rattle.worm_device.specs.Views.{ViewState, Viewed, IsView}
 use Rattle.worm_device.proofs.Images.{extends_self, extends_then, unchanged_then}
 use Rattle.worm_device.proofs.Counting.{still_first, still_second}
 use Rattle.worm_device.proofs.Resting.{rests_of, viewed_then}
-use Rattle.commit_record.specs.Looks.{IsSeen, LookEnds}
+use Rattle.worm_device.specs.Looks.{IsOfCell, IsSeen, LookEnds}
 use Rattle.commit_record.specs.Partition.{HasRoom}
-use Rattle.commit_record.specs.SlotCells.{CellsEnd, SeenCells}
+use Rattle.commit_record.specs.SlotCells.{CellsEnd, SeenCells, cell_of}
 use Rattle.commit_record.specs.States.{AsksBelow, LiesInPool, Shows, StateEnds}
-use Rattle.commit_record.specs.declared.looks.Found.{Found}
+use Rattle.worm_device.specs.declared.looks.Found.{Found}
+use Rattle.worm_device.specs.declared.looks.Found.TheVariants.{Blank, Record, Stray}
 use Rattle.commit_record.specs.declared.slot.SlotState.{SlotState}
 use Rattle.commit_record.specs.declared.slot.SlotState.TheVariants.{Unused, Reserved, Abandoned, Committed, Done}
 use Rattle.commit_record.proofs.Breaking.{breaks}
@@ -33,6 +34,21 @@ pub look_at : (at number : ℕ) (old new : ViewState) (found : Found) → number
     (Ok found)
     → LookEnds at old new (Ok found)
 look_at at number old new found e ends = subst (λ (n : ℕ). LookEnds n old new (Ok found)) e ends
+
+-- a cell that was read before, and stands there now, as a look at it
+pub read_before : (n number : ℕ) (cell : List ℕ) (found : Found) (now : ViewState) → number ≡ reserve_at n
+    → IsOfCell number found
+    → cell_of found ≡ Some cell → (IsTrue now.base.tells → now.image (reserve_at n) ≡ Some cell)
+    → LookEnds (reserve_at n) now now (Ok found)
+read_before n number cell found now at of is stands =
+    let here : IsOfCell (reserve_at n) found = subst (λ (k : ℕ). IsOfCell k found) at of in
+    (here, refl, λ tells. seen_before found here is (stands tells))
+  where
+    seen_before : (f : Found) → IsOfCell (reserve_at n) f → cell_of f ≡ Some cell
+        → now.image (reserve_at n) ≡ Some cell → IsSeen now.image now.image (reserve_at n) f
+    seen_before Blank of is stands = stands ∙ sym is
+    seen_before (Record other held) of is stands = (stands ∙ sym is, of)
+    seen_before (Stray other) of is stands = (stands ∙ sym is, of)
 
 module _ (g : Layout) (n : ℕ) (v0 v1 v2 v3 : ViewState) (reserve outcome done : Found)
     (one : Viewed v0 v1) (two : Viewed v1 v2) (three : Viewed v2 v3)

@@ -25,7 +25,7 @@ module _ (g : Layout) (image : Image) (n : ℕ) where
   fits_there : {s l s' l' b j : ℕ} → Reserves g image n s l → Commits g image n s' l' b j → Commits g image n s l b j
   fits_there {s} {l} {s'} {l'} p q =
       let same = same_cells p q.reserves in
-      record { reserves = p; outcome = q.outcome; fits = omega (arith, q.fits, same.1) }
+      record { reserves = p; outcome = q.outcome; fits = omega (arith, q.fits, same.1); stamped = q.stamped }
 
   pub one : (state other : SlotState) → IsState g image image n state → IsState g image image n other → state ≡ other
   one Unused Unused p q = refl

@@ -1,7 +1,6 @@
 pub mod Laws
 pub mod Licences
 pub mod LogEnds
-pub mod Looks
 pub mod Opening
 pub mod Partition
 pub mod Reservations

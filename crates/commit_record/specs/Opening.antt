@@ -3,7 +3,6 @@ use Rattle.std.specs.Prelude.{◌≡◌, ◌≢◌, ℕ, List, Some, None, Resul
 use Rattle.cell_types.specs.Layout.{Layout, IsLayout}
 use Rattle.cell_types.specs.Records.{IsRecordCell}
 use Rattle.cell_types.specs.declared.geometry.Volume.{Volume}
-use Rattle.cell_types.specs.declared.record_cell.TheConstants.{FORMAT_VERSION}
 use Rattle.cell_types.specs.declared.refusal.Refusal.{Refusal}
 use Rattle.cell_types.specs.declared.refusal.Refusal.TheVariants as refusals
 use Rattle.stored_documents.specs.Volumes.{Holds, IsVolume, volume_record}
@@ -24,7 +23,7 @@ IsNoVolumeCell cell = (g : Layout) → IsRecordCell (volume_record g) 0 cell →
 -- there, so each comes exactly where it is said to.
 abbrev pub OpenEnds : ViewState → ViewState → Result Volume OpenRefusal → Type 0
 OpenEnds old new (Ok volume) =
-    (volume.version ≡ FORMAT_VERSION) × IsLayout volume.geometry × (volume.geometry.cells ≡ new.cells)
+    (volume.version ≡ volume.geometry.version) × IsLayout volume.geometry × (volume.geometry.cells ≡ new.cells)
     × (new.base.faults ≡ old.base.faults) × (IsTrue old.base.tells → IsVolume new.cells new.image volume.geometry)
 OpenEnds old new (Err NotFormatted) =
     (new.base.faults ≡ old.base.faults) × (IsTrue old.base.tells → new.image 0 ≡ None)

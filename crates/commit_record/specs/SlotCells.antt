@@ -5,10 +5,10 @@ use Rattle.cell_types.specs.Layout.{Layout, reserve_at, outcome_at, done_at}
 use Rattle.cell_types.specs.declared.refusal.Evidence.{Evidence}
 use Rattle.stored_documents.specs.Slots.{Commits, Reserves}
 use Rattle.tamper_rules.specs.Rules.{IsPlaceOf}
-use Rattle.commit_record.specs.Looks.{IsSeen}
+use Rattle.worm_device.specs.Looks.{IsSeen}
 use Rattle.commit_record.specs.States.{IsNoState, IsState, LiesInPool}
-use Rattle.commit_record.specs.declared.looks.Found.{Found}
-use Rattle.commit_record.specs.declared.looks.Found.TheVariants.{Blank, Record, Stray}
+use Rattle.worm_device.specs.declared.looks.Found.{Found}
+use Rattle.worm_device.specs.declared.looks.Found.TheVariants.{Blank, Record, Stray}
 use Rattle.commit_record.specs.declared.slot.SlotState.{SlotState}
 
 -- the bytes that were found, if the cell is written

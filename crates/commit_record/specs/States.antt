@@ -7,7 +7,7 @@ use Rattle.cell_types.specs.declared.record_cell.TheConstants.{MIN_STORED_BYTES,
 use Rattle.cell_types.specs.declared.record_cell.RecordCell.TheVariants as records
 use Rattle.cell_types.specs.declared.refusal.Evidence.{Evidence}
 use Rattle.cell_types.specs.declared.refusal.Fault.{Fault}
-use Rattle.cell_types.specs.declared.refusal.Fault.TheVariants.{Tampered, ReadFault}
+use Rattle.cell_types.specs.declared.refusal.Fault.TheVariants.{Tampered, Failed}
 use Rattle.stored_documents.specs.Slots.{cells_for, Reserves, Abandons, Commits, IsUnused, IsReserved, IsAbandoned, IsCommitted, IsDone}
 use Rattle.stored_documents.specs.Volumes.{Holds, IsVolume}
 use Rattle.tamper_rules.specs.Rules.{IsPlaceOf, IsBroken}
@@ -98,7 +98,7 @@ abbrev pub StateEnds : Layout → ℕ → ViewState → ViewState → Result Slo
 StateEnds g n old new (Ok state) =
     LiesInPool g state × (new.base.faults ≡ old.base.faults)
     × (IsTrue old.base.tells → IsState g old.image new.image n state)
-StateEnds g n old new (Err ReadFault) = Rose old.base.faults new.base.faults
+StateEnds g n old new (Err Failed) = Rose old.base.faults new.base.faults
 StateEnds g n old new (Err (Tampered e)) =
     IsPlaceOf g e.rule e.cell × (new.base.faults ≡ old.base.faults)
     × (IsTrue old.base.tells → IsOutOfPlace g n old new e)

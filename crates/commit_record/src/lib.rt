@@ -22,14 +22,16 @@
 //! needs written stands at the call's exit, and what it needs blank was blank at its entry. What an answer says of its
 //! own numbers, as that a state's cells lie in the pool, holds over every view, also over one that does not tell.
 //!
-//! `open` makes one read, `slot_state` at most three, `horizon` at most one a slot, and `parts` none. Nothing takes
-//! memory. Stands on `stored_documents` and `tamper_rules` for the words, and on `worm_device` for views. Begin with
-//! `slot.rt`; `specs/States.antt` says what its answers mean.
+//! `open` makes one read, `slot_state` at most three, `horizon` and `end_of_log` at most one a slot, and `parts` none.
+//! `end_of_log` hands over the last reserve cell as well, and `slot_state_of` goes on from there: it makes two reads,
+//! and never finds the slot unused, whatever the device answers. Nothing takes memory.
+//!
+//! Stands on `stored_documents` and `tamper_rules` for the words, and on `worm_device` for views. Begin with `slot.rt`;
+//! `specs/States.antt` says what its answers mean.
 #![tactic(auto)]
 
 mod laws;
 mod log_end;
-mod looks;
 mod opening;
 mod partition;
 mod reservation;
@@ -38,11 +40,13 @@ mod slot_cells;
 mod slot_parts;
 #[cfg(test)]
 mod tests;
+mod used_slot;
 
 pub use laws::{a_slot_has_one_state, no_state_breaks_a_rule};
-pub use log_end::horizon;
+pub use log_end::{LogEnd, end_of_log, horizon};
 pub use opening::{OpenRefusal, open};
 pub use partition::Parts;
 pub use reservation::Reservation;
 pub use slot::{SlotState, slot_state};
 pub use slot_parts::{document_cells, parts};
+pub use used_slot::slot_state_of;

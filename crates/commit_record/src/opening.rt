@@ -2,10 +2,10 @@
 ghost use Rattle.std.specs.Prelude.{◌≡◌, ◌<◌, ◌≤◌, ◌+◌};
 ghost use Rattle.worm_device.specs.Views.{Viewed};
 ghost use Rattle.commit_record.specs.Opening.{OpenEnds, refusal_of};
+ghost use Rattle.commit_record.specs.declared.opening.OpenRefusal.TheVariants as refusals;
 
-use crate::looks::{Found, look};
 use cell_types::{Cell, Geometry, RecordCell, Refusal, Volume};
-use worm_device::View;
+use worm_device::{Failed, Found, View, look};
 
 /// Why a volume is not opened.
 #[derive(Clone, Copy, Debug, PartialEq, Eq)]
@@ -18,6 +18,14 @@ pub enum OpenRefusal {
     WrongSize { stated: u32, real: u32 },
     /// The read failed.
     ReadFault,
+}
+
+impl From<Failed> for OpenRefusal {
+    ghost from_gives = { λ _ why. why ≡ refusals.ReadFault };
+
+    fn from(_: Failed) -> OpenRefusal {
+        OpenRefusal::ReadFault
+    }
 }
 
 impl From<OpenRefusal> for Refusal {
@@ -40,9 +48,7 @@ pub fn open<V: View>(view: &mut V) -> Result<Volume, OpenRefusal>
     ensures reads { (V.seen view.new).base.reads ≤ (V.seen view.old).base.reads + 1 }
     ensures ends { OpenEnds (V.seen view.old) (V.seen view.new) result }
 {
-    let Ok(found) = look(view, 0) else {
-        return Err(OpenRefusal::ReadFault);
-    };
+    let found = look(view, 0)?;
     let (cell, held) = match found {
         Found::Blank => return Err(OpenRefusal::NotFormatted),
         Found::Stray(cell) => return Err(OpenRefusal::NotAVolume(cell)),
@@ -64,6 +70,6 @@ pub fn open<V: View>(view: &mut V) -> Result<Volume, OpenRefusal>
             real,
         });
     }
-    let geometry = Geometry::new(slots, lists, cells).unwrap();
+    let geometry = Geometry::new(slots, lists, cells, version).unwrap();
     Ok(Volume { version, geometry })
 }

@@ -4,10 +4,9 @@ ghost use Rattle.worm_device.specs.Views.{Viewed};
 ghost use Rattle.commit_record.specs.Partition.{HasRoom};
 ghost use Rattle.commit_record.specs.States.{StateEnds};
 
-use crate::looks::look;
 use crate::slot_cells::state_of_cells;
 use cell_types::{Fault, Volume};
-use worm_device::View;
+use worm_device::{View, look};
 
 /// What has come of a slot. `start` is the first cell that it reserves and `length` how many they are; `bytes` is how
 /// many stored bytes its document has, and `journal` how many cells its journal has.
@@ -52,17 +51,8 @@ pub fn slot_state<V: View>(view: &mut V, volume: &Volume, slot: u32) -> Result<S
     ensures ends { StateEnds volume.now.geometry slot (V.seen view.old) (V.seen view.new) result }
 {
     let geometry = volume.geometry;
-    let Ok(reserve) = look(view, geometry.reserve_at(slot)) else {
-        return Err(Fault::ReadFault);
-    };
-    let Ok(outcome) = look(view, geometry.outcome_at(slot)) else {
-        return Err(Fault::ReadFault);
-    };
-    let Ok(done) = look(view, geometry.done_at(slot)) else {
-        return Err(Fault::ReadFault);
-    };
-    match state_of_cells(&geometry, slot, reserve, outcome, done) {
-        Ok(state) => Ok(state),
-        Err(evidence) => Err(Fault::Tampered(evidence)),
-    }
+    let reserve = look(view, geometry.reserve_at(slot))?;
+    let outcome = look(view, geometry.outcome_at(slot))?;
+    let done = look(view, geometry.done_at(slot))?;
+    Ok(state_of_cells(&geometry, slot, reserve, outcome, done)?)
 }

@@ -1,19 +1,20 @@
 //! The state of a slot, by what was found in its three cells.
-ghost use Rattle.std.specs.Prelude.{◌≡◌, ◌<◌, ◌≤◌, ◌+◌, ◌↔◌, IfErr, IfNone, IfSome, None, OnOk, Some, IsTrue, ℕ};
+ghost use Rattle.std.specs.Prelude.{◌≡◌, ◌<◌, ◌≤◌, ◌+◌, ◌↔◌, IfErr, IfNone, IfOk, IfSome, IsSome, None, OnOk, Some, IsTrue, ℕ};
 ghost use Rattle.cell_types.specs.Layout.{done_at, outcome_at, pool_at, reserve_at};
 ghost use Rattle.cell_types.specs.declared.geometry.TheConstants.{MAX_CELLS};
 ghost use Rattle.cell_types.specs.declared.record_cell.RecordCell.TheVariants.{Reserve};
 ghost use Rattle.stored_documents.specs.Slots.{cells_for};
 ghost use Rattle.tamper_rules.specs.declared.numbers.TheConstants.{DONE_CELL};
-ghost use Rattle.commit_record.specs.Looks.{IsOfCell};
+ghost use Rattle.worm_device.specs.Looks.{IsOfCell};
+ghost use Rattle.commit_record.specs.Reservations.{reservation_of};
 ghost use Rattle.commit_record.specs.SlotCells.{CellsEnd, SeenCells, SeenCommitted, SeenReserved, SeenUnreserved, cell_of};
 ghost use Rattle.commit_record.specs.States.{AreOfPool, FitsInto};
 
-use crate::looks::Found;
 use crate::slot::SlotState;
 use crate::slot_parts::document_cells;
-use cell_types::{Cell, Evidence, Geometry, RecordCell};
+use cell_types::{Cell, Evidence, Geometry, RecordCell, decode};
 use tamper_rules::{DONE_CELL, OUTCOME_CELL, RESERVE_CELL};
+use worm_device::Found;
 
 /// The state that a slot's cells make, or the first of them that is out of place.
 pub fn state_of_cells(
@@ -26,7 +27,8 @@ pub fn state_of_cells(
     requires slot { slot < geometry.now.slots }
     requires reserve { IsOfCell (reserve_at slot) reserve }
     requires outcome { IsOfCell (outcome_at slot) outcome }
-    ensures { CellsEnd (SeenCells slot reserve outcome done) geometry.now slot result }
+    ensures used { IsSome (cell_of reserve) → IfOk result (λ state. IsSome (reservation_of state)) }
+    ensures ends { CellsEnd (SeenCells slot reserve outcome done) geometry.now slot result }
 {
     let (found, held) = match reserve {
         Found::Blank => return state_unreserved(geometry, slot, outcome, done),
@@ -82,8 +84,11 @@ fn state_reserved(
     requires slot { slot < geometry.now.slots }
     requires pool { AreOfPool geometry.now start length }
     requires outcome { IsOfCell (outcome_at slot) outcome }
-    ensures { CellsEnd (SeenReserved geometry.now slot start length outcome done) geometry.now slot result }
+    ensures used { IfOk result (λ state. IsSome (reservation_of state)) }
+    ensures ends { CellsEnd (SeenReserved geometry.now slot start length outcome done) geometry.now slot result }
 {
+    // Known of a layout once it is asked for: its version is one whose documents have no stamps.
+    let _version = geometry.version();
     let (found, held) = match outcome {
         Found::Blank => {
             no_done_cell(geometry, slot, &done)?;
@@ -127,7 +132,8 @@ fn state_committed(
     requires slot { slot < geometry.now.slots }
     requires pool { AreOfPool geometry.now start length }
     requires fits { FitsInto length bytes journal }
-    ensures { CellsEnd (SeenCommitted geometry.now slot start length bytes journal done) geometry.now slot result }
+    ensures used { IfOk result (λ state. IsSome (reservation_of state)) }
+    ensures ends { CellsEnd (SeenCommitted geometry.now slot start length bytes journal done) geometry.now slot result }
 {
     match done {
         Found::Blank => Ok(SlotState::Committed {
@@ -171,6 +177,17 @@ fn no_done_cell(geometry: &Geometry, slot: u32, done: &Found) -> Result<(), Evid
             cell: geometry.done_at(slot),
             found,
         }),
+    }
+}
+
+/// What stands in a cell of this number that is written.
+pub fn found_there(cell: Cell, at: u32) -> Found
+    ensures of { IsOfCell at result }
+    ensures cell { cell_of result ≡ Some cell }
+{
+    match decode(cell, at) {
+        Some(held) => Found::Record(cell, held),
+        None => Found::Stray(cell),
     }
 }
 

@@ -76,7 +76,7 @@ fn read_slot<V: View>(view: &mut V, slot: u32) -> Result<(SlotState, Option<Part
     match slot_state(view, &volume, slot) {
         Ok(state) => Ok((state, parts(&state))),
         Err(Fault::Tampered(evidence)) => Err(Refusal::Tampered(evidence)),
-        Err(Fault::ReadFault) => Err(Refusal::DeviceFault),
+        Err(Fault::Failed) => Err(Refusal::DeviceFault),
     }
 }
 

@@ -1,17 +1,17 @@
 -- The body of a slot's document, put into a sink after the whole document was read.
-use Rattle.std.proofs.Common.{◌≡◌, ℕ, Bool, true, false, length, Some, Ok, Err, refl, sym, ◌∙◌, inl, inr, subst, arith}
+use Rattle.std.proofs.Common.{◌≡◌, ◌<◌, ℕ, Bool, true, false, length, Some, Ok, Err, refl, sym, ap, ◌∙◌, inl, inr, subst, arith}
 use Rattle.std.proofs.lemmas.Bool.{cases_Bool}
 use Rattle.std.proofs.lemmas.List.{take_all}
 use Rattle.std.specs.Prelude.{IsTrue}
-use Rattle.cell_types.specs.Layout.{Layout}
+use Rattle.cell_types.specs.Layout.{Layout, outcome_at}
 use Rattle.cell_types.specs.declared.refusal.Fault.{Fault}
-use Rattle.cell_types.specs.declared.refusal.Fault.TheVariants.{Tampered, ReadFault}
+use Rattle.cell_types.specs.declared.refusal.Fault.TheVariants.{Tampered, Failed}
+use Rattle.tamper_rules.specs.declared.numbers.TheConstants.{BROKEN_DOCUMENT}
 use Rattle.host_ports.specs.Sinks.{Gets, SinkState}
 use Rattle.worm_device.specs.Views.{ViewState, Viewed}
 use Rattle.worm_device.proofs.Images.{extends_then}
-use Rattle.worm_device.proofs.Resting.{viewed_then}
 use Rattle.document_store.specs.Heads.{HasBody, SpellsNone, id_of}
-use Rattle.document_store.specs.Looks.{BodyEnds, GotBody, GotPart, HoldsBody, IsPartOf, LookFails, PartEnds}
+use Rattle.document_store.specs.Looks.{BodyEnds, GotBody, GotPart, HoldsBody, IsPartOf, LookFails, PartEnds, commit_breach}
 use Rattle.document_store.specs.Putting.{GotFront, GotWhole, PutFails, body_fault_of}
 use Rattle.document_store.specs.declared.body.BodyFault.TheVariants as bodies
 use Rattle.document_store.specs.declared.head.Head.{Head}
@@ -19,31 +19,18 @@ use Rattle.document_store.specs.declared.part.Part.{Part}
 use Rattle.document_store.specs.declared.putting.PutFault.TheVariants as puts
 use Rattle.document_store.proofs.Checking.{read_holds}
 use Rattle.document_store.proofs.Holding.{held_on, part_on, whole_document, whole_is_held, whole_on}
-use Rattle.document_store.proofs.Naming.{fails_from, told}
+use Rattle.document_store.proofs.Naming.{commit_is_place, told}
 
 -- why no byte was put
 pub nothing_put : (g : Layout) (n : ℕ) (old new : ViewState) (sink : SinkState) (fault : Fault)
     → LookFails g n old new fault → BodyEnds g n old new sink sink (Err (body_fault_of fault))
 nothing_put g n old new sink (Tampered e) fails = (fails, refl, inl refl, λ tells. refl)
-nothing_put g n old new sink ReadFault fails = (fails, refl, inl refl)
+nothing_put g n old new sink Failed fails = (fails, refl, inl refl)
 
 -- not true
 not_true : (b : Bool) → b ≡ false → IsTrue b → ⊥
 not_true true e t = absurd (let clash : true ≡ false = e in cc)
 not_true false e t = absurd (let clash : false ≡ true = t in cc)
-
--- a part that was put is one of the body later on
-part_got_on : (g : Layout) (n : ℕ) (mid new : ViewState) (from to : SinkState) → Viewed mid new
-    → GotPart g n mid from to → GotPart g n new from to
-part_got_on g n mid new from to viewed got = record {
-  body = got.body;
-  count = got.count;
-  most = got.most;
-  gets = got.gets;
-  holds = λ tells.
-      let h = got.holds (subst IsTrue viewed.called.tells tells) in
-      record { id = h.id; holds = held_on viewed.image h.holds };
-}
 
 -- the looks one after another: for the part, at the whole document, and at the body that was put
 module _ (g : Layout) (n : ℕ) (old mid read new : ViewState) (part : Part) (h : Head) (from to : SinkState)
@@ -109,9 +96,6 @@ module _ (g : Layout) (n : ℕ) (old mid read new : ViewState) (part : Part) (h 
   not_broken tells none = none (whole_document new part.start part.bytes (id_of h) has.body (told_new tells)
       (whole_on after has.whole))
 
-  pub part_named : IsTrue new.base.tells → IsPartOf g new.image part.slot part
-  part_named tells = subst (λ (m : ℕ). IsPartOf g new.image m part) (sym found.0) (part_new (untold tells))
-
   -- a read failed in the second pass
   pub second_fails : PutFails part.start part.bytes read new from to puts.ReadFault
       → BodyEnds g n old new from to (Err bodies.ReadFault)
@@ -123,18 +107,17 @@ module _ (g : Layout) (n : ℕ) (old mid read new : ViewState) (part : Part) (h 
   sink_fails fails = (fails.0 ∙ faults, fails.1, got_part fails.2)
 
   -- over a view that does not tell, the second pass may meet a broken cell
-  pub second_breaks : (end : ViewState) → Viewed new end
-      → PutFails part.start part.bytes read new from to puts.Broken → (fault : Fault)
-      → LookFails g part.slot new end fault → BodyEnds g n old end from to (Err (body_fault_of fault))
-  second_breaks end last fails fault named = ends fault
-      (fails_from g (viewed_then before (viewed_then second after)) last n (fails.0 ∙ faults) fault
-      (subst (λ (m : ℕ). LookFails g m new end fault) found.0 named))
-    where
-      ends : (f : Fault) → LookFails g n old end f → BodyEnds g n old end from to (Err (body_fault_of f))
-      ends (Tampered e) look = (
-        look,
+  pub second_breaks : n < g.slots → PutFails part.start part.bytes read new from to puts.Broken
+      → BodyEnds g n old new from to (Err (body_fault_of (commit_breach part)))
+  second_breaks less fails =
+      let never : IsTrue old.base.tells → ⊥ = λ tells.
+      not_broken tells (fails.3 (told second (told before tells))) in (
+        (
+          commit_is_place g n BROKEN_DOCUMENT (outcome_at part.slot) less refl (ap outcome_at found.0),
+          fails.0 ∙ faults,
+          λ tells. absurd (never tells),
+        ),
         fails.1,
-        inr (part_got_on g n new end from to last (got_part fails.2)),
-        λ tells. absurd (not_broken tells (fails.3 (told second (told before tells)))),
+        inr (got_part fails.2),
+        λ tells. absurd (never tells),
       )
-      ends ReadFault look = (look, fails.1, inr (part_got_on g n new end from to last (got_part fails.2)))

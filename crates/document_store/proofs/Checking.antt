@@ -5,7 +5,7 @@ use Rattle.cell_types.specs.Image.{Image}
 use Rattle.cell_types.specs.Layout.{Layout}
 use Rattle.cell_types.specs.Refusals.{refusal_of_fault}
 use Rattle.cell_types.specs.declared.refusal.Fault.{Fault}
-use Rattle.cell_types.specs.declared.refusal.Fault.TheVariants.{Tampered, ReadFault}
+use Rattle.cell_types.specs.declared.refusal.Fault.TheVariants.{Tampered, Failed}
 use Rattle.stored_documents.specs.Slots.{cells_for}
 use Rattle.worm_device.specs.Views.{ViewState, Viewed}
 use Rattle.document_store.specs.Heads.{HasBody, id_of}
@@ -20,7 +20,7 @@ use Rattle.document_store.proofs.Naming.{fails_from, told}
 pub identifier_fails : (g : Layout) (n : ℕ) (old new : ViewState) (fault : Fault) → LookFails g n old new fault
     → IdentifierEnds g n old new (Err (refusal_of_fault fault))
 identifier_fails g n old new (Tampered e) fails = fails
-identifier_fails g n old new ReadFault fails = fails
+identifier_fails g n old new Failed fails = fails
 
 module _ (g : Layout) (n : ℕ) (old mid new : ViewState) (part : Part) (before : Viewed old mid) (after : Viewed mid new)
     (found : PartEnds g n old mid (Ok (Some part))) where
@@ -39,12 +39,12 @@ module _ (g : Layout) (n : ℕ) (old mid new : ViewState) (part : Part) (before 
       (one_part g new.image n part start reserved bytes journal (part_later tells) done).0
 
   pub reads_once : mid.base.reads ≤ old.base.reads + 3
-      → new.base.reads ≤ mid.base.reads + cells_for part.bytes + 1 → ReadsOnce g n old new
+      → new.base.reads ≤ mid.base.reads + cells_for part.bytes → ReadsOnce g n old new
   reads_once first second tells start reserved bytes journal done =
       let same = bytes_are tells start reserved bytes journal done in
       omega (arith, first, second, ap cells_for same)
 
-  pub reads_twice : new.base.reads ≤ old.base.reads + 2 * cells_for part.bytes + 4 → ReadsTwice g n old new
+  pub reads_twice : new.base.reads ≤ old.base.reads + 2 * cells_for part.bytes + 3 → ReadsTwice g n old new
   reads_twice most tells start reserved bytes journal done =
       let same = bytes_are tells start reserved bytes journal done in
       omega (arith, most, ap cells_for same)

@@ -26,7 +26,6 @@ pub part_on : {g : Layout} {old new : Image} {n : ℕ} {part : Part} → Extends
 part_on e is = record {
   first = is.first;
   reserved = is.reserved;
-  journal = is.journal;
   done = done_on e is.done;
   start_is = is.start_is;
 }
@@ -37,7 +36,7 @@ part_is_done {g} {image} {n} {part} is = record {
   start = is.first;
   length = is.reserved;
   bytes = part.bytes;
-  journal = is.journal;
+  journal = part.journal;
   done = is.done;
 }
 
@@ -98,7 +97,7 @@ one_part g image n part start reserved bytes journal is done =
     is.done.commits.reserves.reserve) in
     let sizes = commits _ _ _ _ (one_record_holds image (outcome_at n) _ _ done.commits.outcome
     is.done.commits.outcome) in
-    let at : document_at is.first is.reserved part.bytes is.journal ≡ document_at start reserved bytes journal = cc in
+    let at : document_at is.first is.reserved part.bytes part.journal ≡ document_at start reserved bytes journal = cc in
     (sizes.0, is.start_is ∙ at)
 
 -- a document that was read whole is one of the part
@@ -119,10 +118,10 @@ pub whole_is_held : (g : Layout) (v : ViewState) (n : ℕ) (part : Part) (id bod
 whole_is_held g v n part id body tells is w = record {
   start = is.first;
   reserved = is.reserved;
-  journal = is.journal;
-  done = subst (λ (b : ℕ). IsDone g v.image n is.first is.reserved b is.journal) w.count is.done;
+  journal = part.journal;
+  done = subst (λ (b : ℕ). IsDone g v.image n is.first is.reserved b part.journal) w.count is.done;
   spells = subst (λ (a : ℕ). Spells v.image a (stored_bytes id body))
-      (subst (λ (b : ℕ). part.start ≡ document_at is.first is.reserved b is.journal) w.count is.start_is)
+      (subst (λ (b : ℕ). part.start ≡ document_at is.first is.reserved b part.journal) w.count is.start_is)
       (w.told tells).1;
   is_identifier = w.identifier;
   is_body = (w.told tells).0;

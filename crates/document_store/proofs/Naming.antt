@@ -1,11 +1,11 @@
 -- Looks at documents, seen from an earlier state on.
-use Rattle.std.proofs.Common.{◌≡◌, ◌<◌, ◌+◌, ◌⊎◌, ℕ, List, Option, Some, None, Result, Ok, Err, sym, ap, ◌∙◌, subst, ⊎_elim, arith}
-use Rattle.std.specs.Prelude.{IfSome, IsTrue}
+use Rattle.std.proofs.Common.{◌≡◌, ◌<◌, ◌+◌, ◌⊎◌, ℕ, List, Option, Some, None, Result, Ok, Err, refl, sym, ap, ◌∙◌, subst, ⊎_elim, arith}
+use Rattle.std.specs.Prelude.{IsTrue}
 use Rattle.cell_types.specs.Image.{Image, Extends}
 use Rattle.cell_types.specs.Layout.{Layout, reserve_at, outcome_at, done_at}
 use Rattle.cell_types.specs.declared.refusal.Evidence.{Evidence}
 use Rattle.cell_types.specs.declared.refusal.Fault.{Fault}
-use Rattle.cell_types.specs.declared.refusal.Fault.TheVariants.{Tampered, ReadFault}
+use Rattle.cell_types.specs.declared.refusal.Fault.TheVariants.{Tampered, Failed}
 use Rattle.stored_documents.specs.Slots.{IsDoneSlot}
 use Rattle.stored_documents.proofs.Extending.{blank_before, unused_further, reserved_further, abandoned_further, committed_further, done_on, done_slot_on}
 use Rattle.tamper_rules.specs.Rules.{IsPlaceOf}
@@ -18,7 +18,7 @@ use Rattle.commit_record.specs.States.{AsksBelow, IsNoState, IsState, Shows, don
 use Rattle.commit_record.specs.declared.slot.SlotState.{SlotState}
 use Rattle.commit_record.specs.declared.slot.SlotState.TheVariants.{Unused, Reserved, Abandoned, Committed, Done}
 use Rattle.document_store.specs.Heads.{SpellsNone}
-use Rattle.document_store.specs.Looks.{AreRead, IsPartOf, IsRead, IsUndone, LookFails, Names, NoneBelow, PartEnds, held, of_document, of_state, undone}
+use Rattle.document_store.specs.Looks.{AreRead, IsPartOf, IsRead, IsUndone, LookFails, Names, NoneBelow, PartEnds, commit_breach, held, of_document, of_state, undone}
 use Rattle.document_store.specs.Standing.{HoldsDocument}
 use Rattle.document_store.specs.declared.part.Part.{Part}
 use Rattle.document_store.proofs.Holding.{held_on, none_is_held, part_is_done, part_on}
@@ -98,34 +98,42 @@ module _ (g : Layout) {old mid new : ViewState} (before : Viewed old mid) (after
   -- why a look at slot n gave no answer, from an earlier state on
   pub fails_from : (n : ℕ) → mid.base.faults ≡ old.base.faults → (fault : Fault) → LookFails g n mid new fault
       → LookFails g n old new fault
-  fails_from n same ReadFault fails = omega (arith, same, fails)
+  fails_from n same Failed fails = omega (arith, same, fails)
   fails_from n same (Tampered e) fails =
       (fails.0, fails.1 ∙ same, λ tells. names_from n (fails.2 (told before tells)))
 
   -- how a look for slot n's part ended, from an earlier state on
   pub part_from : (n : ℕ) → mid.base.faults ≡ old.base.faults → (result : Result (Option Part) Fault)
       → PartEnds g n mid new result → PartEnds g n old new result
-  part_from n same (Ok (Some part)) ends = (ends.0, ends.1, ends.2 ∙ same, λ tells. ends.3 (told before tells))
+  part_from n same (Ok (Some part)) ends = (ends.0, ends.1, ends.2 ∙ same, λ tells. ends.3 (told before tells), ends.4)
   part_from n same (Ok None) ends =
       (ends.0 ∙ same, λ tells. undone_further before.image (extends_self new.image) (ends.1 (told before tells)))
   part_from n same (Err fault) ends = fails_from n same fault ends
 
--- the commit cell of a slot whose part holds no document
-pub names_commit : (g : Layout) (old new : ViewState) (part : Part) (e : Evidence) → Viewed old new
-    → IsPartOf g old.image part.slot part → SpellsNone old.image part.start part.bytes → e.rule ≡ BROKEN_DOCUMENT
-    → e.cell ≡ outcome_at part.slot → new.image e.cell ≡ Some e.found → Names g part.slot old new e
-names_commit g old new part e viewed is none rule cell found = of_document (record {
-  rule = rule;
-  cell = cell;
-  found = found;
-  done = part_is_done (part_on viewed.image is);
-  none = none_is_held g old.image part.slot part is none;
-})
-
--- it is a place of its rule
+-- a commit cell is a place of its rule
 pub commit_is_place : (g : Layout) (n rule cell : ℕ) → n < g.slots → rule ≡ BROKEN_DOCUMENT → cell ≡ outcome_at n
     → IsPlaceOf g rule cell
 commit_is_place g n rule cell less is at = (Documents, is, (n, less, at))
+
+-- the commit cell of a slot whose part holds no document
+pub names_commit : (g : Layout) (old new : ViewState) (part : Part) → Viewed old new → part.slot < g.slots
+    → new.base.faults ≡ old.base.faults → (IsTrue old.base.tells → IsPartOf g old.image part.slot part)
+    → (IsTrue old.base.tells → SpellsNone new.image part.start part.bytes)
+    → LookFails g part.slot old new (commit_breach part)
+names_commit g old new part viewed less same is none = (
+  commit_is_place g part.slot BROKEN_DOCUMENT (outcome_at part.slot) less refl refl,
+  same,
+  λ tells.
+      let on = part_on viewed.image (is tells) in
+      let outcome = on.done.commits.outcome in
+      of_document (record {
+        rule = refl;
+        cell = refl;
+        found = outcome.stands ∙ ap Some outcome.is.same;
+        done = part_is_done on;
+        none = λ id body h. none_is_held g new.image part.slot part on (none tells) id body (held_on viewed.image h);
+      }),
+)
 
 -- a slot more
 pub are_read_more : (g : Layout) (before after : Image) (u : ℕ) → AreRead g before after u → IsRead g before after u
@@ -154,21 +162,6 @@ none_more g image u id none here n body less h = ⊎_elim
   where
     below_or_at : (k n : ℕ) → k < n + 1 → (k < n) ⊎ (k ≡ n)
     below_or_at k n h = grind arith
-
--- and what was read there stands there
-pub commit_stands : (g : Layout) (old new : ViewState) (part : Part) (e : Evidence) (at : ℕ)
-    (stands : Option (List ℕ)) → Viewed old new → IsPartOf g old.image part.slot part → at ≡ outcome_at part.slot
-    → e.cell ≡ outcome_at part.slot → stands ≡ new.image at → IfSome stands (λ found. e.found ≡ found)
-    → new.image e.cell ≡ Some e.found
-commit_stands g old new part e at (Some found) viewed is at_is cell_is read found_is =
-    ap new.image (cell_is ∙ sym at_is) ∙ sym read ∙ ap Some (sym found_is)
-commit_stands g old new part e at None viewed is at_is cell_is read found_is =
-    let outcome = is.done.commits.outcome in
-    absurd (none_some outcome.cell
-    (read ∙ ap new.image at_is ∙ viewed.image.keeps (outcome_at part.slot) outcome.cell outcome.stands))
-  where
-    none_some : (x : List ℕ) → None ≡ Some x → ⊥
-    none_some x e = cc
 
 -- a slot that was done is not seen undone
 pub not_undone : (g : Layout) (n : ℕ) (old new : ViewState) (e : Evidence) → n < g.slots

@@ -5,6 +5,8 @@ use Rattle.std.specs.Prelude.{◌≡◌, ◌<◌, ◌≤◌, ◌+◌, ◌*◌, �
 use Rattle.std.specs.Global.{Vec}
 use Rattle.cell_types.specs.Image.{Image}
 use Rattle.cell_types.specs.Layout.{Layout, outcome_at}
+use Rattle.cell_types.specs.Records.{IsWellFormed, record_bytes}
+use Rattle.cell_types.specs.declared.record_cell.RecordCell.TheVariants.{Commit}
 use Rattle.cell_types.specs.declared.refusal.Evidence.{Evidence}
 use Rattle.cell_types.specs.declared.refusal.Fault.{Fault}
 use Rattle.cell_types.specs.declared.refusal.Fault.TheVariants as faults
@@ -45,13 +47,13 @@ pub data Names (g : Layout) (n : ℕ) (old new : ViewState) (e : Evidence) : Typ
 
 -- why a look at slot n gives no answer
 abbrev pub LookFails : Layout → ℕ → ViewState → ViewState → Fault → Type 0
-LookFails g n old new faults.ReadFault = Rose old.base.faults new.base.faults
+LookFails g n old new faults.Failed = Rose old.base.faults new.base.faults
 LookFails g n old new (faults.Tampered e) =
     IsPlaceOf g e.rule e.cell × (new.base.faults ≡ old.base.faults) × (IsTrue old.base.tells → Names g n old new e)
 
 -- the same, as a command refuses
 abbrev pub LookRefuses : Layout → ℕ → ViewState → ViewState → Refusal → Type 0
-LookRefuses g n old new refusals.DeviceFault = LookFails g n old new faults.ReadFault
+LookRefuses g n old new refusals.DeviceFault = LookFails g n old new faults.Failed
 LookRefuses g n old new (refusals.Tampered e) = LookFails g n old new (faults.Tampered e)
 LookRefuses g n old new refusal = ⊥
 
@@ -59,9 +61,20 @@ LookRefuses g n old new refusal = ⊥
 pub record IsPartOf (g : Layout) (image : Image) (n : ℕ) (part : Part) : Type 0 where
   pub first : ℕ
   pub reserved : ℕ
-  pub journal : ℕ
-  pub done : IsDone g image n first reserved part.bytes journal
-  pub start_is : part.start ≡ document_at first reserved part.bytes journal
+  pub done : IsDone g image n first reserved part.bytes part.journal
+  pub start_is : part.start ≡ document_at first reserved part.bytes part.journal
+
+-- a commit cell may state the numbers of this part
+abbrev pub IsStated : Part → Type 0
+IsStated part = IsWellFormed (Commit part.bytes part.journal) (outcome_at part.slot)
+
+-- the commit cell that states this part's document, as evidence that the document is broken
+abbrev pub commit_breach : Part → Fault
+commit_breach part = faults.Tampered (record {
+  rule = BROKEN_DOCUMENT;
+  cell = outcome_at part.slot;
+  found = record_bytes (Commit part.bytes part.journal) (outcome_at part.slot);
+})
 
 -- slot n is in a state, as seen between two images, and it was not done
 pub record IsUndone (g : Layout) (before after : Image) (n : ℕ) : Type 0 where
@@ -73,7 +86,7 @@ pub record IsUndone (g : Layout) (before after : Image) (n : ℕ) : Type 0 where
 abbrev pub PartEnds : Layout → ℕ → ViewState → ViewState → Result (Option Part) Fault → Type 0
 PartEnds g n old new (Ok (Some part)) =
     (part.slot ≡ n) × (part.start + cells_for part.bytes ≤ g.cells) × (new.base.faults ≡ old.base.faults)
-    × (IsTrue old.base.tells → IsPartOf g new.image n part)
+    × (IsTrue old.base.tells → IsPartOf g new.image n part) × IsStated part
 PartEnds g n old new (Ok None) =
     (new.base.faults ≡ old.base.faults) × (IsTrue old.base.tells → IsUndone g old.image new.image n)
 PartEnds g n old new (Err fault) = LookFails g n old new fault
@@ -172,17 +185,17 @@ BodyEnds g n old new from to (Err ReadFault) =
 BodyEnds g n old new from to (Err SinkFault) =
     (new.base.faults ≡ old.base.faults) × Rose from.faults to.faults × GotPart g n new from to
 
--- a call read each cell of slot n's document once at most, and four cells besides
+-- a call read each cell of slot n's document once at most, and three cells besides
 abbrev pub ReadsOnce : Layout → ℕ → ViewState → ViewState → Type 0
 ReadsOnce g n old new =
     IsTrue old.base.tells → (start reserved bytes journal : ℕ) → IsDone g new.image n start reserved bytes journal
-    → new.base.reads ≤ old.base.reads + cells_for bytes + 4
+    → new.base.reads ≤ old.base.reads + cells_for bytes + 3
 
 -- or twice at most
 abbrev pub ReadsTwice : Layout → ℕ → ViewState → ViewState → Type 0
 ReadsTwice g n old new =
     IsTrue old.base.tells → (start reserved bytes journal : ℕ) → IsDone g new.image n start reserved bytes journal
-    → new.base.reads ≤ old.base.reads + 2 * cells_for bytes + 4
+    → new.base.reads ≤ old.base.reads + 2 * cells_for bytes + 3
 
 -- slot n was read between two images: it is in a state and not done, or it is done and holds a document
 pub data IsRead (g : Layout) (before after : Image) (n : ℕ) : Type 0 where

@@ -19,7 +19,7 @@ use Rattle.document_store.specs.declared.putting.PutFault.TheVariants.{Broken, R
 -- why a body was not put, where a look gave no answer
 abbrev pub body_fault_of : Fault → BodyFault
 body_fault_of (faults.Tampered e) = bodies.Tampered e
-body_fault_of faults.ReadFault = bodies.ReadFault
+body_fault_of faults.Failed = bodies.ReadFault
 
 -- why it was not, where bytes were not read
 abbrev pub put_fault_of : ContentFault → PutFault

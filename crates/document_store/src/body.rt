@@ -28,13 +28,13 @@ impl From<Fault> for BodyFault {
     fn from(fault: Fault) -> BodyFault {
         match fault {
             Fault::Tampered(evidence) => BodyFault::Tampered(evidence),
-            Fault::ReadFault => BodyFault::ReadFault,
+            Fault::Failed => BodyFault::ReadFault,
         }
     }
 }
 
 /// Puts the body of the document of a slot that is done into the sink, and answers how many bytes it has. The whole
-/// document is checked before the first byte goes out. Reads each cell of the document twice at most, and four cells
+/// document is checked before the first byte goes out. Reads each cell of the document twice at most, and three cells
 /// besides, and takes no memory: bytes go out in pieces of 240.
 pub fn body_into<V: View, K: Sink>(
     view: &mut V,
@@ -56,7 +56,7 @@ pub fn body_into<V: View, K: Sink>(
     let _checked = read_part(view, &volume.geometry, &part)?;
     match put_document(view, part.start, part.bytes, sink) {
         Ok(bytes) => Ok(bytes),
-        Err(PutFault::Broken) => Err(BodyFault::from(name_commit(view, &volume.geometry, &part))),
+        Err(PutFault::Broken) => Err(BodyFault::from(name_commit(&volume.geometry, &part))),
         Err(PutFault::ReadFault) => Err(BodyFault::ReadFault),
         Err(PutFault::SinkFault) => Err(BodyFault::SinkFault),
     }

@@ -1,15 +1,12 @@
 //! Where the document of a slot lies, and what names it where it is broken.
-ghost use Rattle.std.specs.Prelude.{◌≡◌, ◌<◌, ◌≤◌, ◌+◌, IfSome, IsTrue, OnOk};
-ghost use Rattle.cell_types.specs.Layout.{outcome_at};
+ghost use Rattle.std.specs.Prelude.{◌≡◌, ◌<◌, ◌≤◌, ◌+◌, IsTrue};
 ghost use Rattle.stored_documents.specs.Slots.{IsDoneSlot, cells_for};
-ghost use Rattle.tamper_rules.specs.declared.numbers.TheConstants.{BROKEN_DOCUMENT};
 ghost use Rattle.worm_device.specs.Views.{Viewed};
-ghost use Rattle.document_store.specs.Heads.{SpellsNone};
-ghost use Rattle.document_store.specs.Looks.{DoneHeadEnds, DonePartEnds, IsPartOf, LookFails, PartEnds, ReadEnds, ReadsOnce};
+ghost use Rattle.document_store.specs.Looks.{DoneHeadEnds, DonePartEnds, IsPartOf, IsStated, PartEnds, ReadEnds, ReadsOnce, commit_breach};
 
 use crate::head::{Head, read_document};
 use append_file::ContentFault;
-use cell_types::{Cell, Evidence, Fault, Geometry, RecordCell, Volume, encode};
+use cell_types::{Fault, Geometry, RecordCell, Volume, breach, encode};
 use commit_record::{SlotState, document_cells, slot_state};
 use tamper_rules::BROKEN_DOCUMENT;
 use worm_device::View;
@@ -22,6 +19,8 @@ pub struct Part {
     pub start: u32,
     /// How many stored bytes it has.
     pub bytes: u32,
+    /// How many cells the slot's journal has.
+    pub journal: u32,
 }
 
 /// Where the document of a slot lies, if the slot is done. Makes at most three reads.
@@ -45,45 +44,25 @@ pub fn slot_part<V: View>(view: &mut V, volume: &Volume, slot: u32) -> Result<Op
         slot,
         start: start + length - journal - document_cells(bytes),
         bytes,
+        journal,
     }))
 }
 
-/// Names the commit cell of a slot whose cells spell no document. Makes one read.
-pub fn name_commit<V: View>(view: &mut V, geometry: &Geometry, part: &Part) -> Fault
+/// Names the commit cell of a slot whose cells spell no document, as it was read: a part's numbers give it back.
+pub fn name_commit(geometry: &Geometry, part: &Part) -> Fault
     requires slot { part.now.slot < geometry.now.slots }
-    requires size { geometry.now.cells ≤ (V.seen view.old).cells }
-    requires part { IsTrue (V.seen view.old).base.tells
-        → IsPartOf geometry.now (V.seen view.old).image part.now.slot part.now }
-    requires none { IsTrue (V.seen view.old).base.tells
-        → SpellsNone (V.seen view.old).image part.now.start part.now.bytes }
-    ensures viewed { Viewed (V.seen view.old) (V.seen view.new) }
-    ensures reads { (V.seen view.new).base.reads ≤ (V.seen view.old).base.reads + 1 }
-    ensures ends { LookFails geometry.now part.now.slot (V.seen view.old) (V.seen view.new) result }
+    requires stated { IsStated part.now }
+    ensures { result ≡ commit_breach part.now }
 {
-    let Ok(stands) = view.read(geometry.outcome_at(part.slot)) else {
-        return Fault::ReadFault;
+    let cell = geometry.outcome_at(part.slot);
+    let stated = RecordCell::Commit {
+        bytes: part.bytes,
+        journal: part.journal,
     };
-    Fault::Tampered(broken_document(geometry, part.slot, stands))
+    breach(BROKEN_DOCUMENT, cell, encode(stated, cell))
 }
 
-/// The commit cell of a slot, where this was found in it, as evidence that the document is broken.
-fn broken_document(geometry: &Geometry, slot: u32, stands: Option<Cell>) -> Evidence
-    requires { slot < geometry.now.slots }
-    ensures rule { result.rule ≡ BROKEN_DOCUMENT }
-    ensures cell { result.cell ≡ outcome_at slot }
-    ensures found { IfSome stands (λ found. result.found ≡ found) }
-{
-    let cell = geometry.outcome_at(slot);
-    // Over a view that tells what it shows the cell is written: the slot is done.
-    let found = stands.unwrap_or(encode(RecordCell::Abandon, cell));
-    Evidence {
-        rule: BROKEN_DOCUMENT,
-        cell,
-        found,
-    }
-}
-
-/// Reads the document of a part, each cell once, and one cell more where it is broken.
+/// Reads the document of a part, each cell once.
 pub(crate) fn read_part<V: View>(
     view: &mut V,
     geometry: &Geometry,
@@ -92,18 +71,17 @@ pub(crate) fn read_part<V: View>(
     requires slot { part.now.slot < geometry.now.slots }
     requires size { geometry.now.cells ≤ (V.seen view.old).cells }
     requires inside { part.now.start + cells_for part.now.bytes ≤ geometry.now.cells }
+    requires stated { IsStated part.now }
     requires part { IsTrue (V.seen view.old).base.tells
         → IsPartOf geometry.now (V.seen view.old).image part.now.slot part.now }
     ensures viewed { Viewed (V.seen view.old) (V.seen view.new) }
-    ensures reads { (V.seen view.new).base.reads ≤ (V.seen view.old).base.reads + cells_for part.now.bytes + 1 }
-    ensures once { OnOk result ((V.seen view.new).base.reads
-        ≤ (V.seen view.old).base.reads + cells_for part.now.bytes) }
+    ensures reads { (V.seen view.new).base.reads ≤ (V.seen view.old).base.reads + cells_for part.now.bytes }
     ensures ends { ReadEnds geometry.now part.now (V.seen view.old) (V.seen view.new) result }
 {
     match read_document(view, part.start, part.bytes) {
         Ok(head) => Ok(head),
-        Err(ContentFault::ReadFault) => Err(Fault::ReadFault),
-        Err(ContentFault::Broken) => Err(name_commit(view, geometry, part)),
+        Err(ContentFault::ReadFault) => Err(Fault::Failed),
+        Err(ContentFault::Broken) => Err(name_commit(geometry, part)),
     }
 }
 
@@ -119,12 +97,13 @@ pub(crate) fn done_part<V: View>(view: &mut V, volume: &Volume, slot: u32) -> Re
 {
     let Some(part) = slot_part(view, volume, slot)? else {
         // A view that tells what it shows has the done cell that was seen before.
-        return Err(Fault::Tampered(broken_document(&volume.geometry, slot, None)));
+        let cell = volume.geometry.outcome_at(slot);
+        return Err(breach(BROKEN_DOCUMENT, cell, encode(RecordCell::Abandon, cell)));
     };
     Ok(part)
 }
 
-/// Reads the document of a slot that is done, each cell of it once at most, and four cells besides.
+/// Reads the document of a slot that is done, each cell of it once at most, and three cells besides.
 pub(crate) fn done_head<V: View>(view: &mut V, volume: &Volume, slot: u32) -> Result<Head, Fault>
     requires slot { slot < volume.now.geometry.slots }
     requires size { volume.now.geometry.cells ≤ (V.seen view.old).cells }

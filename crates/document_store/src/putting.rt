@@ -102,10 +102,7 @@ fn fill<V: View>(view: &mut V, position: &mut Position, into: &mut [u8]) -> Resu
     ensures ends { FillEnds (V.seen view.old) (V.seen view.new) position.old position.new into.new result }
 {
     for k in 0..into.len() {
-        let byte = match read_byte(view, position) {
-            Ok(byte) => byte,
-            Err(fault) => return Err(fault),
-        };
+        let byte = read_byte(view, position)?;
         into[k] = byte;
     }
     Ok(())

@@ -3,7 +3,7 @@ use Rattle.std.proofs.Common.{◌≡◌, ◌≢◌, ◌<◌, ◌+◌, ◌∙◌,
 use Rattle.std.specs.Prelude.{IsTrue}
 use Rattle.cell_types.specs.Layout.{Layout, pool_at}
 use Rattle.cell_types.specs.declared.refusal.Fault.{Fault}
-use Rattle.cell_types.specs.declared.refusal.Fault.TheVariants.{Tampered, ReadFault}
+use Rattle.cell_types.specs.declared.refusal.Fault.TheVariants.{Tampered, Failed}
 use Rattle.stored_documents.proofs.Extending.{holds_on}
 use Rattle.index_paths.specs.HashPaths.{nibble}
 use Rattle.worm_device.specs.Views.{ViewState}
@@ -90,7 +90,7 @@ module _ (g : Layout) (edge : ℕ) (level : Level) (held : HeldBucket) (old mid 
   -- it can't be read, or is none
   pub fails_below : (fault : Fault) → ReadsChild (child_at g level) (pool_at g) edge mid new (Err fault)
       → LooksHere g edge level old new (Err fault)
-  fails_below ReadFault read = record {
+  fails_below Failed read = record {
     viewed = viewed_then bucket.viewed read.viewed;
     reads = omega (arith, bucket.reads, read.reads);
     half_byte = half;

@@ -7,7 +7,7 @@ use Rattle.cell_types.specs.Records.{IsRecordCell}
 use Rattle.cell_types.specs.declared.record_cell.RecordCell.TheVariants.{Child}
 use Rattle.cell_types.specs.declared.refusal.Evidence.{Evidence}
 use Rattle.cell_types.specs.declared.refusal.Fault.{Fault}
-use Rattle.cell_types.specs.declared.refusal.Fault.TheVariants.{Tampered, ReadFault}
+use Rattle.cell_types.specs.declared.refusal.Fault.TheVariants.{Tampered, Failed}
 use Rattle.stored_documents.specs.Volumes.{Holds}
 use Rattle.stored_documents.proofs.Extending.{holds_on}
 use Rattle.index_paths.specs.HashPaths.{nibble}
@@ -293,7 +293,7 @@ module _ (g : Layout) (edge : ℕ) (old mid new : ViewState) (first level : Leve
   -- a fault
   pub ends_fault : (fault : Fault) → LooksHere g edge level mid new (Err fault)
       → Steps g edge old new first level (Err fault)
-  ends_fault ReadFault look = ends_so level.answered (Err ReadFault) look.viewed look.reads
+  ends_fault Failed look = ends_so level.answered (Err Failed) look.viewed look.reads
       (rose_from _ _ _ walk.faults look.ends)
   ends_fault (Tampered e) look = ends_so level.answered (Err (Tampered e)) look.viewed look.reads (⊎_elim
       (λ (b : (e.rule ≡ FAKE_BUCKET) × (e.cell ≡ bucket_at g level)

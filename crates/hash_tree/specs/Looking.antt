@@ -5,7 +5,7 @@ use Rattle.cell_types.specs.Layout.{Layout, pool_at}
 use Rattle.cell_types.specs.Records.{IsRecordCell}
 use Rattle.cell_types.specs.declared.record_cell.RecordCell.TheVariants.{Bucket, Child}
 use Rattle.cell_types.specs.declared.refusal.Fault.{Fault}
-use Rattle.cell_types.specs.declared.refusal.Fault.TheVariants.{Tampered, ReadFault}
+use Rattle.cell_types.specs.declared.refusal.Fault.TheVariants.{Tampered, Failed}
 use Rattle.stored_documents.specs.Volumes.{Holds}
 use Rattle.index_paths.specs.HashPaths.{fingerprint_of, nibble}
 use Rattle.tamper_rules.specs.declared.numbers.TheConstants.{FAKE_BUCKET, LOST_CHILD}
@@ -26,7 +26,7 @@ BucketEnds at old new (Ok None) =
 BucketEnds at old new (Ok (Some held)) =
     (new.base.faults ≡ old.base.faults)
     × (IsTrue old.base.tells → Holds new.image at (Bucket held.slot held.fingerprint))
-BucketEnds at old new (Err ReadFault) = Rose old.base.faults new.base.faults
+BucketEnds at old new (Err Failed) = Rose old.base.faults new.base.faults
 BucketEnds at old new (Err (Tampered e)) =
     (e.rule ≡ FAKE_BUCKET) × (e.cell ≡ at) × (new.base.faults ≡ old.base.faults)
     × (IsTrue old.base.tells → IsNoBucket new.image at e.found)
@@ -51,7 +51,7 @@ ChildEnds at pool edge old new (Ok None) =
 ChildEnds at pool edge old new (Ok (Some child)) =
     IsGoodChild pool edge at child × (new.base.faults ≡ old.base.faults)
     × (IsTrue old.base.tells → new.image at ≡ Some child.found)
-ChildEnds at pool edge old new (Err ReadFault) = Rose old.base.faults new.base.faults
+ChildEnds at pool edge old new (Err Failed) = Rose old.base.faults new.base.faults
 ChildEnds at pool edge old new (Err (Tampered e)) =
     (e.rule ≡ LOST_CHILD) × (e.cell ≡ at) × (new.base.faults ≡ old.base.faults)
     × (IsTrue old.base.tells → IsNoChild new.image pool edge at e.found)
@@ -93,7 +93,7 @@ abbrev pub HereEnds : Layout → ℕ → Level → ViewState → ViewState → R
 HereEnds g edge level old new (Ok here) =
     IsHere g edge level here × (new.base.faults ≡ old.base.faults)
     × (IsTrue old.base.tells → IsSeenHere g new.image level here)
-HereEnds g edge level old new (Err ReadFault) = Rose old.base.faults new.base.faults
+HereEnds g edge level old new (Err Failed) = Rose old.base.faults new.base.faults
 HereEnds g edge level old new (Err (Tampered e)) =
     (new.base.faults ≡ old.base.faults)
     × (((e.rule ≡ FAKE_BUCKET) × (e.cell ≡ bucket_at g level)

@@ -6,7 +6,7 @@ use Rattle.cell_types.specs.Records.{IsRecordCell}
 use Rattle.cell_types.specs.declared.record_cell.RecordCell.TheVariants.{Bucket, Child}
 use Rattle.cell_types.specs.declared.refusal.Evidence.{Evidence}
 use Rattle.cell_types.specs.declared.refusal.Fault.{Fault}
-use Rattle.cell_types.specs.declared.refusal.Fault.TheVariants.{Tampered, ReadFault}
+use Rattle.cell_types.specs.declared.refusal.Fault.TheVariants.{Tampered, Failed}
 use Rattle.stored_documents.specs.Volumes.{Holds}
 use Rattle.index_paths.specs.HashPaths.{Sought, IsPassed, PassedTo, fingerprint_of}
 use Rattle.tamper_rules.specs.Rules.{IsPlaceOf}
@@ -156,7 +156,7 @@ StepEnds g edge old new first last (Ok step) =
     IsOfLevel g first last step × (new.base.faults ≡ old.base.faults)
     × (IsTrue old.base.tells → IsStep g edge new.image first last (Ok step)
     × PassesLast g edge new.image first last step)
-StepEnds g edge old new first last (Err ReadFault) = Rose old.base.faults new.base.faults
+StepEnds g edge old new first last (Err Failed) = Rose old.base.faults new.base.faults
 StepEnds g edge old new first last (Err (Tampered e)) =
     IsHashRule e.rule × IsPlaceOf g e.rule e.cell × (new.base.faults ≡ old.base.faults)
     × (IsTrue old.base.tells → IsStep g edge new.image first last (Err e) × IsLicensedBoth g edge first old new e)

@@ -7,9 +7,10 @@ use crate::digests::{is_fingerprint, nibble_of};
 use crate::level::{ChildCell, Level};
 use crate::looks::{HeldBucket, Here};
 use crate::path::Open;
-use cell_types::{Evidence, Fault, RecordCell, Volume, decode};
+use cell_types::{Fault, RecordCell, Volume, breach};
+use index_paths::NODE_BUCKETS;
 use tamper_rules::{FAKE_BUCKET, LOST_CHILD};
-use worm_device::View;
+use worm_device::{View, record_at};
 
 /// A digest has 64 half bytes.
 const LAST_LEVEL: u8 = 63;
@@ -29,11 +30,7 @@ pub fn look_here<V: View>(
     let node = level.node(&volume.geometry);
     let x = u32::from(nibble_of(&level.digest, level.number));
     let bucket = node + x;
-    let found = match bucket_here(view, bucket) {
-        Ok(found) => found,
-        Err(fault) => return Err(fault),
-    };
-    let Some(held) = found else {
+    let Some(held) = bucket_here(view, bucket)? else {
         return Ok(Here::Ends(Open {
             bucket,
             child: None,
@@ -48,15 +45,14 @@ pub fn look_here<V: View>(
     if level.number == LAST_LEVEL {
         return Ok(Here::Last);
     }
-    let child = node + 16 + x;
-    match child_here(view, child, volume.geometry.pool_at(), edge) {
-        Ok(Some(led)) => Ok(Here::Leads(led)),
-        Ok(None) => Ok(Here::Ends(Open {
+    let child = node + NODE_BUCKETS + x;
+    let Some(led) = child_here(view, child, volume.geometry.pool_at(), edge)? else {
+        return Ok(Here::Ends(Open {
             bucket,
             child: Some(child),
-        })),
-        Err(fault) => Err(fault),
-    }
+        }));
+    };
+    Ok(Here::Leads(led))
 }
 
 /// Whether the level's bucket is a candidate that was not answered yet.
@@ -74,25 +70,11 @@ fn bucket_here<V: View>(view: &mut V, at: u32) -> Result<Option<HeldBucket>, Fau
     requires { at < (V.seen view.old).cells }
     ensures { ReadsBucket at (V.seen view.old) (V.seen view.new) result }
 {
-    let Ok(read) = view.read(at) else {
-        return Err(Fault::ReadFault);
-    };
-    let Some(found) = read else {
+    let Some(found) = record_at(view, at, FAKE_BUCKET)? else {
         return Ok(None);
     };
-    let Some(stated) = decode(found, at) else {
-        return Err(Fault::Tampered(Evidence {
-            rule: FAKE_BUCKET,
-            cell: at,
-            found,
-        }));
-    };
-    let RecordCell::Bucket { slot, fingerprint } = stated else {
-        return Err(Fault::Tampered(Evidence {
-            rule: FAKE_BUCKET,
-            cell: at,
-            found,
-        }));
+    let RecordCell::Bucket { slot, fingerprint } = found.held else {
+        return Err(breach(FAKE_BUCKET, at, found.cell));
     };
     Ok(Some(HeldBucket { slot, fingerprint }))
 }
@@ -108,36 +90,18 @@ fn child_here<V: View>(
     requires { at < (V.seen view.old).cells }
     ensures { ReadsChild at pool edge (V.seen view.old) (V.seen view.new) result }
 {
-    let Ok(read) = view.read(at) else {
-        return Err(Fault::ReadFault);
-    };
-    let Some(found) = read else {
+    let Some(found) = record_at(view, at, LOST_CHILD)? else {
         return Ok(None);
     };
-    let Some(stated) = decode(found, at) else {
-        return Err(Fault::Tampered(Evidence {
-            rule: LOST_CHILD,
-            cell: at,
-            found,
-        }));
-    };
-    let RecordCell::Child { target } = stated else {
-        return Err(Fault::Tampered(Evidence {
-            rule: LOST_CHILD,
-            cell: at,
-            found,
-        }));
+    let RecordCell::Child { target } = found.held else {
+        return Err(breach(LOST_CHILD, at, found.cell));
     };
     if target < pool || u64::from(target) + 32 > u64::from(edge) {
-        return Err(Fault::Tampered(Evidence {
-            rule: LOST_CHILD,
-            cell: at,
-            found,
-        }));
+        return Err(breach(LOST_CHILD, at, found.cell));
     }
     Ok(Some(ChildCell {
         cell: at,
-        found,
+        found: found.cell,
         target,
     }))
 }

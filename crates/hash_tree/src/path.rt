@@ -46,10 +46,7 @@ pub fn next_candidate<V: View>(
     ensures { Steps volume.now.geometry edge (V.seen view.old) (V.seen view.new) level.old level.new result }
 {
     loop {
-        let here = match look_here(view, volume, edge, level) {
-            Ok(here) => here,
-            Err(fault) => return Err(fault),
-        };
+        let here = look_here(view, volume, edge, level)?;
         match here {
             Here::Fits { slot, bucket } => {
                 level.answered = true;

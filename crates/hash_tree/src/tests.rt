@@ -4,7 +4,7 @@ ghost use Rattle.cell_types.specs.declared.geometry.TheConstants.{MAX_CELLS};
 
 use crate::digests::nibble_of;
 use crate::{Level, Open, PathStep, next_candidate};
-use cell_types::{Cell, Evidence, FORMAT_VERSION, Fault, Geometry, RecordCell, Volume, encode};
+use cell_types::{Cell, Evidence, FIRST_VERSION, Fault, Geometry, RecordCell, Volume, encode};
 use std::alloc::Global;
 use std::test::Fail;
 use worm_device::{Device, Direct};
@@ -79,12 +79,12 @@ fn two_steps(
     edge: u32,
     digest: [u8; 32],
 ) -> Result<[Result<PathStep, Fault>; 2], Fail> {
-    let geometry = Geometry::new(8, 2, device.cells()).ok_or("no volume")?;
+    let geometry = Geometry::new(8, 2, device.cells(), FIRST_VERSION).ok_or("no volume")?;
     if edge < geometry.pool_at() || edge > geometry.cells() {
         return Err("no edge".into());
     }
     let volume = Volume {
-        version: FORMAT_VERSION,
+        version: FIRST_VERSION,
         geometry,
     };
     let mut view = Direct::new(device);

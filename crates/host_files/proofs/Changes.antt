@@ -42,7 +42,7 @@ put_answers m from piece = record {
 
 -- a write that failed, and left nothing
 pub nothing_left : (m : FileMemory) (from : ℕ) (piece : List ℕ) (failed : Failed) → m.faults < 2 ^ 64
-    → WritesAt from piece (file_of m) (file_of (with_fault (with_call m))) (Err failed)
+    → WritesAt from piece (file_of m) (file_of (with_fault m)) (Err failed)
 nothing_left m from piece failed fits = record {
   size = refl;
   left = inl refl;
@@ -53,7 +53,7 @@ nothing_left m from piece failed fits = record {
 
 -- or all
 pub all_left : (m : FileMemory) (from : ℕ) (piece : List ℕ) (failed : Failed) → m.faults < 2 ^ 64 → length piece ≡ 16
-    → WritesAt from piece (file_of m) (file_of (with_fault (with_change (with_call m) (Put from piece)))) (Err failed)
+    → WritesAt from piece (file_of m) (file_of (with_fault (with_change m (Put from piece)))) (Err failed)
 all_left m from piece failed fits sixteen = record {
   size = refl;
   left = inr (piece, sixteen, becomes m (Put from piece), inl refl);
@@ -66,13 +66,25 @@ all_left m from piece failed fits sixteen = record {
 pub part_left : (m : FileMemory) (from : ℕ) (piece part : List ℕ) (failed : Failed) → m.faults < 2 ^ 64
     → m.parts < 2 ^ 64 → length part ≡ 16
     → WritesAt from piece (file_of m)
-    (file_of (with_fault (with_part (with_change (with_call m) (Put from part))))) (Err failed)
+    (file_of (with_fault (with_part (with_change m (Put from part))))) (Err failed)
 part_left m from piece part failed fits few sixteen = record {
   size = refl;
   left = inr (part, sixteen, becomes m (Put from part), inr (omega arith));
   parts = omega (arith, few);
   later = omega (arith, fits);
   cause = omega arith;
+}
+
+-- a write that failed, from its call on
+pub after_call : (m new : FileMemory) (from : ℕ) (piece : List ℕ) (failed : Failed)
+    → WritesAt from piece (file_of (with_call m)) (file_of new) (Err failed)
+    → WritesAt from piece (file_of m) (file_of new) (Err failed)
+after_call m new from piece failed w = record {
+  size = w.size;
+  left = w.left;
+  parts = w.parts;
+  later = w.later;
+  cause = w.cause;
 }
 
 -- a sync that answered

@@ -4,9 +4,17 @@ pub mod Images
 pub mod PageBytes
 pub mod PageCells
 pub mod PageSets
+pub mod PlacesLeft
+pub mod PlacesMade
+pub mod PlacesPut
+pub mod RowAsked
+pub mod RowBytes
+pub mod RowCells
+pub mod RowPieces
 pub mod Reading
 pub mod Standing
 pub mod Stores
 pub mod Syncing
 pub mod Time
+pub mod Untold
 pub mod Writing

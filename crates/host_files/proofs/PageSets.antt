@@ -2,6 +2,7 @@
 use Rattle.std.specs.Prelude.{◌≡◌, ◌≢◌, ◌<◌, ◌⊎◌, ◌*◌, ◌+◌, ◌/◌, ◌%◌, ◌≤◌, ℕ, zero, suc, List, [], ◌∷◌, length, set, get_or, slice_get, Some, None, Result, Ok, Err, OnOk, OnErr}
 use Rattle.std.proofs.Common.{refl, ◌∙◌, ap, sym, subst, arith, inl, inr, ⊎_elim}
 use Rattle.std.proofs.lemmas.Option.{none-some, same_Some, slice_get-get_or, slice_get_within}
+use Rattle.std.proofs.lemmas.List.{length-set, get_or-set_same}
 use Rattle.std.proofs.lemmas.Bool.Decides.{eqb_tells}
 use Rattle.worm_device.specs.declared.device.Failed.{Failed}
 use Rattle.host_files.specs.Cells.{cell_bytes, cell_in}
@@ -142,3 +143,16 @@ on_rest pages frame page other number none on =
     (λ here. absurd (none-some number (sym none ∙ ap (λ (p : Page). p.number) here.1 ∙ on.2)))
     (λ before. (before.0, (on.0, before.1, on.2)))
     (got pages frame page other on.0 on.1)
+
+-- a page that has changed but for its number is on where it was
+pub on_same : (pages : List Page) (frame : ℕ) (page new : Page) (number : ℕ) → slice_get pages frame ≡ Some page
+    → IsOn pages frame number → new.number ≡ page.number → IsOn (set pages frame new) frame number
+on_same pages frame page new number is on same = (
+  new,
+  set_is pages frame new (slice_get_within pages frame page is),
+  same ∙ ap (λ (p : Page). p.number) (same_Some page on.0 (sym is ∙ on.1)) ∙ on.2,
+)
+  where
+    set_is : {X : Type 0} (xs : List X) (i : ℕ) (x : X) → i < length xs → slice_get (set xs i x) i ≡ Some x
+    set_is xs i x within = slice_get-get_or (set xs i x) i x (omega (arith, within, length-set xs i x))
+        ∙ ap (λ y. Some y) (get_or-set_same xs i x x within)

@@ -6,7 +6,7 @@ use Rattle.cell_types.specs.Image.{Image, Extends, Between}
 use Rattle.worm_device.specs.Calls.{Elapses, Called}
 use Rattle.worm_device.specs.State.{Instant}
 use Rattle.worm_device.proofs.Images.{extends_self, between_wider}
-use Rattle.worm_device.proofs.Elapsing.{elapsed_since}
+use Rattle.worm_device.proofs.Elapsing.{elapsed_since, remembered_since}
 use Rattle.host_files.specs.Cells.{image_of}
 use Rattle.host_files.specs.Device.{instant_of, now_in, device_at}
 use Rattle.host_files.specs.File.{Held, Told, Becomes}
@@ -36,6 +36,12 @@ called_same cells reads reads' faults faults' parts parts' told more_reads more_
   foreign_writes = more_parts;
   reads = more_reads;
   crashes = elapsed_since (elapses_same cells reads reads' faults faults' parts parts' told);
+  remembers = remembered_since (record {
+    later = omega arith;
+    past = λ m before. refl;
+    last = λ later. absurd (omega (arith, later));
+    still = λ same. refl;
+  });
 }
 
 -- a crash could have left this image at some instant
@@ -99,4 +105,10 @@ called_step cells reads faults faults' parts parts' old new held step image sure
   foreign_writes = more_parts;
   reads = omega arith;
   crashes = elapsed_since (elapses_step cells reads faults faults' parts parts' old new held step image sure);
+  remembers = remembered_since (record {
+    later = omega (arith, step.later);
+    past = λ m before. ap (instant_of cells) (step.past m before);
+    last = λ later. ap (instant_of cells) step.last;
+    still = λ same. absurd (omega (arith, step.later, same));
+  });
 }

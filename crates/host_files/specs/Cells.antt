@@ -1,5 +1,5 @@
 -- The cells of a device among the bytes of a file.
-use Rattle.std.specs.Prelude.{◌==◌, ◌&&◌, ◌*◌, if◌then◌else◌, nat_lt, ℕ, Bool, true, List, [], ◌∷◌, Option, Some, None}
+use Rattle.std.specs.Prelude.{◌≡◌, ◌<◌, ◌==◌, ◌&&◌, ◌+◌, ◌*◌, if◌then◌else◌, nat_lt, ℕ, Bool, true, List, [], ◌∷◌, Option, Some, None, slice_get}
 use Rattle.cell_types.specs.Image.{Image}
 use Rattle.host_files.specs.File.{part_at}
 
@@ -19,3 +19,9 @@ cell_bytes bytes cell = part_at (16 * cell) bytes
 -- what stands in the first so many cells of a file of these bytes
 abbrev pub image_of : ℕ → List ℕ → Image
 image_of cells bytes cell = if nat_lt cell cells then cell_in (cell_bytes bytes cell) else None
+
+-- each of the first so many that were found is what stands in a cell of these bytes, from this one on
+abbrev pub AreCellsIn : ℕ → ℕ → List (Option (List ℕ)) → List ℕ → Type 0
+AreCellsIn count first found bytes =
+    (place : ℕ) (held : Option (List ℕ)) → place < count → slice_get found place ≡ Some held
+    → held ≡ cell_in (cell_bytes bytes (first + place))

@@ -1,6 +1,6 @@
 -- What a file of the host is for contracts, and what each of its calls does. Sixteen bytes that begin at a multiple
 -- of 16 are a place.
-use Rattle.std.specs.Prelude.{◌≡◌, ◌<◌, ◌≤◌, ◌+◌, ◌⊎◌, ◌++◌, ℕ, List, length, take, drop, Option, Some, None, IfSome, IsTrue, is_some, replicate, Result, OnOk, MatchResult, ⊤}
+use Rattle.std.specs.Prelude.{zero, suc, ◌≡◌, ◌<◌, ◌≤◌, ◌+◌, ◌*◌, ◌/◌, ◌⊎◌, ◌++◌, ℕ, List, length, take, drop, Option, Some, None, IfSome, IsTrue, is_some, replicate, Result, OnOk, MatchResult, ⊤}
 use Rattle.cell_types.specs.Bytes.{AreBytes}
 use Rattle.worm_device.specs.Counts.{Rose}
 use Rattle.worm_device.specs.declared.device.Failed.{Failed}
@@ -28,8 +28,10 @@ pub record FileState : Type 0 where
   pub faults : ℕ
   -- how many failed writes have left neither what was there nor all that was to be written
   pub parts : ℕ
-  -- where the last call found sixteen zeros, if it looked at sixteen bytes
+  -- where the last call found zeros, if it found nothing else
   pub blank_at : Option ℕ
+  -- and how many
+  pub blank_size : ℕ
 
 -- what holds of every file: it has its size, and bytes are bytes
 pub record IsFile (file : FileState) : Type 0 where
@@ -70,9 +72,14 @@ MakesSure (Some old) (Some new) = Becomes old new (record { bytes = old.now.byte
 abbrev pub HasCause : {X : Type 0} → FileState → FileState → Result X Failed → Type 0
 HasCause old new result = MatchResult result (λ _. new.faults ≡ old.faults) (λ _. Rose old.faults new.faults)
 
--- Who writes sixteen bytes has asked for them right before, and they were zeros.
+-- Who writes so many bytes has asked for them right before, and they were zeros.
+abbrev pub IsAskedFor : ℕ → ℕ → FileState → Type 0
+IsAskedFor from count file =
+    IsTrue (is_some file.told) → (file.blank_at ≡ Some from) × (file.blank_size ≡ count)
+
+-- the same of sixteen
 abbrev pub IsAsked : ℕ → FileState → Type 0
-IsAsked from file = IsTrue (is_some file.told) → file.blank_at ≡ Some from
+IsAsked from file = IsAskedFor from 16 file
 
 -- A read, whatever it read, changes nothing.
 pub record Asks {X : Type 0} (old new : FileState) (result : Result X Failed) : Type 0 where
@@ -88,7 +95,7 @@ pub record ReadsAt (from : ℕ) (into : List ℕ) (old new : FileState) (result 
   pub told : new.told ≡ old.told
   pub parts : new.parts ≡ old.parts
   pub answer : OnOk result (IfSome old.told (λ t. into ≡ take (length into) (drop from t.now.bytes)))
-  pub blank : OnOk result (into ≡ replicate 16 0 → IsAsked from new)
+  pub blank : OnOk result (into ≡ replicate (length into) 0 → IsAskedFor from (length into) new)
   pub later : old.faults ≤ new.faults
   pub cause : HasCause old new result
 
@@ -103,6 +110,34 @@ Leaves from piece old new =
 pub record WritesAt (from : ℕ) (piece : List ℕ) (old new : FileState) (result : Result Unit Failed) : Type 0 where
   pub size : new.size ≡ old.size
   pub left : MatchResult result (λ _. Puts from piece old.told new.told) (λ _. Leaves from piece old new)
+  pub parts : MatchResult result (λ _. new.parts ≡ old.parts) (λ _. old.parts ≤ new.parts)
+  pub later : old.faults ≤ new.faults
+  pub cause : HasCause old new result
+
+-- So many places from this one on were put one after another, each by a change of its own: those of a cell and its
+-- neighbours, and the bytes of place k are the sixteen from 16 * k on.
+abbrev pub PutsPlaces : ℕ → ℕ → ℕ → List ℕ → Option Told → Option Told → Type 0
+PutsPlaces zero place cell bytes old new = new ≡ old
+PutsPlaces (suc count) place cell bytes old new =
+    (mid : Option Told) × Puts (16 * (cell + place)) (part_at (16 * place) bytes) old mid
+    × PutsPlaces count (place + 1) cell bytes mid new
+
+-- What a write of places that failed has left, place by place: what was there, or the bytes, or any sixteen, which
+-- counts as a part.
+abbrev pub LeavesPlaces : ℕ → ℕ → ℕ → List ℕ → Type 0 → Option Told → Option Told → Type 0
+LeavesPlaces zero place cell bytes Torn old new = new ≡ old
+LeavesPlaces (suc count) place cell bytes Torn old new =
+    (mid : Option Told)
+    × ((mid ≡ old)
+    ⊎ ((put : List ℕ) × (length put ≡ 16) × Puts (16 * (cell + place)) put old mid
+    × ((put ≡ part_at (16 * place) bytes) ⊎ Torn)))
+    × LeavesPlaces count (place + 1) cell bytes Torn mid new
+
+-- A write of places that answers has put each of them.
+pub record WritesPlaces (from : ℕ) (bytes : List ℕ) (old new : FileState) (result : Result Unit Failed) : Type 0 where
+  pub size : new.size ≡ old.size
+  pub left : MatchResult result (λ _. PutsPlaces (length bytes / 16) 0 (from / 16) bytes old.told new.told)
+      (λ _. LeavesPlaces (length bytes / 16) 0 (from / 16) bytes (Rose old.parts new.parts) old.told new.told)
   pub parts : MatchResult result (λ _. new.parts ≡ old.parts) (λ _. old.parts ≤ new.parts)
   pub later : old.faults ≤ new.faults
   pub cause : HasCause old new result

@@ -8,3 +8,4 @@ pub mod Over
 pub mod OsFile
 pub mod Pages
 pub mod Proper
+pub mod Rows

@@ -2,7 +2,7 @@
 -- it held at each moment follows.
 use Rattle.std.specs.Prelude.{◌≡◌, ◌+◌, ℕ, List, [], ◌∷◌, ◌++◌, length, take, Option, Some, None}
 use Rattle.worm_device.specs.Counts.{next_count}
-use Rattle.host_files.specs.File.{FileState, Held, Told, patched}
+use Rattle.host_files.specs.File.{FileState, Held, Told, PutsPlaces, patched}
 use Rattle.host_files.specs.declared.change.FileChange.{FileChange}
 use Rattle.host_files.specs.declared.change.FileChange.TheVariants.{Put, Synced}
 
@@ -36,6 +36,8 @@ pub record FileMemory : Type 0 where
   pub parts : ℕ
   -- where the last call found sixteen zeros
   pub blank_at : Option ℕ
+  -- how many
+  pub blank_size : ℕ
 
 -- what it held after these of its changes
 abbrev pub held_at : FileMemory → List FileChange → Held
@@ -57,6 +59,7 @@ file_of m = record {
   faults = m.faults;
   parts = m.parts;
   blank_at = m.blank_at;
+  blank_size = m.blank_size;
 }
 
 -- one more change
@@ -65,7 +68,7 @@ with_change m change = record m { changes = m.changes ++ change ∷ [] }
 
 -- one more call, which has found no zeros yet
 abbrev pub with_call : FileMemory → FileMemory
-with_call m = record m { blank_at = None; calls = next_count m.calls }
+with_call m = record m { blank_at = None; blank_size = 0; calls = next_count m.calls }
 
 -- one more fault
 abbrev pub with_fault : FileMemory → FileMemory
@@ -78,3 +81,10 @@ with_part m = record m { parts = next_count m.parts }
 -- the next call is to fail
 abbrev pub IsToFail : FileMemory → Type 0
 IsToFail m = m.fails ≡ Some (m.calls + 1)
+
+-- so many places of these bytes were put one after another, from this one of the file on, and no count has changed
+pub record HasPut (count cell : ℕ) (bytes : List ℕ) (old new : FileMemory) : Type 0 where
+  pub first : new.first ≡ old.first
+  pub puts : PutsPlaces count 0 cell bytes (Some (told_of old)) (Some (told_of new))
+  pub faults : new.faults ≡ old.faults
+  pub parts : new.parts ≡ old.parts

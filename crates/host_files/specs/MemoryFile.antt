@@ -14,6 +14,7 @@ memory_of file = record {
   faults = file.faults;
   parts = file.parts;
   blank_at = file.blank_at;
+  blank_size = file.blank_size;
 }
 
 -- how many further changes its record has room for

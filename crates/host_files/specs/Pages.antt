@@ -1,6 +1,6 @@
 -- What the pages of a file hold.
 use Rattle.std.specs.Prelude.{◌≡◌, ◌<◌, ◌≤◌, ◌+◌, ◌*◌, ℕ, List, length, slice_get, Option, Some}
-use Rattle.host_files.specs.Cells.{cell_bytes, cell_in}
+use Rattle.host_files.specs.Cells.{AreCellsIn, cell_bytes, cell_in}
 use Rattle.host_files.specs.File.{Told, patched}
 use Rattle.host_files.specs.declared.pages.Page.{Page}
 
@@ -44,6 +44,11 @@ HoldOn cells told old new =
 abbrev pub IsToldOf : ℕ → ℕ → Option Told → List Page → Option (List ℕ) → Type 0
 IsToldOf cells at told pages found =
     (t : Told) → told ≡ Some t → PagesHold cells t.now.bytes pages → found ≡ cell_in (cell_bytes t.now.bytes at)
+
+-- where the pages hold what is told, this is what stands in the cells from this one on
+abbrev pub AreToldOf : ℕ → ℕ → Option Told → List Page → List (Option (List ℕ)) → Type 0
+AreToldOf cells at told pages found =
+    (t : Told) → told ≡ Some t → PagesHold cells t.now.bytes pages → AreCellsIn (length found) at found t.now.bytes
 
 -- where the old pages hold the bytes, the new ones hold them with this piece in the cell
 abbrev pub HoldPut : ℕ → List ℕ → List Page → List Page → Type 0

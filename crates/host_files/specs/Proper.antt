@@ -15,7 +15,7 @@ use Rattle.host_files.specs.File.{FileState, IsFile, Told, part_at}
 
 -- so many bytes and faults, and nothing else
 abbrev pub untold : ℕ → ℕ → FileState
-untold size faults = record { size = size; told = None; faults = faults; parts = 0; blank_at = None }
+untold size faults = record { size = size; told = None; faults = faults; parts = 0; blank_at = None; blank_size = 0 }
 
 pub is_file : (size faults : ℕ) → IsFile (untold size faults)
 is_file size faults = record {

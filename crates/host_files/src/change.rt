@@ -9,7 +9,8 @@ pub enum FileChange {
     Synced,
 }
 
-/// What a write that fails leaves of its sixteen bytes.
+/// What a write that fails leaves of the sixteen bytes at which it fails. One of several places has put the first half of
+/// them, fails at the next, and leaves those behind as they were.
 #[derive(Clone, Copy, Debug, PartialEq, Eq)]
 pub enum Leaving {
     /// None of them: what was there.

@@ -1,16 +1,19 @@
 //! The calls of a device over a file.
 //!
 //! A write does not trust the pages: it asks the file itself whether the cell is blank, right before it writes, and
-//! puts what it found or wrote onto the cell's page.
-ghost use Rattle.std.specs.Prelude.{◌≡◌, ◌<◌, ◌≤◌, ◌^◌};
+//! puts what it found or wrote onto the cell's page. So does a row, a page at a time, and holds that page no longer.
+ghost use Rattle.std.specs.Prelude.{◌≡◌, ◌<◌, ◌≤◌, ◌+◌, ◌^◌, length};
 ghost use Rattle.worm_device.specs.Calls.{Reads, Writes, Syncs};
 ghost use Rattle.worm_device.specs.Counts.{next_count};
+ghost use Rattle.worm_device.specs.ReadRows.{ReadsRow};
+ghost use Rattle.worm_device.specs.Rows.{WritesRow};
 ghost use Rattle.host_files.specs.Device.{device_over};
 ghost use Rattle.host_files.specs.Proper.{is_device};
 
+use crate::page::cells_on_page;
 use crate::{FileDevice, HostFile};
 use cell_types::Cell;
-use worm_device::{Device, Failed, Written};
+use worm_device::{Device, Failed, RowWritten, Written};
 
 impl<F: HostFile> Device for FileDevice<F> {
     ghost state = { λ device. device_over device.cells device.reads (F.state device.file) };
@@ -22,6 +25,11 @@ impl<F: HostFile> Device for FileDevice<F> {
     fn read(&mut self, at: u32) -> Result<Option<Cell>, Failed> {
         self.reads = self.reads.saturating_add(1);
         self.pages.read(&mut self.file, self.cells, at)
+    }
+
+    fn read_row(&mut self, at: u32, cells: &mut [Option<Cell>]) -> Result<(), Failed> {
+        self.reads = self.reads.saturating_add(cells.len() as u64);
+        self.pages.read_row(&mut self.file, self.cells, at, cells)
     }
 
     fn write(&mut self, at: u32, value: Cell) -> Result<Written, Failed> {
@@ -44,6 +52,19 @@ impl<F: HostFile> Device for FileDevice<F> {
                 Err(failed)
             }
         }
+    }
+
+    fn write_row(&mut self, at: u32, values: &[Cell]) -> Result<RowWritten, Failed> {
+        let mut done = 0;
+        while done < values.len() {
+            let cell = at + done as u32;
+            let end = done + cells_on_page(cell, values.len() - done);
+            match self.write_piece(cell, &values[done..end])? {
+                RowWritten::Whole => done = end,
+                other => return Ok(other),
+            }
+        }
+        Ok(RowWritten::Whole)
     }
 
     fn sync(&mut self) -> Result<(), Failed> {

@@ -1,6 +1,6 @@
 //! What a device needs of a file: bytes that are read and written at places, and made sure.
 ghost use Rattle.std.specs.Prelude.{◌≡◌, ◌≤◌, ◌+◌, ◌%◌, length};
-ghost use Rattle.host_files.specs.File.{FileState, IsFile, IsAsked, ReadsAt, WritesAt, Flushes};
+ghost use Rattle.host_files.specs.File.{FileState, IsFile, IsAsked, IsAskedFor, ReadsAt, WritesAt, WritesPlaces, Flushes};
 
 use worm_device::Failed;
 
@@ -26,6 +26,15 @@ pub trait HostFile {
         requires place { from % 16 ≡ 0 }
         requires asked { IsAsked from (state self.old) }
         ensures { WritesAt from piece.now (state self.old) (state self.new) result };
+
+    /// Writes places one after another, over the zeros that the last call found there. After a failure any bytes of
+    /// them may have got there.
+    fn write_places(&mut self, bytes: &[u8], from: u64) -> Result<(), Failed>
+        requires inside { from + length bytes.now ≤ (state self.old).size }
+        requires place { from % 16 ≡ 0 }
+        requires whole { length bytes.now % 16 ≡ 0 }
+        requires asked { IsAskedFor from (length bytes.now) (state self.old) }
+        ensures { WritesPlaces from bytes.now (state self.old) (state self.new) result };
 
     /// Makes all bytes sure.
     fn sync(&mut self) -> Result<(), Failed>

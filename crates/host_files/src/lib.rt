@@ -8,8 +8,9 @@
 //!                                cell 999    bytes 15,984 to 15,999
 //!                                no cell     bytes 16,000 to 16,006
 //!
-//! `HostFile` is what a device needs of a file: read at a place, write sixteen bytes at a place, sync. Contracts see
-//! its bytes, what of them is sure, and what it held at each moment before, where it tells them:
+//! `HostFile` is what a device needs of a file: read at a place, write sixteen bytes at a place or at neighbouring
+//! places, sync. Contracts see its bytes, what of them is sure, and what it held at each moment before, where it tells
+//! them:
 //!
 //!     OsFile         a file of the operating system: tells nothing, and is trusted to do what its calls say
 //!     MemoryFile     bytes in memory: tells everything, and fails at the call that it is told
@@ -19,8 +20,10 @@
 //!     read cell 300     bytes 4,096 to 8,191 of the file, and then byte 704 of those and on
 //!     read cell 301     no byte of the file
 //!     write cell 301    bytes 4,816 to 4,831 are read and, where they are zeros, written
+//!     write cells 301   bytes 4,816 to 8,191 are read and, where all of them are zeros, written at once, else cell
+//!       to 600          by cell; then those from 8,192 on, up to 9,615
 //!
-//! A write that failed may have left a part of its sixteen bytes. The file counts it, and the device shows it as
+//! A write that failed may have left a part of sixteen bytes. The file counts it, and the device shows it as
 //! written by somebody else. In a crash a place is whole: it holds what was sure or what stood there. That is assumed
 //! of the host (`CrashLeaves`), and proved of nothing.
 //!
@@ -40,6 +43,7 @@ mod memory_file;
 mod os_file;
 mod page;
 mod pages;
+mod rows;
 #[cfg(test)]
 mod tests;
 

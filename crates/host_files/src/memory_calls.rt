@@ -1,8 +1,8 @@
 //! The calls of a file in memory. A call fails exactly where it is to, and a write or a sync also where the record has
 //! no room for its change.
-ghost use Rattle.std.specs.Prelude.{◌≡◌, ◌≤◌, ◌+◌, ◌%◌, ◌⊎◌, ◌↔◌, IsErr, length};
-ghost use Rattle.host_files.specs.File.{IsAsked, ReadsAt, WritesAt, Flushes};
-ghost use Rattle.host_files.specs.Memory.{IsToFail};
+ghost use Rattle.std.specs.Prelude.{◌≡◌, ◌<◌, ◌≤◌, ◌+◌, ◌*◌, ◌/◌, ◌%◌, ◌⊎◌, ◌↔◌, Err, IsErr, length};
+ghost use Rattle.host_files.specs.File.{IsAsked, IsAskedFor, ReadsAt, WritesAt, WritesPlaces, Flushes, part_at};
+ghost use Rattle.host_files.specs.Memory.{HasPut, IsToFail};
 ghost use Rattle.host_files.specs.MemoryFile.{memory_of, room_of, state_of};
 ghost use Rattle.host_files.specs.Proper.{is_memory};
 
@@ -18,6 +18,52 @@ fn part_of(piece: &[u8; 16], these: [bool; 16]) -> [u8; 16] {
         }
     }
     part
+}
+
+/// The sixteen bytes of a place of these.
+fn piece_at(bytes: &[u8], place: usize) -> [u8; 16]
+    requires { 16 * place + 16 ≤ length bytes.now }
+    ensures piece { result ≡ part_at (16 * place) bytes.now }
+    ensures sixteen { length result ≡ 16 }
+{
+    let mut piece = [0; 16];
+    piece.copy_from_slice(&bytes[16 * place..16 * place + 16]);
+    piece
+}
+
+impl MemoryFile {
+    /// Puts the first so many places of these bytes, where the record has room.
+    fn put_first(&mut self, bytes: &[u8], from: u64, count: usize)
+        requires inside { from + length bytes.now ≤ (state_of self.old).size }
+        requires place { from % 16 ≡ 0 }
+        requires most { 16 * count ≤ length bytes.now }
+        requires room { count ≤ room_of self.old }
+        ensures puts { HasPut count (from / 16) bytes.now (memory_of self.old) (memory_of self.new) }
+        ensures room { room_of self.new + count ≡ room_of self.old }
+    {
+        for place in 0..count {
+            self.put(from + 16 * place as u64, piece_at(bytes, place));
+        }
+    }
+
+    /// Leaves of sixteen bytes what a write that fails is to leave, and counts the fault.
+    fn leave(&mut self, piece: &[u8; 16], from: u64) -> Failed
+        requires inside { from + 16 ≤ (state_of self.old).size }
+        requires room { 1 ≤ room_of self.old }
+        ensures { WritesAt from piece.now (state_of self.old) (state_of self.new) (Err result) }
+    {
+        match self.leaving() {
+            Leaving::Nothing => self.fail(),
+            Leaving::All => {
+                self.put(from, *piece);
+                self.fail()
+            }
+            Leaving::Part(these) => {
+                self.put_part(from, part_of(piece, these));
+                self.fail()
+            }
+        }
+    }
 }
 
 impl HostFile for MemoryFile {
@@ -36,8 +82,8 @@ impl HostFile for MemoryFile {
             return Err(self.fail());
         }
         self.give(into, from as usize);
-        if into.len() == 16 && into.iter().all(|byte| *byte == 0) {
-            self.found_blank(from);
+        if into.iter().all(|byte| *byte == 0) {
+            self.found_blank(from, into.len() as u64);
         }
         Ok(())
     }
@@ -57,17 +103,33 @@ impl HostFile for MemoryFile {
             self.put(from, *piece);
             return Ok(());
         }
-        match self.leaving() {
-            Leaving::Nothing => Err(self.fail()),
-            Leaving::All => {
-                self.put(from, *piece);
-                Err(self.fail())
-            }
-            Leaving::Part(these) => {
-                self.put_part(from, part_of(piece, these));
-                Err(self.fail())
-            }
+        Err(self.leave(piece, from))
+    }
+
+    fn write_places(&mut self, bytes: &[u8], from: u64) -> Result<(), Failed>
+        requires inside { from + length bytes.now ≤ (state_of self.old).size }
+        requires place { from % 16 ≡ 0 }
+        requires whole { length bytes.now % 16 ≡ 0 }
+        requires asked { IsAskedFor from (length bytes.now) (state_of self.old) }
+        ensures writes { WritesPlaces from bytes.now (state_of self.old) (state_of self.new) result }
+        ensures fails { IsErr result
+            ↔ (IsToFail (memory_of self.old) ⊎ (room_of self.old < length bytes.now / 16)) }
+    {
+        let fails = self.begin();
+        let count = bytes.len() / 16;
+        if self.room() < count {
+            return Err(self.fail());
         }
+        if !fails {
+            self.put_first(bytes, from, count);
+            return Ok(());
+        }
+        if count == 0 {
+            return Err(self.fail());
+        }
+        let whole = count / 2;
+        self.put_first(bytes, from, whole);
+        Err(self.leave(&piece_at(bytes, whole), from + 16 * whole as u64))
     }
 
     fn sync(&mut self) -> Result<(), Failed>

@@ -33,6 +33,7 @@ pub struct MemoryFile {
     bytes: Vec<u8>,
     changes: Vec<FileChange>,
     blank_at: Option<u64>,
+    blank_size: u64,
     calls: u64,
     fails: Option<u32>,
     leaving: Leaving,
@@ -61,6 +62,7 @@ impl MemoryFile {
           faults = 0;
           parts = 0;
           blank_at = None;
+          blank_size = 0;
         }) }
         ensures room { IfOk result (λ file. changes ≤ room_of file) }
         ensures stands { IfOk result (λ file. (cells : ℕ) → SureStands cells (state_of file).told) }
@@ -76,6 +78,7 @@ impl MemoryFile {
             bytes,
             changes: room,
             blank_at: None,
+            blank_size: 0,
             calls: 0,
             fails: None,
             leaving: Leaving::Nothing,
@@ -115,6 +118,7 @@ impl MemoryFile {
         ensures room { room_of self.new ≡ room_of self.old }
     {
         self.blank_at = None;
+        self.blank_size = 0;
         self.calls = self.calls.saturating_add(1);
         match self.fails {
             Some(call) => u64::from(call) == self.calls,
@@ -152,12 +156,13 @@ impl MemoryFile {
         into.copy_from_slice(&self.bytes[from..from + into.len()]);
     }
 
-    /// Sixteen zeros were found at this offset.
-    pub(crate) fn found_blank(&mut self, from: u64)
-        ensures found { memory_of self.new ≡ record (memory_of self.old) { blank_at = Some from } }
+    /// So many zeros were found at this offset.
+    pub(crate) fn found_blank(&mut self, from: u64, count: u64)
+        ensures found { memory_of self.new ≡ record (memory_of self.old) { blank_at = Some from; blank_size = count } }
         ensures room { room_of self.new ≡ room_of self.old }
     {
         self.blank_at = Some(from);
+        self.blank_size = count;
     }
 
     /// Puts sixteen bytes, where the record has room.
@@ -165,6 +170,7 @@ impl MemoryFile {
         requires inside { from + 16 ≤ length (memory_of self.old).first }
         requires room { 1 ≤ room_of self.old }
         ensures put { memory_of self.new ≡ with_change (memory_of self.old) (Put from piece) }
+        ensures left { room_of self.new + 1 ≡ room_of self.old }
         ensures sixteen { length piece ≡ 16 }
     {
         overwrite(self.bytes.as_mut_slice(), from as usize, piece);

@@ -13,7 +13,7 @@
 //! no call answers.
 ghost use Rattle.std.specs.Prelude.{◌≡◌, ◌≤◌, ◌<◌, ◌+◌, ◌*◌, ◌^◌, length, OnOk, OnErr};
 ghost use Rattle.worm_device.specs.Counts.{next_count};
-ghost use Rattle.host_files.specs.File.{ReadsAt, WritesAt, Flushes};
+ghost use Rattle.host_files.specs.File.{ReadsAt, WritesAt, WritesPlaces, Flushes};
 ghost use Rattle.host_files.specs.OsFile.{state_of};
 ghost use Rattle.host_files.specs.Proper.{is_file, untold};
 
@@ -162,6 +162,14 @@ impl<F: FileExt + OpenFile + Hold> HostFile for OsFile<F> {
     fn write_at(&mut self, piece: &[u8; 16], from: u64) -> Result<(), Failed> {
         let done = match self.begin() {
             Ok(()) => self.file.write_all_at(piece, from),
+            Err(error) => Err(error),
+        };
+        self.answer(done)
+    }
+
+    fn write_places(&mut self, bytes: &[u8], from: u64) -> Result<(), Failed> {
+        let done = match self.begin() {
+            Ok(()) => self.file.write_all_at(bytes, from),
             Err(error) => Err(error),
         };
         self.answer(done)

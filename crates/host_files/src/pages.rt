@@ -13,16 +13,13 @@ ghost use Rattle.host_files.specs.File.{Told, Asks};
 ghost use Rattle.host_files.specs.Pages.{PageHolds, AreApart};
 
 use crate::HostFile;
-use crate::page::{PAGE_BYTES, cell_at, put_at};
+use crate::page::{PAGE_BYTES, PAGE_CELLS, cell_at, cells_on_page, copy_cells, put_at};
 use cell_types::{Cell, NoMemory};
 use std::alloc::Global;
 use worm_device::Failed;
 
 /// How many pages are held.
 const PAGES: usize = 16;
-
-/// The cells of a page.
-const PAGE_CELLS: u32 = 256;
 
 /// A page, or room for one.
 #[derive(Clone, Copy)]
@@ -61,12 +58,15 @@ impl Page {
 pub struct Pages {
     pages: Vec<Page>,
     uses: u64,
+    /// Where the page is that was used last.
+    latest: usize,
+    ghost inside: { latest < 16 },
     ghost sixteen: { vec_len pages ≡ 16 },
     ghost apart: { AreApart pages.items },
 }
 
 impl Pages {
-    ghost use Rattle.host_files.specs.Pages.{PagesHold, IsOn, IsNowhere, HoldNothing, HoldOn, HoldPut, IsToldOf};
+    ghost use Rattle.host_files.specs.Pages.{PagesHold, IsOn, IsNowhere, HoldNothing, HoldOn, HoldPut, IsToldOf, AreToldOf};
     ghost use Rattle.host_files.specs.declared.pages.Page.{Page};
 
     /// Takes the memory, some 64 KiB. Nothing is held.
@@ -79,7 +79,11 @@ impl Pages {
         let Ok(pages) = vec![in alloc; room; PAGES] else {
             return Err(NoMemory);
         };
-        Ok(Pages { pages, uses: 0 })
+        Ok(Pages {
+            pages,
+            uses: 0,
+            latest: 0,
+        })
     }
 
     /// Holds nothing from now on.
@@ -98,6 +102,9 @@ impl Pages {
         ensures found { IfSome result (λ frame. IsOn self.now.pages.items frame number) }
         ensures none { IsNone result → IsNowhere self.now.pages.items number }
     {
+        if self.pages[self.latest].number == Some(number) {
+            return Some(self.latest);
+        }
         for frame in 0..PAGES {
             if self.pages[frame].number == Some(number) {
                 return Some(frame);
@@ -133,18 +140,34 @@ impl Pages {
         Ok(frame)
     }
 
-    /// What stands at a place of a page that is held, which is used now.
-    fn show(&mut self, frame: usize, place: u8) -> Option<Cell>
+    /// The page that is held here is used now.
+    fn touch(&mut self, frame: usize)
         requires { frame < 16 }
-        ensures found { (page : Page) → slice_get self.old.pages.items frame ≡ Some page
-            → result ≡ cell_in (cell_bytes page.bytes place) }
+        ensures on { (number : ℕ) → IsOn self.old.pages.items frame number → IsOn self.new.pages.items frame number }
         ensures holds { (cells : ℕ) (bytes : List ℕ) → PagesHold cells bytes self.old.pages.items
             → PagesHold cells bytes self.new.pages.items }
     {
         self.uses = self.uses.saturating_add(1);
+        self.latest = frame;
         let page = &mut self.pages[frame];
         page.used = self.uses;
-        cell_at(&page.bytes, place)
+    }
+
+    /// Where a page of a file of so many cells is held, which is used now. It is read where it is not held yet.
+    fn hold<F: HostFile>(&mut self, file: &mut F, cells: u32, number: u32) -> Result<usize, Failed>
+        requires some { 256 * number < cells }
+        requires inside { 16 * cells ≤ (F.state file.old).size }
+        ensures asks { Asks (F.state file.old) (F.state file.new) result }
+        ensures on { IfOk result (λ frame. IsOn self.new.pages.items frame number) }
+        ensures holds { HoldOn cells (F.state file.old).told self.old.pages.items self.new.pages.items }
+    {
+        if let Some(frame) = self.find(number) {
+            self.touch(frame);
+            return Ok(frame);
+        }
+        let frame = self.fill(file, cells, number)?;
+        self.touch(frame);
+        Ok(frame)
     }
 
     /// What stands in a cell of a file of so many cells, from its page: `None` where it is blank.
@@ -160,13 +183,37 @@ impl Pages {
         ensures answers { IfOk result (λ found. IsToldOf cells at (F.state file.old).told self.old.pages.items found) }
         ensures holds { HoldOn cells (F.state file.old).told self.old.pages.items self.new.pages.items }
     {
-        let number = at / PAGE_CELLS;
-        let place = (at % PAGE_CELLS) as u8;
-        if let Some(frame) = self.find(number) {
-            return Ok(self.show(frame, place));
+        let frame = self.hold(file, cells, at / PAGE_CELLS)?;
+        let page = &self.pages[frame];
+        Ok(cell_at(&page.bytes, (at % PAGE_CELLS) as u8))
+    }
+
+    /// What stands in neighbouring cells of a file of so many cells, as many as there is room for. Each of their pages
+    /// is looked for once.
+    pub(crate) fn read_row<F: HostFile>(
+        &mut self,
+        file: &mut F,
+        cells: u32,
+        at: u32,
+        found: &mut [Option<Cell>],
+    ) -> Result<(), Failed>
+        requires some { at + length found.old ≤ cells }
+        requires inside { 16 * cells ≤ (F.state file.old).size }
+        ensures asks { Asks (F.state file.old) (F.state file.new) result }
+        ensures size { length found.new ≡ length found.old }
+        ensures answers { OnOk result (AreToldOf cells at (F.state file.old).told self.old.pages.items found.new) }
+        ensures holds { HoldOn cells (F.state file.old).told self.old.pages.items self.new.pages.items }
+    {
+        let mut done = 0;
+        while done < found.len() {
+            let cell = at + done as u32;
+            let frame = self.hold(file, cells, cell / PAGE_CELLS)?;
+            let page = &self.pages[frame];
+            let end = done + cells_on_page(cell, found.len() - done);
+            copy_cells(&page.bytes, cell % PAGE_CELLS, &mut found[done..end]);
+            done = end;
         }
-        let frame = self.fill(file, cells, number)?;
-        Ok(self.show(frame, place))
+        Ok(())
     }
 
     /// The cell stands in the file now.
@@ -180,6 +227,7 @@ impl Pages {
 
     /// It is not known what stands in the cell, so its page is held no longer.
     pub(crate) fn forget(&mut self, at: u32)
+        ensures gone { IsNowhere self.new.pages.items (at / 256) }
         ensures same { (cells : ℕ) (bytes : List ℕ) → PagesHold cells bytes self.old.pages.items
             → PagesHold cells bytes self.new.pages.items }
         ensures put { (piece : List ℕ) → HoldPut at piece self.old.pages.items self.new.pages.items }

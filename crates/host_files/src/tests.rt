@@ -10,7 +10,7 @@ use std::os::unix::fs::FileExt;
 use std::process::Abort;
 use std::test::Fail;
 use std::{cell, fs, io};
-use worm_device::{Device, Failed, Written};
+use worm_device::{Device, Failed, RowWritten, Written};
 
 /// The cell whose bytes are this number, the least in its last byte; `None` for 0.
 fn cell_of(number: u128) -> Option<Cell> {
@@ -48,6 +48,45 @@ fn write(
     device.write(at, value)
 }
 
+/// Reads neighbouring cells that the device has.
+fn read_row(
+    rt: &impl Abort,
+    device: &mut impl Device,
+    at: u32,
+    cells: &mut [Option<Cell>],
+) -> Result<(), Failed> {
+    assert!(rt; cells.len() <= 1_000, "no test reads more");
+    assert!(rt;
+        at < 10_000 && at + cells.len() as u32 <= device.cells(),
+        "there are cells from {at} on"
+    );
+    device.read_row(at, cells)
+}
+
+/// Writes neighbouring cells that the device has.
+fn write_row(
+    rt: &impl Abort,
+    device: &mut impl Device,
+    at: u32,
+    values: &[Cell],
+) -> Result<RowWritten, Failed> {
+    assert!(rt; values.len() <= 1_000, "no test writes more");
+    assert!(rt;
+        at < 10_000 && at + values.len() as u32 <= device.cells(),
+        "there are cells from {at} on"
+    );
+    device.write_row(at, values)
+}
+
+/// So many cells, each holding its number in the row, from 1.
+fn row(rt: &(impl AllocGlobal + Abort), count: u32) -> Result<Vec<Cell>, AllocError> {
+    let mut values = Vec::new(rt.alloc());
+    for number in 0..count {
+        values.push(some_cell(rt, u128::from(number) + 1))?;
+    }
+    Ok(values)
+}
+
 /// A device over a file in memory of these bytes, whose call of this number fails.
 fn over_memory(
     rt: &(impl AllocGlobal + Abort),
@@ -55,7 +94,7 @@ fn over_memory(
     fails: u32,
     leaving: Leaving,
 ) -> Result<FileDevice<MemoryFile>, Fail> {
-    let mut file = MemoryFile::new(bytes, 8)?;
+    let mut file = MemoryFile::new(bytes, 16)?;
     file.fail_at(fails, leaving);
     let Ok(device) = FileDevice::over(file, Pages::new(rt.alloc())?) else {
         panic!(rt; "the bytes have a cell");
@@ -144,7 +183,127 @@ fn a_write_that_failed_leaves_what_it_left(rt: HostRuntime) -> Result<(), Fail> 
     Ok(())
 }
 
-/// A file of two blank cells of which nothing is kept. It writes down its calls, and its syncs fail.
+#[test]
+fn a_row_is_read_page_by_page(rt: HostRuntime) -> Result<(), Fail> {
+    let bytes = numbered(rt.alloc(), 1_000)?;
+    // The third page fails.
+    let mut device = over_memory(&rt, bytes, 3, Leaving::Nothing)?;
+    let mut found = vec![in rt.alloc(); None; 600]?;
+    assert_eq!(rt; read_row(&rt, &mut device, 200, &mut found), Err(Failed));
+    assert_eq!(rt; read_row(&rt, &mut device, 200, &mut found), Ok(()));
+    let mut wanted = Vec::new(rt.alloc());
+    for number in 200..800u32 {
+        wanted.push(cell_of(number.into()))?;
+    }
+    assert_eq!(rt; found, wanted);
+    assert_eq!(rt; read_row(&rt, &mut device, 1_000, &mut []), Ok(()));
+    Ok(())
+}
+
+/// Cells 254 to 257 are a row over the end of a page: a read and a write of two cells, and again. A write of two cells
+/// that fails has put the first and leaves the second.
+#[test]
+fn a_row_that_failed_leaves_what_it_left(rt: HostRuntime) -> Result<(), Fail> {
+    let value = 0x11111111_11111111_22222222_22222222;
+    let half = 0x11111111_11111111_00000000_00000000;
+    let values = [
+        some_cell(&rt, value),
+        some_cell(&rt, value + 1),
+        some_cell(&rt, value + 2),
+        some_cell(&rt, value + 3),
+    ];
+    let mut first_eight = [false; 16];
+    first_eight[..8].fill(true);
+    let part = Leaving::Part(first_eight);
+    for (fails, leaving, left, again) in [
+        (1, Leaving::All, [0, 0, 0, 0], RowWritten::Whole),
+        (2, Leaving::Nothing, [value, 0, 0, 0], RowWritten::Whole),
+        (2, Leaving::All, [value, value + 1, 0, 0], RowWritten::Whole),
+        (
+            2,
+            part,
+            [value, half, 0, 0],
+            RowWritten::Other(255, some_cell(&rt, half)),
+        ),
+        (3, Leaving::All, [value, value + 1, 0, 0], RowWritten::Whole),
+        (
+            4,
+            Leaving::Nothing,
+            [value, value + 1, value + 2, 0],
+            RowWritten::Whole,
+        ),
+        (
+            4,
+            Leaving::All,
+            [value, value + 1, value + 2, value + 3],
+            RowWritten::Whole,
+        ),
+        (
+            4,
+            part,
+            [value, value + 1, value + 2, half],
+            RowWritten::Other(257, some_cell(&rt, half)),
+        ),
+    ] {
+        let mut device = over_memory(&rt, vec![in rt.alloc(); 0u8; 8_192]?, fails, leaving)?;
+        assert_eq!(rt;
+            write_row(&rt, &mut device, 254, &values),
+            Err(Failed),
+            "call {fails}"
+        );
+        let mut found = [None; 4];
+        assert_eq!(rt; read_row(&rt, &mut device, 254, &mut found), Ok(()));
+        for place in 0..4 {
+            assert_eq!(rt;
+                found[place],
+                cell_of(left[place]),
+                "call {fails}, place {place}"
+            );
+            let at = 254 + place as u32;
+            assert_eq!(rt; read(&rt, &mut device, at), Ok(cell_of(left[place])));
+        }
+        assert_eq!(rt;
+            write_row(&rt, &mut device, 254, &values),
+            Ok(again),
+            "call {fails}"
+        );
+    }
+    Ok(())
+}
+
+/// The fourth cell of the row is written already as the row has it, and the fifth as it has not.
+#[test]
+fn a_row_stops_at_a_cell_that_holds_another_value(rt: HostRuntime) -> Result<(), Fail> {
+    let mut device = over_memory(&rt, vec![in rt.alloc(); 0u8; 16_000]?, 0, Leaving::Nothing)?;
+    let (one, two, three) = (some_cell(&rt, 1), some_cell(&rt, 2), some_cell(&rt, 3));
+    let (four, five, six) = (some_cell(&rt, 4), some_cell(&rt, 5), some_cell(&rt, 6));
+    let nine = some_cell(&rt, 9);
+    let row = [one, two, three, four, five, six];
+    assert_eq!(rt; write(&rt, &mut device, 103, four), Ok(Written::Done));
+    assert_eq!(rt; write(&rt, &mut device, 104, nine), Ok(Written::Done));
+    assert_eq!(rt;
+        write_row(&rt, &mut device, 100, &row),
+        Ok(RowWritten::Other(104, nine))
+    );
+    let mut found = [None; 6];
+    assert_eq!(rt; read_row(&rt, &mut device, 100, &mut found), Ok(()));
+    let wanted = [
+        Some(one),
+        Some(two),
+        Some(three),
+        Some(four),
+        Some(nine),
+        None,
+    ];
+    assert_eq!(rt; found, wanted);
+    assert_eq!(rt;
+        write_row(&rt, &mut device, 100, &[]),
+        Ok(RowWritten::Whole)
+    );
+    Ok(())
+}
+
+/// A file of blank cells of which nothing is kept. It writes down its calls, and its syncs fail.
 #[derive(Drop)]
 struct LoggingFile<'a> {
     calls: &'a cell::Cell<[u8; 16]>,
@@ -233,5 +392,31 @@ fn the_file_is_held_from_the_first_call_until_a_sync_fails(rt: HostRuntime) -> R
 #[test]
 fn a_file_that_was_cut_short_before_it_was_held_is_not_read(rt: HostRuntime) -> Result<(), Fail> {
     assert_eq!(rt; &calls_of(&rt, 16)?, b"hmhmhmhmhm......");
+    Ok(())
+}
+
+/// Cells 100 to 699 lie on three pages: a read and a write of each, and a read of each page, once.
+#[test]
+fn a_row_takes_a_read_and_a_write_a_page(rt: HostRuntime) -> Result<(), Fail> {
+    let calls = cell::Cell::new([b'.'; 16]);
+    let file = LoggingFile {
+        calls: &calls,
+        count: cell::Cell::new(0),
+        size: 16_000,
+    };
+    let pages = Pages::new(rt.alloc())?;
+    let Ok(mut device) = FileDevice::over(OsFile::over(file, 16_000), pages) else {
+        panic!(rt; "16,000 bytes are 1,000 cells");
+    };
+    let values = row(&rt, 600)?;
+    assert_eq!(rt;
+        write_row(&rt, &mut device, 100, &values),
+        Ok(RowWritten::Whole)
+    );
+    assert_eq!(rt; &calls.get(), b"hmrwrwrw........");
+    let mut found = vec![in rt.alloc(); None; 600]?;
+    assert_eq!(rt; read_row(&rt, &mut device, 100, &mut found), Ok(()));
+    assert_eq!(rt; read_row(&rt, &mut device, 100, &mut found), Ok(()));
+    assert_eq!(rt; &calls.get(), b"hmrwrwrwrrr.....");
     Ok(())
 }

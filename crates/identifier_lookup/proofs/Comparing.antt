@@ -3,7 +3,7 @@ use Rattle.std.proofs.Common.{◌<◌, ◌∙◌, inr, ℕ, List, Bool, Some, Re
 use Rattle.std.specs.Prelude.{IsTrue}
 use Rattle.cell_types.specs.Layout.{Layout}
 use Rattle.cell_types.specs.declared.refusal.Fault.{Fault}
-use Rattle.cell_types.specs.declared.refusal.Fault.TheVariants.{Tampered, ReadFault}
+use Rattle.cell_types.specs.declared.refusal.Fault.TheVariants.{Tampered, Failed}
 use Rattle.worm_device.specs.Views.{ViewState, Viewed}
 use Rattle.worm_device.proofs.Resting.{viewed_then}
 use Rattle.document_store.specs.Looks.{PartEnds, SameEnds}
@@ -21,9 +21,9 @@ module _ (g : Layout) (horizon : ℕ) (named : Named) (id : List ℕ) (old mid :
     viewed = viewed_then looked after;
     ends = (less, ends.0 ∙ found.2, λ tells. ends.1 (subst IsTrue (sym looked.called.tells) tells));
   }
-  compared new less after (Err ReadFault) ends = record {
+  compared new less after (Err Failed) ends = record {
     viewed = viewed_then looked after;
-    ends = fails_from g looked after named.slot found.2 ReadFault ends;
+    ends = fails_from g looked after named.slot found.2 Failed ends;
   }
   compared new less after (Err (Tampered e)) ends = record {
     viewed = viewed_then looked after;

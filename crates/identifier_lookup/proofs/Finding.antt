@@ -7,7 +7,7 @@ use Rattle.cell_types.specs.Layout.{Layout, root_at}
 use Rattle.cell_types.specs.declared.record_cell.RecordCell.TheVariants.{Bucket}
 use Rattle.cell_types.specs.declared.refusal.Evidence.{Evidence}
 use Rattle.cell_types.specs.declared.refusal.Fault.{Fault}
-use Rattle.cell_types.specs.declared.refusal.Fault.TheVariants.{Tampered, ReadFault}
+use Rattle.cell_types.specs.declared.refusal.Fault.TheVariants.{Tampered, Failed}
 use Rattle.stored_documents.specs.Volumes.{Holds, IsVolume}
 use Rattle.stored_documents.proofs.Extending.{holds_on, stands_on, volume_on}
 use Rattle.index_paths.specs.HashPaths.{HashTrail, IsPassed, PassedTo, Sought, at_root, fingerprint_of, nibble}
@@ -173,7 +173,7 @@ module _ (g : Layout) (horizon edge : ℕ) (id : List ℕ) (old now mid : ViewSt
   -- a step that gives no answer
   pub walk_fails : (fault : Fault) → Steps g edge now mid level next (Err fault)
       → Walks g horizon edge id old mid (Err fault)
-  walk_fails ReadFault step = record {
+  walk_fails Failed step = record {
     viewed = viewed_then so_far.viewed step.viewed;
     ends = rose_from _ _ _ so_far.faults step.ends;
   }
@@ -335,7 +335,7 @@ module _ (g : Layout) (horizon edge : ℕ) (id : List ℕ) (old now mid : ViewSt
 
       pub compare_fails : (fault : Fault) → Compares g horizon named id mid new (Err fault)
           → Walks g horizon edge id old new (Err fault)
-      compare_fails ReadFault compared = record {
+      compare_fails Failed compared = record {
         viewed = viewed_then (whole offered step) compared.viewed;
         ends = rose_from _ _ _ (step.ends.1 ∙ so_far.faults) compared.ends;
       }

@@ -7,7 +7,7 @@ use Rattle.cell_types.specs.declared.geometry.TheConstants.{MAX_SLOTS}
 use Rattle.cell_types.specs.declared.record_cell.RecordCell.TheVariants.{Bucket}
 use Rattle.cell_types.specs.declared.refusal.Evidence.{Evidence}
 use Rattle.cell_types.specs.declared.refusal.Fault.{Fault}
-use Rattle.cell_types.specs.declared.refusal.Fault.TheVariants.{Tampered, ReadFault}
+use Rattle.cell_types.specs.declared.refusal.Fault.TheVariants.{Tampered, Failed}
 use Rattle.index_paths.specs.HashPaths.{fingerprint_of}
 use Rattle.stored_documents.specs.Slots.{IsDoneSlot}
 use Rattle.stored_documents.specs.Volumes.{Holds}
@@ -43,7 +43,7 @@ abbrev pub CompareEnds : Layout → ℕ → Named → List ℕ → ViewState →
 CompareEnds g horizon named id old new (Ok same) =
     (named.slot < horizon) × (new.base.faults ≡ old.base.faults)
     × (IsTrue old.base.tells → IsSame g new.image named.slot id same)
-CompareEnds g horizon named id old new (Err ReadFault) = Rose old.base.faults new.base.faults
+CompareEnds g horizon named id old new (Err Failed) = Rose old.base.faults new.base.faults
 CompareEnds g horizon named id old new (Err (Tampered e)) =
     NamesBucket g horizon named old new e ⊎ LookFails g named.slot old new (Tampered e)
 

@@ -6,7 +6,7 @@ use Rattle.cell_types.specs.Layout.{Layout, root_at}
 use Rattle.cell_types.specs.declared.record_cell.RecordCell.TheVariants.{Bucket}
 use Rattle.cell_types.specs.declared.refusal.Evidence.{Evidence}
 use Rattle.cell_types.specs.declared.refusal.Fault.{Fault}
-use Rattle.cell_types.specs.declared.refusal.Fault.TheVariants.{Tampered, ReadFault}
+use Rattle.cell_types.specs.declared.refusal.Fault.TheVariants.{Tampered, Failed}
 use Rattle.stored_documents.specs.Documents.{Stands}
 use Rattle.stored_documents.specs.Slots.{IsEdge, IsHorizon}
 use Rattle.stored_documents.specs.Volumes.{Holds, IsVolume}
@@ -112,7 +112,7 @@ pub record IsLicensed (g : Layout) (horizon edge : ℕ) (old new : ViewState) (e
 
 -- why a walk gives no answer
 abbrev pub WalkFails : Layout → ℕ → ℕ → ViewState → ViewState → Fault → Type 0
-WalkFails g horizon edge old new ReadFault = Rose old.base.faults new.base.faults
+WalkFails g horizon edge old new Failed = Rose old.base.faults new.base.faults
 WalkFails g horizon edge old new (Tampered e) =
     IsPlaceOf g e.rule e.cell × (new.base.faults ≡ old.base.faults)
     × (IsTrue old.base.tells → IsLicensed g horizon edge old new e)

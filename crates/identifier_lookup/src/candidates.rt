@@ -34,10 +34,7 @@ pub fn has_identifier<V: View>(
     if named.slot >= horizon {
         return Err(Fault::Tampered(fake_bucket(named)));
     }
-    let found = match slot_part(view, volume, named.slot) {
-        Ok(found) => found,
-        Err(fault) => return Err(fault),
-    };
+    let found = slot_part(view, volume, named.slot)?;
     let Some(_part) = found else {
         return Err(Fault::Tampered(fake_bucket(named)));
     };

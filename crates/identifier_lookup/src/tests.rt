@@ -3,7 +3,7 @@
 ghost use Rattle.std.specs.Prelude.{◌<◌, ◌≤◌};
 
 use crate::{Walk, lookup, walk};
-use cell_types::{Cell, Evidence, FORMAT_VERSION, Fault, Geometry, Volume, content};
+use cell_types::{Cell, Evidence, FIRST_VERSION, Fault, Geometry, Volume, content};
 use hash_tree::Open;
 use std::alloc::Global;
 use std::test::Fail;
@@ -95,12 +95,12 @@ fn asked(
     horizon: u32,
     id: &[u8],
 ) -> Result<(Result<Told, Fault>, Result<Option<u32>, Fault>), Fail> {
-    let geometry = Geometry::new(8, 2, device.cells()).ok_or("no volume")?;
+    let geometry = Geometry::new(8, 2, device.cells(), FIRST_VERSION).ok_or("no volume")?;
     if horizon > geometry.slots() || geometry.cells() < 584 {
         return Err("no horizon".into());
     }
     let volume = Volume {
-        version: FORMAT_VERSION,
+        version: FIRST_VERSION,
         geometry,
     };
     let mut view = Direct::new(device);

@@ -17,7 +17,7 @@ use worm_device::View;
 ///
 /// `Tampered` where a slot that a bucket on the path names is at or past the horizon or not done (rule 11, at the
 /// bucket), where its cells are no state (rules 1 to 3) or its document is broken (rule 4), and where a cell of the
-/// path is malformed or leads out of the pool or past the edge (rules 11 and 12); `ReadFault` where a read failed.
+/// path is malformed or leads out of the pool or past the edge (rules 11 and 12); `Failed` where a read failed.
 pub fn walk<V: View>(
     view: &mut V,
     volume: &Volume,
@@ -33,10 +33,7 @@ pub fn walk<V: View>(
     let digest = Sha256::digest(id);
     let mut level = Level::start(digest);
     loop {
-        let step = match next_candidate(view, volume, edge, &mut level) {
-            Ok(step) => step,
-            Err(fault) => return Err(fault),
-        };
+        let step = next_candidate(view, volume, edge, &mut level)?;
         let named = match step {
             PathStep::Candidate { slot, bucket } => Named {
                 bucket,
@@ -46,10 +43,7 @@ pub fn walk<V: View>(
             PathStep::End(place) => return Ok(Walk::End(place, level)),
             PathStep::PathFull => return Ok(Walk::PathFull),
         };
-        let same = match has_identifier(view, volume, horizon, &named, id) {
-            Ok(same) => same,
-            Err(fault) => return Err(fault),
-        };
+        let same = has_identifier(view, volume, horizon, &named, id)?;
         if same {
             return Ok(Walk::Found(named.slot));
         }
@@ -70,10 +64,7 @@ pub fn lookup<V: View>(
     requires bounds { AreBounds volume.now.geometry edge }
     ensures { LooksUp volume.now.geometry horizon edge id.now (V.seen view.old) (V.seen view.new) result }
 {
-    let found = match walk(view, volume, horizon, edge, id) {
-        Ok(found) => found,
-        Err(fault) => return Err(fault),
-    };
+    let found = walk(view, volume, horizon, edge, id)?;
     match found {
         Walk::Found(slot) => Ok(Some(slot)),
         Walk::End(_place, _level) => Ok(None),

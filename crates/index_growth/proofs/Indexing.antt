@@ -1,17 +1,18 @@
 -- From the postings of a document to its whole index.
-use Rattle.std.proofs.Common.{◌≡◌, ◌≢◌, ◌<◌, ◌≤◌, ◌+◌, ◌*◌, ⊎_elim, ℕ, List, Option, Some, None, Result, Ok, Err, refl, ap, sym, subst, arith, ◌∙◌}
+use Rattle.std.proofs.Common.{◌≡◌, ◌≢◌, ◌<◌, ◌≤◌, ◌+◌, ⊎_elim, ℕ, List, Option, Some, None, Result, Ok, Err, refl, ap, sym, subst, arith, ◌∙◌}
 use Rattle.std.specs.Prelude.{IsTrue, length}
 use Rattle.std.proofs.lemmas.Bool.{cases_eq}
 use Rattle.std.proofs.lemmas.Option.{none-some}
 use Rattle.std.proofs.lemmas.Option.{slice_get_within}
 use Rattle.cell_types.specs.Image.{Image, Extends}
-use Rattle.cell_types.specs.Layout.{Layout, list_at, pool_at, root_at}
+use Rattle.cell_types.specs.Layout.{Layout, pool_at, root_at, lists_at}
 use Rattle.cell_types.specs.Records.{IsRecordCell}
 use Rattle.cell_types.specs.declared.record_cell.RecordCell.{RecordCell}
 use Rattle.cell_types.specs.declared.record_cell.RecordCell.TheVariants.{Jump, Child}
 use Rattle.cell_types.specs.declared.refusal.Fault.TheVariants as faults
 use Rattle.index_paths.specs.Blocks.{posting_record}
 use Rattle.index_paths.specs.HashPaths.{nibble}
+use Rattle.index_paths.specs.Postings.{ListedPosting}
 use Rattle.index_paths.proofs.Trails.{trail_on}
 use Rattle.stored_documents.specs.Volumes.{Holds}
 use Rattle.tamper_rules.specs.Journals.{IsIndexRecord}
@@ -24,8 +25,6 @@ use Rattle.hash_tree.specs.declared.path.Open.{Open}
 use Rattle.planned_cells.specs.Records.{HoldsPlanned}
 use Rattle.planned_cells.specs.declared.fault.GrowthFault.{GrowthFault}
 use Rattle.planned_cells.specs.declared.fault.GrowthFault.TheVariants.{Fault, NoMemory}
-use Rattle.term_tags.specs.Listing.{listed}
-use Rattle.term_tags.specs.declared.rows.Posting.{Posting}
 use Rattle.worm_device.proofs.Covering.{planned_show}
 use Rattle.worm_device.proofs.Images.{extends_self, extends_then}
 use Rattle.worm_device.specs.Calls.{Called}
@@ -41,7 +40,7 @@ use Rattle.index_growth.specs.Granting.{GivesWhatIsLedTo, to_node}
 use Rattle.index_growth.specs.Indexes.{IndexEnds, IndexStandsAtCost, Indexes, IsIndexCell, IsIndexed, in_list, in_tree}
 use Rattle.index_growth.specs.Rows.{AreInOrder, AreInserted, InsertsRow, IsRowCell, of_posting, of_pointer, LiesInLists, in_first, in_pool}
 use Rattle.index_growth.specs.Counts.{PlansAtCost}
-use Rattle.index_growth.specs.Standing.{IndexStands, ListsStand, RowStands}
+use Rattle.index_growth.specs.Standing.{HasKeysBetween, IndexStands, ListsStand, RowStands}
 use Rattle.index_growth.proofs.Counting.{bucket_at_cost, bucket_each, costs_then, none_planned}
 use Rattle.index_growth.proofs.Granted.{StaysQuiet, gives_more, gives_on}
 use Rattle.index_growth.proofs.Licensing.{licensable}
@@ -65,14 +64,14 @@ not_in_root : (g : Layout) (cell : ℕ) → root_at g ≤ cell → cell < root_a
 not_in_root g cell from to (in_first l less low high) = omega (arith, less, high, from)
 not_in_root g cell from to (in_pool low) = omega (arith, low, to)
 
-module _ (g : Layout) (n : ℕ) (rows : List Posting) (level : Level) (place : Open) (from next : ℕ) (old mid : ViewState)
-    (order : AreInOrder g.lists n rows)
+module _ (g : Layout) (n : ℕ) (rows : List ListedPosting) (level : Level) (place : Open) (from next : ℕ) (old mid : ViewState)
+    (order : AreInOrder g rows)
     (nothing : (cell : ℕ) → old.planned cell ≡ None) (unowned : (cell : ℕ) → old.owners cell ≡ None)
     (half : nibble level.digest level.number < 16) (number : level.number < 64) (open_at : IsOpenOf g level place)
     (floor : pool_at g ≤ old.fresh) (fresh : old.fresh ≤ next) (within : IsWithin g old.fresh level.led_by)
     (led : IsTrue old.base.tells → IsLed old.lower level.led_by)
     (called : Called old.base mid.base) (same : mid.fresh ≡ old.fresh) (lower : Extends old.lower mid.lower)
-    (row : AreInserted g n rows (length rows) from next old mid) where
+    (row : AreInserted g rows (length rows) from next old mid) where
   -- nothing is planned in the root
   root_free : (held : Option (List ℕ)) → mid.planned (blank_of place) ≡ held → level.led_by ≡ None
       → mid.planned (blank_of place) ≡ None
@@ -105,12 +104,12 @@ module _ (g : Layout) (n : ℕ) (rows : List Posting) (level : Level) (place : O
     led = λ tells. led_on old.lower mid.lower level.led_by lower (led (subst IsTrue called.tells tells));
   }
 
-  row_cell : (cell : ℕ) (value : List ℕ) → IsRowCell n rows (length rows) cell value
+  row_cell : (cell : ℕ) (value : List ℕ) → IsRowCell rows (length rows) cell value
       → (held : RecordCell) × IsIndexRecord held × IsRecordCell held cell value
-  row_cell cell value (of_posting i p less is holds) = (posting_record (listed n p).posting, tt, holds)
+  row_cell cell value (of_posting i p less is holds) = (posting_record p.posting, tt, holds)
   row_cell cell value (of_pointer target holds) = (Jump target, tt, holds)
 
-  from_lists : (cell : ℕ) → LiesInLists g cell → list_at g 0 ≤ cell
+  from_lists : (cell : ℕ) → LiesInLists g cell → lists_at g ≤ cell
   from_lists cell (in_first l less low high) = omega (arith, low)
   from_lists cell (in_pool low) = omega (arith, low)
 
@@ -129,10 +128,10 @@ module _ (g : Layout) (n : ℕ) (rows : List Posting) (level : Level) (place : O
       })
       (row.added cell value is)
 
-  node_from : list_at g 0 ≤ node_of g level
+  node_from : lists_at g ≤ node_of g level
   node_from = by_led level.led_by refl
     where
-      by_led : (led_by : Option ChildCell) → level.led_by ≡ led_by → list_at g 0 ≤ node_of g level
+      by_led : (led_by : Option ChildCell) → level.led_by ≡ led_by → lists_at g ≤ node_of g level
       by_led None is = omega (arith, root_node g level is)
       by_led (Some child) is =
           let w : IsWithin g old.fresh (Some child) = subst (λ (l : Option ChildCell). IsWithin g old.fresh l) is within in
@@ -142,7 +141,7 @@ module _ (g : Layout) (n : ℕ) (rows : List Posting) (level : Level) (place : O
   module _ (pool rest : Pool) (new : ViewState) (at : ℕ) (inserted : IsInserted g level place n at pool rest mid new)
       (from_pool : pool.next ≡ next) where
     planned_there : {at : ℕ} {r : RecordCell} {owner : Owner} → HoldsPlanned at r owner mid new → (cell : ℕ) (value : List ℕ)
-        → cell ≡ at → new.planned cell ≡ Some value → IsIndexRecord r → list_at g 0 ≤ at → IsIndexCell g cell value
+        → cell ≡ at → new.planned cell ≡ Some value → IsIndexRecord r → lists_at g ≤ at → IsIndexCell g cell value
     planned_there {at} {r} {owner} holds cell value here is index from =
         let there : new.planned at ≡ Some value = subst (λ (c : ℕ). new.planned c ≡ Some value) here is in
         let e : holds.planned.cell ≡ value = (let k : Some holds.planned.cell ≡ Some value = sym holds.planned.stands ∙ there in cc) in
@@ -253,8 +252,8 @@ module _ (g : Layout) (n : ℕ) (rows : List Posting) (level : Level) (place : O
 
     -- the lists behind the postings, and the tree behind the bucket
     stands_now : new.base ≡ mid.base → next ≤ rest.next → IsTrue old.base.tells → IsStill old.base.foreign_writes new.base.foreign_writes
-        → (lists : RowStands g n rows (length rows) from next old.image mid.image)
-        → IndexStands g n rows level place from rest.next old.image new.image
+        → {behind : ℕ → ℕ} → (lists : RowStands g behind rows (length rows) from next old.image mid.image)
+        → IndexStands g n behind rows level place from rest.next old.image new.image
     stands_now same_base further tells still lists = record {
       between = mid.image;
       next = next;
@@ -269,11 +268,11 @@ module _ (g : Layout) (n : ℕ) (rows : List Posting) (level : Level) (place : O
 
     -- and as many cells as they cost
     cost_now : new.base ≡ mid.base → next ≤ rest.next → IsTrue old.base.tells → IsStill old.base.foreign_writes new.base.foreign_writes
-        → ListsStand g old.image from (256 * n)
-        → IndexStandsAtCost g n rows level place from rest.next old.image new.image new.planned
+        → (bound behind : ℕ → ℕ) → HasKeysBetween rows bound behind → ListsStand g old.image from bound
+        → IndexStandsAtCost g n behind rows level place from rest.next old.image new.image new.planned
     unfolding stands_now
-    cost_now same_base further tells still lists =
-        let r = row.lists tells (still_row same_base still) lists in
+    cost_now same_base further tells still bound behind between lists =
+        let r = row.lists tells (still_row same_base still) bound behind between lists in
         let by_bucket : PlansAtCost mid.planned new.planned next rest.next (cost_of place) =
         subst (λ (m : ℕ). PlansAtCost mid.planned new.planned m rest.next (cost_of place)) from_pool
         (bucket_at_cost g level place n at pool rest mid new inserted.plans) in
@@ -329,9 +328,9 @@ taken_still g level place mid new e same lower base t = record {
 }
 
 -- the postings were refused
-pub row_ends : (g : Layout) (n : ℕ) (rows : List Posting) (level : Level) (place : Open) (from to : ℕ)
+pub row_ends : (g : Layout) (n : ℕ) (rows : List ListedPosting) (level : Level) (place : Open) (from to : ℕ)
     (old new : ViewState) (fault : GrowthFault) → ((cell : ℕ) → old.planned cell ≡ None)
-    → InsertsRow g n rows from to old new (Err fault) → Indexes g n rows level place from to old new (Err fault)
+    → InsertsRow g rows from to old new (Err fault) → Indexes g n rows level place from to old new (Err fault)
 row_ends g n rows level place from to old new fault nothing inserts = record {
   called = inserts.called;
   cells = inserts.cells;
@@ -341,17 +340,17 @@ row_ends g n rows level place from to old new fault nothing inserts = record {
   quiet = inserts.quiet;
   ends = why fault inserts;
 } where
-  why : (fault : GrowthFault) → InsertsRow g n rows from to old new (Err fault)
+  why : (fault : GrowthFault) → InsertsRow g rows from to old new (Err fault)
       → IndexEnds g n rows level place from to old new (Err fault)
-  why (Fault faults.ReadFault) inserts = inserts.ends
+  why (Fault faults.Failed) inserts = inserts.ends
   why (Fault (faults.Tampered e)) inserts = λ tells.
       let h = inserts.ends tells in (in_list h.0.0 h.0.1 h.0.2 h.0.3, h.1 nothing)
   why NoMemory inserts = tt
 
 -- the postings were inserted, and then the bucket was planned or refused
-pub entry_ends : (g : Layout) (n : ℕ) (rows : List Posting) (level : Level) (place : Open) (from next : ℕ)
+pub entry_ends : (g : Layout) (n : ℕ) (rows : List ListedPosting) (level : Level) (place : Open) (from next : ℕ)
     (pool rest : Pool) (old mid new : ViewState) (result : Result ℕ GrowthFault) (answer : Result Unit GrowthFault)
-    → InsertsRow g n rows from next old mid (Ok tt) → InsertsEntry g level place n pool rest mid new result
+    → InsertsRow g rows from next old mid (Ok tt) → InsertsEntry g level place n pool rest mid new result
     → IndexEnds g n rows level place from rest.next old new answer
     → Indexes g n rows level place from rest.next old new answer
 entry_ends g n rows level place from next pool rest old mid new result answer row entry ends = record {
@@ -364,12 +363,12 @@ entry_ends g n rows level place from next pool rest old mid new result answer ro
   ends = ends;
 }
 
-pub entry_refused : (g : Layout) (n : ℕ) (rows : List Posting) (level : Level) (place : Open) (from next : ℕ)
+pub entry_refused : (g : Layout) (n : ℕ) (rows : List ListedPosting) (level : Level) (place : Open) (from next : ℕ)
     (pool rest : Pool) (old mid new : ViewState) (fault : GrowthFault) → IsView old
-    → ((cell : ℕ) → old.planned cell ≡ None) → InsertsRow g n rows from next old mid (Ok tt)
+    → ((cell : ℕ) → old.planned cell ≡ None) → InsertsRow g rows from next old mid (Ok tt)
     → InsertsEntry g level place n pool rest mid new (Err fault)
     → IndexEnds g n rows level place from rest.next old new (Err fault)
-entry_refused g n rows level place from next pool rest old mid new (Fault faults.ReadFault) view nothing row entry =
+entry_refused g n rows level place from next pool rest old mid new (Fault faults.Failed) view nothing row entry =
     absurd entry.ends
 entry_refused g n rows level place from next pool rest old mid new (Fault (faults.Tampered e)) view nothing row entry =
     λ tells. (

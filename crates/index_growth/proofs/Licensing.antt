@@ -3,9 +3,9 @@ use Rattle.std.proofs.Common.{◌≡◌, ◌<◌, ◌≤◌, ◌+◌, ℕ, List,
 use Rattle.std.specs.Prelude.{IsTrue}
 use Rattle.std.proofs.lemmas.Option.{none-some}
 use Rattle.cell_types.specs.Image.{Extends}
-use Rattle.cell_types.specs.Layout.{Layout, list_at, pool_at}
+use Rattle.cell_types.specs.Layout.{Layout, list_at, pool_at, all_lists}
 use Rattle.index_paths.specs.Blocks.{PostingFields}
-use Rattle.term_tags.specs.declared.rows.Posting.{Posting}
+use Rattle.index_paths.specs.Postings.{ListedPosting}
 use Rattle.worm_device.specs.Views.{IsView, ViewState}
 use Rattle.worm_device.specs.declared.owner.Owner.{Owner}
 use Rattle.list_growth.specs.Evidence.{AreInTheirPlaces, IsInItsPlace, of_list, of_new, of_tree}
@@ -26,7 +26,7 @@ place_on more same (of_list l head block from to) =
 place_on more same (of_tree v head node from to) = of_tree v head (node_on more node) from to
 
 -- and so does what was planned before one insertion, beside what this plans
-pub places_next : {g : Layout} {l next to at : ℕ} {p : PostingFields} {old new : ViewState} → l < g.lists
+pub places_next : {g : Layout} {l next to at : ℕ} {p : PostingFields} {old new : ViewState} → l < all_lists g
     → PlansEntry (list_at g l) (pool_at g) next to p at old new
     → ((key : ℕ) → p.key < key → IsReady new (list_at g l) (pool_at g) to key)
     → Extends old.lower new.lower → new.fresh ≡ old.fresh → new.fresh ≤ g.cells → AreInTheirPlaces g old
@@ -40,8 +40,8 @@ places_next {g} {l} {next} {to} {at} {p} {old} {new} list plans ready more same 
         reached_in_place list inside head ((ready (p.key + 1) (omega arith)).reached cell owner is head) from below
 
 -- Where nothing was planned at first, what the row has planned licenses what is named behind it.
-pub licensable : {g : Layout} {n : ℕ} {rows : List Posting} {count from to : ℕ} {old mid new : ViewState} → IsView old
-    → ((cell : ℕ) → old.planned cell ≡ None) → IsTrue old.base.tells → AreInserted g n rows count from to old mid
+pub licensable : {g : Layout} {rows : List ListedPosting} {count from to : ℕ} {old mid new : ViewState} → IsView old
+    → ((cell : ℕ) → old.planned cell ≡ None) → IsTrue old.base.tells → AreInserted g rows count from to old mid
     → mid.fresh ≡ old.fresh → new.fresh ≡ mid.fresh → ((cell : ℕ) → new.planned cell ≡ mid.planned cell)
     → ((cell : ℕ) → new.owners cell ≡ mid.owners cell) → Extends mid.lower new.lower → IsLicensable g old new
 licensable {g} {old = old} {mid} {new} view nothing tells row same_mid same planned owners more = record {

@@ -1,10 +1,10 @@
 -- One posting of the row after another.
-use Rattle.std.proofs.Common.{◌≡◌, ◌≢◌, ◌<◌, ◌≤◌, ◌+◌, ◌*◌, ◌⊎◌, ⊎_elim, inl, inr, ℕ, List, Option, Some, None, Ok, Err, refl, ap, sym, subst, arith, ◌∙◌}
+use Rattle.std.proofs.Common.{◌≡◌, ◌≢◌, ◌<◌, ◌≤◌, ◌+◌, ◌⊎◌, ⊎_elim, inl, inr, ℕ, List, Option, Some, None, Ok, Err, refl, ap, sym, subst, arith, ◌∙◌}
 use Rattle.std.specs.Prelude.{IsTrue, slice_get}
 use Rattle.std.proofs.lemmas.Bool.{cases_eq, cases_lt}
 use Rattle.std.proofs.lemmas.Option.{none-some}
 use Rattle.cell_types.specs.Image.{Image, Extends}
-use Rattle.cell_types.specs.Layout.{Layout, list_at, pool_at}
+use Rattle.cell_types.specs.Layout.{Layout, list_at, pool_at, all_lists}
 use Rattle.cell_types.specs.declared.refusal.Fault.TheVariants as faults
 use Rattle.cell_types.specs.declared.record_cell.RecordCell.TheVariants.{Jump}
 use Rattle.index_paths.specs.Postings.{ComesBefore, ListedPosting}
@@ -16,8 +16,6 @@ use Rattle.jump_block.specs.Entries.{cell_of}
 use Rattle.jump_block.specs.declared.held_entry.Entry.{Entry}
 use Rattle.planned_cells.specs.declared.fault.GrowthFault.{GrowthFault}
 use Rattle.planned_cells.specs.declared.fault.GrowthFault.TheVariants.{Fault, NoMemory}
-use Rattle.term_tags.specs.Listing.{listed}
-use Rattle.term_tags.specs.declared.rows.Posting.{Posting}
 use Rattle.volume_growth.specs.ListShapes.{IsWellListed}
 use Rattle.worm_device.specs.Counts.{IsStill}
 use Rattle.worm_device.proofs.Counting.{still_first, still_second}
@@ -35,15 +33,15 @@ use Rattle.index_growth.proofs.Counting.{insertion_at_cost, none_each, posting_e
 use Rattle.index_growth.proofs.Granted.{gives_more, gives_nothing, gives_on, quiet_then}
 use Rattle.list_growth.proofs.Untouched.{stays_untouched, untouched_ready}
 use Rattle.index_growth.proofs.Others.{IsNear, IsHeld, held_before, held_posting, held_pointer, IsOwned, as_before, anew, held_in, owned_in, plans_blank, plans_keep, plans_no_other}
-use Rattle.index_growth.specs.Standing.{KeysSoFar, ListsStand, RowStands}
+use Rattle.index_growth.specs.Standing.{HasKeysBetween, KeysSoFar, ListsStand, RowStands}
 use Rattle.index_growth.proofs.Licensing.{licensable, places_next}
 use Rattle.index_growth.proofs.Standing.{keys_first, keys_next, stands_first_at_cost, stands_next_at_cost}
 
 -- no posting is inserted yet
-pub row_begins : (g : Layout) (n : ℕ) (rows : List Posting) (pool : Pool) (s : ViewState)
+pub row_begins : (g : Layout) (rows : List ListedPosting) (pool : Pool) (s : ViewState)
     → ((cell : ℕ) → pool.next ≤ cell → s.planned cell ≡ None) → (IsTrue s.base.tells → AreUntouched g s)
-    → RowSoFar g n rows 0 pool pool s s
-row_begins g n rows pool s free untouched = record {
+    → RowSoFar g rows 0 pool pool s s
+row_begins g rows pool s free untouched = record {
   called = called_self s.base;
   cells = refl;
   fresh = refl;
@@ -67,11 +65,11 @@ row_begins g n rows pool s free untouched = record {
     places = λ tells inside before. before;
     stand = λ tells i p less is. absurd (omega (arith, less));
     unplanned = λ still cell none. refl;
-    lists = λ tells still lists. stands_first_at_cost s.planned lists;
+    lists = λ tells still bound behind keys lists. stands_first_at_cost s.planned keys lists;
   };
   untouched = λ tells l less before. untouched tells l less;
   ready = λ tells a less before. untouched_ready s (list_at g a.list) (pool_at g) pool.next a.posting.key (untouched tells a.list less);
-  keys = λ tells still lists. keys_first n rows lists;
+  keys = λ tells still bound behind keys lists. keys_first rows lists;
 }
 
 lists_apart : (g : Layout) (l k : ℕ) → l ≢ k
@@ -79,24 +77,24 @@ lists_apart : (g : Layout) (l k : ℕ) → l ≢ k
 lists_apart g l k differs = ⊎_elim (λ less. inl (omega (arith, less)))
     (λ le. inr (omega (arith, le, differs))) (cases_lt l k)
 
-list_below : (g : Layout) (l : ℕ) → l < g.lists → list_at g l + 256 ≤ pool_at g
+list_below : (g : Layout) (l : ℕ) → l < all_lists g → list_at g l + 256 ≤ pool_at g
 list_below g l less = omega (arith, less)
 
-more : (n : ℕ) (rows : List Posting) (count cell : ℕ) (value : List ℕ) → IsRowCell n rows count cell value
-    → IsRowCell n rows (count + 1) cell value
-more n rows count cell value (of_posting i p less is holds) = of_posting i p (omega (arith, less)) is holds
-more n rows count cell value (of_pointer target holds) = of_pointer target holds
+more : (rows : List ListedPosting) (count cell : ℕ) (value : List ℕ) → IsRowCell rows count cell value
+    → IsRowCell rows (count + 1) cell value
+more rows count cell value (of_posting i p less is holds) = of_posting i p (omega (arith, less)) is holds
+more rows count cell value (of_pointer target holds) = of_pointer target holds
 
-module _ (g : Layout) (n : ℕ) (rows : List Posting) (i : ℕ) (first pool later : Pool) (old mid new : ViewState) (p : Posting)
-    (e : Entry) (order : AreInOrder g.lists n rows) (here : slice_get rows i ≡ Some p) (byte : p.ordinal < 256)
-    (roomy : pool_at g ≤ first.next) (so : RowSoFar g n rows i first pool old mid)
+module _ (g : Layout) (rows : List ListedPosting) (i : ℕ) (first pool later : Pool) (old mid new : ViewState) (p : ListedPosting)
+    (e : Entry) (order : AreInOrder g rows) (here : slice_get rows i ≡ Some p)
+    (roomy : pool_at g ≤ first.next) (so : RowSoFar g rows i first pool old mid)
     (unowned : (cell : ℕ) → mid.planned cell ≡ None → mid.owners cell ≡ None)
     (takes : (later ≡ pool) ⊎ TakesFront pool later 256 pool.next)
-    (inserts : InsertsPosting (list_at g p.list) (pool_at g) pool.next later.next (listed n p).posting mid new (Ok e)) where
-  in_list : p.list < g.lists
+    (inserts : InsertsPosting (list_at g p.list) (pool_at g) pool.next later.next p.posting mid new (Ok e)) where
+  in_list : p.list < all_lists g
   in_list = order.lists_are i p here
 
-  plans : PlansEntry (list_at g p.list) (pool_at g) pool.next later.next (listed n p).posting (cell_of e) mid new
+  plans : PlansEntry (list_at g p.list) (pool_at g) pool.next later.next p.posting (cell_of e) mid new
   plans = inserts.ends.3
 
   told : IsTrue old.base.tells → IsTrue mid.base.tells
@@ -106,7 +104,7 @@ module _ (g : Layout) (n : ℕ) (rows : List Posting) (i : ℕ) (first pool late
   pool_on = ⊎_elim (λ same. (omega (arith, ap (λ (q : Pool). q.next) same), omega (arith, ap (λ (q : Pool). q.next) same), ap (λ (q : Pool). q.end) same))
       (λ t. (omega (arith, t.next), omega (arith, t.next), t.end)) takes
 
-  the_posting : (q : Posting) (j : ℕ) → j ≡ i → slice_get rows j ≡ Some q → q ≡ p
+  the_posting : (q : ListedPosting) (j : ℕ) → j ≡ i → slice_get rows j ≡ Some q → q ≡ p
   the_posting q j same is =
       let k : Some q ≡ Some p = sym is ∙ ap (λ (m : ℕ). slice_get rows m) same ∙ here in cc
 
@@ -118,9 +116,9 @@ module _ (g : Layout) (n : ℕ) (rows : List Posting) (i : ℕ) (first pool late
   owner_kept cell owner (Some value) is has = (plans_keep plans cell value is).1 ∙ has
   owner_kept cell owner None is has = absurd (none-some owner (sym (unowned cell is) ∙ has))
 
-  added_now : (cell : ℕ) (value : List ℕ) → IsHeld (list_at g p.list) (pool_at g) (listed n p).posting mid cell value
-      → (old.planned cell ≡ Some value) ⊎ IsRowCell n rows (i + 1) cell value
-  added_now cell value (held_before is) = ⊎_elim (λ was. inl was) (λ row. inr (more n rows i cell value row)) (so.inserted.added cell value is)
+  added_now : (cell : ℕ) (value : List ℕ) → IsHeld (list_at g p.list) (pool_at g) p.posting mid cell value
+      → (old.planned cell ≡ Some value) ⊎ IsRowCell rows (i + 1) cell value
+  added_now cell value (held_before is) = ⊎_elim (λ was. inl was) (λ row. inr (more rows i cell value row)) (so.inserted.added cell value is)
   added_now cell value (held_posting free near holds) = inr (of_posting i p (omega arith) here holds)
   added_now cell value (held_pointer target free near holds) = inr (of_pointer target holds)
 
@@ -130,7 +128,7 @@ module _ (g : Layout) (n : ℕ) (rows : List Posting) (i : ℕ) (first pool late
       (λ past. in_pool (omega (arith, near.from, past)))
       near.where_blocks_lie
 
-  lies_now : (cell : ℕ) (value : List ℕ) → IsHeld (list_at g p.list) (pool_at g) (listed n p).posting mid cell value
+  lies_now : (cell : ℕ) (value : List ℕ) → IsHeld (list_at g p.list) (pool_at g) p.posting mid cell value
       → (old.planned cell ≡ Some value) ⊎ LiesInLists g cell
   lies_now cell value (held_before is) = so.inserted.lie cell value is
   lies_now cell value (held_posting free near holds) = inr (near_now cell near)
@@ -138,7 +136,7 @@ module _ (g : Layout) (n : ℕ) (rows : List Posting) (i : ℕ) (first pool late
 
   for_now : (cell : ℕ) (owner : Owner) → IsOwned (list_at g p.list) (pool_at g) mid cell owner
       → (old.owners cell ≡ Some owner)
-      ⊎ ((j : ℕ) × (q : Posting) × (j < i + 1) × (slice_get rows j ≡ Some q) × (owner.head ≡ list_at g q.list))
+      ⊎ ((j : ℕ) × (q : ListedPosting) × (j < i + 1) × (slice_get rows j ≡ Some q) × (owner.head ≡ list_at g q.list))
   for_now cell owner (as_before is) = ⊎_elim (λ was. inl was)
       (λ h. inr (h.0, h.1, omega (arith, h.2), h.3, h.4)) (so.inserted.for_lists cell owner is)
   for_now cell owner (anew head from to place) = inr (i, p, omega arith, here, head)
@@ -153,13 +151,13 @@ module _ (g : Layout) (n : ℕ) (rows : List Posting) (i : ℕ) (first pool late
       shown_blank (Some held) same =
           absurd (none-some held (sym (plans_blank plans (told tells) cell value free is) ∙ (so.inserted.shown tells).keeps cell held same))
 
-  stand_now : IsTrue old.base.tells → (j : ℕ) (q : Posting) → j < i + 1 → slice_get rows j ≡ Some q
-      → StandsInList g new later.next (listed n q)
+  stand_now : IsTrue old.base.tells → (j : ℕ) (q : ListedPosting) → j < i + 1 → slice_get rows j ≡ Some q
+      → StandsInList g new later.next q
   stand_now tells j q less is =
       let done = inserts.ends.5 (told tells) in
       ⊎_elim
       (λ (same : j ≡ i).
-      let P : Posting → Type 0 = λ r. StandsInList g new later.next (listed n r) in
+      let P : ListedPosting → Type 0 = λ r. StandsInList g new later.next r in
       subst P (sym (the_posting q j same is))
       (record { at = cell_of e; trail = done.trail; planned = planned_posting plans }))
       (λ differs.
@@ -175,41 +173,41 @@ module _ (g : Layout) (n : ℕ) (rows : List Posting) (i : ℕ) (first pool late
       })
       (cases_eq j i)
     where
-      planned_posting : PlansEntry (list_at g p.list) (pool_at g) pool.next later.next (listed n p).posting (cell_of e) mid new
-          → Holds new.planned (cell_of e) (Rattle.index_paths.specs.Blocks.posting_record (listed n p).posting)
+      planned_posting : PlansEntry (list_at g p.list) (pool_at g) pool.next later.next p.posting (cell_of e) mid new
+          → Holds new.planned (cell_of e) (Rattle.index_paths.specs.Blocks.posting_record p.posting)
       planned_posting (alone one rest same) = one.held
       planned_posting (with_pointer pointer target one other apart rest taken) = one.held
 
-  untouched_now : IsTrue old.base.tells → (l : ℕ) → l < g.lists
-      → ((j : ℕ) (q : Posting) → j < i + 1 → slice_get rows j ≡ Some q → q.list < l) → IsUntouched new (list_at g l)
+  untouched_now : IsTrue old.base.tells → (l : ℕ) → l < all_lists g
+      → ((j : ℕ) (q : ListedPosting) → j < i + 1 → slice_get rows j ≡ Some q → q.list < l) → IsUntouched new (list_at g l)
   untouched_now tells l less before =
       let behind : p.list < l = before i p (omega arith) here in
       stays_untouched (list_at g p.list) (pool_at g) mid new (list_at g l) (λ same. omega (arith, same, behind))
       (lists_apart g l p.list (λ same. omega (arith, same, behind))) (list_below g l less) pool.next later.next
-      (listed n p).posting (cell_of e) plans (so.untouched tells l less (λ j q small is. before j q (omega (arith, small)) is))
+      p.posting (cell_of e) plans (so.untouched tells l less (λ j q small is. before j q (omega (arith, small)) is))
 
-  ready_now : IsTrue old.base.tells → (a : ListedPosting) → a.list < g.lists
-      → ((j : ℕ) (q : Posting) → j < i + 1 → slice_get rows j ≡ Some q → ComesBefore (listed n q) a)
+  ready_now : IsTrue old.base.tells → (a : ListedPosting) → a.list < all_lists g
+      → ((j : ℕ) (q : ListedPosting) → j < i + 1 → slice_get rows j ≡ Some q → ComesBefore q a)
       → IsReady new (list_at g a.list) (pool_at g) later.next a.posting.key
   ready_now tells a less before = ⊎_elim
       (λ (behind : p.list < a.list).
       untouched_ready new (list_at g a.list) (pool_at g) later.next a.posting.key
       (untouched_now tells a.list less (λ j q small is. all_behind behind j q small is)))
-      (λ (same : (p.list ≡ a.list) × ((listed n p).posting.key < a.posting.key)).
+      (λ (same : (p.list ≡ a.list) × (p.posting.key < a.posting.key)).
       subst (λ (l : ℕ). IsReady new (list_at g l) (pool_at g) later.next a.posting.key) same.0
       ((inserts.ends.5 (told tells)).ready a.posting.key same.1))
       (before i p (omega arith) here)
     where
-      all_behind : p.list < a.list → (j : ℕ) (q : Posting) → j < i + 1 → slice_get rows j ≡ Some q → q.list < a.list
+      all_behind : p.list < a.list → (j : ℕ) (q : ListedPosting) → j < i + 1 → slice_get rows j ≡ Some q → q.list < a.list
       all_behind behind j q small is = ⊎_elim
-          (λ (same : j ≡ i). omega (arith, behind, ap (λ (r : Posting). r.list) (the_posting q j same is)))
+          (λ (same : j ≡ i). omega (arith, behind, ap (λ (r : ListedPosting). r.list) (the_posting q j same is)))
           (λ differs. ⊎_elim (λ (lower : q.list < p.list). omega (arith, lower, behind))
-          (λ (equal : (q.list ≡ p.list) × ((listed n q).posting.key < (listed n p).posting.key)). omega (arith, equal.0, behind))
+          (λ (equal : (q.list ≡ p.list) × (q.posting.key < p.posting.key)). omega (arith, equal.0, behind))
           (order.order j i q p (omega (arith, small, differs)) is here))
           (cases_eq j i)
 
   -- a block that the pool gave is one that the pointer leads to
-  granted_now : PlansEntry (list_at g p.list) (pool_at g) pool.next later.next (listed n p).posting (cell_of e) mid new
+  granted_now : PlansEntry (list_at g p.list) (pool_at g) pool.next later.next p.posting (cell_of e) mid new
       → GivesWhatIsLedTo new.planned first.next later.next
   granted_now (alone one rest same) = gives_on kept_here same so.inserted.grants
   granted_now (with_pointer pointer target one other apart rest taken) = ⊎_elim
@@ -236,32 +234,34 @@ module _ (g : Layout) (n : ℕ) (rows : List Posting) (i : ℕ) (first pool late
       h.1 ∙ so.inserted.unplanned (still_before still) cell h.0
 
   grew : IsTrue old.base.tells → IsStill old.base.foreign_writes new.base.foreign_writes
-      → RowStands g n rows i first.next pool.next old.image mid.image
+      → {behind : ℕ → ℕ} → RowStands g behind rows i first.next pool.next old.image mid.image
       → IsWellListed new.image (pool_at g) later.next (list_at g p.list)
       × ((cost : ℕ) × Grows mid.image new.image (pool_at g) pool.next later.next (list_at g p.list)
-      (listed n p).posting cost)
+      p.posting cost)
   grew tells still s = (inserts.ends.5 (told tells)).grows
       (still_here still) (s.lists.well p.list in_list)
 
   lists_now : IsTrue old.base.tells → IsStill old.base.foreign_writes new.base.foreign_writes
-      → ListsStand g old.image first.next (256 * n)
-      → (stands : RowStands g n rows (i + 1) first.next later.next old.image new.image)
+      → (bound behind : ℕ → ℕ) → HasKeysBetween rows bound behind → ListsStand g old.image first.next bound
+      → (stands : RowStands g behind rows (i + 1) first.next later.next old.image new.image)
       × PlansAtCost old.planned new.planned first.next later.next stands.cost
-  lists_now tells still lists =
-      let s = so.inserted.lists tells (still_before still) lists in
+  lists_now tells still bound behind between lists =
+      let s = so.inserted.lists tells (still_before still) bound behind between lists in
       let h = grew tells still s.0 in
-      stands_next_at_cost order here byte (omega (arith, roomy, so.from)) s.0
-      (so.keys tells (still_before still) lists) h.0 h.1.1 s.1
+      stands_next_at_cost order between here (omega (arith, roomy, so.from)) s.0
+      (so.keys tells (still_before still) bound behind between lists) h.0 h.1.1 s.1
       (insertion_at_cost (told tells) (still_here still) plans h.1.1)
 
   keys_now : IsTrue old.base.tells → IsStill old.base.foreign_writes new.base.foreign_writes
-      → ListsStand g old.image first.next (256 * n) → KeysSoFar g n rows (i + 1) new.image later.next
-  keys_now tells still lists =
-      let s = (so.inserted.lists tells (still_before still) lists).0 in
+      → (bound behind : ℕ → ℕ) → HasKeysBetween rows bound behind → ListsStand g old.image first.next bound
+      → KeysSoFar g bound rows (i + 1) new.image later.next
+  keys_now tells still bound behind between lists =
+      let s = (so.inserted.lists tells (still_before still) bound behind between lists).0 in
       let h = grew tells still s in
-      keys_next order here byte (omega (arith, roomy, so.from)) s (so.keys tells (still_before still) lists) h.0 h.1.1
+      keys_next order between here (omega (arith, roomy, so.from)) s
+      (so.keys tells (still_before still) bound behind between lists) h.0 h.1.1
 
-  pub row_next : RowSoFar g n rows (i + 1) first later old new
+  pub row_next : RowSoFar g rows (i + 1) first later old new
   row_next = record {
     called = called_then so.called inserts.called;
     cells = inserts.cells ∙ so.cells;
@@ -296,12 +296,12 @@ module _ (g : Layout) (n : ℕ) (rows : List Posting) (i : ℕ) (first pool late
   }
 
 -- a posting was refused
-pub row_refused : (g : Layout) (n : ℕ) (rows : List Posting) (i : ℕ) (first pool later : Pool) (old mid new : ViewState)
-    (p : Posting) (fault : GrowthFault) → IsView old → slice_get rows i ≡ Some p
-    → RowSoFar g n rows i first pool old mid
-    → InsertsPosting (list_at g p.list) (pool_at g) pool.next later.next (listed n p).posting mid new (Err fault)
-    → InsertsRow g n rows first.next later.next old new (Err fault)
-row_refused g n rows i first pool later old mid new p fault view here so inserts = record {
+pub row_refused : (g : Layout) (rows : List ListedPosting) (i : ℕ) (first pool later : Pool) (old mid new : ViewState)
+    (p : ListedPosting) (fault : GrowthFault) → IsView old → slice_get rows i ≡ Some p
+    → RowSoFar g rows i first pool old mid
+    → InsertsPosting (list_at g p.list) (pool_at g) pool.next later.next p.posting mid new (Err fault)
+    → InsertsRow g rows first.next later.next old new (Err fault)
+row_refused g rows i first pool later old mid new p fault view here so inserts = record {
   called = called_then so.called inserts.called;
   cells = inserts.cells ∙ so.cells;
   fresh = inserts.fresh ∙ so.fresh;
@@ -310,9 +310,9 @@ row_refused g n rows i first pool later old mid new p fault view here so inserts
   quiet = quiet_then so.called inserts.called so.quiet inserts.quiet;
   ends = why fault inserts;
 } where
-  why : (fault : GrowthFault) → InsertsPosting (list_at g p.list) (pool_at g) pool.next later.next (listed n p).posting mid new (Err fault)
-      → Rattle.index_growth.specs.Rows.RowEnds g n rows first.next later.next old new (Err fault)
-  why (Fault faults.ReadFault) inserts = omega (arith, inserts.ends, so.called.faults)
+  why : (fault : GrowthFault) → InsertsPosting (list_at g p.list) (pool_at g) pool.next later.next p.posting mid new (Err fault)
+      → Rattle.index_growth.specs.Rows.RowEnds g rows first.next later.next old new (Err fault)
+  why (Fault faults.Failed) inserts = omega (arith, inserts.ends, so.called.faults)
   why (Fault (faults.Tampered e)) inserts = λ tells.
       let h = inserts.ends (subst IsTrue (sym so.called.tells) tells) in (
         (i, p, here, h.0),

@@ -20,8 +20,6 @@ fn cells_of(alloc: Global, planned: &BTreeMap<u32, Cell>) -> Result<Vec<Cell>, N
     ensures cells { IfOk result (λ cells. cells.items ≡ values planned.now) }
     ensures ordered { IsOrdered nat_cmp planned.now }
 {
-    match planned.values().copied().collect(alloc) {
-        Ok(cells) => Ok(cells),
-        Err(_) => Err(NoMemory),
-    }
+    let cells = planned.values().copied().collect(alloc)?;
+    Ok(cells)
 }

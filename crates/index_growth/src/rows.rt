@@ -1,12 +1,10 @@
 //! A row of postings.
-ghost use Rattle.std.specs.Prelude.{◌≡◌, ◌<◌, ◌≤◌, ◌+◌, ◌*◌, ◌⊎◌, ℕ, None, IsTrue, length};
+ghost use Rattle.std.specs.Prelude.{◌≡◌, ◌<◌, ◌≤◌, ◌+◌, ◌*◌, ◌%◌, ◌⊎◌, ℕ, None, IsTrue, length};
 ghost use Rattle.cell_pool.specs.Grants.{TakesFront, room_of};
-ghost use Rattle.cell_types.specs.Layout.{list_at, pool_at};
-ghost use Rattle.cell_types.specs.declared.geometry.TheConstants.{MAX_SLOTS};
+ghost use Rattle.cell_types.specs.Layout.{all_lists, list_at, pool_at};
 ghost use Rattle.index_growth.specs.Rows.{AreInOrder, AreUntouched, InsertsRow};
 ghost use Rattle.list_growth.specs.Inserting.{InsertsPosting};
 ghost use Rattle.list_growth.specs.Readiness.{IsReady};
-ghost use Rattle.term_tags.specs.Listing.{listed};
 ghost use Rattle.worm_device.specs.Overlays.{of_overlay};
 
 use cell_pool::Pool;
@@ -14,10 +12,10 @@ use cell_types::Geometry;
 use jump_block::Entry;
 use list_growth::{NewEntry, insert};
 use planned_cells::GrowthFault;
-use term_tags::Posting;
+use term_tags::ListedPosting;
 use worm_device::{Overlay, View};
 
-/// Inserts the postings of a slot's document, by list and ordinal, each into its list.
+/// Inserts the postings of a slot's document, by list and key, each into its list.
 ///
 /// Afterwards each of them has a trail, and what is planned is what was planned before, these postings, and pointers.
 /// After a refusal what was planned is given up.
@@ -25,11 +23,9 @@ pub fn insert_postings<V: View>(
     overlay: &mut Overlay<'_, V>,
     pool: &mut Pool,
     geometry: &Geometry,
-    slot: u32,
-    rows: &[Posting],
+    rows: &[ListedPosting],
 ) -> Result<(), GrowthFault>
-    requires slot { slot < MAX_SLOTS }
-    requires order { AreInOrder geometry.now.lists slot rows.now }
+    requires order { AreInOrder geometry.now rows.now }
     requires floor { pool_at geometry.now ≤ (of_overlay V.seen overlay.old).fresh }
     requires fresh { (of_overlay V.seen overlay.old).fresh ≤ pool.old.next }
     requires room { 256 * length rows.now ≤ room_of pool.old }
@@ -39,50 +35,45 @@ pub fn insert_postings<V: View>(
     ensures from { pool.old.next ≤ pool.new.next }
     ensures to { pool.new.next ≤ pool.old.next + 256 * length rows.now }
     ensures end { pool.new.end ≡ pool.old.end }
-    ensures inserts { InsertsRow geometry.now slot rows.now pool.old.next pool.new.next
+    ensures inserts { InsertsRow geometry.now rows.now pool.old.next pool.new.next
         (of_overlay V.seen overlay.old) (of_overlay V.seen overlay.new) result }
 {
     for row in rows {
-        if let Err(fault) = insert_one(overlay, pool, geometry, slot, row) {
-            return Err(fault);
-        }
+        insert_one(overlay, pool, geometry, row)?;
     }
     Ok(())
 }
 
-/// Inserts one posting of a slot's document into its list.
+/// Inserts one posting into its list.
 fn insert_one<V: View>(
     overlay: &mut Overlay<'_, V>,
     pool: &mut Pool,
     geometry: &Geometry,
-    slot: u32,
-    row: &Posting,
+    row: &ListedPosting,
 ) -> Result<Entry, GrowthFault>
-    requires slot { slot < MAX_SLOTS }
-    requires list { row.now.list < geometry.now.lists }
-    requires ordinal { row.now.ordinal ≤ row.now.last }
+    requires list { row.now.list < all_lists geometry.now }
+    requires key { row.now.posting.key % 256 ≤ row.now.posting.last }
     requires floor { pool_at geometry.now ≤ (of_overlay V.seen overlay.old).fresh }
     requires fresh { (of_overlay V.seen overlay.old).fresh ≤ pool.old.next }
     requires room { 256 ≤ room_of pool.old }
     requires free { (cell : ℕ) → pool.old.next ≤ cell → (of_overlay V.seen overlay.old).planned cell ≡ None }
     requires ready { IsTrue (of_overlay V.seen overlay.old).base.tells →
         IsReady (of_overlay V.seen overlay.old) (list_at geometry.now row.now.list) (pool_at geometry.now) pool.old.next
-        (listed slot row.now).posting.key }
-    ensures byte { row.now.ordinal < 256 }
+        row.now.posting.key }
     ensures pool { (pool.new ≡ pool.old) ⊎ TakesFront pool.old pool.new 256 pool.old.next }
     ensures inserts { InsertsPosting (list_at geometry.now row.now.list) (pool_at geometry.now)
-        pool.old.next pool.new.next (listed slot row.now).posting
+        pool.old.next pool.new.next row.now.posting
         (of_overlay V.seen overlay.old) (of_overlay V.seen overlay.new) result }
 {
     let entry = NewEntry {
-        key: 256 * slot + u32::from(row.ordinal),
-        last: row.last,
-        tag: row.tag,
+        key: row.key(),
+        last: row.last(),
+        tag: row.tag(),
     };
     insert(
         overlay,
         pool,
-        geometry.list_at(row.list),
+        geometry.list_at(row.list()),
         geometry.pool_at(),
         entry,
     )

@@ -14,7 +14,7 @@ use cell_pool::Pool;
 use cell_types::Volume;
 use hash_tree::{Level, Open, nibble_of};
 use planned_cells::GrowthFault;
-use term_tags::Posting;
+use term_tags::ListedPosting;
 use worm_device::{Overlay, View};
 
 /// Plans the index of a slot's document, over which nothing is planned yet: its postings, each in its list, and then its
@@ -26,12 +26,12 @@ pub fn insert_document<V: View>(
     pool: &mut Pool,
     volume: &Volume,
     slot: u32,
-    rows: &[Posting],
+    rows: &[ListedPosting],
     place: Open,
     level: &Level,
 ) -> Result<(), GrowthFault>
     requires slot { slot < MAX_SLOTS }
-    requires order { AreInOrder volume.now.geometry.lists slot rows.now }
+    requires order { AreInOrder volume.now.geometry rows.now }
     requires floor { pool_at volume.now.geometry ≤ (of_overlay V.seen overlay.old).fresh }
     requires fresh { (of_overlay V.seen overlay.old).fresh ≤ pool.old.next }
     requires room { 256 * length rows.now + 32 ≤ room_of pool.old }
@@ -48,11 +48,7 @@ pub fn insert_document<V: View>(
 {
     // Known of a half byte once it is asked for: it is below 16.
     let _half = nibble_of(&level.digest, level.number);
-    if let Err(fault) = insert_postings(overlay, pool, &volume.geometry, slot, rows) {
-        return Err(fault);
-    }
-    match tree_growth::insert(overlay, pool, volume, place, level, slot) {
-        Ok(_) => Ok(()),
-        Err(fault) => Err(fault),
-    }
+    insert_postings(overlay, pool, &volume.geometry, rows)?;
+    tree_growth::insert(overlay, pool, volume, place, level, slot)?;
+    Ok(())
 }

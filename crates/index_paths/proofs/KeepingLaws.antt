@@ -7,14 +7,17 @@ use Rattle.index_paths.specs.HashPaths.{HashTrail}
 use Rattle.index_paths.specs.Keeping.{sought_in, IsKept, Kept}
 use Rattle.stored_documents.proofs.Extending.{volume_on, stands_on}
 use Rattle.index_paths.proofs.HashTrails.{hash_trail_on, one_hash_trail}
+use Rattle.stored_documents.proofs.Stamps.{stamp_on}
 use Rattle.stored_documents.proofs.OneDocument.{one_document}
 use Rattle.index_paths.proofs.Trails.{trail_on}
 
 pub is_kept_on : {cells : ℕ} {old new : Image} {g : Layout} {d : Document} → Extends old new
     → IsKept cells old g d → IsKept cells new g d
-is_kept_on e k = record {
+is_kept_on {g = g} {d = d} e k = record {
   stands = stands_on e k.stands;
   postings = k.postings;
+  stamp = k.stamp;
+  is_stamp = stamp_on g d.slot k.stamp e k.is_stamp;
   trails = λ l p below is. let t = k.trails l p below is in (t.0, trail_on e t.1);
   path = hash_trail_on e k.path;
 }

@@ -2,6 +2,8 @@ pub mod Digests
 pub mod Fronts
 pub mod HashTrails
 pub mod KeepingLaws
+pub mod OnePostings
 pub mod Spans
+pub mod StampedPostings
 pub mod Tags
 pub mod Trails

@@ -1,11 +1,12 @@
 -- What it means that documents are kept: they stand, and the index leads to them.
-use Rattle.std.specs.Prelude.{◌≡◌, ◌<◌, ℕ, List, Contains}
+use Rattle.std.specs.Prelude.{◌≡◌, ◌<◌, ℕ, List, Option, Contains}
 use Rattle.sha2.specs.Sha256.{sha256}
 use Rattle.cell_types.specs.Image.{Image, Extends}
-use Rattle.cell_types.specs.Layout.{Layout, list_at, root_at, pool_at}
+use Rattle.cell_types.specs.Layout.{Layout, all_lists, list_at, root_at, pool_at}
 use Rattle.index_paths.specs.Blocks.{PostingFields, Trail}
 use Rattle.stored_documents.specs.Documents.{Document, Stands}
 use Rattle.index_paths.specs.HashPaths.{Sought, HashTrail}
+use Rattle.stored_documents.specs.Slots.{IsStampOf}
 use Rattle.stored_documents.specs.Volumes.{IsVolume}
 use Rattle.index_paths.specs.Postings.{IsPostingOf, HasPostings}
 
@@ -16,8 +17,10 @@ sought_in cells g id = record { id = id; digest = sha256 id; cells = cells; pool
 -- the document stands, each of its postings has a trail, and it has a hash trail
 pub record IsKept (cells : ℕ) (image : Image) (g : Layout) (d : Document) : Type 0 where
   pub stands : Stands cells image d.slot d.id d.body
-  pub postings : HasPostings g.lists d.body
-  pub trails : (l : ℕ) (p : PostingFields) → l < g.lists → IsPostingOf g.lists d.body d.slot l p
+  pub postings : HasPostings g d.body
+  pub stamp : Option ℕ
+  pub is_stamp : IsStampOf g image d.slot stamp
+  pub trails : (l : ℕ) (p : PostingFields) → l < all_lists g → IsPostingOf g stamp d.body d.slot l p
       → (at : ℕ) × Trail image (pool_at g) cells at p (list_at g l)
   pub path : HashTrail image (sought_in cells g d.id) d.slot (root_at g) 0
 

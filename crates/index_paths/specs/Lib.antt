@@ -5,4 +5,5 @@ pub mod HashPaths
 pub mod Keeping
 pub mod Nearness
 pub mod Nodes
+pub mod OnePostings
 pub mod Postings

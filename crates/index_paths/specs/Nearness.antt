@@ -9,7 +9,7 @@ use Rattle.stored_documents.specs.Volumes.{Holds}
 use Rattle.index_paths.specs.Blocks.{PostingFields}
 use Rattle.index_paths.specs.HashPaths.{nibble, fingerprint_of}
 use Rattle.index_paths.specs.Nodes.{IsOnPath}
-use Rattle.index_paths.specs.Postings.{HasPostings, IsPostingOf, HasTag, list_of, tag_of}
+use Rattle.index_paths.specs.Postings.{HasPostings, IsWordPosting, HasTag, list_of, tag_of}
 
 -- so many of the documents are such
 abbrev pub Count : (Document → Type 0) → List Document → ℕ → Type 0
@@ -19,23 +19,29 @@ Count IsSuch (d ∷ documents) count =
     ⊎ ((IsSuch d → ⊥) × Count IsSuch documents count)
 
 -- the document has a posting in this term's list
-pub record SharesList (lists : ℕ) (term : List ℕ) (d : Document) : Type 0 where
-  pub exist : HasPostings lists d.body
+pub record SharesList (g : Layout) (term : List ℕ) (d : Document) : Type 0 where
+  pub exist : HasPostings g d.body
   pub posting : PostingFields
-  pub is : IsPostingOf lists d.body d.slot (list_of lists term) posting
+  pub is : IsWordPosting g d.body d.slot (list_of g.lists term) posting
 
 -- Near: the least number, over the terms, of documents that have a posting in that term's list.
-pub record IsNear (lists : ℕ) (documents : List Document) (terms : List (List ℕ)) (near : ℕ) : Type 0 where
+pub record IsNear (g : Layout) (documents : List Document) (terms : List (List ℕ)) (near : ℕ) : Type 0 where
   pub term : List ℕ
   pub among : Contains terms term
-  pub count : Count (SharesList lists term) documents near
+  pub count : Count (SharesList g term) documents near
   pub least : (other : List ℕ) (more : ℕ) → Contains terms other
-      → Count (SharesList lists other) documents more → near ≤ more
+      → Count (SharesList g other) documents more → near ≤ more
+
+-- terms have one Near among documents
+abbrev pub NearIsOne : Type 0
+NearIsOne =
+    (g : Layout) (documents : List Document) (terms : List (List ℕ)) (one other : ℕ) → IsNear g documents terms one
+    → IsNear g documents terms other → one ≡ other
 
 -- a candidate has the tag of each term, in the term's list
-abbrev pub IsCandidate : ℕ → List (List ℕ) → Document → Type 0
-IsCandidate lists terms d =
-    (term : List ℕ) → Contains terms term → HasTag lists d.body (list_of lists term) (tag_of term)
+abbrev pub IsCandidate : Layout → List (List ℕ) → Document → Type 0
+IsCandidate g terms d =
+    (term : List ℕ) → Contains terms term → HasTag g d.body (list_of g.lists term) (tag_of term)
 
 -- A document that a look-up of an identifier may have to read: a bucket on the identifier's path with its fingerprint
 -- names the document's slot.

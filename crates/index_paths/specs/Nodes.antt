@@ -1,15 +1,15 @@
 -- The nodes of a volume's hash tree, the ways to them, and the blocks of its lists.
 use Rattle.std.specs.Prelude.{◌≡◌, ◌<◌, ◌≤◌, ◌+◌, ◌⊎◌, ℕ, List}
 use Rattle.cell_types.specs.Image.{Image}
-use Rattle.cell_types.specs.Layout.{Layout, list_at, root_at, pool_at}
+use Rattle.cell_types.specs.Layout.{Layout, all_lists, list_at, root_at, pool_at}
 use Rattle.cell_types.specs.declared.record_cell.RecordCell.TheVariants.{Child}
 use Rattle.index_paths.specs.Blocks.{Leads}
 use Rattle.index_paths.specs.HashPaths.{nibble}
 use Rattle.stored_documents.specs.Volumes.{Holds}
 
--- the block is one of list l
+-- the block is one of list l, the time list among them
 pub record IsBlockOf (g : Layout) (image : Image) (l block : ℕ) : Type 0 where
-  pub list : l < g.lists
+  pub list : l < all_lists g
   pub leads : Leads image (pool_at g) g.cells block (list_at g l)
 
 -- The nodes, by their levels: the root, and each target of a well-formed child cell of a node at a level below 63, where

@@ -29,9 +29,13 @@
 
 mod blocks;
 mod laws;
+mod nodes;
+mod posting_laws;
 
 pub use blocks::{BLOCK_CELLS, ENTRY_PLACES};
 pub use laws::{
     fronts_rise, hash_trails_are_one, kept_are_apart, kept_holds_on, paths_hold_on,
     spans_are_apart, spans_cover, tags_are_one, trail_holds_on, trails_are_one,
 };
+pub use nodes::{NODE_BUCKETS, NODE_CELLS};
+pub use posting_laws::{keys_fit, near_is_one, postings_are_one, stamps_add_one};

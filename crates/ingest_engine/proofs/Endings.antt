@@ -156,7 +156,7 @@ module _ (id body : List ℕ) (old new : DeviceState) where
 
     put_refused : (fault : Fault) → PlanEnds r.volume.geometry p r.horizon old looked new (Err fault)
         → IngestEnds id body old new (Err (refusal_of_fault fault))
-    put_refused faults.ReadFault ends = ends
+    put_refused faults.Failed ends = ends
     put_refused (faults.Tampered e) ends = λ tells.
         named_by_plan layout slot has tells plan puts.called e (ends tells)
 

@@ -3,7 +3,7 @@ use Rattle.std.proofs.Common.{◌≡◌, ◌≤◌, ◌<◌, ◌+◌, ◌-◌, �
 use Rattle.std.specs.Prelude.{slice_get}
 use Rattle.std.proofs.Math.ListN.{get_or}
 use Rattle.std.proofs.lemmas.Option.{none-some, slice_get-get_or}
-use Rattle.cell_types.specs.Layout.{IsLayout, Layout, list_at, pool_at}
+use Rattle.cell_types.specs.Layout.{IsLayout, Layout, pool_at, lists_at}
 use Rattle.cell_types.specs.Records.{IsRecordCell}
 use Rattle.cell_types.proofs.OneRecord.{address_in}
 use Rattle.stored_documents.specs.Documents.{IsBody, IsIdentifier}
@@ -78,15 +78,15 @@ module _ {g : Layout} {n edge : ℕ} {level : Level} {place : Open} {body : List
 
     -- the journal's cells are in order, wherever it begins
     pub entries : (from : ℕ)
-        → AreEntries (list_at g 0) (laid from index.journal.items) from to (length index.journal.items)
+        → AreEntries (lists_at g) (laid from index.journal.items) from to (length index.journal.items)
     entries from zero less =
         let e = entry 0 less in
         record {
           cell = e.1;
-          floor = list_at g 0;
+          floor = lists_at g;
           stands = laid_at from 0 index.journal.items ∙ e.3;
           floor_is = inl (refl, refl);
-          fit = fit (list_at g 0) 0 less (h.journal.index e.0 e.1 e.4).from;
+          fit = fit (lists_at g) 0 less (h.journal.index e.0 e.1 e.4).from;
         }
     entries from (suc m) less =
         let e = entry (suc m) less in
@@ -138,8 +138,8 @@ module _ (p : Plan) (id body : List ℕ) (document : StoredDocument) (identifier
           omega (arith, count, long, blocks),
         );
         document = count;
-        entries = subst (λ (below : ℕ). AreEntries (list_at g 0) (laid (journal_from p) p.journal.now) (journal_from p) below
+        entries = subst (λ (below : ℕ). AreEntries (lists_at g) (laid (journal_from p) p.journal.now) (journal_from p) below
             (length p.journal.now)) end
-            (subst (λ (l : List (List ℕ)). AreEntries (list_at g 0) (laid (journal_from p) l) (journal_from p)
+            (subst (λ (l : List (List ℕ)). AreEntries (lists_at g) (laid (journal_from p) l) (journal_from p)
             (edge + index.block_length) (length l)) (sym journal) rows);
       }

@@ -2,7 +2,7 @@
 use Rattle.std.proofs.Common.{◌≡◌, ◌≢◌, ◌≤◌, ◌<◌, ◌+◌, ◌⊎◌, ℕ, zero, suc, List, length, Option, Some, None, refl, sym, ap, subst, ◌∙◌, ⊎_elim, inl, inr, arith}
 use Rattle.std.proofs.lemmas.Option.{none-some}
 use Rattle.cell_types.specs.Image.{Image, Extends}
-use Rattle.cell_types.specs.Layout.{Layout, reserve_at, outcome_at, done_at, list_at, pool_at}
+use Rattle.cell_types.specs.Layout.{Layout, reserve_at, outcome_at, done_at, pool_at, lists_at}
 use Rattle.cell_types.specs.declared.record_cell.RecordCell.{RecordCell}
 use Rattle.stored_documents.specs.Documents.{document_at}
 use Rattle.stored_documents.specs.Slots.{IsUnused}
@@ -93,7 +93,7 @@ reserve_is m n at is own = ⊎_elim
     own
 
 -- no cell from the first list on tells the state of a slot
-pub beyond_slots : (g : Layout) (n at : ℕ) → n < g.slots → list_at g 0 ≤ at → IsOwn n at → ⊥
+pub beyond_slots : (g : Layout) (n at : ℕ) → n < g.slots → lists_at g ≤ at → IsOwn n at → ⊥
 beyond_slots g n at slot from own = ⊎_elim
     (λ (a : at ≡ reserve_at n). omega (arith, slot, from, a))
     (λ (rest : (at ≡ outcome_at n) ⊎ (at ≡ done_at n)). ⊎_elim
@@ -111,8 +111,8 @@ module _ (g : Layout) (between : Image) (m n : ℕ) (unused : IsUnused g between
   first_apart (Reserved start reserved) is journal put e own =
       other is.reserves.reserve (outcome_is m n put.at (ap (λ (p : Put). p.at) e) own)
   first_apart (Committed start reserved bytes journal) is entries put e own =
-      let low : list_at g 0 ≤ put.at = subst (λ (i : ℕ). list_at g 0 ≤ i) (sym e.2.at)
-      (entries_from (list_at g 0) between (journal_at start reserved journal) (document_at start reserved bytes journal) journal entries e.0 put.value e.1 e.2.stands) in
+      let low : lists_at g ≤ put.at = subst (λ (i : ℕ). lists_at g ≤ i) (sym e.2.at)
+      (entries_from (lists_at g) between (journal_at start reserved journal) (document_at start reserved bytes journal) journal entries e.0 put.value e.1 e.2.stands) in
       beyond_slots g n put.at unused.slot low own
   first_apart Unused is journal put e own = e
   first_apart (Abandoned start reserved) is journal put e own = e

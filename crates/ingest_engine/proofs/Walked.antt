@@ -54,7 +54,7 @@ any_loan g horizon edge id old new lent back (Ok walks.PathFull) h = (
   h.0,
   λ tells. let full = h.1 tells in record { passed = full.passed; none = full.none },
 )
-any_loan g horizon edge id old new lent back (Err faults.ReadFault) h = h
+any_loan g horizon edge id old new lent back (Err faults.Failed) h = h
 any_loan g horizon edge id old new lent back (Err (faults.Tampered e)) h = (
   h.0,
   h.1,
@@ -84,7 +84,7 @@ quiet_then first second one two still = λ cell.
 -- a walk that was ended
 pub walk_failed : (r : Ready) (id : List ℕ) (entry new : DeviceState) (fault : Fault)
     → WalksDevice r id entry new (Err fault) → EndsPath r id entry new (Err (refusal_of_fault fault))
-walk_failed r id entry new faults.ReadFault walks = record {
+walk_failed r id entry new faults.Failed walks = record {
   called = walks.called;
   quiet = walks.quiet;
   ends = walks.ends;

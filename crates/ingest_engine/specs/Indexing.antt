@@ -85,7 +85,7 @@ pub record HasTooMany (r : Ready) (id body : List ℕ) (list count : ℕ) (entry
   pub place : Open
   pub level : Level
   pub path : WalksOn r id entry new (walks.End place level)
-  pub many : GetsTooMany r.volume.geometry.lists body list count
+  pub many : GetsTooMany r.volume.geometry body list count
 
 -- how planning the index may end, and why
 abbrev pub PlanForEnds : Ready → List ℕ → List ℕ → DeviceState → DeviceState → Result PlannedIndex Refusal → Type 0

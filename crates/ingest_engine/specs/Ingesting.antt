@@ -115,7 +115,7 @@ pub record IsTooMany (id body : List ℕ) (list count : ℕ) (old new : DeviceSt
   pub ready : Ready
   pub settled : HasSlot old new ready
   pub fresh : IsTrue old.tells → NoneHasTrail ready.volume.geometry old.cells old.image id
-  pub many : GetsTooMany ready.volume.geometry.lists body list count
+  pub many : GetsTooMany ready.volume.geometry body list count
 
 -- how many cells a document takes with this index of it: its own, those of its journal, and the index's new blocks
 abbrev pub need_with : List ℕ → List ℕ → PlannedIndex → ℕ

@@ -1,23 +1,28 @@
 //! A volume, made on a blank device.
+ghost use Rattle.cell_types.specs.declared.geometry.TheConstants.{FIRST_VERSION};
 ghost use Rattle.worm_device.specs.State.{DeviceState};
 ghost use Rattle.ingest_engine.specs.Formats.{Formats, Looks};
 
-use cell_types::{FORMAT_VERSION, Geometry, RecordCell, Refusal, encode};
+use cell_types::{FIRST_VERSION, Geometry, RecordCell, Refusal, encode};
 use worm_device::{Device, Written};
 
 /// Makes the device a volume of so many slots and lists: reads every cell, writes cell 0, and syncs. Takes no
 /// memory.
 pub fn format_volume<D: Device>(device: &mut D, slots: u32, lists: u16) -> Result<(), Refusal>
-    ensures { Formats (record { slots = slots; lists = lists; cells = (D.state device.old).cells })
-        (D.state device.old) (D.state device.new) result }
+    ensures { Formats (record {
+      slots = slots;
+      lists = lists;
+      cells = (D.state device.old).cells;
+      version = FIRST_VERSION;
+    }) (D.state device.old) (D.state device.new) result }
 {
     let cells = device.cells();
-    if Geometry::new(slots, lists, cells).is_none() {
+    if Geometry::new(slots, lists, cells, FIRST_VERSION).is_none() {
         return Err(Refusal::TooSmall);
     }
     look_for_written_cells(device)?;
     let volume = RecordCell::Volume {
-        version: FORMAT_VERSION,
+        version: FIRST_VERSION,
         slots,
         lists,
         cells,

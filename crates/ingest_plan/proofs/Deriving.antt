@@ -1,23 +1,20 @@
 -- From what is planned over a view of a device to what that says of the device.
-use Rattle.std.proofs.Common.{◌≡◌, ◌<◌, ◌≤◌, ◌+◌, ◌*◌, ⊎_elim, ℕ, Bool, List, [], Option, Some, None, Result, Ok, Err, refl, ap, sym, subst, arith, ◌∙◌}
-use Rattle.std.specs.Prelude.{IsTrue, length, map, slice_get, if◌then◌else◌}
-use Rattle.std.specs.Option.{option_map}
+use Rattle.std.proofs.Common.{◌≡◌, ◌<◌, ◌≤◌, ◌+◌, ◌*◌, ⊎_elim, ℕ, Bool, List, [], Some, None, Result, Ok, Err, refl, ap, sym, subst, arith, ◌∙◌}
+use Rattle.std.specs.Prelude.{IsTrue, length, slice_get, if◌then◌else◌}
 use Rattle.std.proofs.Math.ListN.{get_or}
 use Rattle.std.proofs.lemmas.Bool.{cases_lt, le-ltb, lt-ltb}
-use Rattle.std.proofs.lemmas.Option.{none-some, slice_get-get_or, slice_get-map, slice_get_within}
+use Rattle.std.proofs.lemmas.Option.{slice_get-get_or, slice_get_within}
 use Rattle.cell_types.specs.Image.{Image}
-use Rattle.cell_types.specs.Layout.{Layout, list_at, pool_at}
+use Rattle.cell_types.specs.Layout.{Layout, pool_at, IsLayout}
 use Rattle.cell_types.specs.declared.refusal.Fault.TheVariants as faults
 use Rattle.cell_types.specs.declared.refusal.Refusal.{Refusal}
 use Rattle.cell_types.specs.declared.refusal.Refusal.TheVariants as refusals
-use Rattle.index_paths.specs.Blocks.{PostingFields, Trail}
 use Rattle.index_paths.specs.Keeping.{sought_in}
 use Rattle.index_paths.specs.Postings.{ArePostings, ListedPosting}
 use Rattle.index_paths.proofs.Trails.{trail_wider}
+use Rattle.planned_cells.specs.Faults.{refusal_of_growth}
 use Rattle.planned_cells.specs.declared.fault.GrowthFault.{GrowthFault}
 use Rattle.planned_cells.specs.declared.fault.GrowthFault.TheVariants as growth
-use Rattle.term_tags.specs.Listing.{listed}
-use Rattle.term_tags.specs.declared.rows.Posting.{Posting}
 use Rattle.worm_device.specs.Calls.{Called}
 use Rattle.tamper_rules.proofs.Images.{same_image}
 use Rattle.worm_device.specs.Counts.{IsStill}
@@ -30,34 +27,27 @@ use Rattle.tree_growth.specs.Readiness.{blank_of}
 use Rattle.index_growth.specs.Counts.{HasCells}
 use Rattle.index_growth.specs.Indexes.{IndexEnds, IndexStandsAtCost, Indexes, IsIndexed}
 use Rattle.index_growth.specs.Journal.{IsJournal}
-use Rattle.index_growth.specs.Standing.{ListsStand}
+use Rattle.index_growth.specs.Standing.{HasKeysBetween, ListsStand}
 use Rattle.index_growth.proofs.Counting.{count_is_one, none_planned}
 use Rattle.index_growth.proofs.Granted.{StaysQuiet}
-use Rattle.ingest_plan.specs.Over.{IsPlannedOver, IsRefusalOf, OverEnds, PlansOver}
+use Rattle.ingest_plan.specs.Over.{IsPlannedOver, OverEnds, PlansOver}
 use Rattle.ingest_plan.specs.Planning.{KeepsDocument, PlanEnds, PlansIndex, StandsAtCost, cut_at, laid_over}
 use Rattle.ingest_plan.specs.declared.plan.PlannedIndex.{PlannedIndex}
 use Rattle.ingest_plan.proofs.Licence.{names_cell}
-use Rattle.ingest_plan.proofs.Postings.{few, in_order}
+use Rattle.ingest_plan.proofs.Postings.{few, in_order, key_of_slot}
 
--- the posting that stands at a place of the row
-posting_at : (n : ℕ) (l : ℕ) (q : PostingFields) (found : Option Posting) → option_map (listed n) found ≡ Some (record { list = l; posting = q })
-    → (p : Posting) × (found ≡ Some p) × (listed n p ≡ record { list = l; posting = q })
-posting_at n l q None is = absurd (none-some (record { list = l; posting = q }) is)
-posting_at n l q (Some p) is = (p, refl, (let k : Some (listed n p) ≡ Some (record { list = l; posting = q }) = is in cc))
-
-module _ (g : Layout) (n : ℕ) (body : List ℕ) (rows : List Posting) (level : Level) (place : Open) (from to : ℕ) (old new : ViewState)
-    (are : ArePostings g.lists body n (map (listed n) rows)) (indexed : IsIndexed g n rows level place from to old new) where
+module _ (g : Layout) (n : ℕ) (body : List ℕ) (rows : List ListedPosting) (level : Level) (place : Open) (from to : ℕ) (old new : ViewState)
+    (layout : IsLayout g) (are : ArePostings g None body n rows) (indexed : IsIndexed g n rows level place from to old new) where
   pub keeps : IsTrue old.base.tells → KeepsDocument g n body level place to new.lower new.planned
   keeps tells id image digest below planned room stands passed = record {
     stands = stands;
     postings = are.exist;
+    stamp = None;
+    is_stamp = omega (arith, layout.version);
     trails = λ l q less posting.
         let found = are.all l q less posting in
-        let at = posting_at n l q (slice_get rows found.0) (sym (slice_get-map (listed n) rows found.0) ∙ found.1) in
-        let trail = indexed.trails tells image below planned found.0 at.0 at.1 in
-        let a : ListedPosting = record { list = l; posting = q } in
-        let P : ListedPosting → Type 0 = λ b. (cell : ℕ) × Trail image (pool_at g) g.cells cell b.posting (list_at g b.list) in
-        subst P at.2 (trail.at, trail_wider (pool_at g) g.cells (omega arith) room trail.trail);
+        let trail = indexed.trails tells image below planned found.0 (record { list = l; posting = q }) found.1 in
+        (trail.at, trail_wider (pool_at g) g.cells (omega arith) room trail.trail);
     path = indexed.path image (sought_in g.cells g id) digest refl room planned passed;
   }
 
@@ -92,22 +82,22 @@ shows_cut edge image view is nothing fresh lower = sym (same_image (λ cell. ⊎
     (cases_lt cell edge)))
 
 -- the index stands, and the journal and what the pool gave are as many cells as it costs
-stands_at_cost : {g : Layout} {n edge : ℕ} {rows : List Posting} {level : Level} {place : Open} {p : PlannedIndex}
+stands_at_cost : {g : Layout} {n edge : ℕ} {behind : ℕ → ℕ} {rows : List ListedPosting} {level : Level} {place : Open} {p : PlannedIndex}
     {old new planned : Image} → ((cell : ℕ) → new cell ≡ over (planned cell) (old cell))
     → IsJournal planned p.journal.items
-    → IndexStandsAtCost g n rows level place edge (edge + p.block_length) old new planned
-    → StandsAtCost g n edge rows level place p old planned
-stands_at_cost {g} {n} {edge} {rows} {level} {place} {p} {old} {new} {planned} shows journal stands =
+    → IndexStandsAtCost g n behind rows level place edge (edge + p.block_length) old new planned
+    → StandsAtCost g n edge behind rows level place p old planned
+stands_at_cost {g} {n} {edge} {behind} {rows} {level} {place} {p} {old} {new} {planned} shows journal stands =
     let laid : new ≡ laid_over planned old = same_image shows in
-    let there : IndexStandsAtCost g n rows level place edge (edge + p.block_length) old (laid_over planned old) planned =
-    subst (λ (i : Image). IndexStandsAtCost g n rows level place edge (edge + p.block_length) old i planned) laid
+    let there : IndexStandsAtCost g n behind rows level place edge (edge + p.block_length) old (laid_over planned old) planned =
+    subst (λ (i : Image). IndexStandsAtCost g n behind rows level place edge (edge + p.block_length) old i planned) laid
     stands in
     let count : length p.journal.items ≡ there.count =
     count_is_one planned (length p.journal.items) there.count (journal_counts journal) there.cells in
     record { stands = there.stands; cost = omega (arith, count, there.cost) }
 
 -- over nothing planned a posting and the bucket have one or two cells of the journal each
-journal_each : {g : Layout} {n edge : ℕ} {rows : List Posting} {level : Level} {place : Open} {p : PlannedIndex}
+journal_each : {g : Layout} {n edge : ℕ} {rows : List ListedPosting} {level : Level} {place : Open} {p : PlannedIndex}
     {old new : ViewState} → ((cell : ℕ) → old.planned cell ≡ None)
     → IsPlannedOver g n edge rows level place p old new
     → (length rows + 1 ≤ length p.journal.items) × (length p.journal.items ≤ 2 * (length rows + 1))
@@ -117,14 +107,14 @@ journal_each {rows = rows} {p = p} {new = new} nothing h =
     (omega (arith, count, taken.2), omega (arith, count, taken.3))
 
 -- what the rows are, whose words are the body's, gives what is said of the device
-pub plans_index : (g : Layout) (n edge : ℕ) (body : List ℕ) (rows : List Posting) (level : Level) (place : Open)
+pub plans_index : (g : Layout) (n edge : ℕ) (body : List ℕ) (rows : List ListedPosting) (level : Level) (place : Open)
     (start : DeviceState) (old new : ViewState) (result : Result PlannedIndex Refusal) (done : DeviceState)
-    → ArePostings g.lists body n (map (listed n) rows) → edge ≤ g.cells
+    → IsLayout g → ArePostings g None body n rows → edge ≤ g.cells
     → PlansOver g n edge rows level place old new result
     → old.base ≡ start → done ≡ new.base → new.lower ≡ new.base.image
     → IsView old → ((cell : ℕ) → old.planned cell ≡ None) → old.fresh ≡ edge → old.lower ≡ start.image
     → PlansIndex g n edge level place body start done result
-plans_index g n edge body rows level place start old new result done are inside over begins ends below view nothing
+plans_index g n edge body rows level place start old new result done layout are inside over begins ends below view nothing
     fresh lower = record {
       called = subst (λ (d : DeviceState). Called start d) (sym ends)
           (subst (λ (d : DeviceState). Called d new.base) begins over.called);
@@ -155,25 +145,26 @@ plans_index g n edge body rows level place start old new result done are inside 
       why (Ok p) h = record {
         rows = rows;
         are = are;
-        few = few g.lists body n rows are;
+        few = few g body n rows are;
         least = (journal_each nothing h).0;
         most = omega (arith, (journal_each nothing h).1, h.blocks);
         planned = new.planned;
         journal = h.journal;
         grants = h.indexed.grants;
         keeps = λ tells. subst (λ (i : Image). KeepsDocument g n body level place (edge + p.block_length) i new.planned) (sym there)
-            (keeps g n body rows level place edge (edge + p.block_length) old new are h.indexed (told tells));
+            (keeps g n body rows level place edge (edge + p.block_length) old new layout are h.indexed (told tells));
         blank = λ tells.
             subst (λ (i : Image). i (blank_of place) ≡ None → (cell : ℕ) (value : List ℕ) → new.planned cell ≡ Some value
             → i cell ≡ None) shown (h.indexed.blank (told tells));
         stands = λ tells still.
-            subst (λ (i : Image). ListsStand g i edge (256 * n) → StandsAtCost g n edge rows level place p i new.planned)
+            subst (λ (i : Image). (bound behind : ℕ → ℕ) → HasKeysBetween rows bound behind → ListsStand g i edge bound
+            → StandsAtCost g n edge behind rows level place p i new.planned)
             shown
-            (λ lists. stands_at_cost (h.indexed.shows (still_then still)) h.journal.is
-            (h.indexed.stands (told tells) (still_then still) lists));
+            (λ bound behind between lists. stands_at_cost (h.indexed.shows (still_then still)) h.journal.is
+            (h.indexed.stands (told tells) (still_then still) bound behind between lists));
       }
       why (Err (refusals.Tampered e)) h = λ tells.
-          names_cell start done (in_order g.lists body n rows are) inside
+          names_cell start done (in_order g None body n rows are) (λ i p is. (key_of_slot g body n rows are i p is).0) inside
           (subst IsTrue (sym over.called.tells) (told tells)) (sym lower) there quiet (h (told tells))
       why (Err refusals.DeviceFault) h =
           omega (arith, h, ap (λ (d : DeviceState). d.faults) begins, ap (λ (d : DeviceState). d.faults) ends)
@@ -181,7 +172,7 @@ plans_index g n edge body rows level place start old new result done are inside 
       why (Err refusal) h = absurd h
 
 -- what was planned, and its journal
-pub planned_over : (g : Layout) (n edge from next : ℕ) (rows : List Posting) (level : Level) (place : Open) (p : PlannedIndex)
+pub planned_over : (g : Layout) (n edge from next : ℕ) (rows : List ListedPosting) (level : Level) (place : Open) (p : PlannedIndex)
     (old new : ViewState) (held : Image) → from ≡ edge → edge + p.block_length ≡ next
     → next ≤ from + 256 * length rows + 32 → IsIndexed g n rows level place from next old new
     → ((cell : ℕ) → held cell ≡ new.planned cell) → IsJournal held p.journal.items
@@ -204,25 +195,21 @@ planned_over g n edge from next rows level place p old new held begins ends most
 }
 
 -- why nothing was planned
-pub plan_refused : (g : Layout) (n edge from next : ℕ) (rows : List Posting) (level : Level) (place : Open)
-    (old new : ViewState) (fault : GrowthFault) (refusal : Refusal) → IsView new → old.fresh ≡ edge
-    → Indexes g n rows level place from next old new (Err fault) → IsRefusalOf fault refusal
-    → PlansOver g n edge rows level place old new (Err refusal)
-plan_refused g n edge from next rows level place old new fault refusal view fresh indexes is = record {
+pub plan_refused : (g : Layout) (n edge from next : ℕ) (rows : List ListedPosting) (level : Level) (place : Open)
+    (old new : ViewState) (fault : GrowthFault) → IsView new → old.fresh ≡ edge
+    → Indexes g n rows level place from next old new (Err fault)
+    → PlansOver g n edge rows level place old new (Err (refusal_of_growth fault))
+plan_refused g n edge from next rows level place old new fault view fresh indexes = record {
   called = indexes.called;
   quiet = indexes.quiet;
   fresh = indexes.fresh;
   loans = indexes.loans;
-  ends = why fault indexes.ends is;
+  ends = why fault indexes.ends;
 } where
-  why : (fault : GrowthFault) → IndexEnds g n rows level place from next old new (Err fault) → IsRefusalOf fault refusal
-      → OverEnds g n edge rows level place old new (Err refusal)
-  why (growth.Fault (faults.Tampered e)) h same =
-      subst (λ (r : Refusal). OverEnds g n edge rows level place old new (Err r)) (sym same)
-      (λ tells.
+  why : (fault : GrowthFault) → IndexEnds g n rows level place from next old new (Err fault)
+      → OverEnds g n edge rows level place old new (Err (refusal_of_growth fault))
+  why (growth.Fault (faults.Tampered e)) h = λ tells.
       let named = h tells in
-      record { view = view; fresh = indexes.fresh ∙ fresh; is = named.0; licensable = named.1 })
-  why (growth.Fault faults.ReadFault) h same =
-      subst (λ (r : Refusal). OverEnds g n edge rows level place old new (Err r)) (sym same) h
-  why growth.NoMemory h same =
-      subst (λ (r : Refusal). OverEnds g n edge rows level place old new (Err r)) (sym same) tt
+      record { view = view; fresh = indexes.fresh ∙ fresh; is = named.0; licensable = named.1 }
+  why (growth.Fault faults.Failed) h = h
+  why growth.NoMemory h = tt

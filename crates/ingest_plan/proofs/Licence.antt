@@ -1,6 +1,6 @@
 -- What a plan names is licensed on the device, which stands below what was planned.
 use Rattle.std.proofs.Common.{◌≡◌, ◌≢◌, ◌≤◌, ◌*◌, ⊎_elim, inl, inr, ℕ, List, Option, Some, ap, sym, subst, arith, ◌∙◌}
-use Rattle.std.specs.Prelude.{IsTrue}
+use Rattle.std.specs.Prelude.{IsTrue, slice_get}
 use Rattle.std.proofs.lemmas.Bool.{cases_eq}
 use Rattle.cell_types.specs.Image.{Image, IsUnchanged}
 use Rattle.cell_types.specs.Layout.{Layout}
@@ -9,8 +9,7 @@ use Rattle.stored_documents.specs.Slots.{IsEdge, IsHorizon}
 use Rattle.stored_documents.specs.Volumes.{IsVolume}
 use Rattle.tamper_rules.specs.Rules.{Children, IsBroken, IsPlaceOf}
 use Rattle.tamper_rules.specs.declared.numbers.TheConstants.{FAKE_POSTING}
-use Rattle.term_tags.specs.Listing.{listed}
-use Rattle.term_tags.specs.declared.rows.Posting.{Posting}
+use Rattle.index_paths.specs.Postings.{ListedPosting}
 use Rattle.worm_device.specs.Counts.{IsStill}
 use Rattle.worm_device.specs.State.{DeviceState}
 use Rattle.worm_device.specs.Views.{IsView, ViewState}
@@ -66,19 +65,23 @@ led_place {g} {s = s} taken within =
     subst (λ (c : ℕ). IsChildPlace g s.lower c) (sym taken.cell)
     (subst (λ (l : Option ChildCell). IsLedWithin g s.lower l) taken.led within)
 
-licensed_there : {g : Layout} {n : ℕ} {rows : List Posting} {level : Level} {place : Open} {s : ViewState}
-    {e : Evidence} → IsView s → AreInOrder g.lists n rows → s.fresh ≤ g.cells → IsTrue s.base.tells
-    → IsNamed g n rows level place s e → IsLicensedThere g n level s e
-licensed_there {g} {n} {rows} {level} {place} {s} {e} view order inside tells (in_list i p is shows) =
-    let licence = licensed g s p.list (listed n p).posting.key e view (order.lists_are i p is) shows in
+-- the postings' keys are none of an earlier slot
+abbrev pub AreOfSlot : ℕ → List ListedPosting → Type 0
+AreOfSlot n rows = (i : ℕ) (p : ListedPosting) → slice_get rows i ≡ Some p → 256 * n ≤ p.posting.key
+
+licensed_there : {g : Layout} {n : ℕ} {rows : List ListedPosting} {level : Level} {place : Open} {s : ViewState}
+    {e : Evidence} → IsView s → AreInOrder g rows → AreOfSlot n rows → s.fresh ≤ g.cells → IsTrue s.base.tells
+    → IsNamed g rows level place s e → IsLicensedThere g n level s e
+licensed_there {g} {n} {rows} {level} {place} {s} {e} view order slot inside tells (in_list i p is shows) =
+    let licence = licensed g s p.list p.posting.key e view (order.lists_are i p is) shows in
     record {
       rule = rule_shown shows;
       stands = licence.stands;
       place = λ within. licence.place inside;
       broken = λ within none places volume horizon edge.
-          list_broken licence (omega arith) none places volume horizon edge;
+          list_broken licence (slot i p is) none places volume horizon edge;
     }
-licensed_there {g} {n} {rows} {level} {place} {s} {e} view order inside tells (in_tree taken) = record {
+licensed_there {g} {n} {rows} {level} {place} {s} {e} view order slot inside tells (in_tree taken) = record {
   rule = inr (inr (inr taken.rule));
   stands = taken.stands tells;
   place = λ within.
@@ -88,12 +91,12 @@ licensed_there {g} {n} {rows} {level} {place} {s} {e} view order inside tells (i
 }
 
 -- So it is on a device that stands below the view.
-pub names_cell : {g : Layout} {n edge : ℕ} {rows : List Posting} {level : Level} {place : Open} {old new : ViewState}
-    {e : Evidence} (start done : DeviceState) → AreInOrder g.lists n rows → edge ≤ g.cells → IsTrue new.base.tells
+pub names_cell : {g : Layout} {n edge : ℕ} {rows : List ListedPosting} {level : Level} {place : Open} {old new : ViewState}
+    {e : Evidence} (start done : DeviceState) → AreInOrder g rows → AreOfSlot n rows → edge ≤ g.cells → IsTrue new.base.tells
     → start.image ≡ old.lower → done.image ≡ new.lower
     → (IsStill start.foreign_writes done.foreign_writes → IsUnchanged start.image done.image)
-    → NamesBelow g n edge rows level place old new e → NamesCell g n edge level start done e
-names_cell {g} {n} {edge} {rows} {level} {place} {old} {new} {e} start done order inside tells before there quiet h =
+    → NamesBelow g edge rows level place old new e → NamesCell g n edge level start done e
+names_cell {g} {n} {edge} {rows} {level} {place} {old} {new} {e} start done order slot inside tells before there quiet h =
     record {
       rule = licence.rule;
       stands = ap (λ (i : Image). i e.cell) there ∙ licence.stands;
@@ -114,7 +117,7 @@ names_cell {g} {n} {edge} {rows} {level} {place} {old} {new} {e} start done orde
     fits = omega (arith, h.fresh, inside)
 
     licence : IsLicensedThere g n level new e
-    licence = licensed_there h.view order fits tells h.is
+    licence = licensed_there h.view order slot fits tells h.is
 
     unchanged : IsStill start.foreign_writes done.foreign_writes → IsUnchanged old.lower new.lower
     unchanged still =

@@ -1,5 +1,5 @@
 -- What planning the index of a document says of it.
-use Rattle.std.specs.Prelude.{◌≡◌, ◌≤◌, ◌+◌, ◌*◌, ◌⊎◌, ℕ, List, length, map, Some, None, Result, Ok, Err, IsTrue, nat_lt, if◌then◌else◌, ⊤}
+use Rattle.std.specs.Prelude.{◌≡◌, ◌≤◌, ◌+◌, ◌*◌, ◌⊎◌, ℕ, List, length, Some, None, Result, Ok, Err, IsTrue, nat_lt, if◌then◌else◌, ⊤}
 use Rattle.sha2.specs.Sha256.{sha256}
 use Rattle.cell_types.specs.Image.{Image, Extends, IsUnchanged}
 use Rattle.cell_types.specs.Layout.{Layout}
@@ -10,11 +10,10 @@ use Rattle.stored_documents.specs.Documents.{Stands}
 use Rattle.stored_documents.specs.Slots.{IsEdge, IsHorizon}
 use Rattle.stored_documents.specs.Volumes.{IsVolume}
 use Rattle.index_paths.specs.Keeping.{IsKept, sought_in}
-use Rattle.index_paths.specs.Postings.{ArePostings}
+use Rattle.index_paths.specs.Postings.{ArePostings, ListedPosting}
 use Rattle.tamper_rules.specs.Rules.{IsBroken, IsPlaceOf}
 use Rattle.tamper_rules.specs.declared.numbers.TheConstants.{BLOCK_OUT_OF_ORDER, FAKE_POSTING, LOST_POINTER, LOST_CHILD}
-use Rattle.term_tags.specs.Listing.{GetsTooMany, listed}
-use Rattle.term_tags.specs.declared.rows.Posting.{Posting}
+use Rattle.term_tags.specs.Listing.{GetsTooMany}
 use Rattle.worm_device.specs.Calls.{Called}
 use Rattle.worm_device.specs.Counts.{IsStill, Rose}
 use Rattle.worm_device.specs.Overlays.{over}
@@ -26,7 +25,7 @@ use Rattle.tree_growth.specs.Readiness.{PassedDown, blank_of, cost_of}
 use Rattle.index_growth.specs.Granting.{GivesWhatIsLedTo}
 use Rattle.index_growth.specs.Indexes.{IsIndexCell}
 use Rattle.index_growth.specs.Journal.{IsJournal}
-use Rattle.index_growth.specs.Standing.{IndexStands, ListsStand}
+use Rattle.index_growth.specs.Standing.{HasKeysBetween, IndexStands, ListsStand}
 use Rattle.ingest_plan.specs.declared.plan.PlannedIndex.{PlannedIndex}
 
 -- The journal copies index cells alone, which lie from the first list on and before this cell.
@@ -52,21 +51,22 @@ cut_at edge image = λ cell. if nat_lt cell edge then image cell else None
 abbrev pub laid_over : Image → Image → Image
 laid_over planned image = λ cell. over (planned cell) (image cell)
 
--- Planned over this image, the index stands as it should, at the cost that its postings and its bucket must have: as many
--- cells as the journal has, and as its new blocks and its new node do.
-pub record StandsAtCost (g : Layout) (n edge : ℕ) (rows : List Posting) (level : Level) (place : Open) (p : PlannedIndex)
-    (image planned : Image) : Type 0 where
-  pub stands : IndexStands g n rows level place edge (edge + p.block_length) image (laid_over planned image)
+-- Planned over this image, the index stands as it should, with keys below these bounds, at the cost that its postings and
+-- its bucket must have: as many cells as the journal has, and as its new blocks and its new node do.
+pub record StandsAtCost (g : Layout) (n edge : ℕ) (behind : ℕ → ℕ) (rows : List ListedPosting) (level : Level)
+    (place : Open) (p : PlannedIndex) (image planned : Image) : Type 0 where
+  pub stands : IndexStands g n behind rows level place edge (edge + p.block_length) image (laid_over planned image)
   pub cost : length p.journal.items + p.block_length ≡ stands.lists.cost + cost_of place
 
 -- The index of a body is planned, in slot n, with its blocks from the edge on: each of them is led to by a planned cell.
 -- On each image a posting takes 1 to 258 cells, and the bucket 1 to 34.
 -- Where the place was blank, no planned cell was written before the edge. Where nobody else wrote, and all lists stood as
--- they should up to the edge, with keys of earlier slots, the whole index does, at the cost that it must have.
+-- they should up to the edge, with keys below bounds that the postings' keys are past, the whole index does, with keys
+-- below any bounds behind the postings', at the cost that it must have.
 pub record IsPlanned (g : Layout) (n edge : ℕ) (level : Level) (place : Open) (body : List ℕ) (p : PlannedIndex)
     (old new : DeviceState) : Type 0 where
-  pub rows : List Posting
-  pub are : ArePostings g.lists body n (map (listed n) rows)
+  pub rows : List ListedPosting
+  pub are : ArePostings g None body n rows
   pub few : length rows ≤ 256 * g.lists
   pub least : length rows + 1 ≤ length p.journal.items
   pub most : length p.journal.items + p.block_length ≤ 258 * length rows + 34
@@ -77,8 +77,8 @@ pub record IsPlanned (g : Layout) (n edge : ℕ) (level : Level) (place : Open) 
   pub blank : IsTrue old.tells → cut_at edge old.image (blank_of place) ≡ None → (cell : ℕ) (value : List ℕ)
       → planned cell ≡ Some value → cut_at edge old.image cell ≡ None
   pub stands : IsTrue old.tells → IsStill old.foreign_writes new.foreign_writes
-      → ListsStand g (cut_at edge old.image) edge (256 * n)
-      → StandsAtCost g n edge rows level place p (cut_at edge old.image) planned
+      → (bound behind : ℕ → ℕ) → HasKeysBetween rows bound behind → ListsStand g (cut_at edge old.image) edge bound
+      → StandsAtCost g n edge behind rows level place p (cut_at edge old.image) planned
 
 -- the rules that planning names: those of a block's cells, of its postings and of its pointers, and that of child cells
 abbrev pub IsGrowthRule : ℕ → Type 0
@@ -101,7 +101,7 @@ abbrev pub PlanEnds : Layout → ℕ → ℕ → Level → Open → List ℕ →
     → Type 0
 PlanEnds g n edge level place body old new (Ok p) = IsPlanned g n edge level place body p old new
 PlanEnds g n edge level place body old new (Err (TooManyTerms list count)) =
-    GetsTooMany g.lists body list count × (new ≡ old)
+    GetsTooMany g body list count × (new ≡ old)
 PlanEnds g n edge level place body old new (Err (Tampered e)) = IsTrue old.tells → NamesCell g n edge level old new e
 PlanEnds g n edge level place body old new (Err DeviceFault) = Rose old.faults new.faults
 PlanEnds g n edge level place body old new (Err NoMemory) = ⊤

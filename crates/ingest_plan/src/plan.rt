@@ -5,17 +5,17 @@ ghost use Rattle.cell_types.specs.declared.geometry.TheConstants.{MAX_CELLS, MAX
 ghost use Rattle.hash_tree.specs.Levels.{IsLed, IsWithin};
 ghost use Rattle.hash_tree.specs.Steps.{IsOpenOf};
 ghost use Rattle.index_growth.specs.Rows.{AreInOrder};
-ghost use Rattle.ingest_plan.specs.Over.{IsRefusalOf, PlansOver};
+ghost use Rattle.ingest_plan.specs.Over.{PlansOver};
 ghost use Rattle.ingest_plan.specs.Planning.{PlansIndex};
 ghost use Rattle.worm_device.specs.Overlays.{of_overlay};
 
 use cell_pool::Pool;
-use cell_types::{Cell, Fault, Refusal, Volume};
+use cell_types::{Cell, Refusal, Volume};
 use hash_tree::{Level, Open};
 use index_growth::{copies_of, insert_document};
-use planned_cells::GrowthFault;
 use std::alloc::Global;
-use term_tags::{Posting, postings};
+use stored_documents::rule_of;
+use term_tags::{ListedPosting, document_postings};
 use word_reader::words;
 use worm_device::{Device, Direct, Overlay, PlannedCells, View};
 
@@ -51,13 +51,8 @@ pub fn plan_index<D: Device>(
     ensures { PlansIndex volume.now.geometry slot edge level.now place body.now (D.state device.old)
         (D.state device.new) result }
 {
-    let Ok(terms) = words(alloc, body) else {
-        return Err(Refusal::NoMemory);
-    };
-    let rows = match postings(alloc, &terms, volume.geometry.lists()) {
-        Ok(rows) => rows,
-        Err(refusal) => return Err(refusal),
-    };
+    let terms = words(alloc, body, rule_of(volume.geometry.version()))?;
+    let rows = document_postings(alloc, &terms, volume.geometry.lists(), slot, None)?;
     let mut own = PlannedCells::new(alloc);
     let mut overlay = Overlay::new(Direct::new(device), &mut own, edge);
     plan_over(alloc, &mut overlay, volume, slot, edge, &rows, place, level)
@@ -70,13 +65,13 @@ fn plan_over<V: View>(
     volume: &Volume,
     slot: u32,
     edge: u32,
-    rows: &[Posting],
+    rows: &[ListedPosting],
     place: Open,
     level: &Level,
 ) -> Result<PlannedIndex, Refusal>
     requires slot { slot < MAX_SLOTS }
-    requires order { AreInOrder volume.now.geometry.lists slot rows.now }
-    requires few { length rows.now ≤ 256 * volume.now.geometry.lists }
+    requires order { AreInOrder volume.now.geometry rows.now }
+    requires few { length rows.now ≤ 256 * volume.now.geometry.lists + 1 }
     requires from { pool_at volume.now.geometry ≤ edge }
     requires to { edge ≤ volume.now.geometry.cells }
     requires fresh { (of_overlay V.seen overlay.old).fresh ≡ edge }
@@ -92,25 +87,10 @@ fn plan_over<V: View>(
     // Known of a layout once it is asked for: it fits a device.
     let _cells = volume.geometry.cells();
     let mut pool = Pool::over(edge, u32::MAX);
-    if let Err(fault) = insert_document(overlay, &mut pool, volume, slot, rows, place, level) {
-        return Err(refusal_of(fault));
-    }
-    match copies_of(alloc, overlay.planned()) {
-        Ok(journal) => Ok(PlannedIndex {
-            block_length: pool.next() - edge,
-            journal,
-        }),
-        Err(_) => Err(Refusal::NoMemory),
-    }
-}
-
-/// A fault of planning, as an ingest refuses.
-fn refusal_of(fault: GrowthFault) -> Refusal
-    ensures { IsRefusalOf fault result }
-{
-    match fault {
-        GrowthFault::Fault(Fault::Tampered(evidence)) => Refusal::Tampered(evidence),
-        GrowthFault::Fault(Fault::ReadFault) => Refusal::DeviceFault,
-        GrowthFault::NoMemory => Refusal::NoMemory,
-    }
+    insert_document(overlay, &mut pool, volume, slot, rows, place, level)?;
+    let journal = copies_of(alloc, overlay.planned())?;
+    Ok(PlannedIndex {
+        block_length: pool.next() - edge,
+        journal,
+    })
 }

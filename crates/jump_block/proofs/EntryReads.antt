@@ -1,44 +1,55 @@
--- Reading an entry or a pointer, over plain values.
-use Rattle.std.proofs.Common.{◌≡◌, ◌+◌, ℕ, List, Some, Ok, Err, refl, ap, sym, subst, arith, ◌∙◌}
-use Rattle.cell_types.specs.Records.{IsRecordCell}
+-- Reading an entry or a pointer, where what was read is none.
+use Rattle.std.proofs.Common.{◌≡◌, ◌+◌, ℕ, List, Some, Err, refl, ap, sym, subst, ◌∙◌}
 use Rattle.cell_types.specs.declared.record_cell.RecordCell.TheVariants.{Jump}
-use Rattle.cell_types.specs.declared.refusal.Fault.TheVariants.{Tampered}
-use Rattle.index_paths.specs.Blocks.{PostingFields, posting_record}
-use Rattle.worm_device.specs.Views.{ViewState, ViewReads}
+use Rattle.cell_types.specs.declared.refusal.Fault.{Fault}
+use Rattle.cell_types.specs.declared.refusal.Fault.TheVariants.{Tampered, Failed}
+use Rattle.cell_types.specs.Records.{IsRecordCell}
+use Rattle.index_paths.specs.Blocks.{posting_record}
+use Rattle.worm_device.specs.Looks.{ReadsRecord}
+use Rattle.worm_device.specs.Views.{ViewState}
 use Rattle.jump_block.specs.Entries.{ReadsEntry}
 use Rattle.jump_block.specs.Pointers.{ReadsPointer}
 
--- a written cell that is no posting
-pub no_posting : (block place at : ℕ) (found : List ℕ) (old new : ViewState)
-    → at ≡ block + place → ViewReads at old new (Ok (Some found))
-    → ((p : PostingFields) → IsRecordCell (posting_record p) at found → ⊥)
-    → ReadsEntry block place old new (Err (Tampered (record { rule = 8; cell = at; found = found })))
-no_posting block place at found old new is read none = record {
+-- no record is no posting
+pub unread_entry : (block place at : ℕ) (old new : ViewState) (fault : Fault) → at ≡ block + place
+    → ReadsRecord at 8 old new (Err fault) → ReadsEntry block place old new (Err fault)
+unread_entry block place at old new Failed is read = record {
   viewed = read.viewed;
-  reads = omega (arith, read.count);
+  reads = read.reads;
+  ends = read.ends;
+}
+unread_entry block place at old new (Tampered e) is read = record {
+  viewed = read.viewed;
+  reads = read.reads;
   ends = (
-    refl,
-    is,
+    read.ends.0,
+    read.ends.1 ∙ is,
     λ tells. record {
-      stands = ap new.image (sym is) ∙ sym (read.answer tells);
-      none = λ p h. none p (subst (λ (n : ℕ). IsRecordCell (posting_record p) n found) (sym is) h);
+      stands = ap new.image (sym is) ∙ read.ends.4 tells;
+      none = λ p h. read.ends.3 (posting_record p)
+          (subst (λ (n : ℕ). IsRecordCell (posting_record p) n e.found) (sym is) h);
     },
   );
 }
 
--- a written cell that is no jump cell
-pub no_jump : (want at : ℕ) (found : List ℕ) (old new : ViewState)
-    → at ≡ want → ViewReads at old new (Ok (Some found)) → ((t : ℕ) → IsRecordCell (Jump t) at found → ⊥)
-    → ReadsPointer want old new (Err (Tampered (record { rule = 10; cell = at; found = found })))
-no_jump want at found old new is read none = record {
+-- no record is no jump cell
+pub unread_pointer : (want at : ℕ) (old new : ViewState) (fault : Fault) → at ≡ want
+    → ReadsRecord at 10 old new (Err fault) → ReadsPointer want old new (Err fault)
+unread_pointer want at old new Failed is read = record {
   viewed = read.viewed;
-  reads = omega (arith, read.count);
+  reads = read.reads;
+  ends = read.ends;
+}
+unread_pointer want at old new (Tampered e) is read = record {
+  viewed = read.viewed;
+  reads = read.reads;
   ends = (
-    refl,
-    is,
+    read.ends.0,
+    read.ends.1 ∙ is,
     λ tells. record {
-      stands = ap new.image (sym is) ∙ sym (read.answer tells);
-      none = λ t h. none t (subst (λ (n : ℕ). IsRecordCell (Jump t) n found) (sym is) h);
+      stands = ap new.image (sym is) ∙ read.ends.4 tells;
+      none = λ t h. read.ends.3 (Jump t)
+          (subst (λ (n : ℕ). IsRecordCell (Jump t) n e.found) (sym is) h);
     },
   );
 }

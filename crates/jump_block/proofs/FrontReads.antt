@@ -3,7 +3,7 @@ use Rattle.std.proofs.Common.{◌≡◌, ◌<◌, ◌≤◌, ◌+◌, ◌-◌, �
 use Rattle.std.specs.Prelude.{IsTrue}
 use Rattle.cell_types.specs.Records.{record_bytes}
 use Rattle.cell_types.specs.declared.refusal.Fault.{Fault}
-use Rattle.cell_types.specs.declared.refusal.Fault.TheVariants.{Tampered, ReadFault}
+use Rattle.cell_types.specs.declared.refusal.Fault.TheVariants.{Tampered, Failed}
 use Rattle.index_paths.specs.Blocks.{posting_record, InFront}
 use Rattle.worm_device.specs.Views.{ViewState, Viewed}
 use Rattle.worm_device.proofs.Resting.{viewed_then}
@@ -56,7 +56,7 @@ module _ (x : ℕ) (old mid new : ViewState) (front later : KnownFront) (so_far 
 
   pub fault_ends : (fault : Fault) → ReadsEntry later.block later.count mid new (Err fault)
       → ReadsOn x old new front later (Err fault)
-  fault_ends ReadFault read = record {
+  fault_ends Failed read = record {
     viewed = viewed_then so_far.viewed read.viewed;
     block = so_far.block;
     more = so_far.more;

@@ -4,7 +4,7 @@ use Rattle.std.specs.Prelude.{IsTrue}
 use Rattle.std.proofs.lemmas.Option.{none-some}
 use Rattle.cell_types.specs.Image.{Image}
 use Rattle.cell_types.specs.declared.refusal.Fault.{Fault}
-use Rattle.cell_types.specs.declared.refusal.Fault.TheVariants.{Tampered, ReadFault}
+use Rattle.cell_types.specs.declared.refusal.Fault.TheVariants.{Tampered, Failed}
 use Rattle.stored_documents.proofs.Holding.{some_is}
 use Rattle.cell_types.specs.Records.{IsRecordCell}
 use Rattle.index_paths.specs.Blocks.{PostingFields, posting_record, InFront}
@@ -33,7 +33,7 @@ ends_later x block old mid new viewed (Ok (Full l)) ends = (
   λ tells. ends.1
       (subst IsTrue (sym viewed.called.tells) tells),
 )
-ends_later x block old mid new viewed (Err ReadFault) rose = rose_later _ _ _ viewed.called.faults rose
+ends_later x block old mid new viewed (Err Failed) rose = rose_later _ _ _ viewed.called.faults rose
 ends_later x block old mid new viewed (Err (Tampered e)) ends =
     (ends.0, ends.1, ends.2, ends.3, λ tells. ends.4 (subst IsTrue (sym viewed.called.tells) tells))
 
@@ -57,7 +57,7 @@ module _ (f : KnownFront) (x : ℕ) (old mid new : ViewState) (viewed : Viewed o
   -- a fault at a known place
   pub fault_at : (fault : Fault) → ReadsEntry f.block place mid new (Err fault)
       → FirstEnds x f.block old new (Err fault)
-  fault_at ReadFault read = rose_later _ _ _ viewed.called.faults read.ends
+  fault_at Failed read = rose_later _ _ _ viewed.called.faults read.ends
   fault_at (Tampered e) read = (
     read.ends.0,
     place,

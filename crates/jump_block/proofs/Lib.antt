@@ -3,3 +3,4 @@ pub mod EntryReads
 pub mod FrontReads
 pub mod Knowing
 pub mod KnownReads
+pub mod OneBlock

@@ -3,7 +3,7 @@ use Rattle.std.specs.Prelude.{◌≡◌, ◌≤◌, ◌+◌, ◌%◌, ℕ, List,
 use Rattle.cell_types.specs.Image.{Image}
 use Rattle.cell_types.specs.Records.{IsRecordCell}
 use Rattle.cell_types.specs.declared.refusal.Fault.{Fault}
-use Rattle.cell_types.specs.declared.refusal.Fault.TheVariants.{Tampered, ReadFault}
+use Rattle.cell_types.specs.declared.refusal.Fault.TheVariants.{Tampered, Failed}
 use Rattle.stored_documents.specs.Volumes.{Holds}
 use Rattle.index_paths.specs.Blocks.{PostingFields, posting_record}
 use Rattle.tamper_rules.specs.declared.numbers.TheConstants.{BLOCK_OUT_OF_ORDER}
@@ -30,7 +30,7 @@ EntryEnds block place old new (Ok None) = IsTrue old.base.tells → new.image (b
 EntryEnds block place old new (Ok (Some e)) =
     (e.block ≡ block) × (e.place ≡ place) × (e.key % 256 ≤ e.last)
     × (IsTrue old.base.tells → Holds new.image (block + place) (posting_record (posting_of e)))
-EntryEnds block place old new (Err ReadFault) = Rose old.base.faults new.base.faults
+EntryEnds block place old new (Err Failed) = Rose old.base.faults new.base.faults
 EntryEnds block place old new (Err (Tampered e)) =
     (e.rule ≡ BLOCK_OUT_OF_ORDER) × (e.cell ≡ block + place)
     × (IsTrue old.base.tells → IsNoPosting new.image (block + place) e.found)

@@ -2,7 +2,7 @@
 use Rattle.std.specs.Prelude.{◌≡◌, ◌<◌, ◌≤◌, ◌+◌, ◌%◌, ℕ, List, Option, Some, None, Result, Ok, Err, IsTrue}
 use Rattle.cell_types.specs.Image.{Image}
 use Rattle.cell_types.specs.declared.refusal.Fault.{Fault}
-use Rattle.cell_types.specs.declared.refusal.Fault.TheVariants.{Tampered, ReadFault}
+use Rattle.cell_types.specs.declared.refusal.Fault.TheVariants.{Tampered, Failed}
 use Rattle.stored_documents.specs.Volumes.{Holds}
 use Rattle.index_paths.specs.Blocks.{PostingFields, posting_record, InFront}
 use Rattle.tamper_rules.specs.declared.numbers.TheConstants.{BLOCK_OUT_OF_ORDER}
@@ -47,7 +47,7 @@ FirstEnds x block old new (Ok (Open n greatest)) =
     × (IsTrue old.base.tells → (new.image (block + n) ≡ None) × AreBelow new.image block n x
     × EndsWith new.image block n greatest)
 FirstEnds x block old new (Ok (Full l)) = (l < x) × (IsTrue old.base.tells → HasKeyAt new.image block 127 l)
-FirstEnds x block old new (Err ReadFault) = Rose old.base.faults new.base.faults
+FirstEnds x block old new (Err Failed) = Rose old.base.faults new.base.faults
 FirstEnds x block old new (Err (Tampered e)) =
     (e.rule ≡ BLOCK_OUT_OF_ORDER) × (place : ℕ) × (place < 128) × (e.cell ≡ block + place)
     × (IsTrue old.base.tells → IsBadEntry new.image block place e.found × AreBelow new.image block place x)

@@ -3,4 +3,5 @@ pub mod Fronts
 pub mod Keeping
 pub mod Known
 pub mod Pointers
+pub mod Pointing
 pub mod Spans

@@ -4,7 +4,7 @@ use Rattle.cell_types.specs.Image.{Image}
 use Rattle.cell_types.specs.Records.{IsRecordCell}
 use Rattle.cell_types.specs.declared.record_cell.RecordCell.TheVariants.{Jump}
 use Rattle.cell_types.specs.declared.refusal.Fault.{Fault}
-use Rattle.cell_types.specs.declared.refusal.Fault.TheVariants.{Tampered, ReadFault}
+use Rattle.cell_types.specs.declared.refusal.Fault.TheVariants.{Tampered, Failed}
 use Rattle.stored_documents.specs.Volumes.{Holds}
 use Rattle.tamper_rules.specs.declared.numbers.TheConstants.{LOST_POINTER}
 use Rattle.worm_device.specs.Counts.{Rose}
@@ -19,7 +19,7 @@ pub record IsNoJump (image : Image) (at : ℕ) (found : List ℕ) : Type 0 where
 abbrev pub PointerEnds : ℕ → ViewState → ViewState → Result (Option ℕ) Fault → Type 0
 PointerEnds at old new (Ok None) = IsTrue old.base.tells → new.image at ≡ None
 PointerEnds at old new (Ok (Some target)) = IsTrue old.base.tells → Holds new.image at (Jump target)
-PointerEnds at old new (Err ReadFault) = Rose old.base.faults new.base.faults
+PointerEnds at old new (Err Failed) = Rose old.base.faults new.base.faults
 PointerEnds at old new (Err (Tampered e)) =
     (e.rule ≡ LOST_POINTER) × (e.cell ≡ at) × (IsTrue old.base.tells → IsNoJump new.image at e.found)
 

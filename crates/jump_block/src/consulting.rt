@@ -1,5 +1,6 @@
 //! A block of whose front some places are known already.
 ghost use Rattle.std.specs.Prelude.{◌<◌, ◌≤◌, ◌+◌, IsTrue};
+ghost use Rattle.index_paths.specs.declared.blocks.TheConstants.{BLOCK_CELLS, ENTRY_PLACES};
 ghost use Rattle.jump_block.specs.Known.{Bisects, FindsFromKnown, IsKnown};
 
 use crate::fronts::read_on;
@@ -15,23 +16,16 @@ pub fn first_from_known<V: View>(
     front: &mut KnownFront,
     x: u32,
 ) -> Result<Front, Fault>
-    requires inside { front.old.block + 256 ≤ (V.seen view.old).cells }
-    requires places { front.old.count ≤ 128 }
+    requires inside { front.old.block + BLOCK_CELLS ≤ (V.seen view.old).cells }
+    requires places { front.old.count ≤ ENTRY_PLACES }
     requires known { IsTrue (V.seen view.old).base.tells → IsKnown (V.seen view.old).image front.old }
     ensures { FindsFromKnown x (V.seen view.old) (V.seen view.new) front.old front.new result }
 {
     if front.count == 0 || front.greatest < x {
         return read_on(view, front, x);
     }
-    let place = match bisect(view, front, x) {
-        Ok(place) => place,
-        Err(fault) => return Err(fault),
-    };
-    let found = match entry(view, front.block, place) {
-        Ok(found) => found,
-        Err(fault) => return Err(fault),
-    };
-    if let Some(next) = found {
+    let place = bisect(view, front, x)?;
+    if let Some(next) = entry(view, front.block, place)? {
         if next.key >= x {
             return Ok(Front::At(next));
         }
@@ -43,9 +37,9 @@ pub fn first_from_known<V: View>(
 
 /// The first of the known places that holds a key at or past x, of which there is one.
 fn bisect<V: View>(view: &mut V, front: &KnownFront, x: u32) -> Result<u8, Fault>
-    requires inside { front.now.block + 256 ≤ (V.seen view.old).cells }
+    requires inside { front.now.block + BLOCK_CELLS ≤ (V.seen view.old).cells }
     requires some { 1 ≤ front.now.count }
-    requires places { front.now.count ≤ 128 }
+    requires places { front.now.count ≤ ENTRY_PLACES }
     requires past { x ≤ front.now.greatest }
     requires known { IsTrue (V.seen view.old).base.tells → IsKnown (V.seen view.old).image front.now }
     ensures { Bisects x (V.seen view.old) (V.seen view.new) front.now result }
@@ -58,10 +52,7 @@ fn bisect<V: View>(view: &mut V, front: &KnownFront, x: u32) -> Result<u8, Fault
             return Ok(high);
         }
         let middle = low + (high - low) / 2;
-        let found = match entry(view, front.block, middle) {
-            Ok(found) => found,
-            Err(fault) => return Err(fault),
-        };
+        let found = entry(view, front.block, middle)?;
         match found {
             Some(next) if next.key < x => low = middle + 1,
             _ => high = middle,

@@ -1,10 +1,12 @@
 //! The front of a block, read from its first place or from a known one on.
 ghost use Rattle.std.specs.Prelude.{◌≤◌, ◌+◌, IsTrue};
+ghost use Rattle.index_paths.specs.declared.blocks.TheConstants.{BLOCK_CELLS, ENTRY_PLACES};
 ghost use Rattle.jump_block.specs.Fronts.{FindsFirst};
 ghost use Rattle.jump_block.specs.Known.{IsBelow, IsGreatest, IsKnown, ReadsOn};
 
 use crate::{Front, KnownFront, entry};
-use cell_types::{Evidence, Fault};
+use cell_types::{Fault, breach};
+use index_paths::ENTRY_PLACES;
 use tamper_rules::BLOCK_OUT_OF_ORDER;
 use worm_device::View;
 
@@ -12,7 +14,7 @@ use worm_device::View;
 /// up to the place that it answers, 129 reads at most. An entry before that place that is no posting or does not rise
 /// is evidence.
 pub fn first_at_least<V: View>(view: &mut V, block: u32, x: u32) -> Result<Front, Fault>
-    requires inside { block + 256 ≤ (V.seen view.old).cells }
+    requires inside { block + BLOCK_CELLS ≤ (V.seen view.old).cells }
     ensures { FindsFirst x block 129 (V.seen view.old) (V.seen view.new) result }
 {
     let mut front = KnownFront {
@@ -26,26 +28,19 @@ pub fn first_at_least<V: View>(view: &mut V, block: u32, x: u32) -> Result<Front
 /// Reads on in a block, of whose front some places are known already and hold smaller keys, up to the first key
 /// at or past x.
 pub(crate) fn read_on<V: View>(view: &mut V, front: &mut KnownFront, x: u32) -> Result<Front, Fault>
-    requires inside { front.old.block + 256 ≤ (V.seen view.old).cells }
-    requires places { front.old.count ≤ 128 }
+    requires inside { front.old.block + BLOCK_CELLS ≤ (V.seen view.old).cells }
+    requires places { front.old.count ≤ ENTRY_PLACES }
     requires known { IsTrue (V.seen view.old).base.tells → IsKnown (V.seen view.old).image front.old }
     requires below { IsBelow front.old x }
     ensures { ReadsOn x (V.seen view.old) (V.seen view.new) front.old front.new result }
 {
-    while front.count < 128 {
-        let found = match entry(view, front.block, front.count) {
-            Ok(found) => found,
-            Err(fault) => return Err(fault),
-        };
-        let Some(next) = found else {
+    while front.count < ENTRY_PLACES {
+        let Some(next) = entry(view, front.block, front.count)? else {
             return Ok(Front::Open(front.count, greatest_of(front)));
         };
         if front.count > 0 && next.key <= front.greatest {
-            return Err(Fault::Tampered(Evidence {
-                rule: BLOCK_OUT_OF_ORDER,
-                cell: front.block + u32::from(front.count),
-                found: next.cell(),
-            }));
+            let at = front.block + u32::from(front.count);
+            return Err(breach(BLOCK_OUT_OF_ORDER, at, next.cell()));
         }
         if next.key >= x {
             return Ok(Front::At(next));

@@ -1,5 +1,6 @@
 //! A block of whose front some places may be kept.
 ghost use Rattle.std.specs.Prelude.{◌<◌, ◌≤◌, ◌+◌, IsTrue};
+ghost use Rattle.index_paths.specs.declared.blocks.TheConstants.{BLOCK_CELLS};
 ghost use Rattle.jump_block.specs.Fronts.{FindsFirst};
 ghost use Rattle.jump_block.specs.Keeping.{AreKept, CostsLess};
 
@@ -18,7 +19,7 @@ pub fn first_from_kept<V: View>(
     x: u32,
 ) -> Result<Front, Fault>
     requires at { at < KEPT_FRONTS }
-    requires inside { block + 256 ≤ (V.seen view.old).cells }
+    requires inside { block + BLOCK_CELLS ≤ (V.seen view.old).cells }
     requires kept { IsTrue (V.seen view.old).base.tells → AreKept (V.seen view.old).image fronts.old }
     ensures kept { IsTrue (V.seen view.old).base.tells → AreKept (V.seen view.new).image fronts.new }
     ensures cheap { IsTrue (V.seen view.old).base.tells →

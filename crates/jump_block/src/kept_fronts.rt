@@ -1,10 +1,12 @@
 //! The fronts that a row of searches keeps.
 ghost use Rattle.std.specs.Prelude.{◌≡◌, ◌<◌, ◌≤◌, ℕ};
 ghost use Rattle.cell_types.specs.Image.{Image};
+ghost use Rattle.index_paths.specs.declared.blocks.TheConstants.{ENTRY_PLACES};
 ghost use Rattle.jump_block.specs.Keeping.{AreKept, KeepsPlaces};
 ghost use Rattle.jump_block.specs.Known.{IsKnown};
 
 use crate::KnownFront;
+use index_paths::ENTRY_PLACES;
 
 /// How many fronts are kept: one for each block on a walk through eight levels.
 pub const KEPT_FRONTS: usize = 9;
@@ -32,7 +34,7 @@ impl KeptFronts {
     /// What is known of a block's front: the longest of those that are kept.
     pub fn of_block(&self, block: u32) -> KnownFront
         ensures block { result.block ≡ block }
-        ensures places { result.count ≤ 128 }
+        ensures places { result.count ≤ ENTRY_PLACES }
         ensures longest { (count : ℕ) → KeepsPlaces self.now block count → count ≤ result.count }
         ensures known { (image : Image) → AreKept image self.now → IsKnown image result }
     {
@@ -42,7 +44,7 @@ impl KeptFronts {
             greatest: 0,
         };
         for front in &self.held {
-            if front.block == block && front.count > known.count && front.count <= 128 {
+            if front.block == block && front.count > known.count && front.count <= ENTRY_PLACES {
                 known = *front;
             }
         }
@@ -53,7 +55,7 @@ impl KeptFronts {
     pub fn keep(&mut self, at: usize, front: KnownFront)
         requires { at < KEPT_FRONTS }
         ensures kept { (image : Image) → AreKept image self.old → IsKnown image front → AreKept image self.new }
-        ensures added { front.count ≤ 128 → KeepsPlaces self.new front.block front.count }
+        ensures added { front.count ≤ ENTRY_PLACES → KeepsPlaces self.new front.block front.count }
     {
         self.held[at] = front;
     }

@@ -45,5 +45,5 @@ pub use keeping::first_from_kept;
 pub use kept_fronts::{KEPT_FRONTS, KeptFronts};
 pub use key_spans::span;
 pub use known_front::{Front, KnownFront};
-pub use pointers::{pointer, pointer_cell};
+pub use pointers::{leads_nowhere, pointer, pointer_cell};
 pub use spans::Span;

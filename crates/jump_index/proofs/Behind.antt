@@ -6,7 +6,7 @@ use Rattle.cell_types.specs.Image.{Image}
 use Rattle.cell_types.specs.declared.record_cell.RecordCell.TheVariants.{Jump}
 use Rattle.cell_types.specs.declared.refusal.Evidence.{Evidence}
 use Rattle.cell_types.specs.declared.refusal.Fault.{Fault}
-use Rattle.cell_types.specs.declared.refusal.Fault.TheVariants.{Tampered, ReadFault}
+use Rattle.cell_types.specs.declared.refusal.Fault.TheVariants.{Tampered, Failed}
 use Rattle.stored_documents.proofs.Extending.{holds_on}
 use Rattle.stored_documents.proofs.Holding.{one_record_holds}
 use Rattle.index_paths.specs.Blocks.{PostingFields, InFront, InSpan, Trail, Leads, arrived, onwards, pointer_at}
@@ -20,14 +20,14 @@ use Rattle.jump_block.specs.declared.known_front.Front.{Front}
 use Rattle.jump_block.specs.declared.known_front.Front.TheVariants.{At, Open, Full}
 use Rattle.jump_block.specs.declared.spans.Span.{Span}
 use Rattle.jump_block.proofs.Knowing.{key_on}
-use Rattle.jump_index.specs.Evidence.{HasFull, HasPointer, IsBadPointer, outside, no_key, IsPointerPlace, Shows, bad_entry, bad_pointer, FaultShows, IsPointerEvidence}
+use Rattle.jump_block.proofs.OneBlock.{jump_target}
+use Rattle.jump_index.specs.Evidence.{IsBadPointer, outside, no_key, Shows, bad_entry, bad_pointer, FaultShows}
+use Rattle.jump_block.specs.Pointing.{HasFull, HasPointer, IsPointerPlace, IsPointerEvidence}
 use Rattle.jump_index.specs.Looking.{IsLeast}
 use Rattle.jump_index.specs.Searches.{IsEntry, IsEntryBehind}
 use Rattle.jump_index.specs.declared.bounds.Bounds.{Bounds}
-use Rattle.jump_index.proofs.Passing.{known_less, next_is_least, next_passes_none, none_from_blank, full_greatest, goes_through, of_span}
-
-pub jump_target : (a b : ℕ) → Jump a ≡ Jump b → a ≡ b
-jump_target a b e = cc
+use Rattle.jump_index.proofs.Passing.{known_less, next_is_least, next_passes_none, goes_through}
+use Rattle.jump_block.proofs.OneBlock.{none_from_blank, full_greatest, of_span}
 
 -- an entry that was found is one
 key_of : Front → ℕ
@@ -59,7 +59,7 @@ module _ (bounds : Bounds) (block l : ℕ) (span : Span) (target : ℕ) (old new
 
   pub target_fault : (fault : Fault) → FirstEnds span.low target old new (Err fault)
       → FaultShows bounds block old new fault
-  target_fault ReadFault ends = ends
+  target_fault Failed ends = ends
   target_fault (Tampered e) ends = (
     inl ends.0,
     λ tells. bad_entry target ends.1 (leads tells) ends.0 ends.3
@@ -122,7 +122,7 @@ module _ (bounds : Bounds) (block l : ℕ) (span : Span) (target : ℕ) (old new
   pub target_without_key : (first : Front) → FirstEnds span.low target old new (Ok first)
       → ((e : Entry) → first ≡ At e → span.high ≤ e.key) → (fault : Fault)
       → IsPointerEvidence block span.level span.digit target fault → FaultShows bounds block old new fault
-  target_without_key first ends past ReadFault names = absurd names
+  target_without_key first ends past Failed names = absurd names
   target_without_key first ends past (Tampered e) names = (
     inr names.0,
     λ tells.
@@ -138,7 +138,7 @@ pub target_outside : (bounds : Bounds) (block l : ℕ) (span : Span) (target : �
     → (IsTrue s.base.tells → HasPointer s.image block span.level span.digit target)
     → (target < bounds.pool) ⊎ (bounds.edge < target + 256)
     → IsPointerEvidence block span.level span.digit target fault → FaultShows bounds block s s fault
-target_outside bounds block l span target s ReadFault is jump out names = absurd names
+target_outside bounds block l span target s Failed is jump out names = absurd names
 target_outside bounds block l span target s (Tampered e) is jump out names = (
   inr names.0,
   λ tells.

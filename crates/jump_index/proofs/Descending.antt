@@ -3,12 +3,11 @@ use Rattle.std.proofs.Common.{◌≡◌, ◌<◌, ◌≤◌, ◌+◌, ◌*◌, �
 use Rattle.std.specs.Prelude.{IsTrue}
 use Rattle.std.proofs.lemmas.Bool.{cases_lt}
 use Rattle.std.proofs.lemmas.Option.{none-some}
-use Rattle.std.proofs.Math.Nat.{pow-le-pow_right, mul-le-mul_right}
 use Rattle.cell_types.specs.Image.{Image}
 use Rattle.cell_types.specs.declared.record_cell.RecordCell.TheVariants.{Jump}
 use Rattle.cell_types.specs.declared.refusal.Evidence.{Evidence}
 use Rattle.cell_types.specs.declared.refusal.Fault.{Fault}
-use Rattle.cell_types.specs.declared.refusal.Fault.TheVariants.{Tampered, ReadFault}
+use Rattle.cell_types.specs.declared.refusal.Fault.TheVariants.{Tampered, Failed}
 use Rattle.stored_documents.proofs.Extending.{holds_on}
 use Rattle.stored_documents.proofs.Holding.{one_record_holds}
 use Rattle.index_paths.specs.Blocks.{PostingFields, InSpan, Hop, Trail, here, on, onwards, pointer_at}
@@ -21,33 +20,26 @@ use Rattle.jump_block.specs.declared.held_entry.Entry.{Entry}
 use Rattle.jump_block.specs.declared.spans.Span.{Span}
 use Rattle.jump_block.proofs.Counting.{rose_later}
 use Rattle.jump_block.proofs.Knowing.{key_on}
-use Rattle.jump_index.specs.Evidence.{HasFull, HasPointer, no_key, Shows, bad_entry, bad_pointer, FaultShows, IsPointerEvidence}
-use Rattle.jump_index.specs.Looking.{FirstPointer, HasKeyIn, IsWithin, LooksLater, LooksOn, OnEnds, PassesNone, SearchEnds, SearchesBlock}
+use Rattle.jump_block.proofs.OneBlock.{level_falls}
+use Rattle.jump_index.specs.Evidence.{no_key, Shows, bad_entry, bad_pointer, FaultShows}
+use Rattle.jump_block.specs.Pointing.{HasFull, HasPointer, IsPointerEvidence}
+use Rattle.jump_index.specs.Looking.{FirstPointer, IsWithin, LooksLater, LooksOn, OnEnds, PassesNone, SearchEnds, SearchesBlock}
+use Rattle.jump_block.specs.Pointing.{HasKeyIn}
 use Rattle.jump_index.specs.Searches.{HasTrail, IsEntryBehind, IsExact, IsFirst}
 use Rattle.jump_index.specs.declared.bounds.Bounds.{Bounds}
 use Rattle.jump_index.specs.declared.looked.Looked.{Looked}
 use Rattle.jump_index.specs.declared.looked.Looked.TheVariants.{Found, Nothing, NoKey}
-use Rattle.jump_index.proofs.Behind.{jump_target, shows_pointer}
+use Rattle.jump_index.proofs.Behind.{shows_pointer}
+use Rattle.jump_block.proofs.OneBlock.{jump_target}
 use Rattle.jump_index.proofs.LookingLater.{entry_then, fault_then, trail_then}
-use Rattle.jump_index.proofs.Passing.{goes_through, in_span, of_span}
+use Rattle.jump_index.proofs.Passing.{goes_through}
+use Rattle.jump_block.proofs.OneBlock.{in_span, of_span}
 
 -- keys have 32 bits
 pub trail_fits : {image : Image} {from to at : ℕ} {p : PostingFields} {block : ℕ} → Trail image from to at p block
     → p.key < 2 ^ 32
 trail_fits (here block place is below front) = (front_holds front).is.fits.0
 trail_fits (on block target hop rest) = trail_fits rest
-
--- the level falls
-pub level_falls : (l x low bound level : ℕ) (s : Span) → IsSpan l s → s.low ≤ x → x < bound
-    → bound ≤ low + 16 ^ level → low ≤ l → s.level < level
-level_falls l x low bound level s is from below narrow ge =
-    ⊎_elim
-    (λ less. less)
-    (λ le.
-    let up : 16 ^ level ≤ 16 ^ s.level = pow-le-pow_right (omega arith) le in
-    let first : 1 * 16 ^ s.level ≤ s.digit * 16 ^ s.level = mul-le-mul_right (16 ^ s.level) is.some in
-    absurd (omega (arith, up, first, is.low)))
-    (cases_lt s.level level)
 
 -- the greatest key of a full block lies in the span that led there
 pub full_in : {image : Image} {block l : ℕ} (low bound : ℕ) → HasFull image block l → low ≤ l → l < bound
@@ -222,7 +214,7 @@ module _ (bounds : Bounds) (block x level : ℕ) (old mid next new : ViewState) 
     ends = ends fault search.ends;
   } where
     ends : (fault : Fault) → FaultShows bounds target next new fault → FaultShows bounds block old new fault
-    ends ReadFault rose = rose_later _ _ _ (viewed_then viewed pointer.viewed).called.faults rose
+    ends Failed rose = rose_later _ _ _ (viewed_then viewed pointer.viewed).called.faults rose
     ends (Tampered e) shows = (
       shows.0,
       λ tells. shows_before bounds block target first l is pointer.ends.0 pointer.ends.1 new.image e
@@ -241,7 +233,7 @@ module _ (bounds : Bounds) (block x level : ℕ) (old mid next new : ViewState) 
   } where
     ends : (fault : Fault) → IsPointerEvidence block first.level first.digit target fault
         → FaultShows bounds block old new fault
-    ends ReadFault names = absurd names
+    ends Failed names = absurd names
     ends (Tampered e) names = (
       inr names.0,
       λ tells.

@@ -1,12 +1,13 @@
 -- What a search from a list's first block finds, by the search's answer.
 use Rattle.std.proofs.Common.{◌≤◌, ◌^◌, ℕ, Some, None, Ok, Err, arith}
 use Rattle.cell_types.specs.declared.refusal.Fault.{Fault}
-use Rattle.cell_types.specs.declared.refusal.Fault.TheVariants.{Tampered, ReadFault}
+use Rattle.cell_types.specs.declared.refusal.Fault.TheVariants.{Tampered, Failed}
 use Rattle.index_paths.specs.Blocks.{PostingFields, here, on}
 use Rattle.index_paths.proofs.Fronts.{front_holds, front_on}
 use Rattle.worm_device.specs.Views.{ViewState, Viewed}
 use Rattle.jump_block.specs.declared.held_entry.Entry.{Entry}
-use Rattle.jump_index.specs.Looking.{HasKeyIn, SearchesBlock}
+use Rattle.jump_index.specs.Looking.{SearchesBlock}
+use Rattle.jump_block.specs.Pointing.{HasKeyIn}
 use Rattle.jump_index.specs.Searches.{FindsGeq, HasTrail}
 use Rattle.jump_index.specs.declared.bounds.Bounds.{Bounds}
 use Rattle.jump_index.specs.declared.looked.Looked.TheVariants.{Found, Nothing, NoKey}
@@ -67,7 +68,7 @@ module _ (bounds : Bounds) (head x : ℕ) (old new : ViewState) where
 
   pub finds_fault : (fault : Fault) → bounds.edge ≤ old.cells
       → SearchesBlock bounds head x 0 (2 ^ 32) 8 old new (Err fault) → FindsGeq bounds head x old new (Err fault)
-  finds_fault ReadFault edge search = record {
+  finds_fault Failed edge search = record {
     viewed = search.viewed;
     reads = omega (arith, search.reads);
     ends =

@@ -2,7 +2,7 @@
 use Rattle.std.proofs.Common.{◌≡◌, ◌<◌, ◌≤◌, ◌+◌, ◌*◌, ◌⊎◌, ⊎_elim, inl, inr, ℕ, List, Some, ap, sym, subst, arith, ◌∙◌}
 use Rattle.std.proofs.lemmas.Bool.{cases_lt}
 use Rattle.cell_types.specs.Image.{Image}
-use Rattle.cell_types.specs.Layout.{Layout, FirstBlock, LiesIn, list_at, pool_at}
+use Rattle.cell_types.specs.Layout.{Layout, FirstBlock, LiesIn, list_at, pool_at, all_lists}
 use Rattle.cell_types.specs.Records.{IsRecordCell}
 use Rattle.cell_types.specs.declared.record_cell.RecordCell.TheVariants.{Jump}
 use Rattle.cell_types.specs.declared.refusal.Evidence.{Evidence}
@@ -15,58 +15,11 @@ use Rattle.index_paths.proofs.Fronts.{front_holds, one_place, one_posting}
 use Rattle.tamper_rules.specs.Rules.{Entries, HoldsInOrder, IsOfPool, LeadsWell, Pointers}
 use Rattle.jump_block.specs.Fronts.{IsBadEntry, no_posting, does_not_rise}
 use Rattle.jump_block.proofs.Knowing.{front_below}
-use Rattle.jump_index.specs.Evidence.{HasFull, IsBadPointer, Shows, bad_entry, bad_pointer, no_jump, outside, no_key}
+use Rattle.jump_block.proofs.OneBlock.{in_place, jump_target, leads_wider, not_in_order}
+use Rattle.jump_index.specs.Evidence.{IsBadPointer, Shows, bad_entry, bad_pointer, no_jump, outside, no_key}
+use Rattle.jump_block.specs.Pointing.{HasFull}
 use Rattle.jump_index.specs.Searches.{IsLicensed}
 use Rattle.jump_index.specs.declared.bounds.Bounds.{Bounds}
-use Rattle.jump_index.proofs.Behind.{jump_target}
-
--- blocks within narrower bounds are blocks within wider ones
-pub leads_wider : {image : Image} {from to last : ℕ} (from' to' : ℕ) {block : ℕ} → from' ≤ from → to ≤ to'
-    → Leads image from to last block → Leads image from' to' last block
-leads_wider from' to' p q (arrived block is) = arrived block is
-leads_wider from' to' p q (onwards block level digit target levels some digits jump inside_from inside_to rest) =
-    onwards block level digit target levels some digits jump (omega (arith, p, inside_from))
-    (omega (arith, q, inside_to)) (leads_wider from' to' p q rest)
-
--- a block of a list is the first one, or lies within the bounds
-leads_within : {image : Image} {from to last block : ℕ} → Leads image from to last block
-    → (last ≡ block) ⊎ ((from ≤ last) × (last + 256 ≤ to))
-leads_within (arrived block is) = inl (sym is)
-leads_within (onwards block level digit target levels some digits jump inside_from inside_to rest) =
-    ⊎_elim (λ same. inr (omega arith, omega arith)) (λ within. inr within) (leads_within rest)
-
--- so its cells are cells of a first block or of the pool
-pub in_place : (g : Layout) (image : Image) (l from to head at off cell : ℕ) → l < g.lists → head ≡ list_at g l
-    → from ≡ pool_at g → to ≤ g.cells
-    → Leads image from to at head → off < 256 → cell ≡ at + off
-    → ((k : ℕ) × LiesIn g (FirstBlock k) cell) ⊎ IsOfPool g cell
-in_place g image l from to head at off cell list first pool edge leads inside is =
-    ⊎_elim
-    (λ same. inl (l, record { exists = list; from = omega arith; below = omega arith }))
-    (λ within. inr (omega (arith, within.0), omega (arith, within.1)))
-    (leads_within leads)
-
--- what is no posting, or does not rise, is not in order
-pub not_in_order : (image : Image) (block place : ℕ) (found : List ℕ) → IsBadEntry image block place found
-    → HoldsInOrder image block place → ⊥
-not_in_order image block place found (no_posting bad) order =
-    let same : order.holds.cell ≡ found = some_is order.holds.cell found (sym order.holds.stands ∙ bad.stands) in
-    bad.none order.p (subst (λ (c : List ℕ). IsRecordCell (posting_record order.p) (block + place) c) same
-    order.holds.is)
-not_in_order image block place found (does_not_rise before key p is has stands holds le) order =
-    let one : order.p.key ≡ p.key = ap (λ (q : PostingFields). q.key)
-    (one_posting image (block + place) order.p p order.holds holds) in
-    ⊎_elim
-    (λ first. omega arith)
-    (λ (r : (b : ℕ) × (q : PostingFields) × (place ≡ b + 1) × Holds image (block + b) (posting_record q)
-    × (q.key < order.p.key)).
-    let at : r.0 ≡ before = omega (arith, r.2) in
-    let held : Holds image (block + before) (posting_record r.1) = subst
-    (λ (n : ℕ). Holds image (block + n) (posting_record r.1)) at r.3 in
-    let same : r.1.key ≡ has.p.key = ap (λ (q : PostingFields). q.key)
-    (one_posting image (block + before) r.1 has.p held (front_holds has.in_front)) in
-    omega (arith, r.4, has.same))
-    order.rises
 
 -- a full block's front ends with its greatest key
 greatest_key : (g : Layout) (image : Image) (l block level digit greatest : ℕ) → HasFull image block greatest

@@ -5,7 +5,7 @@ use Rattle.std.proofs.lemmas.Bool.{cases_lt}
 use Rattle.std.proofs.lemmas.Option.{none-some}
 use Rattle.cell_types.specs.Image.{Image}
 use Rattle.cell_types.specs.declared.refusal.Fault.{Fault}
-use Rattle.cell_types.specs.declared.refusal.Fault.TheVariants.{Tampered, ReadFault}
+use Rattle.cell_types.specs.declared.refusal.Fault.TheVariants.{Tampered, Failed}
 use Rattle.index_paths.specs.Blocks.{PostingFields, InFront, here, arrived}
 use Rattle.index_paths.proofs.Fronts.{front_holds, one_posting, rises_or_same}
 use Rattle.worm_device.specs.Views.{ViewState, Viewed}
@@ -23,7 +23,8 @@ use Rattle.jump_index.specs.declared.bounds.Bounds.{Bounds}
 use Rattle.jump_index.specs.declared.looked.Here.{Here}
 use Rattle.jump_index.specs.declared.looked.Here.TheVariants.{Ends, Beyond}
 use Rattle.jump_index.specs.declared.looked.Looked.TheVariants.{Found, Nothing, NoKey}
-use Rattle.jump_index.proofs.Passing.{full_greatest, next_passes_none, none_from_blank, open_passes_none}
+use Rattle.jump_index.proofs.Passing.{next_passes_none, open_passes_none}
+use Rattle.jump_block.proofs.OneBlock.{full_greatest, none_from_blank}
 use Rattle.jump_index.proofs.LookingLater.{trail_then}
 
 -- the key before a place is below low, and so are those before it
@@ -105,7 +106,7 @@ module _ (block x low bound : ℕ) (old mid : ViewState) (from : low ≤ x) (ins
         (λ le. let up : e.key ≤ has.p.key = rises_or_same now has.in_front le in omega (arith, has.below))
         (cases_lt has.place e.place)
     go (Ok (Beyond l)) never = absurd never
-    go (Err ReadFault) rose = λ bounds. rose_later _ _ _ viewed.called.faults rose
+    go (Err Failed) rose = λ bounds. rose_later _ _ _ viewed.called.faults rose
     go (Err (Tampered f)) named = λ bounds. (
       inl named.0,
       λ tells.
@@ -146,7 +147,7 @@ module _ (block x low bound : ℕ) (old mid : ViewState) (from : low ≤ x) (ins
   -- a fault of the look
   pub fault_here : (fault : Fault) → FirstEnds x block old mid (Err fault)
       → HereEnds block x low bound old mid (Err fault)
-  fault_here ReadFault rose = λ bounds. rose
+  fault_here Failed rose = λ bounds. rose
   fault_here (Tampered e) ends = λ bounds. (
     inl ends.0,
     λ tells. bad_entry block ends.1 (arrived block refl)
@@ -185,7 +186,7 @@ before_blank block place low old new some read = record {
 pub before_fault : (block place low : ℕ) (old new : ViewState) (fault : Fault) → 1 ≤ place → place < 128
     → ReadsEntry block (place - 1) old new (Err fault)
     → LooksBefore block place low old new (Err fault)
-before_fault block place low old new ReadFault some below read = record
+before_fault block place low old new Failed some below read = record
     { viewed = read.viewed; reads = read.reads; ends = read.ends }
 before_fault block place low old new (Tampered e) some below read = record {
   viewed = read.viewed;

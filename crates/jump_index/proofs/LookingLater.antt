@@ -5,7 +5,7 @@ use Rattle.std.proofs.lemmas.Bool.{cases_lt}
 use Rattle.std.proofs.lemmas.Option.{none-some}
 use Rattle.std.proofs.Math.Nat.{one-le-pow}
 use Rattle.cell_types.specs.declared.refusal.Fault.{Fault}
-use Rattle.cell_types.specs.declared.refusal.Fault.TheVariants.{Tampered, ReadFault}
+use Rattle.cell_types.specs.declared.refusal.Fault.TheVariants.{Tampered, Failed}
 use Rattle.stored_documents.proofs.Extending.{holds_on}
 use Rattle.index_paths.specs.Blocks.{PostingFields, Trail, arrived, pointer_at}
 use Rattle.index_paths.proofs.Trails.{trail_on}
@@ -16,7 +16,8 @@ use Rattle.jump_block.specs.Spans.{IsSpan}
 use Rattle.jump_block.specs.declared.held_entry.Entry.{Entry}
 use Rattle.jump_block.specs.declared.spans.Span.{Span}
 use Rattle.jump_block.proofs.Counting.{rose_later}
-use Rattle.jump_index.specs.Evidence.{HasFull, no_jump, bad_pointer, FaultShows}
+use Rattle.jump_index.specs.Evidence.{no_jump, bad_pointer, FaultShows}
+use Rattle.jump_block.specs.Pointing.{HasFull}
 use Rattle.jump_index.specs.Looking.{LooksBehind, LooksLater, PassesNone}
 use Rattle.jump_index.specs.Searches.{HasTrail, IsEntry}
 use Rattle.jump_index.specs.declared.bounds.Bounds.{Bounds}
@@ -25,7 +26,7 @@ use Rattle.jump_index.proofs.Passing.{goes_through}
 -- a search's fault is one of a longer row of calls
 pub fault_then : (bounds : Bounds) (block : ℕ) (old mid new : ViewState) → Viewed old mid → (fault : Fault)
     → FaultShows bounds block mid new fault → FaultShows bounds block old new fault
-fault_then bounds block old mid new viewed ReadFault ends = rose_later _ _ _ viewed.called.faults ends
+fault_then bounds block old mid new viewed Failed ends = rose_later _ _ _ viewed.called.faults ends
 fault_then bounds block old mid new viewed (Tampered e) ends =
     (ends.0, λ tells. ends.1 (subst IsTrue (sym viewed.called.tells) tells))
 
@@ -65,7 +66,7 @@ module _ (bounds : Bounds) (block l past : ℕ) (old mid new : ViewState) (span 
 
   pub pointer_fault : (bound : ℕ) (fault : Fault) → ReadsPointer (pointer_at block next.level next.digit) mid new
       (Err fault) → LooksLater bounds block l past bound old new (Err fault)
-  pointer_fault bound ReadFault read = record {
+  pointer_fault bound Failed read = record {
     viewed = viewed_then so_far.viewed read.viewed;
     reads = omega (arith, so_far.reads, read.reads, so_far.is.levels, so_far.is.digits);
     ends = rose_later _ _ _ so_far.viewed.called.faults read.ends;

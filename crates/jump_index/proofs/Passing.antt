@@ -11,18 +11,8 @@ use Rattle.index_paths.proofs.Spans.{apart, span_above}
 use Rattle.jump_block.specs.Fronts.{AreBelow}
 use Rattle.jump_block.specs.Spans.{IsSpan}
 use Rattle.jump_block.specs.declared.spans.Span.{Span}
-use Rattle.jump_block.proofs.Knowing.{front_below}
-use Rattle.jump_index.specs.Evidence.{HasFull, HasPointer}
-
--- no place of the front from a blank cell on
-pub none_from_blank : (image : Image) (block count place : ℕ) (p : PostingFields) → image (block + count) ≡ None
-    → InFront image block place p → place < count
-none_from_blank image block count place p blank front =
-    ⊎_elim
-    (λ less. less)
-    (λ le. let h = front_below front count le in
-    absurd (none-some _ (sym blank ∙ (front_holds h.1).stands)))
-    (cases_lt place count)
+use Rattle.jump_block.proofs.OneBlock.{full_greatest, in_span, none_from_blank}
+use Rattle.jump_block.specs.Pointing.{HasFull, HasPointer}
 
 module _ (image : Image) (block count x : ℕ) (below : AreBelow image block count x) where
   -- the places before hold keys below x
@@ -69,32 +59,11 @@ module _ (image : Image) (block count x : ℕ) (below : AreBelow image block cou
   open_passes_none from to at p blank in_places (on _ target hop rest) asked =
       omega (arith, none_from_blank image block count 127 hop.greatest blank hop.full)
 
--- no key of a full block is greater than its greatest
-pub full_greatest : (image : Image) (block l place : ℕ) (p : PostingFields) → HasFull image block l → place < 128
-    → InFront image block place p → p.key ≤ l
-full_greatest image block l place p full less front =
-    let le : p.key ≤ full.p.key = rises_or_same front full.in_front (omega arith) in
-    omega (arith, le, full.same)
-
 -- what a trail through a full block gives
 pub record GoesThrough (image : Image) (from to at : ℕ) (p : PostingFields) (block level digit : ℕ) : Type 0 where
   pub target : ℕ
   pub jump : HasPointer image block level digit target
   pub rest : Trail image from to at p target
-
--- the span that the code holds is the one of the definition
-pub in_span : {l k : ℕ} {s : Span} → IsSpan l s → s.low ≤ k → k < s.high → InSpan l s.level s.digit k
-in_span is low high = record {
-  levels = is.levels;
-  some = is.some;
-  digits = is.digits;
-  low = omega
-      (arith, is.low);
-  high = omega (arith, is.low, is.high);
-}
-
-pub of_span : {l k : ℕ} {s : Span} → IsSpan l s → InSpan l s.level s.digit k → (s.low ≤ k) × (k < s.high)
-of_span is within = (omega (arith, is.low, within.low), omega (arith, is.low, is.high, within.high))
 
 -- a posting behind a full block with a key of a span has its trail through the span's pointer
 pub goes_through : (image : Image) (from to at l block : ℕ) (p : PostingFields) (s : Span) → HasFull image block l

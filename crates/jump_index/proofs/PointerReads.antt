@@ -1,12 +1,13 @@
 -- Reading a pointer that is to lie within the bounds, over plain values.
 use Rattle.std.proofs.Common.{◌<◌, ◌≤◌, ◌+◌, ◌⊎◌, inr, ℕ, Some, Ok, Err, refl, ap, ◌∙◌}
 use Rattle.cell_types.specs.declared.refusal.Fault.{Fault}
-use Rattle.cell_types.specs.declared.refusal.Fault.TheVariants.{Tampered, ReadFault}
+use Rattle.cell_types.specs.declared.refusal.Fault.TheVariants.{Tampered, Failed}
 use Rattle.index_paths.specs.Blocks.{arrived, pointer_at}
 use Rattle.worm_device.specs.Views.{ViewState}
 use Rattle.jump_block.specs.Pointers.{ReadsPointer}
 use Rattle.jump_block.specs.declared.spans.Span.{Span}
-use Rattle.jump_index.specs.Evidence.{IsPointerEvidence, bad_pointer, no_jump, outside}
+use Rattle.jump_index.specs.Evidence.{bad_pointer, no_jump, outside}
+use Rattle.jump_block.specs.Pointing.{IsPointerEvidence}
 use Rattle.jump_index.specs.Looking.{FirstPointer}
 use Rattle.jump_index.specs.declared.bounds.Bounds.{Bounds}
 use Rattle.jump_index.proofs.Behind.{shows_pointer}
@@ -16,7 +17,7 @@ module _ (bounds : Bounds) (block : ℕ) (s : Span) (old new : ViewState) (level
   -- no jump cell
   pub first_fault : (fault : Fault) → ReadsPointer (pointer_at block s.level s.digit) old new (Err fault)
       → FirstPointer bounds block s old new (Err fault)
-  first_fault ReadFault read = record { viewed = read.viewed; reads = read.reads; ends = read.ends }
+  first_fault Failed read = record { viewed = read.viewed; reads = read.reads; ends = read.ends }
   first_fault (Tampered e) read = record {
     viewed = read.viewed;
     reads = read.reads;
@@ -34,7 +35,7 @@ module _ (bounds : Bounds) (block : ℕ) (s : Span) (old new : ViewState) (level
   pub first_outside : (target : ℕ) (fault : Fault) → (target < bounds.pool) ⊎ (bounds.edge < target + 256)
       → ReadsPointer (pointer_at block s.level s.digit) old new (Ok (Some target))
       → IsPointerEvidence block s.level s.digit target fault → FirstPointer bounds block s old new (Err fault)
-  first_outside target ReadFault out read names = absurd names
+  first_outside target Failed out read names = absurd names
   first_outside target (Tampered e) out read names = record {
     viewed = read.viewed;
     reads = read.reads;

@@ -5,7 +5,7 @@ use Rattle.cell_types.specs.Records.{record_bytes}
 use Rattle.cell_types.specs.declared.record_cell.RecordCell.TheVariants.{Jump}
 use Rattle.cell_types.specs.declared.refusal.Evidence.{Evidence}
 use Rattle.cell_types.specs.declared.refusal.Fault.{Fault}
-use Rattle.cell_types.specs.declared.refusal.Fault.TheVariants.{Tampered, ReadFault}
+use Rattle.cell_types.specs.declared.refusal.Fault.TheVariants.{Tampered, Failed}
 use Rattle.stored_documents.specs.Volumes.{Holds}
 use Rattle.index_paths.specs.Blocks.{PostingFields, InFront, InSpan, Leads, pointer_at}
 use Rattle.tamper_rules.specs.declared.numbers.TheConstants.{BLOCK_OUT_OF_ORDER, LOST_POINTER}
@@ -13,21 +13,8 @@ use Rattle.worm_device.specs.Counts.{Rose}
 use Rattle.worm_device.specs.Views.{ViewState}
 use Rattle.jump_block.specs.Fronts.{HasKeyAt, IsBadEntry}
 use Rattle.jump_block.specs.Pointers.{IsNoJump}
+use Rattle.jump_block.specs.Pointing.{HasFull, HasPointer, IsPointerPlace}
 use Rattle.jump_index.specs.declared.bounds.Bounds.{Bounds}
-
--- the block is full, and this is its greatest key
-abbrev pub HasFull : Image → ℕ → ℕ → Type 0
-HasFull image block l = HasKeyAt image block 127 l
-
--- the pointer of this level and digit leads to the target
-abbrev pub HasPointer : Image → ℕ → ℕ → ℕ → ℕ → Type 0
-HasPointer image block level digit target = Holds image (pointer_at block level digit) (Jump target)
-
--- a pointer has one of eight levels and a digit of 1 to 15
-pub record IsPointerPlace (level digit : ℕ) : Type 0 where
-  pub levels : level < 8
-  pub some : 1 ≤ digit
-  pub digits : digit ≤ 15
 
 -- Why a pointer leads nowhere: it is no jump cell, or its target lies outside the bounds, or its block is full and no
 -- key of the target's front lies in its span.
@@ -57,13 +44,6 @@ IsSearchRule number = (number ≡ BLOCK_OUT_OF_ORDER) ⊎ (number ≡ LOST_POINT
 
 -- why a search from a block gives no answer
 abbrev pub FaultShows : Bounds → ℕ → ViewState → ViewState → Fault → Type 0
-FaultShows bounds block old new ReadFault = Rose old.base.faults new.base.faults
+FaultShows bounds block old new Failed = Rose old.base.faults new.base.faults
 FaultShows bounds block old new (Tampered e) =
     IsSearchRule e.rule × (IsTrue old.base.tells → Shows bounds new.image block e)
-
--- the fault names this pointer
-abbrev pub IsPointerEvidence : ℕ → ℕ → ℕ → ℕ → Fault → Type 0
-IsPointerEvidence block level digit target ReadFault = ⊥
-IsPointerEvidence block level digit target (Tampered e) =
-    (e.rule ≡ LOST_POINTER) × (e.cell ≡ pointer_at block level digit)
-    × (e.found ≡ record_bytes (Jump target) (pointer_at block level digit))

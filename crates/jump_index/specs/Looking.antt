@@ -2,7 +2,7 @@
 use Rattle.std.specs.Prelude.{◌≡◌, ◌<◌, ◌≤◌, ◌+◌, ◌*◌, ℕ, Option, Some, None, Result, Ok, Err, IsTrue, ⊤}
 use Rattle.cell_types.specs.Image.{Image}
 use Rattle.cell_types.specs.declared.refusal.Fault.{Fault}
-use Rattle.cell_types.specs.declared.refusal.Fault.TheVariants.{Tampered, ReadFault}
+use Rattle.cell_types.specs.declared.refusal.Fault.TheVariants.{Tampered, Failed}
 use Rattle.tamper_rules.specs.declared.numbers.TheConstants.{BLOCK_OUT_OF_ORDER}
 use Rattle.index_paths.specs.Blocks.{PostingFields, InFront, pointer_at}
 use Rattle.worm_device.specs.Counts.{Rose}
@@ -10,7 +10,9 @@ use Rattle.worm_device.specs.Views.{ViewState, Viewed}
 use Rattle.jump_block.specs.Entries.{IsNoPosting}
 use Rattle.jump_block.specs.declared.held_entry.Entry.{Entry}
 use Rattle.jump_block.specs.declared.spans.Span.{Span}
-use Rattle.jump_index.specs.Evidence.{FaultShows, HasFull, HasPointer}
+use Rattle.jump_block.specs.Pointing.{HasKeyIn}
+use Rattle.jump_index.specs.Evidence.{FaultShows}
+use Rattle.jump_block.specs.Pointing.{HasFull, HasPointer}
 use Rattle.jump_index.specs.Searches.{HasTrail, IsEntry, IsEntryBehind, IsExact, IsFirst}
 use Rattle.jump_index.specs.declared.bounds.Bounds.{Bounds}
 use Rattle.jump_index.specs.declared.looked.Here.{Here}
@@ -27,15 +29,6 @@ PassesNone bounds block x bound s =
 abbrev pub IsLeast : Bounds → ℕ → ℕ → ViewState → Entry → Type 0
 IsLeast bounds block past s e =
     (at : ℕ) (p : PostingFields) → HasTrail bounds s block at p → past ≤ p.key → e.key ≤ p.key
-
--- some key of the block's front lies from low up to the bound
-pub record HasKeyIn (image : Image) (block low bound : ℕ) : Type 0 where
-  pub place : ℕ
-  pub p : PostingFields
-  pub in_places : place < 128
-  pub in_front : InFront image block place p
-  pub from : low ≤ p.key
-  pub below : p.key < bound
 
 -- A search from a block that a pointer led to, whose span is from low up to the bound: the first entry with a key of
 -- the span at or past x, no such entry, or no key of the span at all.
@@ -75,7 +68,7 @@ BeforeEnds block place low old new (Ok (Ends NoKey)) =
     IsTrue old.base.tells
     → (before : ℕ) (p : PostingFields) → place ≡ before + 1 → InFront new.image block before p → p.key < low
 BeforeEnds block place low old new (Ok (Beyond l)) = ⊥
-BeforeEnds block place low old new (Err ReadFault) = Rose old.base.faults new.base.faults
+BeforeEnds block place low old new (Err Failed) = Rose old.base.faults new.base.faults
 BeforeEnds block place low old new (Err (Tampered e)) =
     (e.rule ≡ BLOCK_OUT_OF_ORDER) × (before : ℕ) × (before < 128) × (e.cell ≡ block + before)
     × (IsTrue old.base.tells → IsNoPosting new.image (block + before) e.found)

@@ -1,14 +1,14 @@
 -- What a search of a posting list finds, what it passes, and what licence its evidence has.
 use Rattle.std.specs.Prelude.{◌≡◌, ◌<◌, ◌≤◌, ◌+◌, ◌%◌, ℕ, Option, Some, None, Result, Ok, Err, IsTrue}
 use Rattle.cell_types.specs.Image.{Image}
-use Rattle.cell_types.specs.Layout.{Layout, list_at, pool_at}
+use Rattle.cell_types.specs.Layout.{Layout, list_at, pool_at, all_lists}
 use Rattle.cell_types.specs.declared.refusal.Evidence.{Evidence}
 use Rattle.cell_types.specs.declared.refusal.Fault.{Fault}
-use Rattle.cell_types.specs.declared.refusal.Fault.TheVariants.{Tampered, ReadFault}
+use Rattle.cell_types.specs.declared.refusal.Fault.TheVariants.{Tampered, Failed}
 use Rattle.stored_documents.specs.Slots.{IsEdge}
 use Rattle.stored_documents.specs.Volumes.{IsVolume}
 use Rattle.index_paths.specs.Blocks.{PostingFields, InFront, Leads, Trail}
-use Rattle.tamper_rules.specs.Rules.{Rule, IsBroken, IsPlace, number_of}
+use Rattle.tamper_rules.specs.Rules.{HasPlace, Rule, IsBroken, IsPlace, number_of}
 use Rattle.worm_device.specs.Counts.{Rose}
 use Rattle.worm_device.specs.Views.{ViewState, Viewed}
 use Rattle.jump_block.specs.Entries.{cell_of, posting_of}
@@ -43,18 +43,14 @@ IsFirst bounds block x s e =
 abbrev pub IsExact : Bounds → ℕ → ℕ → ViewState → Entry → Type 0
 IsExact bounds block x s e = e.key ≡ x → HasTrail bounds s block (cell_of e) (posting_of e)
 
--- the cell is a place of the rule that the evidence names
-abbrev pub HasPlace : Layout → Evidence → Type 0
-HasPlace g e = (rule : Rule) × (e.rule ≡ number_of rule) × IsPlace g rule e.cell
-
 -- The licence of evidence, on an image of so many cells. It stands there. Where the search began at the first block of
 -- a list, and the bounds at the pool's start, the cell is a place of the rule; where besides the volume is the one in
 -- cell 0, and the bounds end at an edge of the image, the rule is broken there.
 pub record IsLicensed (bounds : Bounds) (head cells : ℕ) (image : Image) (e : Evidence) : Type 0 where
   pub stands : image e.cell ≡ Some e.found
-  pub place : (g : Layout) (l : ℕ) → l < g.lists → head ≡ list_at g l → bounds.pool ≡ pool_at g → bounds.edge ≤ g.cells
+  pub place : (g : Layout) (l : ℕ) → l < all_lists g → head ≡ list_at g l → bounds.pool ≡ pool_at g → bounds.edge ≤ g.cells
       → HasPlace g e
-  pub broken : (g : Layout) (l : ℕ) → IsVolume cells image g → l < g.lists → head ≡ list_at g l
+  pub broken : (g : Layout) (l : ℕ) → IsVolume cells image g → l < all_lists g → head ≡ list_at g l
       → bounds.pool ≡ pool_at g → IsEdge g image image bounds.edge → IsBroken cells image e.rule e.cell
 
 -- How a search of a list may end. Of the postings that have a trail from the list's first block at entry none is
@@ -66,7 +62,7 @@ FindEnds bounds head x old new (Ok (Some e)) =
     × IsExact bounds head x new e)
 FindEnds bounds head x old new (Ok None) =
     IsTrue old.base.tells → (at : ℕ) (p : PostingFields) → HasTrail bounds old head at p → x ≤ p.key → ⊥
-FindEnds bounds head x old new (Err ReadFault) = Rose old.base.faults new.base.faults
+FindEnds bounds head x old new (Err Failed) = Rose old.base.faults new.base.faults
 FindEnds bounds head x old new (Err (Tampered e)) =
     IsSearchRule e.rule × (IsTrue old.base.tells → IsLicensed bounds head new.cells new.image e)
 

@@ -1,5 +1,6 @@
 //! A look into one block.
 ghost use Rattle.std.specs.Prelude.{◌<◌, ◌≤◌, ◌+◌, IsTrue};
+ghost use Rattle.index_paths.specs.declared.blocks.TheConstants.{BLOCK_CELLS, ENTRY_PLACES};
 ghost use Rattle.jump_block.specs.Keeping.{AreKept};
 ghost use Rattle.jump_index.specs.Looking.{EndsBefore, LooksBefore, LooksHere};
 
@@ -19,7 +20,7 @@ pub(crate) fn look_here<V: View>(
     bound: u64,
     level: u8,
 ) -> Result<Here, Fault>
-    requires inside { block + 256 ≤ (V.seen view.old).cells }
+    requires inside { block + BLOCK_CELLS ≤ (V.seen view.old).cells }
     requires kept { IsTrue (V.seen view.old).base.tells → AreKept (V.seen view.old).image fronts.old }
     requires from { low ≤ x }
     requires below { x < bound }
@@ -27,10 +28,7 @@ pub(crate) fn look_here<V: View>(
     ensures kept { IsTrue (V.seen view.old).base.tells → AreKept (V.seen view.new).image fronts.new }
     ensures looks { LooksHere block x low bound (V.seen view.old) (V.seen view.new) result }
 {
-    let first = match first_from_kept(view, fronts, usize::from(level), block, x) {
-        Ok(first) => first,
-        Err(fault) => return Err(fault),
-    };
+    let first = first_from_kept(view, fronts, usize::from(level), block, x)?;
     match first {
         Front::At(next) if u64::from(next.key) < bound => Ok(Here::Ends(Looked::Found(next))),
         Front::At(next) => look_before(view, block, next.place, low),
@@ -43,17 +41,14 @@ pub(crate) fn look_here<V: View>(
 /// What a block says whose key at this place is past the bound: whether the key before it, the greatest below the
 /// bound, is at or past low.
 fn look_before<V: View>(view: &mut V, block: u32, place: u8, low: u64) -> Result<Here, Fault>
-    requires inside { block + 256 ≤ (V.seen view.old).cells }
-    requires place { place < 128 }
+    requires inside { block + BLOCK_CELLS ≤ (V.seen view.old).cells }
+    requires place { place < ENTRY_PLACES }
     ensures { LooksBefore block place low (V.seen view.old) (V.seen view.new) result }
 {
     if place == 0 {
         return Ok(Here::Ends(Looked::NoKey));
     }
-    let found = match entry(view, block, place - 1) {
-        Ok(found) => found,
-        Err(fault) => return Err(fault),
-    };
+    let found = entry(view, block, place - 1)?;
     match found {
         Some(before) if u64::from(before.key) >= low => Ok(Here::Ends(Looked::Nothing)),
         _ => Ok(Here::Ends(Looked::NoKey)),

@@ -1,31 +1,15 @@
 //! The later spans of a block.
 ghost use Rattle.std.specs.Prelude.{◌<◌, ◌≤◌, ◌+◌, ◌^◌, IsTrue};
+ghost use Rattle.index_paths.specs.declared.blocks.TheConstants.{BLOCK_CELLS};
 ghost use Rattle.jump_block.specs.Keeping.{AreKept};
 ghost use Rattle.jump_block.specs.Spans.{IsSpan};
-ghost use Rattle.jump_index.specs.Evidence.{HasFull, HasPointer, IsPointerEvidence};
+ghost use Rattle.jump_block.specs.Pointing.{HasFull, HasPointer, IsPointerEvidence};
 ghost use Rattle.jump_index.specs.Looking.{LooksBehind, LooksLater};
 
 use crate::bounds::Bounds;
-use cell_types::{Evidence, Fault, RecordCell, encode};
-use jump_block::{Entry, Front, KeptFronts, Span, first_from_kept, pointer, pointer_cell};
-use tamper_rules::LOST_POINTER;
+use cell_types::Fault;
+use jump_block::{Entry, Front, KeptFronts, Span, first_from_kept, leads_nowhere, pointer};
 use worm_device::View;
-
-/// The evidence that a pointer leads nowhere.
-pub fn leads_nowhere(block: u32, span: &Span, target: u32) -> Fault
-    requires level { span.now.level < 8 }
-    requires some { 1 ≤ span.now.digit }
-    requires digit { span.now.digit ≤ 15 }
-    requires inside { block + 256 ≤ 2 ^ 32 }
-    ensures { IsPointerEvidence block span.now.level span.now.digit target result }
-{
-    let at = pointer_cell(block, span.level, span.digit);
-    Fault::Tampered(Evidence {
-        rule: LOST_POINTER,
-        cell: at,
-        found: encode(RecordCell::Jump { target }, at),
-    })
-}
 
 /// Looks behind the first written pointer of a full block, with the greatest key l, whose span begins at or past
 /// the end of this one and below the bound.
@@ -38,7 +22,7 @@ pub(crate) fn look_later<V: View>(
     after: Span,
     bound: u64,
 ) -> Result<Option<Entry>, Fault>
-    requires inside { block + 256 ≤ (V.seen view.old).cells }
+    requires inside { block + BLOCK_CELLS ≤ (V.seen view.old).cells }
     requires edge { bounds.edge ≤ (V.seen view.old).cells }
     requires kept { IsTrue (V.seen view.old).base.tells → AreKept (V.seen view.old).image fronts.old }
     requires bound { bound ≤ 2 ^ 32 }
@@ -50,10 +34,7 @@ pub(crate) fn look_later<V: View>(
     let mut span = after;
     while span.high < bound {
         span = span.next();
-        let read = match pointer(view, block, span.level, span.digit) {
-            Ok(read) => read,
-            Err(fault) => return Err(fault),
-        };
+        let read = pointer(view, block, span.level, span.digit)?;
         // A written pointer is either evidence or leads to a key of its span, so the search ends here.
         if let Some(target) = read {
             return look_behind(view, fronts, bounds, block, l, span, target);
@@ -72,7 +53,7 @@ fn look_behind<V: View>(
     span: Span,
     target: u32,
 ) -> Result<Option<Entry>, Fault>
-    requires inside { block + 256 ≤ (V.seen view.old).cells }
+    requires inside { block + BLOCK_CELLS ≤ (V.seen view.old).cells }
     requires edge { bounds.edge ≤ (V.seen view.old).cells }
     requires kept { IsTrue (V.seen view.old).base.tells → AreKept (V.seen view.old).image fronts.old }
     requires below { span.low < 2 ^ 32 }
@@ -86,16 +67,13 @@ fn look_behind<V: View>(
     if target < bounds.pool || u64::from(target) + 256 > u64::from(bounds.edge) {
         return Err(leads_nowhere(block, &span, target));
     }
-    let first = match first_from_kept(
+    let first = first_from_kept(
         view,
         fronts,
         usize::from(span.level),
         target,
         span.low as u32,
-    ) {
-        Ok(first) => first,
-        Err(fault) => return Err(fault),
-    };
+    )?;
     if let Front::At(entry) = first {
         if u64::from(entry.key) < span.high {
             return Ok(Some(entry));

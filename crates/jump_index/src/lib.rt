@@ -36,5 +36,4 @@ mod search;
 mod tests;
 
 pub use bounds::Bounds;
-pub use later::leads_nowhere;
 pub use search::{find_geq, find_geq_from_kept};

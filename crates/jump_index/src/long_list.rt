@@ -207,7 +207,7 @@ fn are_found_or_named<V: View>(view: &mut V, keys: [u32; 5], foreign: u32) -> bo
                     return false;
                 }
             }
-            Err(Fault::ReadFault) => return false,
+            Err(Fault::Failed) => return false,
         }
     }
     true

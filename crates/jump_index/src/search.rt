@@ -1,17 +1,18 @@
 //! The search of a list.
 ghost use Rattle.std.specs.Prelude.{◌<◌, ◌≤◌, ◌+◌, ◌^◌, IsTrue};
+ghost use Rattle.index_paths.specs.declared.blocks.TheConstants.{BLOCK_CELLS};
 ghost use Rattle.jump_block.specs.Keeping.{AreKept};
 ghost use Rattle.jump_block.specs.Spans.{IsSpan};
-ghost use Rattle.jump_index.specs.Evidence.{HasFull};
+ghost use Rattle.jump_block.specs.Pointing.{HasFull};
 ghost use Rattle.jump_index.specs.Looking.{FirstPointer, IsWithin, LooksOn, SearchesBlock};
 ghost use Rattle.jump_index.specs.Searches.{FindsGeq};
 
 use crate::bounds::Bounds;
 use crate::here::look_here;
-use crate::later::{leads_nowhere, look_later};
+use crate::later::look_later;
 use crate::looked::{Here, Looked};
 use cell_types::Fault;
-use jump_block::{Entry, KeptFronts, Span, pointer, span};
+use jump_block::{Entry, KeptFronts, Span, leads_nowhere, pointer, span};
 use worm_device::View;
 
 /// The first entry of a list at or past x: no greater than any that has a trail from the list's first block, and the
@@ -22,7 +23,7 @@ pub fn find_geq<V: View>(
     x: u32,
     bounds: Bounds,
 ) -> Result<Option<Entry>, Fault>
-    requires head { head + 256 ≤ (V.seen view.old).cells }
+    requires head { head + BLOCK_CELLS ≤ (V.seen view.old).cells }
     requires edge { bounds.edge ≤ (V.seen view.old).cells }
     ensures { FindsGeq bounds head x (V.seen view.old) (V.seen view.new) result }
 {
@@ -39,7 +40,7 @@ pub fn find_geq_from_kept<V: View>(
     x: u32,
     bounds: Bounds,
 ) -> Result<Option<Entry>, Fault>
-    requires head { head + 256 ≤ (V.seen view.old).cells }
+    requires head { head + BLOCK_CELLS ≤ (V.seen view.old).cells }
     requires edge { bounds.edge ≤ (V.seen view.old).cells }
     requires kept { IsTrue (V.seen view.old).base.tells → AreKept (V.seen view.old).image fronts.old }
     ensures kept { IsTrue (V.seen view.old).base.tells → AreKept (V.seen view.new).image fronts.new }
@@ -66,7 +67,7 @@ fn search<V: View>(
     bound: u64,
     level: u8,
 ) -> Result<Looked, Fault>
-    requires inside { block + 256 ≤ (V.seen view.old).cells }
+    requires inside { block + BLOCK_CELLS ≤ (V.seen view.old).cells }
     requires edge { bounds.edge ≤ (V.seen view.old).cells }
     requires kept { IsTrue (V.seen view.old).base.tells → AreKept (V.seen view.old).image fronts.old }
     requires narrow { bound ≤ low + 16 ^ level }
@@ -76,19 +77,13 @@ fn search<V: View>(
     ensures kept { IsTrue (V.seen view.old).base.tells → AreKept (V.seen view.new).image fronts.new }
     ensures looks { SearchesBlock bounds block x low bound level (V.seen view.old) (V.seen view.new) result }
 {
-    let here = match look_here(view, fronts, block, x, low, bound, level) {
-        Ok(here) => here,
-        Err(fault) => return Err(fault),
-    };
+    let here = look_here(view, fronts, block, x, low, bound, level)?;
     let l = match here {
         Here::Ends(looked) => return Ok(looked),
         Here::Beyond(l) => l,
     };
     let first = span(l, x);
-    let to = match first_pointer(view, bounds, block, first) {
-        Ok(to) => to,
-        Err(fault) => return Err(fault),
-    };
+    let to = first_pointer(view, bounds, block, first)?;
     let Some(target) = to else {
         return look_on(view, fronts, bounds, block, l, first, bound);
     };
@@ -119,7 +114,7 @@ fn look_on<V: View>(
     first: Span,
     bound: u64,
 ) -> Result<Looked, Fault>
-    requires inside { block + 256 ≤ (V.seen view.old).cells }
+    requires inside { block + BLOCK_CELLS ≤ (V.seen view.old).cells }
     requires edge { bounds.edge ≤ (V.seen view.old).cells }
     requires kept { IsTrue (V.seen view.old).base.tells → AreKept (V.seen view.old).image fronts.old }
     requires span { IsSpan l first }
@@ -152,16 +147,13 @@ fn first_pointer<V: View>(
     block: u32,
     first: Span,
 ) -> Result<Option<u32>, Fault>
-    requires inside { block + 256 ≤ (V.seen view.old).cells }
+    requires inside { block + BLOCK_CELLS ≤ (V.seen view.old).cells }
     requires level { first.level < 8 }
     requires some { 1 ≤ first.digit }
     requires digit { first.digit ≤ 15 }
     ensures { FirstPointer bounds block first (V.seen view.old) (V.seen view.new) result }
 {
-    let to = match pointer(view, block, first.level, first.digit) {
-        Ok(to) => to,
-        Err(fault) => return Err(fault),
-    };
+    let to = pointer(view, block, first.level, first.digit)?;
     if let Some(target) = to {
         if target < bounds.pool || u64::from(target) + 256 > u64::from(bounds.edge) {
             return Err(leads_nowhere(block, &first, target));

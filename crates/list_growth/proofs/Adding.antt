@@ -13,7 +13,7 @@ use Rattle.jump_block.specs.Spans.{IsSpan}
 use Rattle.jump_block.specs.declared.known_front.Front.TheVariants.{Open}
 use Rattle.jump_block.specs.declared.spans.Span.{Span}
 use Rattle.jump_block.proofs.Knowing.{key_on}
-use Rattle.jump_index.specs.Evidence.{HasFull, HasPointer}
+use Rattle.jump_block.specs.Pointing.{HasFull, HasPointer}
 use Rattle.planned_cells.specs.declared.fault.GrowthFault.{GrowthFault}
 use Rattle.list_growth.specs.Growing.{Steps, ends, hops, PutsTwo, Grows, in_block, in_tail, in_new_block, IsLast, IsLastFull}
 use Rattle.list_growth.specs.Placing.{GrowEnds}

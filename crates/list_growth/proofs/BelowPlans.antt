@@ -9,7 +9,7 @@ use Rattle.index_paths.specs.Blocks.{PostingFields, posting_record, InFront, at_
 use Rattle.index_paths.proofs.Fronts.{front_holds, one_place, rises}
 use Rattle.tamper_rules.specs.Rules.{EndsFront, HoldsInOrder}
 use Rattle.jump_block.proofs.Knowing.{front_below}
-use Rattle.jump_index.specs.Evidence.{HasFull}
+use Rattle.jump_block.specs.Pointing.{HasFull}
 use Rattle.worm_device.specs.Views.{ViewState, IsView}
 use Rattle.list_growth.specs.Evidence.{NothingBelowPlans}
 

@@ -6,7 +6,7 @@ use Rattle.std.proofs.lemmas.Option.{none-some}
 use Rattle.cell_types.specs.declared.record_cell.RecordCell.TheVariants.{Jump}
 use Rattle.cell_types.specs.declared.refusal.Evidence.{Evidence}
 use Rattle.cell_types.specs.declared.refusal.Fault.{Fault}
-use Rattle.cell_types.specs.declared.refusal.Fault.TheVariants.{Tampered, ReadFault}
+use Rattle.cell_types.specs.declared.refusal.Fault.TheVariants.{Tampered, Failed}
 use Rattle.stored_documents.specs.Volumes.{Holds}
 use Rattle.stored_documents.proofs.Holding.{one_record_holds}
 use Rattle.index_paths.specs.Blocks.{Leads, pointer_at}
@@ -14,9 +14,9 @@ use Rattle.tamper_rules.proofs.GivenUp.{leads_further}
 use Rattle.worm_device.specs.Views.{ViewState, IsView}
 use Rattle.worm_device.specs.declared.owner.Owner.{Owner}
 use Rattle.jump_block.specs.declared.spans.Span.{Span}
-use Rattle.jump_index.specs.Evidence.{HasFull, HasPointer, IsPointerEvidence}
-use Rattle.jump_index.specs.Looking.{HasKeyIn}
-use Rattle.jump_index.proofs.Behind.{jump_target}
+use Rattle.jump_block.specs.Pointing.{HasFull, HasPointer, IsPointerEvidence}
+use Rattle.jump_block.specs.Pointing.{HasKeyIn}
+use Rattle.jump_block.proofs.OneBlock.{jump_target}
 use Rattle.list_growth.specs.Evidence.{IsMet, IsBadHop, outside, meets, ShowsBelow, bad_pointer}
 use Rattle.list_growth.specs.Hopping.{IsAt, CheckEnds}
 use Rattle.list_growth.specs.Readiness.{IsOwnBlock, IsReached, is_new, stands_below, IsListCell, a_posting, a_pointer}
@@ -52,7 +52,7 @@ pub check_fault : (s : ViewState) (head floor next key block target : ℕ) (span
     → ((e : Evidence) → IsPointerEvidence block span.level span.digit target (Tampered e) → IsTrue s.base.tells
     → ShowsBelow s head floor key e)
     → CheckEnds head floor next key block span target s (Err fault)
-check_fault s head floor next key block target span ReadFault names shows = absurd names
+check_fault s head floor next key block target span Failed names shows = absurd names
 check_fault s head floor next key block target span (Tampered e) names shows = shows e names
 
 module _ (s : ViewState) (view : IsView s) (head floor next key block : ℕ) (at : IsAt s head floor next key block) where

@@ -1,6 +1,6 @@
 -- What an insertion from the list's first block is for the list.
 use Rattle.std.proofs.Common.{◌≤◌, ◌+◌, ℕ, Some, None, Ok, Err, refl, arith}
-use Rattle.cell_types.specs.declared.refusal.Fault.TheVariants.{Tampered, ReadFault}
+use Rattle.cell_types.specs.declared.refusal.Fault.TheVariants.{Tampered, Failed}
 use Rattle.index_paths.specs.Blocks.{PostingFields, arrived}
 use Rattle.worm_device.specs.Views.{ViewState, IsView}
 use Rattle.jump_block.specs.declared.held_entry.Entry.{Entry}
@@ -59,7 +59,7 @@ pub refused : (head floor next to low bound : ℕ) (p : PostingFields) (old new 
     → IsView new
     → PlacesPosting head floor to head p low bound old new (Err fault)
     → InsertsPosting head floor next to p old new (Err fault)
-refused head floor next to low bound p old new (Fault ReadFault) view placed = record {
+refused head floor next to low bound p old new (Fault Failed) view placed = record {
   called = placed.called;
   cells = placed.cells;
   fresh = placed.fresh;

@@ -19,9 +19,9 @@ use Rattle.worm_device.specs.Views.{ViewState, Viewed}
 use Rattle.worm_device.proofs.Counting.{still_second}
 use Rattle.jump_block.specs.Spans.{IsSpan}
 use Rattle.jump_block.specs.declared.spans.Span.{Span}
-use Rattle.jump_index.specs.Evidence.{HasFull, HasPointer}
-use Rattle.jump_index.proofs.Behind.{jump_target}
-use Rattle.jump_index.proofs.Passing.{none_from_blank}
+use Rattle.jump_block.specs.Pointing.{HasFull, HasPointer}
+use Rattle.jump_block.proofs.OneBlock.{jump_target}
+use Rattle.jump_block.proofs.OneBlock.{none_from_blank}
 use Rattle.list_growth.specs.Growing.{IsTop, EndsAt, EndsAtFull, IsLast, IsLastFull}
 use Rattle.list_growth.specs.Hopping.{BlankFrom, TailLast}
 use Rattle.list_growth.specs.declared.entries.Spot.{Spot}

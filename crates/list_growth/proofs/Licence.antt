@@ -1,9 +1,9 @@
 -- The licence of what an insertion names: it stands below, in a place of its rule, and the rule is broken there.
-use Rattle.std.proofs.Common.{◌≡◌, ◌≢◌, ◌<◌, ◌≤◌, ◌+◌, ◌*◌, ◌/◌, ◌⊎◌, ⊎_elim, inl, inr, ℕ, List, Some, None, refl, ap, sym, subst, arith, ◌∙◌}
+use Rattle.std.proofs.Common.{◌≡◌, ◌≢◌, ◌<◌, ◌≤◌, ◌+◌, ◌*◌, ◌⊎◌, ⊎_elim, inl, inr, ℕ, List, Some, None, refl, ap, sym, subst, arith, ◌∙◌}
 use Rattle.std.proofs.lemmas.Bool.{cases_lt}
 use Rattle.std.proofs.lemmas.Option.{none-some}
 use Rattle.cell_types.specs.Image.{Image, Extends}
-use Rattle.cell_types.specs.Layout.{Layout, FirstBlock, LiesIn, list_at, pool_at, reserve_at}
+use Rattle.cell_types.specs.Layout.{Layout, FirstBlock, LiesIn, list_at, pool_at, reserve_at, all_lists}
 use Rattle.cell_types.specs.Records.{IsRecordCell}
 use Rattle.cell_types.specs.declared.record_cell.RecordCell.TheVariants.{Jump}
 use Rattle.cell_types.specs.declared.refusal.Evidence.{Evidence}
@@ -12,9 +12,10 @@ use Rattle.stored_documents.specs.Volumes.{Holds}
 use Rattle.stored_documents.proofs.Holding.{one_record_holds, some_is}
 use Rattle.index_paths.specs.Blocks.{PostingFields, posting_record, InFront, InSpan, Leads, arrived, onwards, pointer_at}
 use Rattle.index_paths.specs.Nodes.{IsBlockOf}
+use Rattle.index_paths.proofs.Tags.{of_word, word_slot}
 use Rattle.tamper_rules.specs.Rules.{Entries, IsOfPool, IsTruePosting, LeadsWell, Pointers, Postings}
-use Rattle.jump_index.proofs.Behind.{jump_target}
-use Rattle.jump_index.proofs.Licence.{in_place, leads_wider, not_in_order}
+use Rattle.jump_block.proofs.OneBlock.{jump_target}
+use Rattle.jump_block.proofs.OneBlock.{in_place, leads_wider, not_in_order}
 use Rattle.worm_device.specs.Views.{ViewState, IsView}
 use Rattle.worm_device.specs.declared.owner.Owner.{Owner}
 use Rattle.list_growth.specs.Evidence.{StandsBelow, IsMet, IsBadHop, no_jump, outside, no_key, meets, meets_block, ShowsBelow, bad_entry, bad_pointer, late, IsInItsPlace, of_new, of_list, of_tree, AreInTheirPlaces, IsLicensedBelow}
@@ -54,7 +55,7 @@ leads_on_device g image at block head edge leads = ⊎_elim
     (edge_to g image at edge)
 
 -- and blocks of list l
-block_of : (g : Layout) (s : ViewState) (l block : ℕ) → l < g.lists → IsEdge g s.lower s.lower s.fresh
+block_of : (g : Layout) (s : ViewState) (l block : ℕ) → l < all_lists g → IsEdge g s.lower s.lower s.fresh
     → Leads s.lower (pool_at g) s.fresh block (list_at g l) → IsBlockOf g s.lower l block
 block_of g s l block list edge leads =
     record { list = list; leads = leads_on_device g s.lower s.fresh block (list_at g l) edge leads }
@@ -72,7 +73,7 @@ leads_before below (onwards block level digit target levels some digits jump ins
     leads_before inside_to rest
 
 -- what is planned for another and meets the target would break the rule of pointers
-met_breaks : (g : Layout) (s : ViewState) (l block level digit target : ℕ) → l < g.lists → target + 256 ≤ s.fresh
+met_breaks : (g : Layout) (s : ViewState) (l block level digit target : ℕ) → l < all_lists g → target + 256 ≤ s.fresh
     → AreInTheirPlaces g s → (m : IsMet s (list_at g l) target)
     → (well : LeadsWell g s.lower l block level digit) → well.target ≡ target
     → IsInItsPlace g s m.cell m.owner → ⊥
@@ -105,7 +106,7 @@ met_breaks g s l block level digit target list to places m well one (of_tree v h
     m.is.meets
 
 -- another block of the list that meets the target would break it too
-reached_breaks : (g : Layout) (s : ViewState) (l block level digit target home : ℕ) → l < g.lists
+reached_breaks : (g : Layout) (s : ViewState) (l block level digit target home : ℕ) → l < all_lists g
     → IsEdge g s.lower s.lower s.fresh → target + 256 ≤ s.fresh → home ≢ target → target < home + 256
     → home < target + 256
     → (well : LeadsWell g s.lower l block level digit) → well.target ≡ target
@@ -130,7 +131,7 @@ one_target s block level digit target found low high jump below held =
     (record { cell = jump.cell; stands = low ∙ sym high ∙ jump.stands; is = jump.is }))
 
 -- a pointer that leads nowhere does not lead well below
-not_well : (g : Layout) (s : ViewState) (l block level digit : ℕ) (found : List ℕ) → l < g.lists
+not_well : (g : Layout) (s : ViewState) (l block level digit : ℕ) (found : List ℕ) → l < all_lists g
     → IsShown s.lower s.image s.fresh → IsEdge g s.lower s.lower s.fresh → AreInTheirPlaces g s
     → block + 256 ≤ s.fresh → s.lower (pointer_at block level digit) ≡ Some found
     → s.image (pointer_at block level digit) ≡ Some found
@@ -162,7 +163,7 @@ not_well g s l block level digit found list shown edge places before low high
     reached_breaks g s l block level digit target home list edge to other above under well one reached
 
 -- a cell of a block of list l that is new, or stands below before cells of the volume, is in its place
-pub reached_in_place : {g : Layout} {s : ViewState} {l cell : ℕ} {owner : Owner} → l < g.lists → s.fresh ≤ g.cells
+pub reached_in_place : {g : Layout} {s : ViewState} {l cell : ℕ} {owner : Owner} → l < all_lists g → s.fresh ≤ g.cells
     → owner.head ≡ list_at g l → IsReached s (list_at g l) (pool_at g) owner.base → owner.base ≤ cell
     → cell < owner.base + 256 → IsInItsPlace g s cell owner
 reached_in_place {l = l} list inside head (is_new past) from to = of_new past from
@@ -174,13 +175,13 @@ stands_there : (s : ViewState) (e : Evidence) → IsView s → StandsBelow s e �
 stands_there s e view st = sym (view.below e.cell st.free st.before) ∙ st.stands
 
 -- a cell of a block of the list, up to the pool's edge
-cell_in : (g : Layout) (s : ViewState) (l block off cell : ℕ) → l < g.lists → s.fresh ≤ g.cells
+cell_in : (g : Layout) (s : ViewState) (l block off cell : ℕ) → l < all_lists g → s.fresh ≤ g.cells
     → Leads s.lower (pool_at g) s.fresh block (list_at g l) → off < 256 → cell ≡ block + off
     → ((k : ℕ) × LiesIn g (FirstBlock k) cell) ⊎ IsOfPool g cell
 cell_in g s l block off cell list inside leads below is =
     in_place g s.lower l (pool_at g) s.fresh (list_at g l) block off cell list refl refl inside leads below is
 
-cell_on_device : (g : Layout) (s : ViewState) (l block off cell : ℕ) → l < g.lists
+cell_on_device : (g : Layout) (s : ViewState) (l block off cell : ℕ) → l < all_lists g
     → IsEdge g s.lower s.lower s.fresh
     → Leads s.lower (pool_at g) s.fresh block (list_at g l) → off < 256 → cell ≡ block + off
     → ((k : ℕ) × LiesIn g (FirstBlock k) cell) ⊎ IsOfPool g cell
@@ -189,21 +190,22 @@ cell_on_device g s l block off cell list edge leads below is =
     (leads_on_device g s.lower s.fresh block (list_at g l) edge leads) below is
 
 -- no posting of a slot from the horizon on is a true one
-past_horizon : {g : Layout} {image : Image} {n l : ℕ} {p : PostingFields} → IsHorizon g image image n → 256 * n ≤ p.key
-    → IsTruePosting g image l p → ⊥
-past_horizon {g} {image} {n} {l} {p} horizon past it =
-    let free : image (reserve_at n) ≡ None = horizon.free (omega (arith, past, it.live.slot)) in
+past_horizon : {g : Layout} {image : Image} {n l : ℕ} {p : PostingFields} → l < g.lists → IsHorizon g image image n
+    → 256 * n ≤ p.key → IsTruePosting g image l p → ⊥
+past_horizon {g} {image} {n} {l} {p} list horizon past it =
+    let slot = word_slot g it.body it.slot l p it.postings (of_word g it.stamp it.body it.slot l p list it.is) in
+    let free : image (reserve_at n) ≡ None = horizon.free (omega (arith, past, slot, it.live.slot)) in
     ⊎_elim
-    (λ (less : n < p.key / 256).
+    (λ (less : n < it.slot).
     let taken = it.live.taken n less in none-some taken.found (sym free ∙ taken.stands))
-    (λ (le : p.key / 256 ≤ n).
+    (λ (le : it.slot ≤ n).
     let reserve = it.live.done.done.commits.reserves.reserve in
-    let same : p.key / 256 ≡ n = omega (arith, le, past) in
+    let same : it.slot ≡ n = omega (arith, le, past, slot) in
     none-some reserve.cell (sym free ∙ ap (λ (m : ℕ). image (reserve_at m)) (sym same) ∙ reserve.stands))
-    (cases_lt n (p.key / 256))
+    (cases_lt n it.slot)
 
 -- the evidence of an insertion is licensed
-pub licensed : (g : Layout) (s : ViewState) (l key : ℕ) (e : Evidence) → IsView s → l < g.lists
+pub licensed : (g : Layout) (s : ViewState) (l key : ℕ) (e : Evidence) → IsView s → l < all_lists g
     → ShowsBelow s (list_at g l) (pool_at g) key e → IsLicensedBelow g s l key e
 licensed g s l key e view list (bad_entry block place leads st rule cell below bad) =
     let low = stands_there s e view st in record {
@@ -275,7 +277,7 @@ licensed g s l key e view list (late block place p leads st rule cell below hold
         place = cell_on_device g s l block place e.cell list edge leads (omega arith) cell;
         written = record { found = e.found; stands = low };
         not_met = λ met.
-            past_horizon horizon (omega (arith, after, past))
+            past_horizon (omega (arith, list, volume.volume.is.well_formed.0.version)) horizon (omega (arith, after, past))
             (met l block place p (block_of g s l block list edge leads) below cell posting);
       };
       broken = λ other. absurd (other rule);

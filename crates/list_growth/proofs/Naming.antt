@@ -6,7 +6,7 @@ use Rattle.cell_types.specs.Records.{IsRecordCell, record_bytes}
 use Rattle.cell_types.specs.declared.record_cell.RecordCell.TheVariants.{Jump}
 use Rattle.cell_types.specs.declared.refusal.Evidence.{Evidence}
 use Rattle.cell_types.specs.declared.refusal.Fault.{Fault}
-use Rattle.cell_types.specs.declared.refusal.Fault.TheVariants.{Tampered, ReadFault}
+use Rattle.cell_types.specs.declared.refusal.Fault.TheVariants.{Tampered, Failed}
 use Rattle.stored_documents.specs.Volumes.{Holds}
 use Rattle.index_paths.specs.Blocks.{PostingFields, posting_record, InFront, Leads, pointer_at}
 use Rattle.index_paths.proofs.Fronts.{front_holds, one_posting, one_place, rises, rises_or_same}
@@ -20,8 +20,8 @@ use Rattle.jump_block.specs.declared.held_entry.Entry.{Entry}
 use Rattle.jump_block.specs.declared.known_front.Front.TheVariants.{At}
 use Rattle.jump_block.specs.declared.spans.Span.{Span}
 use Rattle.jump_block.proofs.Counting.{rose_later}
-use Rattle.jump_index.specs.Evidence.{HasFull, HasPointer, IsPointerPlace, IsPointerEvidence}
-use Rattle.jump_index.proofs.Passing.{of_span}
+use Rattle.jump_block.specs.Pointing.{HasFull, HasPointer, IsPointerPlace, IsPointerEvidence}
+use Rattle.jump_block.proofs.OneBlock.{of_span}
 use Rattle.list_growth.specs.Evidence.{no_jump, no_key, meets_block, ShowsBelow, bad_entry, bad_pointer, late}
 use Rattle.list_growth.specs.Hopping.{IsAt, IsOldHop, FaultEnds, CheckEnds, GreatestEnds, IsLateEvidence}
 use Rattle.list_growth.specs.Readiness.{IsOwnBlock, IsReached, IsListCell, a_posting, a_pointer}
@@ -139,21 +139,21 @@ module _ (s t : ViewState) (view : IsView t) (head floor next key block : ℕ)
     (at : IsTrue s.base.tells → IsAt t head floor next key block) where
   -- a fault of a look into a front
   pub front_fault : (fault : Fault) → FirstEnds key block s t (Err fault) → FaultEnds head floor key s t fault
-  front_fault ReadFault ends = ends
+  front_fault Failed ends = ends
   front_fault (Tampered e) ends = λ tells.
       shows_entry t view head floor next key block (at tells) ends.1 e ends.0 ends.3 ends.2 (ends.4 tells).0
 
   -- the entry that was found is late
   pub late_fault : (entry : Entry) → FirstEnds key block s t (Ok (At entry)) → (fault : Fault)
       → IsLateEvidence entry fault → FaultEnds head floor key s t fault
-  late_fault entry ends ReadFault names = absurd names
+  late_fault entry ends Failed names = absurd names
   late_fault entry ends (Tampered e) names = λ tells.
       shows_late t view head floor next key block (at tells) entry e ends.0 ends.1 (ends.4 tells).0 ends.2 names
 
   -- a fault of a read of a pointer
   pub pointer_fault : (level digit : ℕ) → IsPointerPlace level digit → (fault : Fault)
       → ReadsPointer (pointer_at block level digit) s t (Err fault) → FaultEnds head floor key s t fault
-  pointer_fault level digit place ReadFault read = read.ends
+  pointer_fault level digit place Failed read = read.ends
   pointer_fault level digit place (Tampered e) read = λ tells.
       shows_no_jump t view head floor next key block (at tells) level digit e place read.ends.0 read.ends.1
       (read.ends.2 tells)
@@ -161,7 +161,7 @@ module _ (s t : ViewState) (view : IsView t) (head floor next key block : ℕ)
   -- a fault of the search for the greatest pointer
   pub greatest_fault : (l bound : ℕ) (fault : Fault) → GreatestEnds block l bound s t (Err fault)
       → FaultEnds head floor key s t fault
-  greatest_fault l bound ReadFault ends = ends
+  greatest_fault l bound Failed ends = ends
   greatest_fault l bound (Tampered e) ends = λ tells.
       let bad = ends.1 tells in
       shows_no_jump t view head floor next key block (at tells) bad.level bad.digit e bad.place ends.0 bad.at bad.bad
@@ -169,13 +169,13 @@ module _ (s t : ViewState) (view : IsView t) (head floor next key block : ℕ)
 -- a fault of a later call is one of a longer row of calls
 pub fault_then : (head floor key : ℕ) (a b c : ViewState) → Viewed a b → (fault : Fault)
     → FaultEnds head floor key b c fault → FaultEnds head floor key a c fault
-fault_then head floor key a b c viewed ReadFault ends = rose_later _ _ _ viewed.called.faults ends
+fault_then head floor key a b c viewed Failed ends = rose_later _ _ _ viewed.called.faults ends
 fault_then head floor key a b c viewed (Tampered e) ends = λ tells. ends (subst IsTrue (sym viewed.called.tells) tells)
 
 pub check_refused : (head floor next key block target : ℕ) (span : Span) (a b : ViewState) → Viewed a b
     → (fault : Fault)
     → CheckEnds head floor next key block span target b (Err fault) → FaultEnds head floor key a b fault
-check_refused head floor next key block target span a b viewed ReadFault ends = absurd ends
+check_refused head floor next key block target span a b viewed Failed ends = absurd ends
 check_refused head floor next key block target span a b viewed (Tampered e) ends =
     λ tells. ends (subst IsTrue (sym viewed.called.tells) tells)
 
@@ -185,7 +185,7 @@ pub named_fault : (head floor key block level digit target : ℕ) (a b : ViewSta
     → ((e : Evidence) → IsPointerEvidence block level digit target (Tampered e) → IsTrue a.base.tells
     → ShowsBelow b head floor key e)
     → FaultEnds head floor key a b fault
-named_fault head floor key block level digit target a b ReadFault names shows = absurd names
+named_fault head floor key block level digit target a b Failed names shows = absurd names
 named_fault head floor key block level digit target a b (Tampered e) names shows = shows e names
 
 module _ (s : ViewState) (view : IsView s) (head floor next key block : ℕ) (at : IsAt s head floor next key block)

@@ -4,7 +4,7 @@ use Rattle.std.specs.Prelude.{IsTrue}
 use Rattle.std.proofs.lemmas.Option.{none-some}
 use Rattle.cell_types.specs.Image.{Image, Extends}
 use Rattle.cell_types.specs.declared.record_cell.RecordCell.TheVariants.{Jump}
-use Rattle.cell_types.specs.declared.refusal.Fault.TheVariants.{Tampered, ReadFault}
+use Rattle.cell_types.specs.declared.refusal.Fault.TheVariants.{Tampered, Failed}
 use Rattle.cell_types.specs.declared.refusal.Fault as fault
 use Rattle.stored_documents.specs.Volumes.{Holds}
 use Rattle.stored_documents.proofs.Extending.{holds_on}
@@ -21,9 +21,9 @@ use Rattle.jump_block.specs.Spans.{IsSpan}
 use Rattle.jump_block.specs.declared.known_front.Front.TheVariants.{Open}
 use Rattle.jump_block.specs.declared.spans.Span.{Span}
 use Rattle.jump_block.proofs.Knowing.{key_on}
-use Rattle.jump_index.specs.Evidence.{HasFull, HasPointer}
-use Rattle.jump_index.specs.Looking.{HasKeyIn}
-use Rattle.jump_index.proofs.Passing.{none_from_blank}
+use Rattle.jump_block.specs.Pointing.{HasFull, HasPointer}
+use Rattle.jump_block.specs.Pointing.{HasKeyIn}
+use Rattle.jump_block.proofs.OneBlock.{none_from_blank}
 use Rattle.planned_cells.specs.declared.fault.GrowthFault.{GrowthFault}
 use Rattle.planned_cells.specs.declared.fault.GrowthFault.TheVariants.{Fault, NoMemory}
 use Rattle.list_growth.specs.Hopping.{IsAt, IsSpot, FaultEnds}
@@ -397,7 +397,7 @@ module _ (head floor next to block l : ℕ) (p : PostingFields) (s : Span) (low 
         };
   }
   both_places (Ok None) both = absurd both.ends
-  both_places (Err (Fault ReadFault)) both = absurd both.ends
+  both_places (Err (Fault Failed)) both = absurd both.ends
   both_places (Err (Fault (Tampered e))) both = record {
     called = called_on viewed.called both.base;
     cells = both.cells ∙ viewed.cells;
@@ -569,7 +569,7 @@ pub one_refused : (head floor to block at : ℕ) (p : PostingFields) (low bound 
     (fault : GrowthFault) → Viewed old mid → (IsTrue old.base.tells → mid.planned at ≡ None)
     → PutsRecord at (posting_record p) owner mid new (Err fault)
     → PlacesPosting head floor to block p low bound old new (Err fault)
-one_refused head floor to block at p low bound old mid new owner (Fault ReadFault) viewed free put = absurd put.ends
+one_refused head floor to block at p low bound old mid new owner (Fault Failed) viewed free put = absurd put.ends
 one_refused head floor to block at p low bound old mid new owner (Fault (Tampered e)) viewed free put = record {
   called = called_on viewed.called put.base;
   cells = put.cells ∙ viewed.cells;
@@ -577,7 +577,10 @@ one_refused head floor to block at p low bound old mid new owner (Fault (Tampere
   loans = put.loans ∙ viewed.loans;
   lower = extends_then viewed.lower (same_extends mid.lower new.lower put.lower);
   quiet = quiet_on viewed put.base;
-  ends = (λ tells. absurd (put.ends (free tells)), λ tells. absurd (put.ends (free tells)));
+  ends = (
+    λ tells. absurd (none-some e.found (sym (free tells) ∙ put.ends.planned)),
+    λ tells. absurd (none-some e.found (sym (free tells) ∙ put.ends.planned)),
+  );
 }
 one_refused head floor to block at p low bound old mid new owner NoMemory viewed free put = record {
   called = called_on viewed.called put.base;

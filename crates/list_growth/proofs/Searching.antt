@@ -1,14 +1,17 @@
 -- The search for the greatest pointer of a block, from its last one down.
-use Rattle.std.proofs.Common.{◌≡◌, ◌<◌, ◌≤◌, ◌+◌, ◌^◌, ◌*◌, ⊎_elim, ℕ, None, subst, arith}
+use Rattle.std.proofs.Common.{◌≡◌, ◌<◌, ◌≤◌, ◌+◌, ◌^◌, ◌*◌, ⊎_elim, ℕ, None, Err, subst, sym, arith}
 use Rattle.std.specs.Prelude.{IsTrue}
 use Rattle.std.proofs.lemmas.Bool.{cases_lt}
 use Rattle.cell_types.specs.Image.{Image}
+use Rattle.cell_types.specs.declared.refusal.Fault.{Fault}
+use Rattle.cell_types.specs.declared.refusal.Fault.TheVariants.{Tampered, Failed}
 use Rattle.index_paths.specs.Blocks.{InSpan, pointer_at}
 use Rattle.index_paths.proofs.Spans as spans
 use Rattle.worm_device.specs.Views.{ViewState, Viewed}
+use Rattle.jump_block.specs.Pointers.{ReadsPointer}
 use Rattle.jump_block.specs.Spans.{IsSpan}
 use Rattle.jump_block.specs.declared.spans.Span.{Span}
-use Rattle.list_growth.specs.Hopping.{BlankFrom}
+use Rattle.list_growth.specs.Hopping.{BlankFrom, GreatestEnds}
 
 -- the spans behind this one have no written pointer
 pub record GreatestSoFar (block l bound : ℕ) (old new : ViewState) (now : Span) : Type 0 where
@@ -56,3 +59,20 @@ first_low l s is zero_level one_digit =
     let a : s.low ≡ l + s.digit * 16 ^ 0 = subst (λ (v : ℕ). s.low ≡ l + s.digit * 16 ^ v) zero_level is.low in
     let b : s.low ≡ l + 1 * 16 ^ 0 = subst (λ (d : ℕ). s.low ≡ l + d * 16 ^ 0) one_digit a in
     omega (arith, b)
+
+-- a pointer was not read, or what stands there is no jump cell
+pub greatest_unread : (block l bound : ℕ) (old mid new : ViewState) (now : Span) (fault : Fault)
+    → GreatestSoFar block l bound old mid now → ReadsPointer (pointer_at block now.level now.digit) mid new (Err fault)
+    → GreatestEnds block l bound old new (Err fault)
+greatest_unread block l bound old mid new now Failed so_far read =
+    omega (arith, so_far.viewed.called.faults, read.ends)
+greatest_unread block l bound old mid new now (Tampered e) so_far read = (
+  read.ends.0,
+  λ tells. record {
+    level = now.level;
+    digit = now.digit;
+    place = record { levels = so_far.is.levels; some = so_far.is.some; digits = so_far.is.digits };
+    at = read.ends.1;
+    bad = read.ends.2 (subst IsTrue (sym so_far.viewed.called.tells) tells);
+  },
+)

@@ -17,7 +17,7 @@ use Rattle.worm_device.proofs.Counting.{still_first, still_second}
 use Rattle.worm_device.proofs.Images.{unchanged_then}
 use Rattle.worm_device.proofs.Resting.{rests_of}
 use Rattle.worm_device.specs.declared.overlay.Overlay.{Overlay}
-use Rattle.jump_index.specs.Looking.{HasKeyIn}
+use Rattle.jump_block.specs.Pointing.{HasKeyIn}
 
 -- an overlay is a view
 pub is_view : {V : Type 0} (seen : V → ViewState) → ((view : V) → IsView (seen view)) → (o : Overlay V)

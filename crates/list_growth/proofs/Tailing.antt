@@ -10,7 +10,7 @@ use Rattle.worm_device.specs.Views.{ViewState, Viewed}
 use Rattle.worm_device.proofs.Resting.{viewed_then}
 use Rattle.jump_block.specs.Spans.{IsSpan}
 use Rattle.jump_block.specs.declared.spans.Span.{Span}
-use Rattle.jump_index.specs.Evidence.{HasPointer}
+use Rattle.jump_block.specs.Pointing.{HasPointer}
 use Rattle.list_growth.specs.Hopping.{FindsTail, TailLeads}
 use Rattle.list_growth.specs.declared.entries.Spot.{Spot}
 use Rattle.list_growth.proofs.Naming.{fault_then}

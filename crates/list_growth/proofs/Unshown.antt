@@ -14,8 +14,8 @@ use Rattle.tamper_rules.proofs.GivenUp.{leads_further}
 use Rattle.volume_growth.specs.ListShapes.{PointsWell}
 use Rattle.worm_device.specs.Views.{ViewState, IsView}
 use Rattle.jump_block.specs.Fronts.{IsBadEntry, no_posting, does_not_rise}
-use Rattle.jump_index.specs.Evidence.{HasPointer}
-use Rattle.jump_index.proofs.Behind.{jump_target}
+use Rattle.jump_block.specs.Pointing.{HasPointer}
+use Rattle.jump_block.proofs.OneBlock.{jump_target}
 use Rattle.list_growth.specs.Evidence.{StandsBelow, IsMet, IsBadHop, no_jump, outside, no_key, meets, meets_block, ShowsBelow, bad_entry, bad_pointer, late}
 use Rattle.list_growth.specs.Growing.{ListBelow}
 use Rattle.list_growth.specs.Readiness.{IsReached, is_new, stands_below}

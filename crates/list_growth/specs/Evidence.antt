@@ -10,8 +10,8 @@ use Rattle.tamper_rules.specs.Rules.{IsBroken}
 use Rattle.tamper_rules.specs.declared.numbers.TheConstants.{BLOCK_OUT_OF_ORDER, FAKE_POSTING, LOST_POINTER}
 use Rattle.jump_block.specs.Fronts.{IsBadEntry}
 use Rattle.jump_block.specs.Pointers.{IsNoJump}
-use Rattle.jump_index.specs.Evidence.{HasFull, HasPointer, IsPointerPlace}
-use Rattle.jump_index.specs.Searches.{HasPlace}
+use Rattle.jump_block.specs.Pointing.{HasFull, HasPointer, IsPointerPlace}
+use Rattle.tamper_rules.specs.Rules.{HasPlace}
 use Rattle.worm_device.specs.Views.{ViewState}
 use Rattle.worm_device.specs.declared.owner.Owner.{Owner}
 use Rattle.list_growth.specs.Readiness.{IsReached}

@@ -3,7 +3,7 @@ use Rattle.std.specs.Prelude.{◌≡◌, ◌<◌, ◌≤◌, ◌+◌, ◌⊎◌,
 use Rattle.cell_types.specs.Image.{Image}
 use Rattle.cell_types.specs.Records.{record_bytes}
 use Rattle.cell_types.specs.declared.refusal.Fault.{Fault}
-use Rattle.cell_types.specs.declared.refusal.Fault.TheVariants.{Tampered, ReadFault}
+use Rattle.cell_types.specs.declared.refusal.Fault.TheVariants.{Tampered, Failed}
 use Rattle.index_paths.specs.Blocks.{PostingFields, posting_record, InSpan, Trail, Leads, pointer_at}
 use Rattle.index_paths.specs.Nodes.{AreApart}
 use Rattle.tamper_rules.specs.declared.numbers.TheConstants.{FAKE_POSTING, LOST_POINTER}
@@ -14,7 +14,7 @@ use Rattle.jump_block.specs.Pointers.{IsNoJump}
 use Rattle.jump_block.specs.Spans.{IsSpan}
 use Rattle.jump_block.specs.declared.held_entry.Entry.{Entry}
 use Rattle.jump_block.specs.declared.spans.Span.{Span}
-use Rattle.jump_index.specs.Evidence.{HasPointer, IsPointerPlace}
+use Rattle.jump_block.specs.Pointing.{HasPointer, IsPointerPlace}
 use Rattle.list_growth.specs.Evidence.{ShowsBelow}
 use Rattle.list_growth.specs.Growing.{Rises, IsTop, EndsAt, EndsAtFull}
 use Rattle.list_growth.specs.Readiness.{IsOwnBlock, IsReached, IsListCell, IsReady}
@@ -22,7 +22,7 @@ use Rattle.list_growth.specs.declared.entries.Spot.{Spot}
 
 -- why a step of an insertion gives no answer: a fault of the device, or evidence
 abbrev pub FaultEnds : ℕ → ℕ → ℕ → ViewState → ViewState → Fault → Type 0
-FaultEnds head floor key old new ReadFault = Rose old.base.faults new.base.faults
+FaultEnds head floor key old new Failed = Rose old.base.faults new.base.faults
 FaultEnds head floor key old new (Tampered e) = IsTrue old.base.tells → ShowsBelow new head floor key e
 
 -- an insertion may go on at this block
@@ -50,13 +50,13 @@ abbrev pub CheckEnds : ℕ → ℕ → ℕ → ℕ → ℕ → Span → ℕ → 
 CheckEnds head floor next key block span target s (Ok done) =
     (floor ≤ target) × (target + 256 ≤ next)
     × (IsTrue s.base.tells → IsHop s head floor next key block span target)
-CheckEnds head floor next key block span target s (Err ReadFault) = ⊥
+CheckEnds head floor next key block span target s (Err Failed) = ⊥
 CheckEnds head floor next key block span target s (Err (Tampered e)) =
     IsTrue s.base.tells → ShowsBelow s head floor key e
 
 -- the fault names this posting
 abbrev pub IsLateEvidence : Entry → Fault → Type 0
-IsLateEvidence entry ReadFault = ⊥
+IsLateEvidence entry Failed = ⊥
 IsLateEvidence entry (Tampered e) =
     (e.rule ≡ FAKE_POSTING) × (e.cell ≡ cell_of entry)
     × (e.found ≡ record_bytes (posting_record (posting_of entry)) (cell_of entry))
@@ -86,7 +86,7 @@ pub record IsNoPointer (block : ℕ) (new : ViewState) (cell : ℕ) (found : Lis
 abbrev pub GreatestEnds : ℕ → ℕ → ℕ → ViewState → ViewState → Result (Option (Span × ℕ)) Fault → Type 0
 GreatestEnds block l bound old new (Ok (Some found)) = IsGreatestPointer block l bound old new found.0 found.1
 GreatestEnds block l bound old new (Ok None) = IsTrue old.base.tells → BlankFrom old.image block l 0 bound
-GreatestEnds block l bound old new (Err ReadFault) = Rose old.base.faults new.base.faults
+GreatestEnds block l bound old new (Err Failed) = Rose old.base.faults new.base.faults
 GreatestEnds block l bound old new (Err (Tampered e)) =
     (e.rule ≡ LOST_POINTER) × (IsTrue old.base.tells → IsNoPointer block new e.cell e.found)
 

@@ -3,7 +3,7 @@ use Rattle.std.specs.Prelude.{◌≡◌, ◌≢◌, ◌<◌, ◌≤◌, ◌+◌,
 use Rattle.cell_types.specs.Image.{Extends, IsUnchanged}
 use Rattle.cell_types.specs.declared.record_cell.RecordCell.{RecordCell}
 use Rattle.cell_types.specs.declared.record_cell.RecordCell.TheVariants.{Jump}
-use Rattle.cell_types.specs.declared.refusal.Fault.TheVariants.{Tampered, ReadFault}
+use Rattle.cell_types.specs.declared.refusal.Fault.TheVariants.{Tampered, Failed}
 use Rattle.stored_documents.specs.Volumes.{Holds}
 use Rattle.index_paths.specs.Blocks.{PostingFields, posting_record, Trail}
 use Rattle.volume_growth.specs.ListShapes.{IsWellListed}
@@ -70,7 +70,7 @@ InsertEnds head floor next to p old new (Ok e) =
     × PlansEntry head floor next to p (cell_of e) old new
     × ((cell : ℕ) → to ≤ cell → new.planned cell ≡ None)
     × (IsTrue old.base.tells → IsInserted head floor next to p e old new)
-InsertEnds head floor next to p old new (Err (Fault ReadFault)) = Rose old.base.faults new.base.faults
+InsertEnds head floor next to p old new (Err (Fault Failed)) = Rose old.base.faults new.base.faults
 InsertEnds head floor next to p old new (Err (Fault (Tampered e))) =
     IsTrue old.base.tells → ShowsBelow new head floor p.key e
     × (IsStill old.base.foreign_writes new.base.foreign_writes → ListBelow new floor head p.key → ⊥)

@@ -2,7 +2,7 @@
 use Rattle.std.specs.Prelude.{◌≡◌, ◌<◌, ◌≤◌, ◌+◌, ℕ, Option, Some, None, Result, Ok, Err, IsTrue, ⊤}
 use Rattle.cell_types.specs.Image.{Extends, IsUnchanged}
 use Rattle.index_paths.specs.Blocks.{PostingFields, InFront, Trail}
-use Rattle.jump_index.specs.Looking.{HasKeyIn}
+use Rattle.jump_block.specs.Pointing.{HasKeyIn}
 use Rattle.planned_cells.specs.declared.fault.GrowthFault.{GrowthFault}
 use Rattle.planned_cells.specs.declared.fault.GrowthFault.TheVariants.{Fault, NoMemory}
 use Rattle.worm_device.specs.Calls.{Called}

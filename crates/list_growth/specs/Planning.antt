@@ -2,7 +2,8 @@
 use Rattle.std.specs.Prelude.{◌≡◌, ◌≢◌, ◌+◌, ℕ, Option, Some, None, Result, Ok, Err, ⊤}
 use Rattle.cell_types.specs.declared.record_cell.RecordCell.{RecordCell}
 use Rattle.cell_types.specs.declared.record_cell.RecordCell.TheVariants.{Jump}
-use Rattle.cell_types.specs.declared.refusal.Fault.TheVariants.{Tampered, ReadFault}
+use Rattle.cell_types.specs.declared.refusal.Evidence.{Evidence}
+use Rattle.cell_types.specs.declared.refusal.Fault.TheVariants.{Tampered, Failed}
 use Rattle.index_paths.specs.Blocks.{PostingFields, posting_record}
 use Rattle.planned_cells.specs.Records.{HoldsPlanned}
 use Rattle.planned_cells.specs.declared.fault.GrowthFault.{GrowthFault}
@@ -11,11 +12,16 @@ use Rattle.worm_device.specs.Views.{ViewState}
 use Rattle.worm_device.specs.declared.owner.Owner.{Owner}
 use Rattle.list_growth.specs.declared.entries.Spot.{Spot}
 
--- the record is planned; what is named as evidence was planned already
+-- the evidence is the cell as it was planned already
+pub record WasPlanned (at : ℕ) (s : ViewState) (e : Evidence) : Type 0 where
+  pub cell : e.cell ≡ at
+  pub planned : s.planned at ≡ Some e.found
+
+-- the record is planned; or the cell was planned already, and is evidence; or there is no memory
 abbrev pub PutEnds : ℕ → RecordCell → Owner → ViewState → ViewState → Result Unit GrowthFault → Type 0
 PutEnds at r owner old new (Ok done) = HoldsPlanned at r owner old new
-PutEnds at r owner old new (Err (Fault ReadFault)) = ⊥
-PutEnds at r owner old new (Err (Fault (Tampered e))) = old.planned at ≡ None → ⊥
+PutEnds at r owner old new (Err (Fault Failed)) = ⊥
+PutEnds at r owner old new (Err (Fault (Tampered e))) = WasPlanned at old e
 PutEnds at r owner old new (Err NoMemory) = ⊤
 
 -- planning the cell of one record leaves what stands below, and what is planned in other cells
@@ -43,7 +49,7 @@ abbrev pub BothEnds : Spot → ℕ → PostingFields → Owner → Owner → Vie
 BothEnds spot pointer p owner home_owner old new (Ok (Some found)) =
     (found ≡ spot) × PlansTwo spot pointer p owner home_owner old new
 BothEnds spot pointer p owner home_owner old new (Ok None) = ⊥
-BothEnds spot pointer p owner home_owner old new (Err (Fault ReadFault)) = ⊥
+BothEnds spot pointer p owner home_owner old new (Err (Fault Failed)) = ⊥
 BothEnds spot pointer p owner home_owner old new (Err (Fault (Tampered e))) =
     old.planned (spot.block + spot.place) ≡ None → old.planned pointer ≡ None → spot.block + spot.place ≢ pointer → ⊥
 BothEnds spot pointer p owner home_owner old new (Err NoMemory) = ⊤

@@ -4,8 +4,8 @@ use Rattle.cell_types.specs.declared.record_cell.RecordCell.TheVariants.{Jump}
 use Rattle.stored_documents.specs.Volumes.{Holds}
 use Rattle.index_paths.specs.Blocks.{PostingFields, InFront, Leads, pointer_at}
 use Rattle.index_paths.specs.Nodes.{AreApart}
-use Rattle.jump_index.specs.Evidence.{HasFull, IsPointerPlace}
-use Rattle.jump_index.specs.Looking.{HasKeyIn}
+use Rattle.jump_block.specs.Pointing.{HasFull, IsPointerPlace}
+use Rattle.jump_block.specs.Pointing.{HasKeyIn}
 use Rattle.worm_device.specs.Views.{ViewState}
 use Rattle.worm_device.specs.declared.owner.Owner.{Owner}
 

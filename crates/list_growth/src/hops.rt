@@ -1,6 +1,8 @@
 //! Hops from block to block of a list that is planned in part, and the list's tail.
 ghost use Rattle.std.specs.Prelude.{◌≡◌, ◌<◌, ◌≤◌, ◌+◌, ◌%◌, ◌^◌, IsTrue};
-ghost use Rattle.jump_index.specs.Evidence.{HasFull, HasPointer};
+ghost use Rattle.index_paths.specs.declared.blocks.TheConstants.{BLOCK_CELLS};
+ghost use Rattle.worm_device.specs.declared.overlay.TheConstants.{OVERLAY_CELLS};
+ghost use Rattle.jump_block.specs.Pointing.{HasFull, HasPointer};
 ghost use Rattle.worm_device.specs.Overlays.{of_overlay};
 ghost use Rattle.list_growth.specs.Hopping.{CheckEnds, FindsTail, IsAt, IsLateEvidence, TailLast, TailLeads};
 ghost use Rattle.list_growth.specs.Readiness.{IsOwnBlock, IsReached};
@@ -8,9 +10,8 @@ ghost use Rattle.list_growth.specs.Readiness.{IsOwnBlock, IsReached};
 use crate::entries::Spot;
 use crate::meeting::is_met;
 use crate::spans::greatest_pointer;
-use cell_types::{Evidence, Fault};
-use jump_block::{Entry, Front, Span, first_at_least, pointer_cell};
-use jump_index::leads_nowhere;
+use cell_types::{Fault, breach};
+use jump_block::{Entry, Front, Span, first_at_least, leads_nowhere, pointer_cell};
 use tamper_rules::FAKE_POSTING;
 use worm_device::{Overlay, View};
 
@@ -26,7 +27,7 @@ pub(crate) fn check_target<V: View>(
     span: &Span,
     target: u32,
 ) -> Result<(), Fault>
-    requires inside { block + 256 ≤ 4294967295 }
+    requires inside { block + BLOCK_CELLS ≤ OVERLAY_CELLS }
     requires level { span.now.level < 8 }
     requires some { 1 ≤ span.now.digit }
     requires digit { span.now.digit ≤ 15 }
@@ -61,11 +62,11 @@ pub(crate) fn late_posting(late: &Entry) -> Fault
     requires well_formed { late.now.key % 256 ≤ late.now.last }
     ensures { IsLateEvidence late.now result }
 {
-    Fault::Tampered(Evidence {
-        rule: FAKE_POSTING,
-        cell: late.block + u32::from(late.place),
-        found: late.cell(),
-    })
+    breach(
+        FAKE_POSTING,
+        late.block + u32::from(late.place),
+        late.cell(),
+    )
 }
 
 /// The tail of a list, searched from a full block with the greatest key l on, behind its pointers for keys below the
@@ -83,8 +84,8 @@ pub(crate) fn tail<V: View>(
     level: u8,
     key: u32,
 ) -> Result<Option<Spot>, Fault>
-    requires inside { block + 256 ≤ 4294967295 }
-    requires home { home + 256 ≤ 4294967295 }
+    requires inside { block + BLOCK_CELLS ≤ OVERLAY_CELLS }
+    requires home { home + BLOCK_CELLS ≤ OVERLAY_CELLS }
     requires bound { bound ≤ 2 ^ 32 }
     requires narrow { bound ≤ l + 16 ^ level }
     requires fresh { (of_overlay V.seen overlay.old).fresh ≤ next }
@@ -102,16 +103,11 @@ pub(crate) fn tail<V: View>(
     ensures last { TailLast floor next block bound
         (of_overlay V.seen overlay.old) (of_overlay V.seen overlay.new) result }
 {
-    let found = match greatest_pointer(overlay, block, l, bound) {
-        Ok(found) => found,
-        Err(fault) => return Err(fault),
-    };
+    let found = greatest_pointer(overlay, block, l, bound)?;
     let Some((span, target)) = found else {
         return Ok(None);
     };
-    if let Err(fault) = check_target(overlay, head, floor, next, key, block, &span, target) {
-        return Err(fault);
-    }
+    check_target(overlay, head, floor, next, key, block, &span, target)?;
     // No two blocks of a list meet: else a planned pointer could come to lie in a posting's place.
     if target != home
         && u64::from(target) < u64::from(home) + 256
@@ -119,10 +115,7 @@ pub(crate) fn tail<V: View>(
     {
         return Err(leads_nowhere(block, &span, target));
     }
-    let first = match first_at_least(overlay, target, key) {
-        Ok(first) => first,
-        Err(fault) => return Err(fault),
-    };
+    let first = first_at_least(overlay, target, key)?;
     let greatest = match first {
         Front::At(late) => return Err(late_posting(&late)),
         Front::Open(place, _) => {

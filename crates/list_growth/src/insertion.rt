@@ -1,9 +1,10 @@
 //! Inserting a posting.
-ghost use Rattle.std.specs.Prelude.{◌≡◌, ◌<◌, ◌≤◌, ◌+◌, ◌%◌, ◌^◌, ◌⊎◌, ℕ, None, IsTrue};
+ghost use Rattle.std.specs.Prelude.{◌≡◌, ◌<◌, ◌≤◌, ◌+◌, ◌%◌, ◌^◌, ◌⊎◌, ℕ, None, IfNone, IfOk, IsTrue};
 ghost use Rattle.cell_pool.specs.Grants.{TakesFront, room_of};
+ghost use Rattle.index_paths.specs.declared.blocks.TheConstants.{BLOCK_CELLS};
 ghost use Rattle.index_paths.specs.Blocks.{pointer_at};
 ghost use Rattle.jump_block.specs.Spans.{IsSpan};
-ghost use Rattle.jump_index.specs.Evidence.{HasFull};
+ghost use Rattle.jump_block.specs.Pointing.{HasFull};
 ghost use Rattle.worm_device.specs.Overlays.{of_overlay};
 ghost use Rattle.list_growth.specs.Hopping.{IsAt};
 ghost use Rattle.list_growth.specs.Inserting.{InsertsPosting, fields_of};
@@ -14,8 +15,8 @@ use crate::entries::{NewEntry, Spot};
 use crate::hops::{check_target, late_posting, tail};
 use crate::puts::{put_both, put_posting};
 use cell_pool::Pool;
-use jump_block::{Entry, Front, Span, first_at_least, pointer, span};
-use jump_index::leads_nowhere;
+use index_paths::BLOCK_CELLS;
+use jump_block::{Entry, Front, Span, first_at_least, leads_nowhere, pointer, span};
 use planned_cells::GrowthFault;
 use worm_device::{Overlay, Owner, View};
 
@@ -32,14 +33,14 @@ pub fn insert<V: View>(
     new_entry: NewEntry,
 ) -> Result<Entry, GrowthFault>
     requires well_formed { new_entry.key % 256 ≤ new_entry.last }
-    requires head { head + 256 ≤ floor }
+    requires head { head + BLOCK_CELLS ≤ floor }
     requires floor { floor ≤ (of_overlay V.seen overlay.old).fresh }
     requires fresh { (of_overlay V.seen overlay.old).fresh ≤ pool.old.next }
-    requires room { 256 ≤ room_of pool.old }
+    requires room { BLOCK_CELLS ≤ room_of pool.old }
     requires free { (cell : ℕ) → pool.old.next ≤ cell → (of_overlay V.seen overlay.old).planned cell ≡ None }
     requires ready { IsTrue (of_overlay V.seen overlay.old).base.tells →
         IsReady (of_overlay V.seen overlay.old) head floor pool.old.next new_entry.key }
-    ensures pool { (pool.new ≡ pool.old) ⊎ TakesFront pool.old pool.new 256 pool.old.next }
+    ensures pool { (pool.new ≡ pool.old) ⊎ TakesFront pool.old pool.new BLOCK_CELLS pool.old.next }
     ensures inserts { InsertsPosting head floor pool.old.next pool.new.next (fields_of new_entry)
         (of_overlay V.seen overlay.old) (of_overlay V.seen overlay.new) result }
 {
@@ -50,18 +51,16 @@ pub fn insert<V: View>(
         high: 1 << 32,
     };
     let tag = new_entry.tag;
-    match insert_from(overlay, pool, head, floor, head, all, new_entry) {
-        Ok(Some(spot)) => Ok(Entry {
-            block: spot.block,
-            place: spot.place,
-            key: new_entry.key,
-            last: new_entry.last,
-            tag,
-        }),
-        // No key is below 0, so this is never so.
-        Ok(None) => Err(GrowthFault::NoMemory),
-        Err(fault) => Err(fault),
-    }
+    let placed = insert_from(overlay, pool, head, floor, head, all, new_entry)?;
+    // No key is below 0.
+    let Some(spot) = placed else { unreachable!() };
+    Ok(Entry {
+        block: spot.block,
+        place: spot.place,
+        key: new_entry.key,
+        last: new_entry.last,
+        tag,
+    })
 }
 
 /// Inserts a posting in or behind a block, to which a pointer for these keys led. `None` where the block is full and
@@ -79,16 +78,17 @@ fn insert_from<V: View>(
     requires low { within.low ≤ entry.key }
     requires high { entry.key < within.high }
     requires narrow { within.high ≤ within.low + 16 ^ within.level }
-    requires head { head + 256 ≤ floor }
+    requires head { head + BLOCK_CELLS ≤ floor }
     requires lies { (block ≡ head) ⊎ (floor ≤ block) }
-    requires before { block + 256 ≤ pool.old.next }
-    requires room { 256 ≤ room_of pool.old }
+    requires before { block + BLOCK_CELLS ≤ pool.old.next }
+    requires room { BLOCK_CELLS ≤ room_of pool.old }
     requires floor { floor ≤ pool.old.next }
     requires fresh { (of_overlay V.seen overlay.old).fresh ≤ pool.old.next }
     requires free { (cell : ℕ) → pool.old.next ≤ cell → (of_overlay V.seen overlay.old).planned cell ≡ None }
     requires at { IsTrue (of_overlay V.seen overlay.old).base.tells →
         IsAt (of_overlay V.seen overlay.old) head floor pool.old.next entry.key block }
-    ensures pool { (pool.new ≡ pool.old) ⊎ TakesFront pool.old pool.new 256 pool.old.next }
+    ensures pool { (pool.new ≡ pool.old) ⊎ TakesFront pool.old pool.new BLOCK_CELLS pool.old.next }
+    ensures none { IfOk result (λ spot. IfNone spot (0 < within.low)) }
     ensures places { PlacesPosting head floor pool.new.next block (fields_of entry) within.low within.high
         (of_overlay V.seen overlay.old) (of_overlay V.seen overlay.new) result }
     ensures grows { GrowEnds floor pool.old.next pool.new.next block (fields_of entry)
@@ -98,18 +98,13 @@ fn insert_from<V: View>(
 {
     // That the pool lies within an overlay's cells is known once its end is read.
     let _end = pool.end;
-    let first = match first_at_least(overlay, block, entry.key) {
-        Ok(first) => first,
-        Err(fault) => return Err(GrowthFault::Fault(fault)),
-    };
+    let first = first_at_least(overlay, block, entry.key)?;
     let l = match first {
         Front::At(late) => return Err(GrowthFault::Fault(late_posting(&late))),
         Front::Open(place, _) => {
             let at = block + u32::from(place);
-            return match put_posting(overlay, at, Owner { head, base: block }, entry) {
-                Ok(()) => Ok(Some(Spot { block, place })),
-                Err(fault) => Err(fault),
-            };
+            put_posting(overlay, at, Owner { head, base: block }, entry)?;
+            return Ok(Some(Spot { block, place }));
         }
         Front::Full(l) => l,
     };
@@ -117,23 +112,18 @@ fn insert_from<V: View>(
         return Ok(None);
     }
     let to = span(l, entry.key);
-    let led = match pointer(overlay, block, to.level, to.digit) {
-        Ok(led) => led,
-        Err(fault) => return Err(GrowthFault::Fault(fault)),
-    };
+    let led = pointer(overlay, block, to.level, to.digit)?;
     let Some(target) = led else {
         return insert_behind(overlay, pool, head, floor, block, l, within, to, entry);
     };
-    if let Err(fault) = check_target(
+    check_target(
         overlay, head, floor, pool.next, entry.key, block, &to, target,
-    ) {
-        return Err(GrowthFault::Fault(fault));
-    }
-    match insert_from(overlay, pool, head, floor, target, to, entry) {
-        Ok(Some(spot)) => Ok(Some(spot)),
-        Ok(None) => Err(GrowthFault::Fault(leads_nowhere(block, &to, target))),
-        Err(fault) => Err(fault),
-    }
+    )?;
+    let placed = insert_from(overlay, pool, head, floor, target, to, entry)?;
+    let Some(spot) = placed else {
+        return Err(GrowthFault::Fault(leads_nowhere(block, &to, target)));
+    };
+    Ok(Some(spot))
 }
 
 /// Inserts a posting behind a full block, with the greatest key l, whose pointer for it is blank: into the list's tail,
@@ -156,10 +146,10 @@ fn insert_behind<V: View>(
     requires low { within.low ≤ l }
     requires less { l < entry.key }
     requires high { entry.key < within.high }
-    requires head { head + 256 ≤ floor }
+    requires head { head + BLOCK_CELLS ≤ floor }
     requires lies { (block ≡ head) ⊎ (floor ≤ block) }
-    requires before { block + 256 ≤ pool.old.next }
-    requires room { 256 ≤ room_of pool.old }
+    requires before { block + BLOCK_CELLS ≤ pool.old.next }
+    requires room { BLOCK_CELLS ≤ room_of pool.old }
     requires floor { floor ≤ pool.old.next }
     requires fresh { (of_overlay V.seen overlay.old).fresh ≤ pool.old.next }
     requires free { (cell : ℕ) → pool.old.next ≤ cell → (of_overlay V.seen overlay.old).planned cell ≡ None }
@@ -169,7 +159,8 @@ fn insert_behind<V: View>(
         HasFull (of_overlay V.seen overlay.old).image block l }
     requires blank { IsTrue (of_overlay V.seen overlay.old).base.tells →
         (of_overlay V.seen overlay.old).image (pointer_at block to.level to.digit) ≡ None }
-    ensures pool { (pool.new ≡ pool.old) ⊎ TakesFront pool.old pool.new 256 pool.old.next }
+    ensures pool { (pool.new ≡ pool.old) ⊎ TakesFront pool.old pool.new BLOCK_CELLS pool.old.next }
+    ensures none { IfOk result (λ spot. IfNone spot (0 < within.low)) }
     ensures places { PlacesPosting head floor pool.new.next block (fields_of entry) within.low within.high
         (of_overlay V.seen overlay.old) (of_overlay V.seen overlay.new) result }
     ensures grows { GrowEnds floor pool.old.next pool.new.next block (fields_of entry)
@@ -179,7 +170,7 @@ fn insert_behind<V: View>(
 {
     // That the pool lies within an overlay's cells is known once its end is read.
     let _end = pool.end;
-    let found = match tail(
+    let found = tail(
         overlay,
         head,
         floor,
@@ -190,14 +181,11 @@ fn insert_behind<V: View>(
         to.low,
         to.level + 1,
         entry.key,
-    ) {
-        Ok(found) => found,
-        Err(fault) => return Err(GrowthFault::Fault(fault)),
-    };
+    )?;
     let Some(spot) = found else {
-        let Some(target) = pool.grant(256) else {
-            // There is room for a block, so this is never so.
-            return Err(GrowthFault::NoMemory);
+        // There is room for a block.
+        let Some(target) = pool.grant(BLOCK_CELLS) else {
+            unreachable!()
         };
         let spot = Spot {
             block: target,

@@ -1,15 +1,17 @@
 //! Whether a cell that is planned for another is met in a block.
 ghost use Rattle.std.specs.Prelude.{◌≡◌, ◌<◌, ◌≤◌, ◌+◌, ◌^◌, IsTrue, IsFalse};
+ghost use Rattle.index_paths.specs.declared.blocks.TheConstants.{BLOCK_CELLS};
 ghost use Rattle.worm_device.specs.Overlays.{of_overlay};
 ghost use Rattle.list_growth.specs.Evidence.{IsMet};
 ghost use Rattle.list_growth.specs.Meeting.{LieInBlocks, Meets};
 ghost use Rattle.list_growth.specs.Readiness.{IsOwnBlock};
 
+use index_paths::BLOCK_CELLS;
 use worm_device::{Overlay, Owner, View};
 
 /// Whether a planned cell of another owner lies in this block of the list, or in a block of the list that meets it.
 pub(crate) fn is_met<V: View>(overlay: &Overlay<'_, V>, head: u32, block: u32) -> bool
-    requires inside { block + 256 < 2 ^ 32 }
+    requires inside { block + BLOCK_CELLS < 2 ^ 32 }
     requires lies { IsTrue (of_overlay V.seen overlay.now).base.tells →
         LieInBlocks (of_overlay V.seen overlay.now) head }
     ensures met { IsTrue result → IsMet (of_overlay V.seen overlay.now) head block }
@@ -17,7 +19,7 @@ pub(crate) fn is_met<V: View>(overlay: &Overlay<'_, V>, head: u32, block: u32) -
         IsOwnBlock (of_overlay V.seen overlay.now) head block }
 {
     // A block that meets this one begins less than 256 cells before it, and ends less than 512 behind its start.
-    let mut at = block.saturating_sub(256);
+    let mut at = block.saturating_sub(BLOCK_CELLS);
     let end = block.saturating_add(512);
     while at < end {
         if let Some(owner) = overlay.owner(at) {

@@ -1,5 +1,6 @@
 //! A posting that is planned, and a pointer to its block.
-ghost use Rattle.std.specs.Prelude.{◌<◌, ◌≤◌, ◌+◌, ◌%◌};
+ghost use Rattle.std.specs.Prelude.{◌<◌, ◌≤◌, ◌+◌, ◌%◌, IfOk, IsSome};
+ghost use Rattle.index_paths.specs.declared.blocks.TheConstants.{BLOCK_CELLS, ENTRY_PLACES};
 ghost use Rattle.cell_types.specs.Records.{IsWellFormed};
 ghost use Rattle.cell_types.specs.declared.record_cell.RecordCell.TheVariants.{Jump};
 ghost use Rattle.index_paths.specs.Blocks.{pointer_at, posting_record};
@@ -8,13 +9,13 @@ ghost use Rattle.list_growth.specs.Inserting.{fields_of};
 ghost use Rattle.list_growth.specs.Planning.{PutsBoth, PutsRecord};
 
 use crate::entries::{NewEntry, Spot};
-use cell_types::{Evidence, Fault, RecordCell, encode};
+use cell_types::{RecordCell, breach};
 use jump_block::{Span, pointer_cell};
 use planned_cells::{GrowthFault, PlanFault, plan_record};
 use tamper_rules::BLOCK_OUT_OF_ORDER;
 use worm_device::{OVERLAY_CELLS, Overlay, Owner, View};
 
-/// Plans a record in a cell that read blank.
+/// Plans a record in a cell that read blank. Where the cell is planned already, that cell is evidence.
 fn put<V: View>(
     overlay: &mut Overlay<'_, V>,
     at: u32,
@@ -25,17 +26,16 @@ fn put<V: View>(
     requires well_formed { IsWellFormed value at }
     ensures { PutsRecord at value owner (of_overlay V.seen overlay.old) (of_overlay V.seen overlay.new) result }
 {
-    let Err(fault) = plan_record(overlay, at, value, owner) else {
-        return Ok(());
-    };
-    match fault {
-        PlanFault::NoMemory => Err(GrowthFault::NoMemory),
-        // A planned cell reads as planned, so only a view that does not tell its image comes here.
-        PlanFault::Taken => Err(GrowthFault::Fault(Fault::Tampered(Evidence {
-            rule: BLOCK_OUT_OF_ORDER,
-            cell: at,
-            found: encode(value, at),
-        }))),
+    match plan_record(overlay, at, value, owner) {
+        Ok(()) => Ok(()),
+        Err(PlanFault::NoMemory) => Err(GrowthFault::NoMemory),
+        // A planned cell reads as planned: no view that tells its image comes here.
+        Err(PlanFault::Taken) => {
+            let Some(found) = overlay.planned().get(&at).copied() else {
+                unreachable!()
+            };
+            Err(GrowthFault::Fault(breach(BLOCK_OUT_OF_ORDER, at, found)))
+        }
     }
 }
 
@@ -73,10 +73,11 @@ pub(crate) fn put_both<V: View>(
     requires level { to.now.level < 8 }
     requires some { 1 ≤ to.now.digit }
     requires digit { to.now.digit ≤ 15 }
-    requires inside { home + 256 ≤ 4294967295 }
-    requires place { spot.place < 128 }
-    requires block { spot.block + 256 ≤ 4294967295 }
-    ensures { PutsBoth spot (pointer_at home to.now.level to.now.digit) (fields_of entry)
+    requires inside { home + BLOCK_CELLS ≤ OVERLAY_CELLS }
+    requires place { spot.place < ENTRY_PLACES }
+    requires block { spot.block + BLOCK_CELLS ≤ OVERLAY_CELLS }
+    ensures some { IfOk result (λ spot. IsSome spot) }
+    ensures puts { PutsBoth spot (pointer_at home to.now.level to.now.digit) (fields_of entry)
         (record { head = head; base = spot.block }) (record { head = head; base = home })
         (of_overlay V.seen overlay.old) (of_overlay V.seen overlay.new) result }
 {
@@ -85,13 +86,9 @@ pub(crate) fn put_both<V: View>(
         head,
         base: spot.block,
     };
-    if let Err(fault) = put_posting(overlay, at, owner, entry) {
-        return Err(fault);
-    }
+    put_posting(overlay, at, owner, entry)?;
     let jump = RecordCell::Jump { target: spot.block };
     let pointer = pointer_cell(home, to.level, to.digit);
-    match put(overlay, pointer, jump, Owner { head, base: home }) {
-        Ok(()) => Ok(Some(spot)),
-        Err(fault) => Err(fault),
-    }
+    put(overlay, pointer, jump, Owner { head, base: home })?;
+    Ok(Some(spot))
 }

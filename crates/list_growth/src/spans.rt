@@ -1,5 +1,6 @@
 //! The pointers of a full block, from the last to the first.
 ghost use Rattle.std.specs.Prelude.{◌≡◌, ◌<◌, ◌≤◌, ◌+◌, ◌*◌, ◌^◌, ℕ};
+ghost use Rattle.index_paths.specs.declared.blocks.TheConstants.{BLOCK_CELLS};
 ghost use Rattle.jump_block.specs.Spans.{IsSpan};
 ghost use Rattle.list_growth.specs.Hopping.{FindsGreatest};
 
@@ -14,7 +15,7 @@ pub(crate) fn greatest_pointer<V: View>(
     l: u32,
     bound: u64,
 ) -> Result<Option<(Span, u32)>, Fault>
-    requires inside { block + 256 ≤ (V.seen view.old).cells }
+    requires inside { block + BLOCK_CELLS ≤ (V.seen view.old).cells }
     requires bound { bound ≤ 2 ^ 32 }
     ensures { FindsGreatest block l bound (V.seen view.old) (V.seen view.new) result }
 {
@@ -23,10 +24,8 @@ pub(crate) fn greatest_pointer<V: View>(
     }
     let mut now = span(l, (bound - 1) as u32);
     loop {
-        match pointer(view, block, now.level, now.digit) {
-            Err(fault) => return Err(fault),
-            Ok(Some(target)) => return Ok(Some((now, target))),
-            Ok(None) => {}
+        if let Some(target) = pointer(view, block, now.level, now.digit)? {
+            return Ok(Some((now, target)));
         }
         if now.level == 0 && now.digit == 1 {
             return Ok(None);

@@ -4,7 +4,8 @@ use Rattle.std.specs.Prelude.{IsTrue}
 use Rattle.cell_types.specs.Image.{Image, Extends, Between, IsUnchanged, ChangesOnly}
 use Rattle.cell_types.specs.declared.refusal.Evidence.{Evidence}
 use Rattle.cell_types.specs.declared.refusal.Fault.{Fault}
-use Rattle.cell_types.specs.declared.refusal.Fault.TheVariants.{Tampered, ReadFault}
+use Rattle.cell_types.specs.declared.refusal.Fault.TheVariants.{Tampered}
+use Rattle.cell_types.specs.declared.refusal.Fault.TheVariants as faults
 use Rattle.worm_device.specs.Calls.{Called, Syncs, Writes}
 use Rattle.worm_device.specs.Counts.{Rose, IsStill}
 use Rattle.worm_device.specs.State.{DeviceState, LeftSince}
@@ -92,7 +93,7 @@ module _ {P Q R : Put → Type 0} (left : (put : Put) → P put → R put) (righ
     }
 
     ended : (fault : Fault) → Called mid new → PutsEnd Q mid new (Err fault) → PutsEnd R old new (Err fault)
-    ended ReadFault called ends = omega (arith, ends, first.called.faults)
+    ended faults.Failed called ends = omega (arith, ends, first.called.faults)
     ended (Tampered e) called ends = λ tells.
         let taken = ends (tells_mid tells) in
         record {
@@ -140,7 +141,7 @@ puts_same {P} {R} {old} {new} {result} to back puts = record {
   where
     same : (r : Result (Unit {0}) Fault) → PutsEnd P old new r → PutsEnd R old new r
     same (Ok u) ends = λ tells put r. ends tells put (back put r)
-    same (Err ReadFault) ends = ends
+    same (Err faults.Failed) ends = ends
     same (Err (Tampered e)) ends = λ tells.
         let taken = ends tells in
         record {
@@ -176,7 +177,7 @@ puts_looked {P} {old} {mid} {new} u w puts called quiet = record {
 -- a call that failed, and changed nothing that it was not to change
 pub puts_failed : {P : Put → Type 0} {old mid new : DeviceState} (u : Unit {0}) → Puts P old mid (Ok u)
     → Called mid new → (IsStill mid.foreign_writes new.foreign_writes → IsUnchanged mid.image new.image)
-    → Rose mid.faults new.faults → Puts P old new (Err ReadFault)
+    → Rose mid.faults new.faults → Puts P old new (Err faults.Failed)
 puts_failed {P} {old} {mid} {new} u puts called quiet rose = record {
   called = called_then puts.called called;
   only = (puts_looked u tt puts called quiet).only;
@@ -198,7 +199,7 @@ phase_synced {P} {old} {mid} {new} u v w puts sync = record {
 }
 
 pub phase_unsynced : {P : Put → Type 0} {old mid new : DeviceState} (u : Unit {0}) (f : Failed)
-    → Puts P old mid (Ok u) → Syncs mid new (Err f) → PutsPhase P old new (Err ReadFault)
+    → Puts P old mid (Ok u) → Syncs mid new (Err f) → PutsPhase P old new (Err faults.Failed)
 phase_unsynced u f puts sync = record { puts = puts_failed u puts sync.called sync.only sync.cause; sure = tt }
 
 pub phase_ended : {P : Put → Type 0} {old new : DeviceState} (fault : Fault) → Puts P old new (Err fault)
@@ -234,7 +235,7 @@ phase_told {P} {R} {old} {new} {result} to back phase = record {
   where
     ends : (r : Result (Unit {0}) Fault) → Puts P old new r → PutsEnd R old new r
     ends (Ok u) p = λ tells. (puts_same (to tells) (back tells) p).ends tells
-    ends (Err ReadFault) p = p.ends
+    ends (Err faults.Failed) p = p.ends
     ends (Err (Tampered e)) p = λ tells. (puts_same (to tells) (back tells) p).ends tells
 
     sure : (r : Result (Unit {0}) Fault) → PhaseEnds P old new r → PhaseEnds R old new r
@@ -356,7 +357,7 @@ module _ (plan : ℕ → Put → Type 0) where
     }
 
     taken_in : (fault : Fault) → PutsPhase (plan k) mid new (Err fault) → PhasesEnd plan (k + 1) old new (Err fault)
-    taken_in ReadFault then = tt
+    taken_in faults.Failed then = tt
     taken_in (Tampered e) then = λ tells.
         let t = then.puts.ends (subst IsTrue (sym first.puts.called.tells) tells) in
         let t' = taken_then (in_more k) (in_last k) u first.puts then.puts.called tells t in
@@ -416,7 +417,7 @@ module _ (plan : ℕ → Put → Type 0) where
       wider put h = (h.0, omega (arith, h.1, more), h.2)
 
       taken_wider : (f : Fault) → PutsPhases plan k old new (Err f) → PhasesEnd plan next old new (Err f)
-      taken_wider ReadFault q = tt
+      taken_wider faults.Failed q = tt
       taken_wider (Tampered e) q = λ tells.
           let t = q.sure tells in
           let t' = taken_then {P = IsInFirst plan 0} {Q = IsInFirst plan k} (λ put h. absurd (omega (arith, h.1))) wider
@@ -519,7 +520,7 @@ module _ (plan next : ℕ → Put → Type 0) (k m : ℕ) (to : (j : ℕ) (put :
 
     taken_appended : (fault : Fault) → PutsPhases next m mid new (Err fault)
         → PhasesEnd plan (k + m) old new (Err fault)
-    taken_appended ReadFault then = tt
+    taken_appended faults.Failed then = tt
     taken_appended (Tampered e) then = λ tells.
         let t = then.sure (subst IsTrue (sym first.puts.called.tells) tells) in
         let t' = taken_then (append_left m) (append_right m) u first.puts then.puts.called tells t.taken in

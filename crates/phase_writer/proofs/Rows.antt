@@ -1,62 +1,66 @@
--- The first cells of a row.
-use Rattle.std.proofs.Common.{◌≡◌, ◌<◌, ◌+◌, ◌⊎◌, ℕ, List, length, slice_get, Some, sym, ap, ◌∙◌, inl, inr, ⊎_elim, arith}
-use Rattle.std.proofs.lemmas.Option.{slice_get_within}
+-- What a row of neighbouring cells that one call wrote has put.
+use Rattle.std.proofs.Common.{◌≡◌, ◌+◌, ℕ, List, Some, Ok, Err, refl, sym, ap, ◌∙◌, inl, inr, ⊎_elim}
+use Rattle.cell_types.specs.Image.{Image}
+use Rattle.cell_types.specs.declared.refusal.Fault.TheVariants.{Tampered}
+use Rattle.cell_types.specs.declared.refusal.Fault.TheVariants as faults
+use Rattle.worm_device.specs.Rows.{IsNewInRow, ChangesInRow, WritesRow}
+use Rattle.worm_device.specs.State.{DeviceState}
+use Rattle.worm_device.specs.declared.device.Failed.{Failed}
+use Rattle.worm_device.specs.declared.device.RowWritten.TheVariants.{Whole, Other}
 use Rattle.phase_writer.specs.declared.put.Blame.TheVariants.{Rule}
 use Rattle.phase_writer.specs.declared.put.Put.{Put}
-use Rattle.phase_writer.specs.Putting.{IsInRow}
+use Rattle.phase_writer.specs.Putting.{ChangesBy, IsInRow, Puts}
 
-pub record IsInFirstOfRow (n from : ℕ) (cells : List (List ℕ)) (rule : ℕ) (put : Put) : Type 0 where
-  pub row : IsInRow from cells rule put
-  pub below : row.place < n
+some_is : (a b : List ℕ) → Some a ≡ Some b → a ≡ b
+some_is a b e = cc
 
-below_or_at : (k n : ℕ) → k < n + 1 → (k < n) ⊎ (k ≡ n)
-below_or_at k n h = grind arith
+module _ (from : ℕ) (cells : List (List ℕ)) (rule : ℕ) where
+  abbrev put_at : ℕ → List ℕ → Put
+  put_at place value = record { at = from + place; value = value; blame = Rule rule }
 
-put_is : (a b : Put) → Some a ≡ Some b → a ≡ b
-put_is a b e = cc
+  row_changes : (old new : Image) → ChangesInRow from cells old new → ChangesBy (IsInRow from cells rule) old new
+  row_changes old new changes at value h = ⊎_elim
+      (λ (same : new at ≡ old at). inl (sym same ∙ h))
+      (λ (put : IsNewInRow from cells old new at). inr (record {
+        blank = put.blank;
+        put = put_at put.place put.value;
+        planned = record { place = put.place; at = refl; value = put.is; blame = refl };
+        here = sym put.here;
+        is = some_is put.value value (sym put.now ∙ h);
+      }))
+      (changes at)
 
-value_is : (a b : List ℕ) → Some a ≡ Some b → a ≡ b
-value_is a b e = cc
+  module _ {old new : DeviceState} where
+    pub row_put : WritesRow from cells old new (Ok Whole) → Puts (IsInRow from cells rule) old new (Ok tt)
+    row_put writes = record {
+      called = writes.called;
+      only = λ tells still. row_changes old.image new.image (writes.only still);
+      ends = λ tells put h. ap new.image h.at ∙ writes.answer tells h.place put.value h.value;
+    }
 
-module _ (from : ℕ) (cells : List (List ℕ)) (rule n : ℕ) (next : Put) (at : next.at ≡ from + n)
-    (is : slice_get cells n ≡ Some next.value) (blame : next.blame ≡ Rule rule) where
-  pub row_left : (put : Put) → IsInFirstOfRow n from cells rule put → IsInFirstOfRow (n + 1) from cells rule put
-  row_left put h = record { row = h.row; below = omega (arith, h.below) }
+    pub row_taken : (cell : ℕ) (found : List ℕ) → WritesRow from cells old new (Ok (Other cell found))
+        → Puts (IsInRow from cells rule) old new
+        (Err (Tampered (record { rule = rule; cell = cell; found = found })))
+    row_taken cell found writes = record {
+      called = writes.called;
+      only = λ tells still. row_changes old.image new.image (writes.only still);
+      ends = λ tells.
+          let other = writes.answer tells in
+          record {
+            put = put_at other.place other.value;
+            planned = record { place = other.place; at = refl; value = other.is; blame = refl };
+            found = found;
+            differs = other.differs;
+            is = ap (λ (n : ℕ). record { rule = rule; cell = n; found = found }) other.here;
+            stands = ap new.image (sym other.here) ∙ other.stands;
+            stood = λ still. inl (ap old.image (sym other.here) ∙ other.stood still);
+          };
+    }
 
-  pub row_next : (put : Put) → put ≡ next → IsInRow from cells rule put
-  row_next put e = record {
-    place = n;
-    at = ap (λ (p : Put). p.at) e ∙ at;
-    value = is ∙ ap (λ (p : Put). Some p.value)
-        (sym e);
-    blame = ap (λ (p : Put). p.blame) e ∙ blame;
-  }
-
-  pub row_right : (put : Put) → put ≡ next → IsInFirstOfRow (n + 1) from cells rule put
-  unfolding row_next
-  row_right put e = record { row = row_next put e; below = let less : n < n + 1 = omega arith in less }
-
-  pub row_covers : (put : Put) → IsInFirstOfRow (n + 1) from cells rule put
-      → IsInFirstOfRow n from cells rule put ⊎ (put ≡ next)
-  row_covers put h = ⊎_elim
-      (λ (earlier : h.row.place < n). inl (record { row = h.row; below = earlier }))
-      (λ (here : h.row.place ≡ n). inr (
-      same put next (h.row.at ∙ ap (λ (k : ℕ). from + k) here ∙ sym at)
-      (value_is put.value next.value (sym h.row.value ∙ ap (slice_get cells) here ∙ is)) (h.row.blame ∙ sym blame)))
-      (below_or_at h.row.place n h.below)
-    where
-      same : (a b : Put) → a.at ≡ b.at → a.value ≡ b.value → a.blame ≡ b.blame → a ≡ b
-      same a b e f h = ap (λ (k : ℕ). record a { at = k }) e ∙ ap
-          (λ (v : List ℕ). record { at = b.at; value = v; blame = a.blame }) f ∙ ap (λ w. record b { blame = w }) h
-
-pub row_first : (n from : ℕ) (cells : List (List ℕ)) (rule : ℕ) (put : Put) → IsInFirstOfRow n from cells rule put
-    → IsInRow from cells rule put
-row_first n from cells rule put h = h.row
-
-pub row_all : (n from : ℕ) (cells : List (List ℕ)) (rule : ℕ) (put : Put) → n ≡ length cells
-    → IsInRow from cells rule put → IsInFirstOfRow n from cells rule put
-row_all n from cells rule put e h = record {
-  row = h;
-  below = omega
-      (arith, e, slice_get_within cells h.place put.value h.value);
-}
+    pub row_unput : (failed : Failed) → WritesRow from cells old new (Err failed)
+        → Puts (IsInRow from cells rule) old new (Err faults.Failed)
+    row_unput failed writes = record {
+      called = writes.called;
+      only = λ tells still. row_changes old.image new.image (writes.only still);
+      ends = writes.cause;
+    }

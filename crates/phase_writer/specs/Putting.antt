@@ -3,7 +3,7 @@ use Rattle.std.specs.Prelude.{◌≡◌, ◌≢◌, ◌<◌, ◌≤◌, ◌+◌,
 use Rattle.cell_types.specs.Image.{Image, Extends}
 use Rattle.cell_types.specs.declared.refusal.Evidence.{Evidence}
 use Rattle.cell_types.specs.declared.refusal.Fault.{Fault}
-use Rattle.cell_types.specs.declared.refusal.Fault.TheVariants.{Tampered, ReadFault}
+use Rattle.cell_types.specs.declared.refusal.Fault.TheVariants.{Tampered, Failed}
 use Rattle.tamper_rules.specs.declared.numbers.TheConstants.{OTHER_TARGET}
 use Rattle.worm_device.specs.Calls.{Called}
 use Rattle.worm_device.specs.Counts.{Rose, IsStill}
@@ -68,7 +68,7 @@ pub record IsTaken (P : Put → Type 0) (old new : DeviceState) (e : Evidence) :
 -- how putting cells may end, and why
 abbrev pub PutsEnd : (Put → Type 0) → DeviceState → DeviceState → Result Unit Fault → Type 0
 PutsEnd P old new (Ok u) = IsTrue old.tells → AreStanding P new.image
-PutsEnd P old new (Err ReadFault) = Rose old.faults new.faults
+PutsEnd P old new (Err Failed) = Rose old.faults new.faults
 PutsEnd P old new (Err (Tampered e)) = IsTrue old.tells → IsTaken P old new e
 
 -- what it means that cells were put, or that this was ended
@@ -126,7 +126,7 @@ pub record IsTakenIn (plan : ℕ → Put → Type 0) (k : ℕ) (old new : Device
 abbrev pub PhasesEnd : (ℕ → Put → Type 0) → ℕ → DeviceState → DeviceState → Result Unit Fault → Type 0
 PhasesEnd plan k old new (Ok u) =
     IsTrue old.tells → AreStanding (IsInFirst plan k) new.sure × (1 ≤ k → Extends old.image new.sure)
-PhasesEnd plan k old new (Err ReadFault) = ⊤
+PhasesEnd plan k old new (Err Failed) = ⊤
 PhasesEnd plan k old new (Err (Tampered e)) = IsTrue old.tells → IsTakenIn plan k old new e
 
 -- what it means that k phases were gone through, or that this was ended

@@ -2,7 +2,7 @@
 ghost use Rattle.std.specs.Prelude.{◌≡◌, ◌<◌};
 ghost use Rattle.phase_writer.specs.Putting.{Puts, IsThis, evidence_of};
 
-use cell_types::{Cell, Evidence, Fault};
+use cell_types::{Cell, Fault, breach};
 use tamper_rules::OTHER_TARGET;
 use worm_device::{Device, Written};
 
@@ -24,21 +24,15 @@ pub struct Put {
 }
 
 impl Put {
-    /// What is named where this was found in the cell.
-    fn evidence(&self, found: Cell) -> Evidence
-        ensures { result ≡ evidence_of self.now found }
+    ghost use Rattle.cell_types.specs.declared.refusal.Fault.TheVariants.{Tampered};
+
+    /// The fault where this was found in the cell.
+    fn fault(&self, found: Cell) -> Fault
+        ensures { result ≡ Tampered (evidence_of self.now found) }
     {
         match self.blame {
-            Blame::Rule(rule) => Evidence {
-                rule,
-                cell: self.at,
-                found,
-            },
-            Blame::Journal(cell) => Evidence {
-                rule: OTHER_TARGET,
-                cell,
-                found: self.value,
-            },
+            Blame::Rule(rule) => breach(rule, self.at, found),
+            Blame::Journal(cell) => breach(OTHER_TARGET, cell, self.value),
         }
     }
 }
@@ -48,12 +42,10 @@ pub fn put_cell<D: Device>(device: &mut D, put: &Put) -> Result<(), Fault>
     requires { put.now.at < (D.state device.old).cells }
     ensures { Puts (IsThis put.now) (D.state device.old) (D.state device.new) result }
 {
-    let Ok(written) = device.write(put.at, put.value) else {
-        return Err(Fault::ReadFault);
-    };
+    let written = device.write(put.at, put.value)?;
     if let Written::Taken(found) = written {
         if found != put.value {
-            return Err(Fault::Tampered(put.evidence(found)));
+            return Err(put.fault(found));
         }
     }
     Ok(())

@@ -2,24 +2,18 @@
 ghost use Rattle.std.specs.Prelude.{◌≡◌, ◌<◌, ◌≤◌, ◌+◌, length};
 ghost use Rattle.phase_writer.specs.Putting.{Puts, PutsPhase, IsInRow, IsThis};
 
-use crate::put::{Blame, Put, put_cell};
-use cell_types::{Cell, Fault};
-use worm_device::Device;
+use crate::put::{Put, put_cell};
+use cell_types::{Cell, Fault, breach};
+use worm_device::{Device, RowWritten};
 
 /// Puts these cells from one on, in rising order. One that holds something else breaks the rule of this number.
 pub fn put_row<D: Device>(device: &mut D, from: u32, cells: &[Cell], rule: u8) -> Result<(), Fault>
     requires { from + length cells.now ≤ (D.state device.old).cells }
     ensures { Puts (IsInRow from cells.now rule) (D.state device.old) (D.state device.new) result }
 {
-    let mut at = from;
-    for cell in cells {
-        let put = Put {
-            at,
-            value: *cell,
-            blame: Blame::Rule(rule),
-        };
-        put_cell(device, &put)?;
-        at += 1;
+    let written = device.write_row(from, cells)?;
+    if let RowWritten::Other(cell, found) = written {
+        return Err(breach(rule, cell, found));
     }
     Ok(())
 }
@@ -30,8 +24,6 @@ pub fn put_one<D: Device>(device: &mut D, put: &Put) -> Result<(), Fault>
     ensures { PutsPhase (IsThis put.now) (D.state device.old) (D.state device.new) result }
 {
     put_cell(device, put)?;
-    let Ok(()) = device.sync() else {
-        return Err(Fault::ReadFault);
-    };
+    device.sync()?;
     Ok(())
 }

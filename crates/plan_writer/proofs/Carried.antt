@@ -3,7 +3,7 @@ use Rattle.std.proofs.Common.{◌≡◌, ◌+◌, ℕ, List, length, Some, Ok, E
 use Rattle.std.specs.Prelude.{IsTrue, Result, slice_get}
 use Rattle.std.proofs.lemmas.Option.{slice_get_within}
 use Rattle.cell_types.specs.Image.{Image}
-use Rattle.cell_types.specs.Layout.{Layout, list_at}
+use Rattle.cell_types.specs.Layout.{Layout, lists_at}
 use Rattle.cell_types.specs.declared.refusal.Fault.{Fault}
 use Rattle.commit_record.specs.declared.reservation.Reservation.{Reservation}
 use Rattle.phase_writer.specs.declared.put.Put.{Put}
@@ -112,14 +112,14 @@ module _ (n : ℕ) (p : Plan) where
                 count_is : j.count ≡ length p.journal.now
                 count_is = ap (λ (x : Journal). x.count) is
 
-                lists_from : j.first ≡ list_at g 0
+                lists_from : j.first ≡ lists_at g
                 lists_from = ap (λ (x : Journal). x.first) is
 
                 -- its cells ask for what they may ask for
                 pub entries_there : IsTrue s3.tells → AreEntries j.first s3.image j.place j.below j.count
                 entries_there tells =
                     rw lists_from (rw place_is (rw below_is (rw count_is
-                    (entries_stand (list_at g 0) (journal_from p) (document_from p) (length p.journal.now) p.journal.now
+                    (entries_stand (lists_at g) (journal_from p) (document_from p) (length p.journal.now) p.journal.now
                     s3.image (journal_stands tells) suits.entries))))
 
                 asked_to : IsTrue s3.tells → (put : Put)

@@ -5,7 +5,7 @@ use Rattle.cell_types.specs.Layout.{Layout, reserve_at, pool_at}
 use Rattle.cell_types.specs.declared.refusal.Evidence.{Evidence}
 use Rattle.commit_record.specs.States.{done_unreserved, ends_unreserved}
 use Rattle.commit_record.specs.declared.reservation.Reservation.{Reservation}
-use Rattle.commit_record.proofs.Breaking.{breaks}
+use Rattle.commit_record.proofs.Breaking.{no_written, breaks}
 use Rattle.stored_documents.specs.Slots.{EndsBelow}
 use Rattle.stored_documents.specs.Volumes.{IsVolume, IsWritten}
 use Rattle.tamper_rules.specs.Rules.{DoneCells, IsBroken, IsPlaceOf, OutcomeCells, StrayCells}
@@ -45,7 +45,7 @@ module _ (g : Layout) (n : ℕ) (cells : Reservation) (less : n < g.slots) (from
     named = r;
     place = inr (inl (n, less, c));
     written = written;
-    not_met = λ met. met.spare n less c;
+    not_met = λ met. no_written image (reserve_at n) free (met.spare n less c).reserve;
   }
   first_breaks image e volume free ends written (reserved r w a b c before) = record {
     layout = g;

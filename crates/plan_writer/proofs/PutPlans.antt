@@ -4,7 +4,7 @@ use Rattle.std.specs.Prelude.{IsTrue}
 use Rattle.cell_types.specs.Image.{Extends}
 use Rattle.cell_types.specs.Layout.{IsLayout}
 use Rattle.cell_types.specs.declared.refusal.Fault.{Fault}
-use Rattle.cell_types.specs.declared.refusal.Fault.TheVariants.{Tampered, ReadFault}
+use Rattle.cell_types.specs.declared.refusal.Fault.TheVariants.{Tampered, Failed}
 use Rattle.phase_writer.specs.Putting.{PutsPhases}
 use Rattle.recovery_engine.specs.Settling.{HasSettled}
 use Rattle.recovery_engine.specs.declared.settling.Ready.{Ready}
@@ -49,7 +49,7 @@ module _ (p : Plan) {s0 s2 : DeviceState} (r : Ready) (has : HasSettled s0 s2 r)
   pub plan_refused : {s4 : DeviceState} (fault : Fault)
       → PutsPhases (ingest_phases r.horizon p) INGEST_PHASES s2 s4 (Err fault)
       → Extends s4.sure s4.image → PlanEnds r.volume.geometry p r.horizon s0 s2 s4 (Err fault)
-  plan_refused ReadFault phases proper = omega (arith, phases.puts.ends, (called r has).faults)
+  plan_refused Failed phases proper = omega (arith, phases.puts.ends, (called r has).faults)
   plan_refused (Tampered e) phases proper = λ tells.
       let now = tells_2 r has tells in
       taken_found r.volume.geometry r.horizon p layout less suits (called r has) phases.puts.called

@@ -5,7 +5,7 @@ use Rattle.cell_types.specs.Image.{Image, IsUnchanged}
 use Rattle.cell_types.specs.Layout.{Layout}
 use Rattle.cell_types.specs.declared.refusal.Evidence.{Evidence}
 use Rattle.cell_types.specs.declared.refusal.Fault.{Fault}
-use Rattle.cell_types.specs.declared.refusal.Fault.TheVariants.{Tampered, ReadFault}
+use Rattle.cell_types.specs.declared.refusal.Fault.TheVariants.{Tampered, Failed}
 use Rattle.commit_record.specs.declared.reservation.Reservation.{Reservation}
 use Rattle.recovery_engine.specs.Settling.{HasSettled}
 use Rattle.recovery_engine.specs.declared.settling.Ready.{Ready}
@@ -116,7 +116,7 @@ pub blank_refused : (p : Plan) {s0 s2 s3 : DeviceState} (r : Ready) (has : HasSe
     → r.horizon < r.volume.geometry.slots → p.start ≡ r.edge → Suits r.volume.geometry p → (fault : Fault)
     → LooksForSlot r.horizon (reserved_by p) s2 s3 (Err fault)
     → PlanEnds r.volume.geometry p r.horizon s0 s2 s3 (Err fault)
-blank_refused p r has less starts suits ReadFault looks = omega (arith, looks.ends, (called r has).faults)
+blank_refused p r has less starts suits Failed looks = omega (arith, looks.ends, (called r has).faults)
 blank_refused p r has less starts suits (Tampered e) looks = λ tells.
     let ends = looks.ends (tells_2 r has tells) in
     found p r has less starts suits (Tampered e) looks tells e ends.0 ends.1

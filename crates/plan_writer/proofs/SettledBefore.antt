@@ -2,7 +2,7 @@
 use Rattle.std.proofs.Common.{◌≡◌, ◌≤◌, ◌<◌, ◌+◌, ◌⊎◌, ℕ, List, Some, Ok, sym, ap, ◌∙◌, inl, inr, ⊎_elim, subst, arith}
 use Rattle.std.proofs.lemmas.Option.{none-some}
 use Rattle.cell_types.specs.Image.{Image}
-use Rattle.cell_types.specs.Layout.{Layout, reserve_at, outcome_at, done_at, list_at}
+use Rattle.cell_types.specs.Layout.{Layout, reserve_at, outcome_at, done_at, lists_at}
 use Rattle.commit_record.specs.States.{IsState}
 use Rattle.commit_record.specs.declared.slot.SlotState.{SlotState}
 use Rattle.commit_record.specs.declared.slot.SlotState.TheVariants.{Unused, Reserved, Abandoned, Committed, Done}
@@ -31,7 +31,7 @@ record IsIndexBelow (g : Layout) (image : Image) (n at : ℕ) : Type 0 where
   start : ℕ
   length : ℕ
   reserves : Reserves g image n start length
-  from : list_at g 0 ≤ at
+  from : lists_at g ≤ at
   to : at < start + length
 
 -- the cell is slot n's outcome or done cell, or such a cell of the index
@@ -55,9 +55,9 @@ module _ (g : Layout) (before image : Image) (n : ℕ) where
   end_cell (Committed s l b k) is journal j put h = ⊎_elim
       (λ (a : (j ≡ 1) × IsEntryPut image (journal_at s l k) k put).
       let e = a.1 in
-      let high = entries_below (list_at g 0) image (journal_at s l k) (document_at s l b k) k journal e.0 put.value e.1
+      let high = entries_below (lists_at g) image (journal_at s l k) (document_at s l b k) k journal e.0 put.value e.1
       e.2.stands in
-      let low = entries_from (list_at g 0) image (journal_at s l k) (document_at s l b k) k journal e.0 put.value e.1
+      let low = entries_from (lists_at g) image (journal_at s l k) (document_at s l b k) k journal e.0 put.value e.1
       e.2.stands in
       inr (inr (record {
         start = s;
@@ -79,7 +79,7 @@ module _ (g : Layout) (before image : Image) (n : ℕ) where
 
 -- a cell ahead of the log: of a slot from n on, or of the pool from the edge on
 abbrev pub IsAhead : Layout → ℕ → ℕ → ℕ → Type 0
-IsAhead g n edge cell = ((reserve_at n ≤ cell) × (cell < list_at g 0)) ⊎ (edge ≤ cell)
+IsAhead g n edge cell = ((reserve_at n ≤ cell) × (cell < lists_at g)) ⊎ (edge ≤ cell)
 
 module _ {s0 s1 : DeviceState} (r : Ready) (ready : IsReady s0 s1 r) (bounds : LiesInBounds s1 r)
     (less : r.horizon < r.volume.geometry.slots) (writes : EndsByPhases s0 s1 (Ok r))
@@ -194,7 +194,7 @@ module _ {s0 s1 : DeviceState} (r : Ready) (ready : IsReady s0 s1 r) (bounds : L
         (λ (b : put.at ≡ done_at writes.slot). low (omega (arith, b, slot_below put h))
         (omega (arith, b, slot_below put h, bounds.horizon, bounds.from)))
         (λ (c : IsIndexBelow r.volume.geometry writes.between writes.slot put.at). ⊎_elim
-        (λ (x : (reserve_at r.horizon ≤ put.at) × (put.at < list_at r.volume.geometry 0)). omega (arith, x.1, c.from))
+        (λ (x : (reserve_at r.horizon ≤ put.at) × (put.at < lists_at r.volume.geometry)). omega (arith, x.1, c.from))
         (λ (y : r.edge ≤ put.at). omega (arith, y, index_below c))
         ahead)
         rest)
@@ -202,7 +202,7 @@ module _ {s0 s1 : DeviceState} (r : Ready) (ready : IsReady s0 s1 r) (bounds : L
       where
         low : put.at < reserve_at r.horizon → put.at < r.edge → ⊥
         low before under = ⊎_elim
-            (λ (x : (reserve_at r.horizon ≤ put.at) × (put.at < list_at r.volume.geometry 0)).
+            (λ (x : (reserve_at r.horizon ≤ put.at) × (put.at < lists_at r.volume.geometry)).
             omega (arith, x.0, before))
             (λ (y : r.edge ≤ put.at). omega (arith, y, under))
             ahead

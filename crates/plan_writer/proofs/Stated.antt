@@ -48,6 +48,7 @@ module _ (g : Layout) (n : ℕ) (p : Plan) (layout : IsLayout g) (less : n < g.s
       };
     };
     fits = suits.fits.3;
+    stamped = λ e. absurd (omega (arith, e, layout.version));
   }
 
   -- and is done

@@ -2,7 +2,7 @@
 use Rattle.std.proofs.Common.{◌≡◌, ◌≤◌, ◌<◌, ◌+◌, ℕ, length, Some, sym, ◌∙◌, subst, arith}
 use Rattle.std.specs.Prelude.{slice_get}
 use Rattle.std.proofs.lemmas.Option.{slice_get_within}
-use Rattle.cell_types.specs.Layout.{Layout, list_at}
+use Rattle.cell_types.specs.Layout.{Layout, lists_at}
 use Rattle.phase_writer.specs.declared.put.Put.{Put}
 use Rattle.recovery_engine.proofs.Rising.{entries_apart, entries_below, entries_from}
 use Rattle.plan_writer.specs.Planned.{IsAskedPut, Suits, document_from, journal_from, laid}
@@ -18,12 +18,12 @@ module _ (g : Layout) (p : Plan) (suits : Suits g p) where
   within put a = slice_get_within p.journal.now a.k put.value a.value
 
   -- what is asked for lies from the first list on
-  pub asked_from : (put : Put) → IsAskedPut (journal_from p) p.journal.now put → list_at g 0 ≤ put.at
+  pub asked_from : (put : Put) → IsAskedPut (journal_from p) p.journal.now put → lists_at g ≤ put.at
   asked_from put a =
       omega (
         arith,
         a.at,
-        entries_from (list_at g 0) (laid (journal_from p) p.journal.now) (journal_from p) (document_from p)
+        entries_from (lists_at g) (laid (journal_from p) p.journal.now) (journal_from p) (document_from p)
             (length p.journal.now) suits.entries a.k put.value (within put a) (there put a),
       )
 
@@ -33,7 +33,7 @@ module _ (g : Layout) (p : Plan) (suits : Suits g p) where
       omega (
         arith,
         a.at,
-        entries_below (list_at g 0) (laid (journal_from p) p.journal.now) (journal_from p) (document_from p)
+        entries_below (lists_at g) (laid (journal_from p) p.journal.now) (journal_from p) (document_from p)
             (length p.journal.now) suits.entries a.k put.value (within put a) (there put a),
       )
 
@@ -41,6 +41,6 @@ module _ (g : Layout) (p : Plan) (suits : Suits g p) where
   pub asked_once : (put other : Put) → IsAskedPut (journal_from p) p.journal.now put
       → IsAskedPut (journal_from p) p.journal.now other → other.at ≡ put.at → other.value ≡ put.value
   asked_once put other a b same =
-      entries_apart (list_at g 0) (laid (journal_from p) p.journal.now) (journal_from p) (document_from p)
+      entries_apart (lists_at g) (laid (journal_from p) p.journal.now) (journal_from p) (document_from p)
       (length p.journal.now) suits.entries b.k a.k other.value put.value (within other b) (within put a) (there other b)
       (there put a) (sym b.at ∙ same ∙ a.at)

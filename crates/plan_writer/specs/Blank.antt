@@ -1,10 +1,10 @@
 -- What a look for written cells tells: what it needs blank was blank at its entry.
-use Rattle.std.specs.Prelude.{◌≡◌, ◌<◌, ◌≤◌, ◌+◌, ℕ, Some, None, Result, Ok, Err, IsTrue}
+use Rattle.std.specs.Prelude.{◌≡◌, ◌<◌, ◌≤◌, ◌+◌, ℕ, List, length, slice_get, Option, Some, None, Result, Ok, Err, IsTrue}
 use Rattle.cell_types.specs.Image.{Image, IsUnchanged}
 use Rattle.cell_types.specs.Layout.{outcome_at, done_at, spare_at}
 use Rattle.cell_types.specs.declared.refusal.Evidence.{Evidence}
 use Rattle.cell_types.specs.declared.refusal.Fault.{Fault}
-use Rattle.cell_types.specs.declared.refusal.Fault.TheVariants.{Tampered, ReadFault}
+use Rattle.cell_types.specs.declared.refusal.Fault.TheVariants.{Tampered, Failed}
 use Rattle.tamper_rules.specs.declared.numbers.TheConstants.{OUTCOME_CELL, DONE_CELL, STRAY_CELL}
 use Rattle.worm_device.specs.Calls.{Called}
 use Rattle.worm_device.specs.Counts.{Rose, IsStill}
@@ -23,7 +23,7 @@ AreBlank image cells = (cell : ℕ) → IsOfCells cells cell → image cell ≡ 
 -- how a look at one cell may end, and why
 abbrev pub LookEnds : ℕ → ℕ → DeviceState → DeviceState → Result Unit Fault → Type 0
 LookEnds cell rule old new (Ok u) = (new.faults ≡ old.faults) × (IsTrue old.tells → old.image cell ≡ None)
-LookEnds cell rule old new (Err ReadFault) = Rose old.faults new.faults
+LookEnds cell rule old new (Err Failed) = Rose old.faults new.faults
 LookEnds cell rule old new (Err (Tampered e)) =
     (e.rule ≡ rule) × (e.cell ≡ cell) × (IsTrue old.tells → new.image cell ≡ Some e.found)
 
@@ -36,7 +36,7 @@ pub record LooksAt (cell rule : ℕ) (old new : DeviceState) (result : Result Un
 -- how a look along cells may end, and why: the least written one is named
 abbrev pub AlongEnds : Reservation → DeviceState → DeviceState → Result Unit Fault → Type 0
 AlongEnds cells old new (Ok u) = (new.faults ≡ old.faults) × (IsTrue old.tells → AreBlank old.image cells)
-AlongEnds cells old new (Err ReadFault) = Rose old.faults new.faults
+AlongEnds cells old new (Err Failed) = Rose old.faults new.faults
 AlongEnds cells old new (Err (Tampered e)) =
     (e.rule ≡ STRAY_CELL) × IsOfCells cells e.cell
     × (IsTrue old.tells → (new.image e.cell ≡ Some e.found)
@@ -47,6 +47,24 @@ pub record LooksAlong (cells : Reservation) (old new : DeviceState) (result : Re
   pub called : Called old new
   pub quiet : IsStill old.foreign_writes new.foreign_writes → IsUnchanged old.image new.image
   pub ends : AlongEnds cells old new result
+
+-- nothing was found in the first so many cells of a row
+abbrev pub NothingFound : ℕ → List (Option (List ℕ)) → Type 0
+NothingFound count found = (place : ℕ) → place < count → slice_get found place ≡ Some None
+
+-- the first that was found in a row of cells, of which this is the first
+pub record IsFirstFound (start : ℕ) (found : List (Option (List ℕ))) (e : Evidence) : Type 0 where
+  pub rule : e.rule ≡ STRAY_CELL
+  pub place : ℕ
+  pub cell : e.cell ≡ start + place
+  pub is : slice_get found place ≡ Some (Some e.found)
+  pub before : NothingFound place found
+
+-- how a look at what was found in a row of cells may end, and why: the least written one is named
+abbrev pub RowEnds : ℕ → List (Option (List ℕ)) → Result Unit Fault → Type 0
+RowEnds start found (Ok u) = NothingFound (length found) found
+RowEnds start found (Err Failed) = ⊥
+RowEnds start found (Err (Tampered e)) = IsFirstFound start found e
 
 -- what a new slot has to find blank, besides its reserve cell
 pub record IsFree (image : Image) (slot : ℕ) (cells : Reservation) : Type 0 where
@@ -71,7 +89,7 @@ pub data IsFirstWritten (image : Image) (slot : ℕ) (cells : Reservation) (e : 
 abbrev pub SlotLookEnds : ℕ → Reservation → DeviceState → DeviceState → Result Unit Fault → Type 0
 SlotLookEnds slot cells old new (Ok u) =
     (new.faults ≡ old.faults) × (IsTrue old.tells → IsFree old.image slot cells)
-SlotLookEnds slot cells old new (Err ReadFault) = Rose old.faults new.faults
+SlotLookEnds slot cells old new (Err Failed) = Rose old.faults new.faults
 SlotLookEnds slot cells old new (Err (Tampered e)) =
     IsTrue old.tells → IsFirstWritten old.image slot cells e × (new.image e.cell ≡ Some e.found)
 

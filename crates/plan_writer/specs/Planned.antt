@@ -1,7 +1,7 @@
 -- What a plan asks to be written, in which phases.
 use Rattle.std.specs.Prelude.{◌≡◌, ◌≤◌, ◌+◌, ◌-◌, ◌<◌, ◌⊎◌, ℕ, zero, suc, List, length, slice_get, Some}
 use Rattle.cell_types.specs.Image.{Image}
-use Rattle.cell_types.specs.Layout.{Layout, reserve_at, outcome_at, list_at, pool_at}
+use Rattle.cell_types.specs.Layout.{Layout, reserve_at, outcome_at, pool_at, lists_at}
 use Rattle.cell_types.specs.Records.{record_bytes}
 use Rattle.cell_types.specs.declared.record_cell.RecordCell.TheVariants.{Reserve, Commit}
 use Rattle.stored_documents.specs.Documents.{IsIdentifier, IsBody, content_at, stored_bytes}
@@ -81,7 +81,7 @@ pub record Suits (g : Layout) (p : Plan) : Type 0 where
   pub to : p.start + (reserved_by p).length ≤ g.cells
   pub fits : FitsInto (reserved_by p).length p.bytes (length p.journal.now)
   pub document : length p.document.now ≡ cells_for p.bytes
-  pub entries : AreEntries (list_at g 0) (laid (journal_from p) p.journal.now) (journal_from p) (document_from p)
+  pub entries : AreEntries (lists_at g) (laid (journal_from p) p.journal.now) (journal_from p) (document_from p)
       (length p.journal.now)
 
 -- the plan's document is this one

@@ -4,7 +4,7 @@ use Rattle.cell_types.specs.Image.{Image, Extends, IsUnchanged}
 use Rattle.cell_types.specs.Layout.{Layout}
 use Rattle.cell_types.specs.declared.refusal.Evidence.{Evidence}
 use Rattle.cell_types.specs.declared.refusal.Fault.{Fault}
-use Rattle.cell_types.specs.declared.refusal.Fault.TheVariants.{Tampered, ReadFault}
+use Rattle.cell_types.specs.declared.refusal.Fault.TheVariants.{Tampered, Failed}
 use Rattle.stored_documents.specs.Documents.{IsDocument}
 use Rattle.stored_documents.specs.Slots.{IsDone, IsUnused}
 use Rattle.tamper_rules.specs.Rules.{IsBroken}
@@ -68,5 +68,5 @@ pub record IsFoundByPlan (p : Plan) (old entry new : DeviceState) (e : Evidence)
 abbrev pub PlanEnds : Layout → Plan → ℕ → DeviceState → DeviceState → DeviceState → Result ℕ Fault → Type 0
 PlanEnds g p n old entry new (Ok slot) =
     (slot ≡ n) × (IsTrue old.tells → IsCarriedOut g p n new.cells old.image entry.image new.sure)
-PlanEnds g p n old entry new (Err ReadFault) = Rose old.faults new.faults
+PlanEnds g p n old entry new (Err Failed) = Rose old.faults new.faults
 PlanEnds g p n old entry new (Err (Tampered e)) = IsTrue old.tells → IsFoundByPlan p old entry new e

@@ -50,9 +50,7 @@ pub fn store<D: Device>(
 {
     put_row(device, from, document, STRAY_CELL)?;
     put_row(device, from + document.len() as u32, journal, STRAY_CELL)?;
-    let Ok(()) = device.sync() else {
-        return Err(Fault::ReadFault);
-    };
+    device.sync()?;
     Ok(())
 }
 

@@ -1,14 +1,14 @@
 //! A plan put onto the small volume of 8 slots and 2 lists on 1,000 cells, cell by cell. What is expected was written
 //! by hand.
 ghost use Rattle.std.specs.Prelude.{◌≡◌, ◌<◌, ◌≤◌, IfOk};
-ghost use Rattle.cell_types.specs.declared.record_cell.TheConstants.{FORMAT_VERSION};
+ghost use Rattle.cell_types.specs.declared.geometry.TheConstants.{FIRST_VERSION};
 ghost use Rattle.plan_writer.specs.Planned.{laid};
 ghost use Rattle.recovery_engine.specs.Entries.{AreEntries};
 ghost use Rattle.worm_memory.specs.Device.{memory_of};
 
 use crate::{Plan, put_planned};
 use cell_types::{
-    Cell, Evidence, FORMAT_VERSION, Fault, Geometry, RecordCell, Volume, content, encode,
+    Cell, Evidence, FIRST_VERSION, Fault, Geometry, RecordCell, Volume, content, encode,
 };
 use recovery_engine::{Ready, Step, settle};
 use std::alloc::Global;
@@ -52,13 +52,13 @@ fn small_volume(alloc: Global) -> Result<MemoryDevice, Fail>
 
 /// What settling answers on it.
 fn empty(geometry: Geometry) -> Ready
-    ensures volume { result.volume ≡ record { version = FORMAT_VERSION; geometry = geometry } }
+    ensures volume { result.volume ≡ record { version = FIRST_VERSION; geometry = geometry } }
     ensures horizon { result.horizon ≡ 0 }
     ensures edge { result.edge ≡ 580 }
 {
     Ready {
         volume: Volume {
-            version: FORMAT_VERSION,
+            version: FIRST_VERSION,
             geometry,
         },
         horizon: 0,
@@ -87,7 +87,7 @@ fn journal() -> [Cell; 2]
 fn put_document(device: &mut MemoryDevice) -> Result<Result<u32, Fault>, Fail>
     requires { (memory_of device.old).cells ≡ 1000 }
 {
-    let geometry = Geometry::new(8, 2, 1_000).ok_or("no volume")?;
+    let geometry = Geometry::new(8, 2, 1_000, FIRST_VERSION).ok_or("no volume")?;
     let ready = empty(geometry);
     let document = [content(b"\x01ahello world")];
     let journal = journal();
@@ -104,7 +104,7 @@ fn put_document(device: &mut MemoryDevice) -> Result<Result<u32, Fault>, Fail>
 #[test]
 fn each_phase_is_sure_before_the_next(rt: HostRuntime) -> Result<(), Fail> {
     let mut device = small_volume(rt.alloc())?;
-    let geometry = Geometry::new(8, 2, 1_000).ok_or("no volume")?;
+    let geometry = Geometry::new(8, 2, 1_000, FIRST_VERSION).ok_or("no volume")?;
     assert_eq!(rt; settle(&mut device), Ok(empty(geometry)));
     let before = device.changes().len();
     assert_eq!(rt; put_document(&mut device)?, Ok(0));

@@ -7,13 +7,14 @@ use Rattle.cell_types.specs.Image.{Image, Extends, IsUnchanged}
 use Rattle.cell_types.specs.Layout.{Layout, pool_at, reserve_at, outcome_at, done_at}
 use Rattle.cell_types.specs.declared.record_cell.RecordCell.TheVariants.{Abandon, Commit}
 use Rattle.cell_types.specs.declared.refusal.Fault.{Fault}
-use Rattle.cell_types.specs.declared.refusal.Fault.TheVariants.{Tampered, ReadFault}
+use Rattle.cell_types.specs.declared.refusal.Fault.TheVariants.{Tampered, Failed}
 use Rattle.stored_documents.specs.Slots.{Reserves, IsDoneSlot, IsEdge, IsHorizon, IsLive}
 use Rattle.stored_documents.specs.Volumes.{Holds, IsVolume}
 use Rattle.stored_documents.proofs.Holding.{one_record_holds}
 use Rattle.index_paths.specs.Blocks.{PostingFields, posting_record}
 use Rattle.index_paths.specs.Nodes.{IsBlockOf}
 use Rattle.index_paths.proofs.Fronts.{front_holds, front_on}
+use Rattle.index_paths.proofs.Tags.{of_word, word_slot}
 use Rattle.tamper_rules.specs.Rules.{IsBroken, IsPlace, IsTruePosting, Postings}
 use Rattle.worm_device.specs.Counts.{IsStill}
 use Rattle.worm_device.specs.Views.{ViewState, Viewed}
@@ -27,7 +28,7 @@ use Rattle.jump_block.specs.declared.held_entry.Entry.{Entry}
 use Rattle.jump_block.proofs.Counting.{rose_later}
 use Rattle.jump_index.specs.Searches.{FindsGeq, IsEntryBehind}
 use Rattle.jump_index.specs.declared.bounds.Bounds.{Bounds}
-use Rattle.jump_index.proofs.Licence.{in_place, leads_wider}
+use Rattle.jump_block.proofs.OneBlock.{in_place, leads_wider}
 use Rattle.jump_index.proofs.Telling.{told_before}
 use Rattle.posting_list.specs.Naming.{FaultSays, IsReachOf}
 use Rattle.posting_list.specs.Searches.{IsFalsePosting, LooksLive, head_of, says_done, within}
@@ -47,7 +48,7 @@ reach_edge r image reach = record {
 edge_inside : (r : Reach) (cells : ℕ) (image : Image) → IsVolume cells image r.volume.geometry → IsReachOf r image
     → r.bounds.edge ≤ r.volume.geometry.cells
 edge_inside r cells image volume reach = ⊎_elim
-    (λ none. let inside = volume.volume.is.well_formed.1.pool in omega (arith, none.1, inside))
+    (λ none. let inside = volume.volume.is.well_formed.0.pool in omega (arith, none.1, inside))
     (λ (last : (m : ℕ) × (start : ℕ) × (length : ℕ) × (r.horizon ≡ m + 1)
     × Reserves r.volume.geometry image m start length × (r.bounds.edge ≡ start + length)).
     omega (arith, last.4.to, last.5))
@@ -66,19 +67,19 @@ within_edge r cells image volume reach =
 -- a search's fault
 pub find_fault : (r : Reach) (list x : ℕ) (old new : ViewState) (fault : Fault) → list < r.volume.geometry.lists
     → FindsGeq (within r) (head_of r list) x old new (Err fault) → FaultSays r old new fault
-find_fault r list x old new ReadFault less found = found.ends
+find_fault r list x old new Failed less found = found.ends
 find_fault r list x old new (Tampered e) less found = (
   λ tells.
       let licence = found.ends.1 (told_before found.viewed tells) in
       record {
         stands = licence.stands;
-        place = λ pool. licence.place r.volume.geometry list less refl pool (omega arith);
+        place = λ pool. licence.place r.volume.geometry list (omega (arith, less)) refl pool (omega arith);
       },
   λ still tells.
       let licence = found.ends.1 (told_before found.viewed tells) in
       record {
         stands = licence.stands;
-        broken = λ volume reach. licence.broken r.volume.geometry list volume less refl reach.pool
+        broken = λ volume reach. licence.broken r.volume.geometry list volume (omega (arith, less)) refl reach.pool
             (within_edge r new.cells new.image volume reach);
       },
 )
@@ -86,7 +87,7 @@ find_fault r list x old new (Tampered e) less found = (
 -- a fault of a later call is one of a longer row of calls
 pub says_later : (r : Reach) (a b c : ViewState) → Viewed a b → Viewed b c → (fault : Fault) → FaultSays r b c fault
     → FaultSays r a c fault
-says_later r a b c first second ReadFault says = rose_later _ _ _ first.called.faults says
+says_later r a b c first second Failed says = rose_later _ _ _ first.called.faults says
 says_later r a b c first second (Tampered e) says =
     (says.0, λ still. says.1 (still_second first.called.foreign_writes second.called.foreign_writes still))
 
@@ -171,7 +172,7 @@ live_state r slot old new state false before viewed ends is = record {
 -- a fault of the look at its cells
 pub live_fault : (r : Reach) (slot : ℕ) (old new : ViewState) (fault : Fault) → Viewed old new
     → StateEnds r.volume.geometry slot old new (Err fault) → LooksLive r slot old new (Err fault)
-live_fault r slot old new ReadFault viewed ends = record { viewed = viewed; ends = ends }
+live_fault r slot old new Failed viewed ends = record { viewed = viewed; ends = ends }
 live_fault r slot old new (Tampered e) viewed ends = record {
   viewed = viewed;
   ends = (
@@ -203,18 +204,21 @@ not_true : (r : Reach) (list : ℕ) (e : Entry) (image : Image) → list < r.vol
     → IsTruePosting r.volume.geometry image l p) → ⊥
 not_true r list e image less pool behind dead met =
     let block : IsBlockOf r.volume.geometry image list e.block = record {
-      list = less;
+      list = omega (arith, less);
       leads = leads_wider (pool_at r.volume.geometry) r.volume.geometry.cells (omega (arith, pool)) (omega arith)
           behind.leads;
     } in
-    dead (met list e.block e.place (posting_of e) block behind.place refl (front_holds behind.in_front)).live
+    let t = met list e.block e.place (posting_of e) block behind.place refl (front_holds behind.in_front) in
+    let slot = word_slot r.volume.geometry t.body t.slot list (posting_of e) t.postings
+    (of_word r.volume.geometry t.stamp t.body t.slot list (posting_of e) less t.is) in
+    dead (subst (λ (n : ℕ). IsLive r.volume.geometry image n) (sym slot) t.live)
 
 -- it is named, where its slot was seen not to be live
 pub false_posting : (r : Reach) (list : ℕ) (e : Entry) (old mid new : ViewState) (fault : Fault)
     → list < r.volume.geometry.lists → Viewed old mid
     → (IsTrue old.base.tells → IsEntryBehind (within r) mid.image (head_of r list) e)
     → LooksLive r (e.key / 256) mid new (Ok false) → IsFalsePosting e fault → FaultSays r old new fault
-false_posting r list e old mid new ReadFault less viewed behind dead names = absurd names
+false_posting r list e old mid new Failed less viewed behind dead names = absurd names
 false_posting r list e old mid new (Tampered f) less viewed behind dead names = (
   λ tells. record { stands = stands tells; place = λ pool. (Postings, names.0, place tells pool) },
   λ still tells. record { stands = stands tells; broken = broken still tells },
@@ -234,7 +238,7 @@ false_posting r list e old mid new (Tampered f) less viewed behind dead names = 
       → IsPlace r.volume.geometry Postings f.cell
   place tells pool = in_place r.volume.geometry new.image list r.bounds.pool (within r).edge (head_of r list) e.block
       e.place
-      f.cell less refl pool (omega arith) (there tells).leads (omega (arith, (there tells).place)) names.1
+      f.cell (omega (arith, less)) refl pool (omega arith) (there tells).leads (omega (arith, (there tells).place)) names.1
 
   broken : IsStill old.base.foreign_writes new.base.foreign_writes → IsTrue new.base.tells
       → IsVolume new.cells new.image r.volume.geometry → IsReachOf r new.image

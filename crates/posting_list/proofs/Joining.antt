@@ -2,7 +2,7 @@
 use Rattle.std.proofs.Common.{◌≡◌, ℕ, Bool, List, Option, Some, None, Result, Ok, Err, ◌∷◌, map, ap, refl, sym, subst, ◌∙◌}
 use Rattle.std.specs.Prelude.{slice_get}
 use Rattle.cell_types.specs.declared.refusal.Fault.{Fault}
-use Rattle.cell_types.specs.declared.refusal.Fault.TheVariants.{Tampered, ReadFault}
+use Rattle.cell_types.specs.declared.refusal.Fault.TheVariants.{Tampered, Failed}
 use Rattle.worm_device.specs.Views.{ViewState, Viewed}
 use Rattle.zigzag_join.specs.Lists.{FaultEnds, HasEnds, Keeps, NextEnds}
 use Rattle.jump_index.proofs.Telling.{told_before}
@@ -46,7 +46,7 @@ module _ (r : Reach) (terms : List SoughtTerm) (loan : ℕ) (s t : ViewState) wh
 
   fault_ends : (fault : Fault) → FaultSays r s t fault
       → FaultEnds (lists_over r terms loan s) (lists_over r terms loan t) fault
-  fault_ends ReadFault says = says
+  fault_ends Failed says = says
   fault_ends (Tampered e) says = says
 
   module _ (which : ℕ) (term : SoughtTerm) (there : slice_get terms which ≡ Some term) where

@@ -1,15 +1,15 @@
 -- The postings of a slot that must not be passed, each with its ordinal and its trail.
-use Rattle.std.proofs.Common.{◌≡◌, ◌<◌, ◌≤◌, ◌+◌, ◌-◌, ◌*◌, ⊎_elim, ℕ, List, length, Some, None, refl, sym, subst, arith}
+use Rattle.std.proofs.Common.{◌≡◌, ◌<◌, ◌≤◌, ◌+◌, ◌-◌, ◌*◌, ⊎_elim, inl, ℕ, List, length, Some, None, refl, sym, subst, arith}
 use Rattle.std.specs.Prelude.{IsTrue, slice_get, slice_index_or}
 use Rattle.std.proofs.lemmas.Option.{slice_get_read, slice_get_cases}
 use Rattle.cell_types.specs.Image.{Image, Extends}
-use Rattle.cell_types.specs.Layout.{pool_at, list_at}
+use Rattle.cell_types.specs.Layout.{Layout, pool_at, list_at}
 use Rattle.stored_documents.specs.Documents.{Document, Stands}
 use Rattle.stored_documents.specs.Volumes.{IsVolume}
 use Rattle.stored_documents.proofs.Extending.{holds_on, stands_on, volume_on}
 use Rattle.index_paths.specs.Blocks.{PostingFields, Trail, Leads, arrived, onwards}
 use Rattle.index_paths.specs.Keeping.{IsKept}
-use Rattle.index_paths.specs.Postings.{AreTags, HasTag, IsPostingOf}
+use Rattle.index_paths.specs.Postings.{AreTags, HasTag, IsWordPosting}
 use Rattle.worm_device.specs.Views.{ViewState, Viewed}
 use Rattle.jump_index.specs.Searches.{HasTrail}
 use Rattle.jump_index.proofs.LookingLater.{trail_then}
@@ -22,7 +22,7 @@ use Rattle.posting_list.specs.declared.sought_term.SoughtTerm.{SoughtTerm}
 -- the tags of the slot in the list, and the ordinal of the one that is sought
 pub record OwedTags (r : Reach) (term : SoughtTerm) (body : List ℕ) : Type 0 where
   pub tags : List (List ℕ)
-  pub are : AreTags r.volume.geometry.lists body term.list tags
+  pub are : AreTags r.volume.geometry body term.list tags
   pub most : length tags ≤ 256
   pub i : ℕ
   pub within : i < length tags
@@ -61,12 +61,12 @@ pub posting_tag : (slot : ℕ) (tags : List (List ℕ)) (k : ℕ) (x : List ℕ)
 unfolding posting_at
 posting_tag slot tags k x = refl
 
-is_posting : (lists l slot : ℕ) (body : List ℕ) (tags : List (List ℕ)) (k : ℕ) (tag : List ℕ)
-    → AreTags lists body l tags → k < length tags → slice_get tags k ≡ Some tag
-    → IsPostingOf lists body slot l (posting_at slot tags k tag)
+is_posting : (g : Layout) (l slot : ℕ) (body : List ℕ) (tags : List (List ℕ)) (k : ℕ) (tag : List ℕ)
+    → l < g.lists → AreTags g body l tags → k < length tags → slice_get tags k ≡ Some tag
+    → IsWordPosting g body slot l (posting_at slot tags k tag)
 unfolding posting_at
-is_posting lists l slot body tags k tag are less there =
-    record { tags = tags; are = are; ordinal = k; here = there; key = refl; last = omega (arith, less) }
+is_posting g l slot body tags k tag list are less there =
+    record { list = list; tags = tags; are = are; ordinal = k; here = there; key = refl; last = omega (arith, less) }
 
 -- the posting of an ordinal has a trail
 pub record HasOrdinal (r : Reach) (l slot : ℕ) (s : ViewState) (tags : List (List ℕ)) (k : ℕ) : Type 0 where
@@ -88,7 +88,7 @@ pub ordinal_of : (r : Reach) (term : SoughtTerm) (slot : ℕ) (old mid : ViewSta
 ordinal_of r term slot old mid viewed o t k less =
     let x = some_there t.tags k less in
     let p = posting_at slot t.tags k x.0 in
-    let is = is_posting r.volume.geometry.lists term.list slot o.body t.tags k x.0 t.are less x.1 in
+    let is = is_posting r.volume.geometry term.list slot o.body t.tags k x.0 o.list t.are less x.1 in
     let trail = o.trails p is in
     record {
       tag = x.0;
@@ -110,7 +110,7 @@ pub owed_trail : (r : Reach) (term : SoughtTerm) (s : ViewState) (slot : ℕ) �
 owed_trail r term s slot o =
     let t = owed_tags r term s slot o in
     let p = posting_at slot t.tags t.i term.tag in
-    let is = is_posting r.volume.geometry.lists term.list slot o.body t.tags t.i term.tag t.are t.within t.there in
+    let is = is_posting r.volume.geometry term.list slot o.body t.tags t.i term.tag o.list t.are t.within t.there in
     let trail = o.trails p is in
     let key = posting_key slot t.tags t.i term.tag in
     record {
@@ -162,7 +162,7 @@ vouched_on r term slot old new e v = record {
 pub kept_owed : (r : Reach) (terms : List SoughtTerm) (s : ViewState) (which : ℕ) (term : SoughtTerm) (d : Document)
     → IsTrue s.base.tells → IsVolume s.cells s.image r.volume.geometry → r.bounds.pool ≡ pool_at r.volume.geometry
     → slice_get terms which ≡ Some term → term.list < r.volume.geometry.lists
-    → IsKept s.cells s.image r.volume.geometry d → HasTag r.volume.geometry.lists d.body term.list term.tag
+    → IsKept s.cells s.image r.volume.geometry d → HasTag r.volume.geometry d.body term.list term.tag
     → Owes r terms s which d.slot
 kept_owed r terms s which term d tells volume pool there list kept tagged = record {
   term = term;
@@ -176,7 +176,7 @@ kept_owed r terms s which term d tells volume pool there list kept tagged = reco
     stands = kept.stands;
     postings = kept.postings;
     tagged = tagged;
-    trails = λ p is. let h = kept.trails term.list p list is in
+    trails = λ p is. let h = kept.trails term.list p (omega (arith, list)) (inl is) in
         (h.0, subst (λ n. Trail s.image n s.cells h.0 p (list_at r.volume.geometry term.list)) (sym pool) h.1);
   };
 }

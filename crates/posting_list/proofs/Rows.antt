@@ -1,7 +1,7 @@
 -- The rows that lists of terms are made of tell what is read, and the terms.
 use Rattle.std.proofs.Common.{◌≡◌, ℕ, List, [], ◌∷◌, map, Option, Some, None, Result, Ok, Err, refl, ap, sym, subst, ◌∙◌}
 use Rattle.cell_types.specs.declared.refusal.Fault.{Fault}
-use Rattle.cell_types.specs.declared.refusal.Fault.TheVariants.{Tampered, ReadFault}
+use Rattle.cell_types.specs.declared.refusal.Fault.TheVariants.{Tampered, Failed}
 use Rattle.worm_device.specs.Views.{ViewState}
 use Rattle.zigzag_join.specs.Joins.{JoinEnds}
 use Rattle.posting_list.specs.Joins.{TermsJoin}
@@ -11,8 +11,8 @@ use Rattle.posting_list.specs.declared.sought_term.SoughtTerm.{SoughtTerm}
 
 -- what is read, by its row
 reach_of : List ℕ → Option Reach
-reach_of (version ∷ slots ∷ lists ∷ cells ∷ horizon ∷ pool ∷ edge ∷ []) = Some (record {
-  volume = record { version = version; geometry = record { slots = slots; lists = lists; cells = cells } };
+reach_of (version ∷ slots ∷ lists ∷ cells ∷ stated ∷ horizon ∷ pool ∷ edge ∷ []) = Some (record {
+  volume = record { version = version; geometry = record { slots = slots; lists = lists; cells = cells; version = stated } };
   horizon = horizon;
   bounds = record { pool = pool; edge = edge };
 })
@@ -96,5 +96,5 @@ joins_these r q terms others loan name from s t result same ends =
           → TermsJoin r terms from s t result
       unnamed (Ok (Some n)) ends = record { ends = ends }
       unnamed (Ok None) ends = record { ends = ends }
-      unnamed (Err ReadFault) ends = record { ends = ends }
+      unnamed (Err Failed) ends = record { ends = ends }
       unnamed (Err (Tampered e)) ends = record { ends = ends }

@@ -16,5 +16,5 @@ KeptAreOwed =
     (r : Reach) (terms : List SoughtTerm) (s : ViewState) (which : ℕ) (term : SoughtTerm) (d : Document)
     → IsTrue s.base.tells → IsVolume s.cells s.image r.volume.geometry → r.bounds.pool ≡ pool_at r.volume.geometry
     → slice_get terms which ≡ Some term → term.list < r.volume.geometry.lists
-    → IsKept s.cells s.image r.volume.geometry d → HasTag r.volume.geometry.lists d.body term.list term.tag
+    → IsKept s.cells s.image r.volume.geometry d → HasTag r.volume.geometry d.body term.list term.tag
     → Owes r terms s which d.slot

@@ -4,7 +4,7 @@ use Rattle.cell_types.specs.Image.{Image}
 use Rattle.cell_types.specs.Layout.{pool_at}
 use Rattle.cell_types.specs.declared.refusal.Evidence.{Evidence}
 use Rattle.cell_types.specs.declared.refusal.Fault.{Fault}
-use Rattle.cell_types.specs.declared.refusal.Fault.TheVariants.{Tampered, ReadFault}
+use Rattle.cell_types.specs.declared.refusal.Fault.TheVariants.{Tampered, Failed}
 use Rattle.stored_documents.specs.Slots.{EndsBelow, IsHorizon}
 use Rattle.stored_documents.specs.Volumes.{IsVolume}
 use Rattle.tamper_rules.specs.Rules.{IsBroken, IsPlaceOf}
@@ -42,6 +42,6 @@ Shows r s e = IsTrue s.base.tells → IsShown r s e
 -- Why there is no answer: a read failed, or this is evidence that may be named, and that is shown where nobody else
 -- wrote.
 abbrev pub FaultSays : Reach → ViewState → ViewState → Fault → Type 0
-FaultSays r old new ReadFault = Rose old.base.faults new.base.faults
+FaultSays r old new Failed = Rose old.base.faults new.base.faults
 FaultSays r old new (Tampered e) =
     MayName r new e × (IsStill old.base.foreign_writes new.base.foreign_writes → Shows r new e)

@@ -5,7 +5,7 @@ use Rattle.cell_types.specs.Layout.{list_at}
 use Rattle.stored_documents.specs.Documents.{Stands}
 use Rattle.stored_documents.specs.Volumes.{Holds, IsVolume}
 use Rattle.index_paths.specs.Blocks.{PostingFields, posting_record, Leads, Trail}
-use Rattle.index_paths.specs.Postings.{HasPostings, HasTag, IsPostingOf}
+use Rattle.index_paths.specs.Postings.{HasPostings, HasTag, IsWordPosting}
 use Rattle.worm_device.specs.Views.{ViewState}
 use Rattle.posting_list.specs.declared.reach.Reach.{Reach}
 use Rattle.posting_list.specs.declared.sought_term.SoughtTerm.{SoughtTerm}
@@ -20,9 +20,9 @@ pub record IsOwed (r : Reach) (term : SoughtTerm) (s : ViewState) (slot : ℕ) :
   pub id : List ℕ
   pub body : List ℕ
   pub stands : Stands s.cells s.image slot id body
-  pub postings : HasPostings r.volume.geometry.lists body
-  pub tagged : HasTag r.volume.geometry.lists body term.list term.tag
-  pub trails : (p : PostingFields) → IsPostingOf r.volume.geometry.lists body slot term.list p
+  pub postings : HasPostings r.volume.geometry body
+  pub tagged : HasTag r.volume.geometry body term.list term.tag
+  pub trails : (p : PostingFields) → IsWordPosting r.volume.geometry body slot term.list p
       → (at : ℕ) × Trail s.image r.bounds.pool s.cells at p (list_at r.volume.geometry term.list)
 
 -- The term's list vouches for the slot: a posting with the term's tag and a key of the slot stands in a block of the

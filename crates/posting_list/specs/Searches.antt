@@ -4,7 +4,7 @@ use Rattle.cell_types.specs.Layout.{list_at}
 use Rattle.cell_types.specs.Records.{record_bytes}
 use Rattle.cell_types.specs.declared.geometry.TheConstants.{MAX_SLOTS}
 use Rattle.cell_types.specs.declared.refusal.Fault.{Fault}
-use Rattle.cell_types.specs.declared.refusal.Fault.TheVariants.{Tampered, ReadFault}
+use Rattle.cell_types.specs.declared.refusal.Fault.TheVariants.{Tampered, Failed}
 use Rattle.stored_documents.specs.Slots.{IsDoneSlot, IsHorizon, IsLive}
 use Rattle.index_paths.specs.Blocks.{PostingFields, posting_record}
 use Rattle.tamper_rules.specs.declared.numbers.TheConstants.{FAKE_POSTING}
@@ -53,7 +53,7 @@ pub record LooksLive (r : Reach) (slot : ℕ) (old new : ViewState) (result : Re
 
 -- the fault names this posting as a false one
 abbrev pub IsFalsePosting : Entry → Fault → Type 0
-IsFalsePosting entry ReadFault = ⊥
+IsFalsePosting entry Failed = ⊥
 IsFalsePosting entry (Tampered e) =
     (e.rule ≡ FAKE_POSTING) × (e.cell ≡ cell_of entry)
     × (e.found ≡ record_bytes (posting_record (posting_of entry)) (cell_of entry))

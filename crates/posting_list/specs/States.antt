@@ -10,7 +10,7 @@ use Rattle.posting_list.specs.declared.sought_term.SoughtTerm.{SoughtTerm}
 -- what is read, as a row of numbers
 abbrev pub row_of : Reach → List ℕ
 row_of r =
-    r.volume.version ∷ r.volume.geometry.slots ∷ r.volume.geometry.lists ∷ r.volume.geometry.cells ∷ r.horizon
+    r.volume.version ∷ r.volume.geometry.slots ∷ r.volume.geometry.lists ∷ r.volume.geometry.cells ∷ r.volume.geometry.version ∷ r.horizon
     ∷ r.bounds.pool ∷ r.bounds.edge ∷ []
 
 -- a term as a row of numbers

@@ -64,10 +64,7 @@ pub(crate) fn has_slot<V: View>(
     ensures has { HasSlot reach.now term.now slot (V.seen view.old) (V.seen view.new) result }
 {
     let sought = number_of(&term.tag);
-    let first = match probe(view, fronts, reach, term.list, 256 * slot) {
-        Ok(first) => first,
-        Err(fault) => return Err(fault),
-    };
+    let first = probe(view, fronts, reach, term.list, 256 * slot)?;
     let Some(first) = first else {
         return Ok(false);
     };
@@ -76,10 +73,7 @@ pub(crate) fn has_slot<V: View>(
     let mut high = u32::from(first.last) + 1;
     while low < high {
         let middle = low + (high - low) / 2;
-        let found = match probe(view, fronts, reach, term.list, 256 * slot + middle) {
-            Ok(found) => found,
-            Err(fault) => return Err(fault),
-        };
+        let found = probe(view, fronts, reach, term.list, 256 * slot + middle)?;
         let Some(entry) = found else {
             return Ok(false);
         };

@@ -18,7 +18,7 @@ impl<'a, V: View> TermLists<'a, V> {
     /// # Errors
     ///
     /// `Tampered` where a block is out of order (rules 8 and 10), a posting's slot is not done or lies at or past the
-    /// horizon (rule 9), or a slot's cells are no state (rules 1 to 3); `ReadFault`.
+    /// horizon (rule 9), or a slot's cells are no state (rules 1 to 3); `Failed`.
     pub fn next_common(&mut self, from: u32) -> Result<Option<u32>, Fault>
         requires some { 1 ≤ length self.old.sought.now.terms.items }
         requires from { from ≤ MAX_SLOTS }

@@ -6,7 +6,7 @@ ghost use Rattle.posting_list.specs.Keeping.{KeepsFronts};
 ghost use Rattle.posting_list.specs.Searches.{IsFalsePosting, LooksLive, NextSlot, head_of, says_done, within};
 
 use crate::{Reach, SoughtTerm};
-use cell_types::{Evidence, Fault};
+use cell_types::{Fault, breach};
 use commit_record::{SlotState, slot_state};
 use jump_block::{Entry, KeptFronts};
 use jump_index::{Bounds, find_geq_from_kept};
@@ -63,11 +63,11 @@ fn not_live(entry: &Entry) -> Fault
     requires well_formed { entry.now.key % 256 ≤ entry.now.last }
     ensures { IsFalsePosting entry.now result }
 {
-    Fault::Tampered(Evidence {
-        rule: FAKE_POSTING,
-        cell: entry.block + u32::from(entry.place),
-        found: entry.cell(),
-    })
+    breach(
+        FAKE_POSTING,
+        entry.block + u32::from(entry.place),
+        entry.cell(),
+    )
 }
 
 /// The next slot of a term's list at or past one: that of the first posting at or past the slot's first key, whichever
@@ -86,10 +86,7 @@ pub(crate) fn next_slot<V: View>(
     ensures kept { KeepsFronts (V.seen view.new) fronts.new }
     ensures next { NextSlot reach.now term.now from (V.seen view.old) (V.seen view.new) result }
 {
-    let found = match find(view, fronts, reach, term.list, 256 * from) {
-        Ok(found) => found,
-        Err(fault) => return Err(fault),
-    };
+    let found = find(view, fronts, reach, term.list, 256 * from)?;
     let Some(entry) = found else {
         return Ok(None);
     };

@@ -1,9 +1,10 @@
 //! The lists of terms on the small volume of 8 slots and 2 lists on 1,000 cells. Its cells were written by hand.
 use crate::{SoughtTerms, TermLists};
-use cell_types::{Cell, Evidence, Fault, Geometry, MAX_SLOTS, Volume};
+use cell_types::{Cell, Evidence, FIRST_VERSION, Fault, Geometry, MAX_SLOTS, Volume};
 use jump_index::Bounds;
 use std::alloc::Global;
 use std::test::Fail;
+use stored_documents::WordRule;
 use word_reader::words;
 use worm_device::{Device, Direct};
 use worm_memory::MemoryDevice;
@@ -73,7 +74,7 @@ fn ask(
     which: u32,
     slot: u32,
 ) -> Result<Answers, Fail> {
-    let geometry = Geometry::new(8, 2, 1_000).ok_or("no geometry")?;
+    let geometry = Geometry::new(8, 2, 1_000, FIRST_VERSION).ok_or("no geometry")?;
     let volume = Volume {
         version: 1,
         geometry,
@@ -82,7 +83,7 @@ fn ask(
         pool: 580,
         edge: 584,
     };
-    let terms = words(alloc, text)?;
+    let terms = words(alloc, text, WordRule::Ascii)?;
     let sought = SoughtTerms::new(alloc, &volume, &terms)?;
     let mut view = Direct::new(device);
     let mut lists = TermLists::new(&mut view, &sought, volume, 1, bounds);

@@ -7,6 +7,7 @@ use Rattle.cell_types.specs.Layout.{Layout}
 use Rattle.cell_types.specs.declared.refusal.Fault.TheVariants as faults
 use Rattle.cell_types.specs.declared.refusal.Refusal.{Refusal}
 use Rattle.cell_types.specs.declared.refusal.Refusal.TheVariants.{DeviceFault, NoMemory, Tampered}
+use Rattle.stored_documents.specs.Words.{rule_of}
 use Rattle.worm_device.specs.State.{DeviceState}
 use Rattle.worm_device.specs.Views.{Viewed, seen_directly}
 use Rattle.worm_device.proofs.Images.{extends_self, extends_then}
@@ -124,14 +125,14 @@ pub record FoundSoFar (g : Layout) (k : ℕ) (old now : DeviceState) (m n : Matc
     : Type 0 where
   pub viewed : Viewed (seen_directly old 0) (seen_directly now 0)
   pub keeps : KeepsTerms m n
-  pub faults : (terms : List (List ℕ)) → IsMatcherOf terms m → now.faults ≡ old.faults
-  pub found : (terms : List (List ℕ)) → IsMatcherOf terms m → IsTrue old.tells
+  pub faults : (terms : List (List ℕ)) → IsMatcherOf (rule_of g.version) terms m → now.faults ≡ old.faults
+  pub found : (terms : List (List ℕ)) → IsMatcherOf (rule_of g.version) terms m → IsTrue old.tells
       → FoundBelow g k terms old.image now.image matches
 
 pub so_far_none : (g : Layout) (old : DeviceState) (m : Matcher) → FoundSoFar g 0 old old m m []
 so_far_none g old m = record {
   viewed = viewed_self _;
-  keeps = λ terms was. was;
+  keeps = λ rule terms was. was;
   faults = λ terms was. refl;
   found = λ terms was tells. found_none g terms old.image;
 }
@@ -141,7 +142,7 @@ module _ (g : Layout) (k : ℕ) (old now new : DeviceState) (m n : Matcher) (mat
   told : IsTrue old.tells → IsTrue now.tells
   told tells = subst IsTrue (sym so_far.viewed.called.tells) tells
 
-  more : (terms : List (List ℕ)) → IsMatcherOf terms m → (found : Option Match)
+  more : (terms : List (List ℕ)) → IsMatcherOf (rule_of g.version) terms m → (found : Option Match)
       → SlotEnds g k terms (seen_directly now 0) (seen_directly new 0) (Ok found) → IsTrue old.tells
       → FoundBelow g (k + 1) terms old.image new.image (added found matches)
   more terms was None ends tells = found_no_more g k terms old.image now.image new.image so_far.viewed.image
@@ -156,33 +157,34 @@ module _ (g : Layout) (k : ℕ) (old now new : DeviceState) (m n : Matcher) (mat
 
   -- one slot more was searched
   pub so_far_more : (o : Matcher) (found : Option Match) (all : List Match) → KeepsTerms n o
-      → ((terms : List (List ℕ)) → IsMatcherOf terms n
+      → ((terms : List (List ℕ)) → IsMatcherOf (rule_of g.version) terms n
       → SlotEnds g k terms (seen_directly now 0) (seen_directly new 0) (Ok found))
       → all ≡ added found matches → FoundSoFar g (k + 1) old new m o all
   so_far_more o found all keeps ends is = record {
     viewed = viewed_then so_far.viewed viewed;
-    keeps = λ terms was. keeps terms (so_far.keeps terms was);
-    faults = λ terms was. same terms found (ends terms (so_far.keeps terms was)) ∙ so_far.faults terms was;
+    keeps = λ rule terms was. keeps rule terms (so_far.keeps rule terms was);
+    faults = λ terms was.
+        same terms found (ends terms (so_far.keeps (rule_of g.version) terms was)) ∙ so_far.faults terms was;
     found = λ terms was tells. subst (FoundBelow g (k + 1) terms old.image new.image) (sym is)
-        (more terms was found (ends terms (so_far.keeps terms was)) tells);
+        (more terms was found (ends terms (so_far.keeps (rule_of g.version) terms was)) tells);
   }
 
   -- a slot was not searched
   pub so_far_ended : (u : ℕ) → k < u → (refusal : Refusal)
-      → ((terms : List (List ℕ)) → IsMatcherOf terms n
+      → ((terms : List (List ℕ)) → IsMatcherOf (rule_of g.version) terms n
       → SlotEnds g k terms (seen_directly now 0) (seen_directly new 0) (Err refusal))
-      → (terms : List (List ℕ)) → IsMatcherOf terms m → BelowEnds g u terms old new (Err refusal)
+      → (terms : List (List ℕ)) → IsMatcherOf (rule_of g.version) terms m → BelowEnds g u terms old new (Err refusal)
   so_far_ended u less NoMemory ends terms was = tt
   so_far_ended u less DeviceFault ends terms was = record {
     n = k;
     below = less;
-    refuses = fails_from g so_far.viewed viewed k (so_far.faults terms was) faults.ReadFault
-        (ends terms (so_far.keeps terms was));
+    refuses = fails_from g so_far.viewed viewed k (so_far.faults terms was) faults.Failed
+        (ends terms (so_far.keeps (rule_of g.version) terms was));
   }
   so_far_ended u less (Tampered e) ends terms was = record {
     n = k;
     below = less;
     refuses = fails_from g so_far.viewed viewed k (so_far.faults terms was) (faults.Tampered e)
-        (ends terms (so_far.keeps terms was));
+        (ends terms (so_far.keeps (rule_of g.version) terms was));
   }
-  so_far_ended u less refusal ends terms was = absurd (ends terms (so_far.keeps terms was))
+  so_far_ended u less refusal ends terms was = absurd (ends terms (so_far.keeps (rule_of g.version) terms was))

@@ -93,7 +93,7 @@ module _ (id : List ℕ) (r : Ready) (old settled mid : DeviceState) (sink : Sin
   -- it was ended
   pub look_up_unwalked : (fault : Fault) → WalkEnds r id old settled mid (Err fault)
       → LooksUp id old mid sink sink (Err (refusal_of_fault fault))
-  look_up_unwalked faults.ReadFault ends =
+  look_up_unwalked faults.Failed ends =
       come (Err DeviceFault) (omega (arith, s.called.faults, ends), (refl, inl refl))
   look_up_unwalked (faults.Tampered e) ends = come (Err (Tampered e)) ((refl, inl refl), λ tells. (refl, ends tells))
 

@@ -10,7 +10,7 @@ use Rattle.cell_types.specs.declared.refusal.Refusal.{Refusal}
 use Rattle.cell_types.specs.declared.refusal.Refusal.TheVariants.{DeviceFault, NoMemory, Tampered}
 use Rattle.stored_documents.specs.Documents.{stored_bytes}
 use Rattle.stored_documents.specs.Slots.{IsDoneSlot}
-use Rattle.stored_documents.specs.Words.{Matches}
+use Rattle.stored_documents.specs.Words.{Matches, rule_of}
 use Rattle.worm_device.specs.Views.{ViewState, Viewed}
 use Rattle.worm_device.proofs.Images.{extends_self}
 use Rattle.word_reader.specs.declared.matcher.Matcher.{Matcher}
@@ -44,7 +44,7 @@ undone_matches_none terms u = record { read = undone u; none = λ id body h matc
 pub refused : (g : Layout) (n : ℕ) (terms : List (List ℕ)) (old new : ViewState) (fault : Fault)
     → LookFails g n old new fault → SlotEnds g n terms old new (Err (refusal_of_fault fault))
 refused g n terms old new (faults.Tampered e) fails = fails
-refused g n terms old new faults.ReadFault fails = fails
+refused g n terms old new faults.Failed fails = fails
 
 -- a look for a part that found none, or failed
 pub no_part : (g : Layout) (n : ℕ) (terms : List (List ℕ)) (old new : ViewState) → PartEnds g n old new (Ok None)
@@ -69,12 +69,13 @@ module _ (g : Layout) (n : ℕ) (terms : List (List ℕ)) {old mid new : ViewSta
         },
   )
   ends_from (Err NoMemory) ends = ends ∙ same
-  ends_from (Err DeviceFault) ends = fails_from g before after n same faults.ReadFault ends
+  ends_from (Err DeviceFault) ends = fails_from g before after n same faults.Failed ends
   ends_from (Err (Tampered e)) ends = fails_from g before after n same (faults.Tampered e) ends
   ends_from (Err refusal) ends = absurd ends
 
 -- what was read in a part, after it was found
-module _ (g : Layout) (part : Part) (terms : List (List ℕ)) (m : Matcher) (was : IsMatcherOf terms m)
+module _ (g : Layout) (part : Part) (terms : List (List ℕ)) (m : Matcher)
+    (was : IsMatcherOf (rule_of g.version) terms m)
     {old new : ViewState} (viewed : Viewed old new) (same : new.base.faults ≡ old.base.faults)
     (is : IsTrue old.base.tells → IsPartOf g old.image part.slot part) where
   holds : IsTrue old.base.tells → IsPartOf g new.image part.slot part
@@ -94,7 +95,7 @@ module _ (g : Layout) (part : Part) (terms : List (List ℕ)) (m : Matcher) (was
       holds = subst (λ (id : List ℕ). HoldsDocument g new.image part.slot id read.has.body) (sym id_is)
           (whole_is_held g new part.slot part (id_of h) read.has.body (now_tells tells) (holds tells) read.has.whole);
       bytes_is = bytes_is ∙ sym read.has.is_length;
-      matches = read.matches terms was;
+      matches = read.matches (rule_of g.version) terms was;
     },
   )
 
@@ -108,6 +109,7 @@ module _ (g : Layout) (part : Part) (terms : List (List ℕ)) (m : Matcher) (was
           none = λ id body before matches.
               let same = held_on viewed.image before in
               let one = held_is_one g new.image part.slot id body read.id read.body same here in
-              read.differs terms was (subst (λ (b : List ℕ). Matches b terms) one.1 matches);
+              read.differs (rule_of g.version) terms was
+              (subst (λ (b : List ℕ). Matches (rule_of g.version) b terms) one.1 matches);
         },
   )

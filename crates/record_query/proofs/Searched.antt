@@ -1,9 +1,14 @@
 -- What a search answers, over settling and the slots below the horizon.
-use Rattle.std.proofs.Common.{ℕ, List, Result, Ok, Err, refl, sym, inl, subst, arith}
+use Rattle.std.proofs.Common.{◌≡◌, ℕ, List, Result, Ok, Err, refl, sym, inl, subst, arith}
 use Rattle.std.specs.Prelude.{IsTrue}
 use Rattle.std.specs.Global.{Vec}
+use Rattle.cell_types.specs.Image.{Image}
+use Rattle.cell_types.specs.Layout.{Layout}
 use Rattle.cell_types.specs.declared.refusal.Refusal.{Refusal}
 use Rattle.cell_types.specs.declared.refusal.Refusal.TheVariants.{DeviceFault, NoMemory, NotAVolume, NotFormatted, Tampered, WrongSize}
+use Rattle.stored_documents.specs.Words.{Matches, rule_of}
+use Rattle.stored_documents.proofs.Extending.{volume_on}
+use Rattle.tamper_rules.proofs.GivenUp.{one_layout}
 use Rattle.worm_device.specs.State.{DeviceState}
 use Rattle.worm_device.specs.Views.{Viewed, seen_directly}
 use Rattle.worm_device.proofs.Elapsing.{called_self, called_then}
@@ -13,7 +18,9 @@ use Rattle.recovery_engine.specs.declared.settling.Ready.{Ready}
 use Rattle.slot_walk.specs.Laws.{DocumentsAreBelow, NamedIsFound, ReadIsRead}
 use Rattle.slot_walk.specs.Walks.{HasWalked}
 use Rattle.record_query.specs.Below.{BelowEnds, FoundBelow}
-use Rattle.record_query.specs.Finding.{ComesTo, FindEnds, Finds, Searches}
+use Rattle.slot_walk.proofs.Read.{layout_is}
+use Rattle.slot_walk.proofs.Walked.{is_ready, volume_now}
+use Rattle.record_query.specs.Finding.{ComesTo, FindEnds, Finds, HasTerms, Searches}
 use Rattle.record_query.specs.declared.found.Match.{Match}
 
 -- the volume was settled, and then looked at
@@ -54,20 +61,27 @@ module _ (terms : List (List ℕ)) (old new : DeviceState) where
     ends = tt;
   }
 
+-- a body has the terms by the rule of the volume's one layout
+has_by : {cells : ℕ} {image : Image} {body : List ℕ} {terms : List (List ℕ)} {g : Layout}
+    → (has : HasTerms cells image body terms) → has.layout ≡ g → Matches (rule_of g.version) body terms
+has_by {cells} {image} {body} {terms} has same =
+    subst (λ (h : Layout). Matches (rule_of h.version) body terms) same has.matches
+
 module _ (before : DocumentsAreBelow) (named : NamedIsFound) (reads : ReadIsRead) (terms : List (List ℕ))
     (r : Ready) (old settled new : DeviceState) (w : HasWalked r old settled new) where
   finds : (matches : List Match) → IsTrue old.tells
       → FoundBelow r.volume.geometry r.horizon terms settled.image new.image matches → Finds terms old new matches
   finds matches tells f = record {
     all = λ n id body d has. let h = before.before r old settled new n id body w tells d in
-        f.all n id body h.0 h.1 has;
+        f.all n id body h.0 h.1 (has_by has (one_layout {cells = old.cells} {more = settled.cells} has.layout
+        r.volume.geometry (volume_on w.settles.called.image has.volume) (is_ready w tells).volume));
     whole = λ still n id body d has. let h = before.alone r old settled new n id body w tells still d in
-        f.all n id body h.0 h.1 has;
+        f.all n id body h.0 h.1 (has_by has (layout_is w tells has.volume));
     only = λ found among. let is = f.only found among in record {
       body = is.is.body;
       document = before.held r old settled new found.slot found.identifier is.is.body w tells is.below is.is.holds;
       bytes_is = is.is.bytes_is;
-      matches = is.is.matches;
+      has = record { layout = r.volume.geometry; volume = volume_now w tells; matches = is.is.matches };
     };
     rise = f.rise;
     read = reads.all r old settled new w tells f.read;

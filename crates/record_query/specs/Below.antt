@@ -5,7 +5,7 @@ use Rattle.cell_types.specs.Image.{Image}
 use Rattle.cell_types.specs.Layout.{Layout}
 use Rattle.cell_types.specs.declared.refusal.Refusal.{Refusal}
 use Rattle.cell_types.specs.declared.refusal.Refusal.TheVariants.{NoMemory}
-use Rattle.stored_documents.specs.Words.{Matches}
+use Rattle.stored_documents.specs.Words.{Matches, rule_of}
 use Rattle.worm_device.specs.State.{DeviceState}
 use Rattle.worm_device.specs.Views.{seen_directly}
 use Rattle.document_store.specs.Looks.{AreRead, LookRefuses}
@@ -28,8 +28,8 @@ pub record IsMatchBelow (g : Layout) (image : Image) (u : ℕ) (terms : List (Li
 -- held; slots rise. Each slot was read.
 pub record FoundBelow (g : Layout) (u : ℕ) (terms : List (List ℕ)) (before after : Image) (matches : List Match)
     : Type 0 where
-  pub all : (n : ℕ) (id body : List ℕ) → n < u → HoldsDocument g before n id body → Matches body terms
-      → HasMatch matches n id body
+  pub all : (n : ℕ) (id body : List ℕ) → n < u → HoldsDocument g before n id body
+      → Matches (rule_of g.version) body terms → HasMatch matches n id body
   pub only : (found : Match) → Contains matches found → IsMatchBelow g after u terms found
   pub rise : Rises 0 matches
   pub read : AreRead g before after u

@@ -2,10 +2,12 @@
 use Rattle.std.specs.Prelude.{◌≡◌, ◌≤◌, ◌+◌, ℕ, List, [], ◌∷◌, length, Contains, Result, Ok, Err, IsTrue, ⊤}
 use Rattle.std.specs.Global.{Vec}
 use Rattle.cell_types.specs.Image.{Image}
+use Rattle.cell_types.specs.Layout.{Layout}
 use Rattle.cell_types.specs.declared.refusal.Refusal.{Refusal}
 use Rattle.cell_types.specs.declared.refusal.Refusal.TheVariants.{DeviceFault, NoMemory, NotAVolume, NotFormatted, Tampered, WrongSize}
 use Rattle.stored_documents.specs.Documents.{IsDocument}
-use Rattle.stored_documents.specs.Words.{Matches}
+use Rattle.stored_documents.specs.Volumes.{IsVolume}
+use Rattle.stored_documents.specs.Words.{Matches, rule_of}
 use Rattle.worm_device.specs.Calls.{Called}
 use Rattle.worm_device.specs.Counts.{Rose, IsStill}
 use Rattle.worm_device.specs.State.{DeviceState}
@@ -28,12 +30,18 @@ pub record HasMatch (matches : List Match) (n : ℕ) (id body : List ℕ) : Type
   pub identifier_is : found.identifier ≡ id
   pub bytes_is : found.bytes ≡ length body
 
--- the match tells of a document of the volume, each of the terms is one of whose words
+-- each of the terms is a word of the body, by the rule of words of the volume that the image holds
+pub record HasTerms (cells : ℕ) (image : Image) (body : List ℕ) (terms : List (List ℕ)) : Type 0 where
+  pub layout : Layout
+  pub volume : IsVolume cells image layout
+  pub matches : Matches (rule_of layout.version) body terms
+
+-- the match tells of a document of the volume that has the terms
 pub record IsMatch (cells : ℕ) (image : Image) (terms : List (List ℕ)) (found : Match) : Type 0 where
   pub body : List ℕ
   pub document : IsDocument cells image found.slot found.identifier body
   pub bytes_is : found.bytes ≡ length body
-  pub matches : Matches body terms
+  pub has : HasTerms cells image body terms
 
 -- the slots of the matches rise, from this one on
 abbrev pub Rises : ℕ → List Match → Type 0
@@ -43,11 +51,11 @@ Rises from (found ∷ matches) = (from ≤ found.slot) × Rises (found.slot + 1)
 -- What was found: each document of the volume, as it was at entry, that has the terms; and where nobody else wrote,
 -- each as it is at exit. Each match tells of one that is there at exit; and slots rise. Each slot was read.
 pub record Finds (terms : List (List ℕ)) (old new : DeviceState) (matches : List Match) : Type 0 where
-  pub all : (n : ℕ) (id body : List ℕ) → IsDocument old.cells old.image n id body → Matches body terms
-      → HasMatch matches n id body
+  pub all : (n : ℕ) (id body : List ℕ) → IsDocument old.cells old.image n id body
+      → HasTerms old.cells old.image body terms → HasMatch matches n id body
   pub whole : IsStill old.foreign_writes new.foreign_writes
-      → (n : ℕ) (id body : List ℕ) → IsDocument new.cells new.image n id body → Matches body terms
-      → HasMatch matches n id body
+      → (n : ℕ) (id body : List ℕ) → IsDocument new.cells new.image n id body
+      → HasTerms new.cells new.image body terms → HasMatch matches n id body
   pub only : (found : Match) → Contains matches found → IsMatch new.cells new.image terms found
   pub rise : Rises 0 matches
   pub read : WereRead OfAll old new

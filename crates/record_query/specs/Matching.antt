@@ -4,9 +4,11 @@ use Rattle.cell_types.specs.Image.{Image}
 use Rattle.cell_types.specs.Layout.{Layout}
 use Rattle.cell_types.specs.declared.refusal.Refusal.{Refusal}
 use Rattle.cell_types.specs.declared.refusal.Refusal.TheVariants.{NoMemory}
-use Rattle.stored_documents.specs.Words.{Matches}
+use Rattle.stored_documents.specs.Words.{Matches, rule_of}
+use Rattle.stored_documents.specs.declared.word_rules.WordRule.{WordRule}
 use Rattle.worm_device.specs.Views.{ViewState}
 use Rattle.append_file.specs.declared.piece.ContentFault.{ContentFault}
+use Rattle.append_file.specs.declared.piece.ContentFault.TheVariants as contents
 use Rattle.word_reader.specs.Matching.{HasPushed}
 use Rattle.word_reader.specs.declared.matcher.Matcher.{Matcher}
 use Rattle.document_store.specs.Heads.{FaultEnds, HasBody, IsWhole}
@@ -14,60 +16,75 @@ use Rattle.document_store.specs.Looks.{IsRead, LookRefuses}
 use Rattle.document_store.specs.Standing.{HoldsDocument}
 use Rattle.document_store.specs.declared.head.Head.{Head}
 use Rattle.record_query.specs.declared.found.Match.{Match}
+use Rattle.record_query.specs.declared.matching.SeekFault.{SeekFault}
+use Rattle.record_query.specs.declared.matching.SeekFault.TheVariants as seeks
 
--- a matcher of these terms, whatever bytes were pushed to it
-pub record IsMatcherOf (terms : List (List ℕ)) (m : Matcher) : Type 0 where
+-- a matcher of these terms by this rule, whatever bytes were pushed to it
+pub record IsMatcherOf (rule : WordRule) (terms : List (List ℕ)) (m : Matcher) : Type 0 where
   pub bytes : List ℕ
-  pub pushed : HasPushed m terms bytes
+  pub pushed : HasPushed m rule terms bytes
 
--- a matcher stays one of its terms
+-- a matcher stays one of its terms by its rule
 abbrev pub KeepsTerms : Matcher → Matcher → Type 0
-KeepsTerms old new = (terms : List (List ℕ)) → IsMatcherOf terms old → IsMatcherOf terms new
+KeepsTerms old new =
+    (rule : WordRule) (terms : List (List ℕ)) → IsMatcherOf rule terms old → IsMatcherOf rule terms new
 
 -- A body was read behind this head, and the answer says whether it has the terms of a matcher to which no byte had been
 -- pushed.
 pub record HasSought (v : ViewState) (start bytes : ℕ) (h : Head) (m : Matcher) (matched : Bool) : Type 0 where
   pub has : HasBody v start bytes h
-  pub says : (terms : List (List ℕ)) → HasPushed m terms [] → IsTrue matched ↔ Matches has.body terms
+  pub says : (rule : WordRule) (terms : List (List ℕ)) → HasPushed m rule terms []
+      → IsTrue matched ↔ Matches rule has.body terms
+
+-- why words are not sought, where bytes were not read
+abbrev pub seek_fault_of : ContentFault → SeekFault
+seek_fault_of contents.Broken = seeks.Broken
+seek_fault_of contents.ReadFault = seeks.ReadFault
+
+-- how seeking words in a document ends without an answer
+abbrev pub SeekFails : ℕ → ℕ → ViewState → ViewState → SeekFault → Type 0
+SeekFails start bytes old new seeks.Broken = FaultEnds start bytes old new contents.Broken
+SeekFails start bytes old new seeks.ReadFault = FaultEnds start bytes old new contents.ReadFault
+SeekFails start bytes old new seeks.NoMemory = new.base.faults ≡ old.base.faults
 
 -- how reading the body behind a head with a matcher may end, and why
-abbrev pub MatchEnds : ℕ → ℕ → Head → ViewState → ViewState → Matcher → Result Bool ContentFault → Type 0
+abbrev pub MatchEnds : ℕ → ℕ → Head → ViewState → ViewState → Matcher → Result Bool SeekFault → Type 0
 MatchEnds start bytes h old new m (Ok matched) =
     (new.base.faults ≡ old.base.faults) × HasSought new start bytes h m matched
-MatchEnds start bytes h old new m (Err fault) = FaultEnds start bytes old new fault
+MatchEnds start bytes h old new m (Err fault) = SeekFails start bytes old new fault
 
 -- a document was read that has the terms of a matcher
 pub record ReadMatch (v : ViewState) (start bytes : ℕ) (m : Matcher) (h : Head) : Type 0 where
   pub has : HasBody v start bytes h
-  pub matches : (terms : List (List ℕ)) → IsMatcherOf terms m → Matches has.body terms
+  pub matches : (rule : WordRule) (terms : List (List ℕ)) → IsMatcherOf rule terms m → Matches rule has.body terms
 
 -- a document was read that does not have the terms of a matcher
 pub record ReadOther (v : ViewState) (start bytes : ℕ) (m : Matcher) : Type 0 where
   pub id : List ℕ
   pub body : List ℕ
   pub whole : IsWhole v start bytes id body
-  pub differs : (terms : List (List ℕ)) → IsMatcherOf terms m → Matches body terms → ⊥
+  pub differs : (rule : WordRule) (terms : List (List ℕ)) → IsMatcherOf rule terms m → Matches rule body terms → ⊥
 
 -- How reading a document while the terms of a matcher are sought may end, and why. It answers the head of one that has
 -- them.
-abbrev pub SeekEnds : ℕ → ℕ → ViewState → ViewState → Matcher → Result (Option Head) ContentFault → Type 0
+abbrev pub SeekEnds : ℕ → ℕ → ViewState → ViewState → Matcher → Result (Option Head) SeekFault → Type 0
 SeekEnds start bytes old new m (Ok (Some h)) =
     (new.base.faults ≡ old.base.faults) × ReadMatch new start bytes m h
 SeekEnds start bytes old new m (Ok None) = (new.base.faults ≡ old.base.faults) × ReadOther new start bytes m
-SeekEnds start bytes old new m (Err fault) = FaultEnds start bytes old new fault
+SeekEnds start bytes old new m (Err fault) = SeekFails start bytes old new fault
 
--- slot n holds a document that has the terms, and the match tells of it
+-- slot n holds a document that has the terms, by the volume's rule of words, and the match tells of it
 pub record IsMatchIn (g : Layout) (image : Image) (n : ℕ) (terms : List (List ℕ)) (found : Match) : Type 0 where
   pub body : List ℕ
   pub slot_is : found.slot ≡ n
   pub holds : HoldsDocument g image n found.identifier body
   pub bytes_is : found.bytes ≡ length body
-  pub matches : Matches body terms
+  pub matches : Matches (rule_of g.version) body terms
 
 -- slot n was read between two images, and holds no document that has the terms
 pub record HasNoMatch (g : Layout) (before after : Image) (n : ℕ) (terms : List (List ℕ)) : Type 0 where
   pub read : IsRead g before after n
-  pub none : (id body : List ℕ) → HoldsDocument g before n id body → Matches body terms → ⊥
+  pub none : (id body : List ℕ) → HoldsDocument g before n id body → Matches (rule_of g.version) body terms → ⊥
 
 -- how looking for the terms in the document of slot n may end, and why
 abbrev pub SlotEnds : Layout → ℕ → List (List ℕ) → ViewState → ViewState → Result (Option Match) Refusal → Type 0

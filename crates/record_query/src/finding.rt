@@ -1,5 +1,6 @@
 //! All documents that have the words which are sought.
 ghost use Rattle.std.specs.Prelude.{◌≡◌, ◌<◌, ◌≤◌, ℕ, List, IfOk};
+ghost use Rattle.stored_documents.specs.Words.{rule_of};
 ghost use Rattle.worm_device.specs.Views.{Viewed, seen_directly};
 ghost use Rattle.record_query.specs.Below.{BelowEnds, added};
 ghost use Rattle.record_query.specs.Finding.{Searches};
@@ -11,11 +12,12 @@ use cell_types::{Refusal, Volume};
 use recovery_engine::settle;
 use slot_walk::{documents_are_below, named_is_found, read_is_read};
 use std::alloc::{AllocError, Global};
+use stored_documents::rule_of;
 use word_reader::{Matcher, Term};
 use worm_device::{Device, Direct};
 
-/// Settles the volume, and answers each document of it that has all of the terms, by rising slot. Reads each cell of a
-/// document once.
+/// Settles the volume, and answers each document of it that has all of the terms, by the volume's rule of words, by
+/// rising slot. Reads each cell of a document once.
 ///
 /// # Errors
 ///
@@ -28,7 +30,8 @@ pub fn find<D: Device>(alloc: Global, device: &mut D, terms: &[Term]) -> Result<
     named_is_found();
     read_is_read();
     let ready = settle(device)?;
-    let mut matcher = Matcher::new(alloc, terms)?;
+    let rule = rule_of(ready.volume.geometry.version());
+    let mut matcher = Matcher::new(alloc, terms, rule)?;
     find_below(alloc, device, &ready.volume, ready.horizon, &mut matcher)
 }
 
@@ -43,7 +46,7 @@ fn find_below<D: Device>(
     requires horizon { horizon ≤ volume.now.geometry.slots }
     requires size { volume.now.geometry.cells ≤ (D.state device.old).cells }
     ensures viewed { Viewed (seen_directly (D.state device.old) 0) (seen_directly (D.state device.new) 0) }
-    ensures ends { (terms : List (List ℕ)) → IsMatcherOf terms matcher.old
+    ensures ends { (terms : List (List ℕ)) → IsMatcherOf (rule_of volume.now.geometry.version) terms matcher.old
         → BelowEnds volume.now.geometry horizon terms (D.state device.old) (D.state device.new) result }
 {
     let mut matches = Vec::new(alloc);
@@ -66,7 +69,7 @@ fn match_on_device<D: Device>(
     requires size { volume.now.geometry.cells ≤ (D.state device.old).cells }
     ensures viewed { Viewed (seen_directly (D.state device.old) 0) (seen_directly (D.state device.new) 0) }
     ensures matcher { KeepsTerms matcher.old matcher.new }
-    ensures ends { (terms : List (List ℕ)) → IsMatcherOf terms matcher.old
+    ensures ends { (terms : List (List ℕ)) → IsMatcherOf (rule_of volume.now.geometry.version) terms matcher.old
         → SlotEnds volume.now.geometry slot terms (seen_directly (D.state device.old) 0)
         (seen_directly (D.state device.new) 0) result }
 {

@@ -13,8 +13,9 @@
 //!     look up d               absent
 //!
 //! A find reads each document once, whether it matches or not: so it passes none that was there when it began, whatever
-//! somebody else writes in the meantime, or names a cell as evidence of tampering. A look-up checks its document whole
-//! before the first byte goes out, and takes no memory.
+//! somebody else writes in the meantime, or names a cell as evidence of tampering. What a word is, the version of the
+//! volume says; where words are of characters, a find takes memory for one body at a time. A look-up checks its document
+//! whole before the first byte goes out, and takes no memory.
 //!
 //! Stands on `slot_walk` (what reading the slots tells of the volume), `document_store` (reading one) and `word_reader`
 //! (words). Begin with `finding.rt` and `looking_up.rt`; specs/Finding.antt and specs/LookingUp.antt say how each may

@@ -1,15 +1,18 @@
 //! The document of one slot, read once while words are sought in it.
 ghost use Rattle.std.specs.Prelude.{◌≡◌, ◌<◌, ◌≤◌, ◌+◌, [], ℕ, List, IfOk, IsTrue, take, length};
 ghost use Rattle.stored_documents.specs.Slots.{cells_for};
+ghost use Rattle.stored_documents.specs.Words.{rule_of};
+ghost use Rattle.stored_documents.specs.declared.word_rules.WordRule.{WordRule};
 ghost use Rattle.worm_device.specs.Views.{Viewed};
 ghost use Rattle.append_file.specs.Reading.{IsPosition};
 ghost use Rattle.word_reader.specs.Matching.{HasPushed};
 ghost use Rattle.document_store.specs.Heads.{IsHead, id_of};
-ghost use Rattle.document_store.specs.Looks.{IsPartOf};
-ghost use Rattle.record_query.specs.Matching.{IsMatcherOf, KeepsTerms, MatchEnds, SeekEnds, SlotEnds};
+ghost use Rattle.document_store.specs.Looks.{IsPartOf, IsStated};
+ghost use Rattle.record_query.specs.Matching.{IsMatcherOf, KeepsTerms, MatchEnds, SeekEnds, SlotEnds, seek_fault_of};
+ghost use Rattle.record_query.specs.declared.matching.SeekFault.TheVariants as seeks;
 
 use crate::found::{Match, Text};
-use cell_types::{Geometry, Refusal, Volume};
+use cell_types::{Geometry, NoMemory, Refusal, Volume};
 use document_store::{
     ContentFault, Head, Part, Position, name_commit, read_byte, read_head, slot_part,
 };
@@ -17,7 +20,37 @@ use std::alloc::{AllocError, Global};
 use word_reader::Matcher;
 use worm_device::View;
 
-/// The match in a slot, if it is done and its document has each term of the matcher.
+/// Why words were not sought in a document.
+#[derive(Clone, Copy, Debug, PartialEq, Eq)]
+pub(crate) enum SeekFault {
+    /// The part spells no document.
+    Broken,
+    /// A read failed.
+    ReadFault,
+    /// No memory was to be had.
+    NoMemory,
+}
+
+impl From<ContentFault> for SeekFault {
+    ghost from_gives = { λ fault result. result ≡ seek_fault_of fault };
+
+    fn from(fault: ContentFault) -> SeekFault {
+        match fault {
+            ContentFault::Broken => SeekFault::Broken,
+            ContentFault::ReadFault => SeekFault::ReadFault,
+        }
+    }
+}
+
+impl From<NoMemory> for SeekFault {
+    ghost from_gives = { λ _ result. result ≡ seeks.NoMemory };
+
+    fn from(_: NoMemory) -> SeekFault {
+        SeekFault::NoMemory
+    }
+}
+
+/// The match in a slot, if it is done and its document has each term of the matcher, by the volume's rule of words.
 pub(crate) fn match_in<V: View>(
     alloc: Global,
     view: &mut V,
@@ -29,7 +62,7 @@ pub(crate) fn match_in<V: View>(
     requires size { volume.now.geometry.cells ≤ (V.seen view.old).cells }
     ensures viewed { Viewed (V.seen view.old) (V.seen view.new) }
     ensures matcher { KeepsTerms matcher.old matcher.new }
-    ensures ends { (terms : List (List ℕ)) → IsMatcherOf terms matcher.old
+    ensures ends { (terms : List (List ℕ)) → IsMatcherOf (rule_of volume.now.geometry.version) terms matcher.old
         → SlotEnds volume.now.geometry slot terms (V.seen view.old) (V.seen view.new) result }
 {
     let Some(part) = slot_part(view, volume, slot)? else {
@@ -49,17 +82,19 @@ fn match_part<V: View>(
     requires slot { part.now.slot < geometry.now.slots }
     requires size { geometry.now.cells ≤ (V.seen view.old).cells }
     requires inside { part.now.start + cells_for part.now.bytes ≤ geometry.now.cells }
+    requires stated { IsStated part.now }
     requires part { IsTrue (V.seen view.old).base.tells
         → IsPartOf geometry.now (V.seen view.old).image part.now.slot part.now }
     ensures viewed { Viewed (V.seen view.old) (V.seen view.new) }
     ensures matcher { KeepsTerms matcher.old matcher.new }
-    ensures ends { (terms : List (List ℕ)) → IsMatcherOf terms matcher.old
+    ensures ends { (terms : List (List ℕ)) → IsMatcherOf (rule_of geometry.now.version) terms matcher.old
         → SlotEnds geometry.now part.now.slot terms (V.seen view.old) (V.seen view.new) result }
 {
     let found = match seek(view, part.start, part.bytes, matcher) {
         Ok(found) => found,
-        Err(ContentFault::ReadFault) => return Err(Refusal::DeviceFault),
-        Err(ContentFault::Broken) => return Err(Refusal::from(name_commit(view, geometry, part))),
+        Err(SeekFault::Broken) => return Err(Refusal::from(name_commit(geometry, part))),
+        Err(SeekFault::ReadFault) => return Err(Refusal::DeviceFault),
+        Err(SeekFault::NoMemory) => return Err(Refusal::NoMemory),
     };
     let Some(head) = found else {
         return Ok(None);
@@ -88,7 +123,7 @@ fn seek<V: View>(
     start: u32,
     bytes: u32,
     matcher: &mut Matcher,
-) -> Result<Option<Head>, ContentFault>
+) -> Result<Option<Head>, SeekFault>
     requires { start + cells_for bytes ≤ (V.seen view.old).cells }
     ensures viewed { Viewed (V.seen view.old) (V.seen view.new) }
     ensures matcher { KeepsTerms matcher.old matcher.new }
@@ -106,7 +141,8 @@ fn seek<V: View>(
 
 /// Makes the matcher ready for a document: it holds the words of the one before.
 fn forget_document(matcher: &mut Matcher)
-    ensures { (terms : List (List ℕ)) → IsMatcherOf terms matcher.old → HasPushed matcher.new terms [] }
+    ensures { (rule : WordRule) (terms : List (List ℕ)) → IsMatcherOf rule terms matcher.old
+        → HasPushed matcher.new rule terms [] }
 {
     matcher.clear();
 }
@@ -119,7 +155,7 @@ fn match_body<V: View>(
     position: &mut Position,
     head: &Head,
     matcher: &mut Matcher,
-) -> Result<bool, ContentFault>
+) -> Result<bool, SeekFault>
     requires head { IsHead (V.seen view.old) start bytes position.old head.now }
     requires inside { start + cells_for bytes ≤ (V.seen view.old).cells }
     ensures viewed { Viewed (V.seen view.old) (V.seen view.new) }
@@ -127,7 +163,9 @@ fn match_body<V: View>(
     ensures ends { MatchEnds start bytes head.now (V.seen view.old) (V.seen view.new) matcher.old result }
 {
     for _count in 0..head.body_length {
-        matcher.push(read_byte(view, position)?);
+        let byte = read_byte(view, position)?;
+        matcher.push(byte)?;
     }
-    Ok(matcher.finish())
+    let matched = matcher.finish()?;
+    Ok(matched)
 }

@@ -121,8 +121,8 @@ module _ {id body : List ℕ} {g : Layout} {slot : ℕ} {old new : Ports} (ready
       let lists = ap (λ (l : Layout). l.lists) (layout h.ready h.settled.settled) in
       let t = ready.postings.each list (omega (arith, h.many.below, lists)) in
       let same : h.many.tags ≡ t.0 =
-      tags_one g.lists body list h.many.tags t.0
-      (subst (λ (n : ℕ). AreTags n body list h.many.tags) lists h.many.are) t.1 in
+      tags_one g body list h.many.tags t.0
+      (subst (λ (l : Layout). AreTags l body list h.many.tags) (layout h.ready h.settled.settled) h.many.are) t.1 in
       omega (arith, ap length same, h.many.number, h.many.many, t.2)
 
   -- there is room for the need
@@ -135,8 +135,8 @@ module _ {id body : List ℕ} {g : Layout} {slot : ℕ} {old new : Ports} (ready
       device_new ready.begins.steady id body h.index h.settled.slot h.has in
       let edge = planned.edge_now old.device new.device h.ready ready.begins.tells has ready.begins.alone device
       device_new ready.begins.steady id body h.index h.settled.slot h.has in
-      let need_now : IsNeed h.ready.volume.geometry new.device.image h.ready.horizon id body need =
-      subst (λ (n : ℕ). IsNeed h.ready.volume.geometry new.device.image h.ready.horizon id body n) (sym h.need_is)
+      let need_now : IsNeed h.ready.volume.geometry new.device.image h.ready.horizon id body None need =
+      subst (λ (n : ℕ). IsNeed h.ready.volume.geometry new.device.image h.ready.horizon id body None n) (sym h.need_is)
       (planned.need old.device new.device h.ready ready.begins.tells has ready.begins.alone device device_new
       ready.begins.steady id body h.index h.settled.slot h.has) in
       let room : h.ready.edge + need ≤ g.cells = ready.room h.ready.horizon h.ready.edge need
@@ -144,8 +144,8 @@ module _ {id body : List ℕ} {g : Layout} {slot : ℕ} {old new : Ports} (ready
       (subst (λ (i : Image). IsHorizon h.ready.volume.geometry i i h.ready.horizon) same horizon))
       (subst (λ (l : Layout). IsEdge l ready.sound.after ready.sound.after h.ready.edge) one
       (subst (λ (i : Image). IsEdge h.ready.volume.geometry i i h.ready.edge) same edge))
-      (subst (λ (l : Layout). IsNeed l ready.sound.after h.ready.horizon id body need) one
-      (subst (λ (i : Image). IsNeed h.ready.volume.geometry i h.ready.horizon id body need) same need_now)) in
+      (subst (λ (l : Layout). IsNeed l ready.sound.after h.ready.horizon id body None need) one
+      (subst (λ (i : Image). IsNeed h.ready.volume.geometry i h.ready.horizon id body None need) same need_now)) in
       omega (arith, room, h.free_is, h.less, ap (λ (l : Layout). l.cells) one)
 
   -- once the volume is settled no rule is broken in what stands

@@ -20,6 +20,7 @@ use Rattle.record_top.specs.Finding.{AreTermsOf, DoesFind, found_text, misworded
 use Rattle.record_top.specs.LookingUp.{Answers, DoesLookUp, looked, misnamed}
 use Rattle.record_top.specs.Ports.{Ports, TellsFromMemory}
 use Rattle.record_top.specs.Steadiness.{AreMatchesOf, FindsHeld, LooksUpHeld}
+use Rattle.record_top.proofs.ByBytes.{has_by_bytes, matches_by_bytes}
 use Rattle.record_top.proofs.Results.{no_answer, one_refusal, other_refusal}
 
 module _ (old new : DeviceState) (device : IsDevice old) (device_new : IsDevice new) (begins : BeginsSteady old new) where
@@ -37,13 +38,15 @@ module _ (old new : DeviceState) (device : IsDevice old) (device_new : IsDevice 
   just_these : (terms : List (List ℕ)) (documents : List Document) (matches : List Match)
       → AreDocuments new.cells new.image documents → Finds terms old new matches → AreMatchesOf terms documents matches
   just_these terms documents matches are finds = record {
-    all = λ d among has. finds.whole begins.alone d.slot d.id d.body ((are.each d).1 among) has;
+    all = λ d among matches.
+        let is = (are.each d).1 among in
+        finds.whole begins.alone d.slot d.id d.body is (has_by_bytes is.stands.layout is.stands.volume matches);
     only = λ found among.
         let is = finds.only found among in (
           is.body,
           (are.each (record { slot = found.slot; id = found.identifier; body = is.body })).0 is.document,
           is.bytes_is,
-          is.matches,
+          matches_by_bytes is.has,
         );
     rise = finds.rise;
   }

@@ -1,5 +1,6 @@
 pub mod Alarms
 pub mod Asking
+pub mod ByBytes
 pub mod Completing
 pub mod Ending
 pub mod Finds

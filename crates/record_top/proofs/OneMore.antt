@@ -1,5 +1,5 @@
 -- What a crash leaves of an ingest, from a steady device on, where nobody else writes; and what it ends with.
-use Rattle.std.proofs.Common.{◌≡◌, ℕ, List, [], Result, Ok, Err, sym, ap, ◌∙◌, subst}
+use Rattle.std.proofs.Common.{None, ◌≡◌, ℕ, List, [], Result, Ok, Err, sym, ap, ◌∙◌, subst}
 use Rattle.cell_types.specs.Image.{Image}
 use Rattle.cell_types.specs.Layout.{Layout}
 use Rattle.cell_types.specs.declared.refusal.Evidence.{Evidence}
@@ -61,8 +61,8 @@ module _ (id body : List ℕ) (need free : ℕ) (old new : DeviceState) (device 
         is_edge = subst (λ (i : Image). IsEdge g i i h.ready.edge) ended.image
             (planned.edge_now old new h.ready begins.tells has begins.alone device device_new begins.steady id body
             h.index h.settled.slot h.has);
-        need_is = subst (λ (i : Image). IsNeed g i h.ready.horizon id body need) ended.image
-            (subst (λ (n : ℕ). IsNeed g new.image h.ready.horizon id body n) (sym h.need_is)
+        need_is = subst (λ (i : Image). IsNeed g i h.ready.horizon id body None need) ended.image
+            (subst (λ (n : ℕ). IsNeed g new.image h.ready.horizon id body None n) (sym h.need_is)
             (planned.need old new h.ready begins.tells has begins.alone device device_new begins.steady id body h.index
             h.settled.slot h.has));
         free_is = h.free_is;

@@ -123,7 +123,7 @@ module _ (g : Layout) (old new : DeviceState) (is : IsLayout g) (size : g.cells 
                 omega (arith, is.lists),
                 omega (arith, is.cells),
               );
-              well_formed = (refl, is, refl);
+              well_formed = (is, refl);
               same = (alone 0 value stands).1;
             };
           };

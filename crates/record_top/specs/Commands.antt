@@ -47,7 +47,7 @@ IsAskedFor request = (words : List (List ℕ)) × Asks words request
 
 -- the layout of so many slots and lists on the whole device
 abbrev pub layout_on : Ports → ℕ → ℕ → Layout
-layout_on ports slots lists = record { slots = slots; lists = lists; cells = ports.device.cells }
+layout_on ports slots lists = record { slots = slots; lists = lists; cells = ports.device.cells; version = 1 }
 
 -- this is done, and ends for a cause that is named
 abbrev pub Does : Request → Ports → Ports → Result Unit Refusal → Type 0

@@ -6,6 +6,7 @@ use Rattle.cell_types.specs.Layout.{Layout}
 use Rattle.cell_types.specs.declared.refusal.Refusal.{Refusal}
 use Rattle.cell_types.specs.declared.refusal.Refusal.TheVariants.{BadWord, NoMemory}
 use Rattle.stored_documents.specs.Words.{AreWords}
+use Rattle.stored_documents.specs.declared.word_rules.WordRule.TheVariants.{Ascii}
 use Rattle.worm_device.specs.Counts.{IsStill}
 use Rattle.slot_walk.specs.Walks.{IsQueryRule}
 use Rattle.record_query.specs.Finding.{Searches}
@@ -24,7 +25,7 @@ pub record AsksToFind (words asked : List (List ℕ)) : Type 0 where
 
 -- the word holds this term, and no other
 abbrev pub IsOneTerm : List ℕ → List ℕ → Type 0
-IsOneTerm word term = AreWords word (term ∷ [])
+IsOneTerm word term = AreWords Ascii word (term ∷ [])
 
 -- the word holds exactly one term
 pub record HasOneTerm (word : List ℕ) : Type 0 where

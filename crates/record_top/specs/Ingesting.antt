@@ -1,5 +1,5 @@
 -- The command `ingest`: it stores the body that the source gives in the first free slot, and acknowledges it.
-use Rattle.std.specs.Prelude.{◌≡◌, ◌≤◌, ◌+◌, ℕ, List, [], ◌∷◌, codes, Some, Result, Ok, Err, ⊤}
+use Rattle.std.specs.Prelude.{None, ◌≡◌, ◌≤◌, ◌+◌, ℕ, List, [], ◌∷◌, codes, Some, Result, Ok, Err, ⊤}
 use Rattle.cell_types.specs.Layout.{Layout}
 use Rattle.cell_types.specs.declared.refusal.Refusal.{Refusal}
 use Rattle.cell_types.specs.declared.refusal.Refusal.TheVariants.{BadIdentifier, DeviceFault, SinkFault}
@@ -71,9 +71,9 @@ pub record IsReadyToIngest (id body : List ℕ) (g : Layout) (slot : ℕ) (old n
   pub unused : IsUnused g old.device.image slot
   pub fresh : (n : ℕ) (other : List ℕ) → Stands old.device.cells sound.after n id other → ⊥
   pub path : IsPassedWhole g old.device.cells sound.after id → ⊥
-  pub postings : HasPostings g.lists body
+  pub postings : HasPostings g body
   pub room : (n at need : ℕ) → IsHorizon g sound.after sound.after n → IsEdge g sound.after sound.after at
-      → IsNeed g sound.after n id body need → at + need ≤ g.cells
+      → IsNeed g sound.after n id body None need → at + need ≤ g.cells
   pub no_device_fault : IsStill old.device.faults new.device.faults
   pub no_source_fault : IsStill old.source.faults new.source.faults
   pub no_sink_fault : IsStill old.sink.faults new.sink.faults

@@ -1,6 +1,6 @@
 -- A command from a steady device on, where nobody else writes: what a crash leaves of it, at whichever moment; which
 -- documents stand behind it; and that a query tells of just those.
-use Rattle.std.specs.Prelude.{◌≡◌, ◌<◌, ◌-◌, ℕ, List, length, Contains, Result, Ok, Err, ⊤}
+use Rattle.std.specs.Prelude.{None, ◌≡◌, ◌<◌, ◌-◌, ℕ, List, length, Contains, Result, Ok, Err, ⊤}
 use Rattle.cell_types.specs.Layout.{Layout}
 use Rattle.cell_types.specs.declared.refusal.Evidence.{Evidence}
 use Rattle.cell_types.specs.declared.refusal.Refusal.{Refusal}
@@ -10,6 +10,7 @@ use Rattle.stored_documents.specs.Documents.{Document}
 use Rattle.stored_documents.specs.Slots.{IsEdge, IsHorizon}
 use Rattle.stored_documents.specs.Volumes.{IsVolume}
 use Rattle.stored_documents.specs.Words.{Matches}
+use Rattle.stored_documents.specs.declared.word_rules.WordRule.TheVariants.{Ascii}
 use Rattle.tamper_rules.specs.Settling.{Held, Sound}
 use Rattle.volume_growth.specs.Needs.{IsNeed}
 use Rattle.worm_device.specs.State.{DeviceState}
@@ -33,10 +34,10 @@ pub record AddsNone (old new : Ports) (result : Result Unit Refusal) : Type 0 wh
 
 -- These are the matches of just those documents that have the terms, by rising slot.
 pub record AreMatchesOf (terms : List (List ℕ)) (documents : List Document) (matches : List Match) : Type 0 where
-  pub all : (d : Document) → Contains documents d → Matches d.body terms → HasMatch matches d.slot d.id d.body
+  pub all : (d : Document) → Contains documents d → Matches Ascii d.body terms → HasMatch matches d.slot d.id d.body
   pub only : (found : Match) → Contains matches found → (body : List ℕ)
       × Contains documents (record { slot = found.slot; id = found.identifier; body = body })
-      × (found.bytes ≡ length body) × Matches body terms
+      × (found.bytes ≡ length body) × Matches Ascii body terms
   pub rise : Rises 0 matches
 
 -- A find that is done has told of just those documents that the volume held at entry and that have the words.
@@ -68,7 +69,7 @@ pub record IsExactlyTooMany (id body : List ℕ) (need free : ℕ) (old : Device
   pub horizon : IsHorizon layout sound.after sound.after slot
   pub edge : ℕ
   pub is_edge : IsEdge layout sound.after sound.after edge
-  pub need_is : IsNeed layout sound.after slot id body need
+  pub need_is : IsNeed layout sound.after slot id body None need
   pub free_is : free ≡ layout.cells - edge
   pub less : free < need
 

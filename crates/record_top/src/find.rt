@@ -12,6 +12,7 @@ use host_ports::{Sink, Source};
 use itoa::Buffer;
 use record_query::{Match, find};
 use std::alloc::{AllocError, Global};
+use stored_documents::WordRule;
 use word_reader::{Term, WordFault, single_term};
 use worm_device::Device;
 
@@ -45,7 +46,7 @@ fn terms_of(alloc: Global, words: &[String]) -> Result<Vec<Term>, Refusal>
     let mut number = 0;
     for word in words {
         number += 1;
-        let term = match single_term(alloc, word.as_bytes()) {
+        let term = match single_term(alloc, word.as_bytes(), WordRule::Ascii) {
             Ok(term) => term,
             Err(WordFault::BadWord) => return Err(Refusal::BadWord(number)),
             Err(WordFault::NoMemory) => return Err(Refusal::NoMemory),

@@ -16,7 +16,7 @@ pub fn format_device<D: Device, S: Source, K: Sink>(
     source: &mut S,
     sink: &mut K,
 ) -> Outcome
-    ensures { DoesFormat (record { slots = slots; lists = lists; cells = (D.state device.old).cells })
+    ensures { DoesFormat (record { slots = slots; lists = lists; cells = (D.state device.old).cells; version = 1 })
         (ports_of (D.state device.old) (S.state source.old) (K.state sink.old))
         (ports_of (D.state device.new) (S.state source.new) (K.state sink.new)) result }
 {

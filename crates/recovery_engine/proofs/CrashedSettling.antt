@@ -2,7 +2,7 @@
 use Rattle.std.proofs.Common.{◌≡◌, ◌+◌, ℕ, List, Option, Some, None, refl, sym, ap, ◌∙◌, ⊎_elim, arith}
 use Rattle.std.proofs.lemmas.Option.{none-some}
 use Rattle.cell_types.specs.Image.{Image, Extends}
-use Rattle.cell_types.specs.Layout.{Layout, outcome_at, done_at, list_at}
+use Rattle.cell_types.specs.Layout.{Layout, outcome_at, done_at, lists_at}
 use Rattle.stored_documents.specs.Documents.{document_at}
 use Rattle.stored_documents.specs.Slots.{IsAbandoned, IsCommitted, IsDone, IsReserved, IsUnused}
 use Rattle.stored_documents.proofs.Extending.{abandons_on, commits_on, done_on, reserves_on}
@@ -119,7 +119,7 @@ left_committed g n s r b j image l =
     let p = put_there l (done_at n) v is.done here in
     let same : v ≡ (done_put n).value = ⊎_elim
     (λ (a : (p.planned.0 ≡ 1) × IsEntryPut l.old.image (journal_at s r j) j p.put).
-    let low = entries_from (list_at g 0) l.old.image (journal_at s r j) (document_at s r b j) j l.journal a.1.0
+    let low = entries_from (lists_at g) l.old.image (journal_at s r j) (document_at s r b j) j l.journal a.1.0
     p.put.value a.1.1 a.1.2.stands in
     absurd (omega (arith, low, p.here, a.1.2.at, is.commits.reserves.slot)))
     (λ (d : (p.planned.0 ≡ 2) × (p.put ≡ done_put n)). sym p.is ∙ ap (λ (q : Put). q.value) d.1)

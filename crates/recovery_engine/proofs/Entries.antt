@@ -5,7 +5,7 @@ use Rattle.cell_types.specs.Image.{Image, Extends, IsUnchanged}
 use Rattle.recovery_engine.specs.Entries.{target_of, IsCopy, IsFit, IsUnfit, IsFloor, AreEntries}
 use Rattle.cell_types.specs.declared.refusal.Evidence.{Evidence}
 use Rattle.cell_types.specs.declared.refusal.Fault.{Fault}
-use Rattle.cell_types.specs.declared.refusal.Fault.TheVariants.{Tampered, ReadFault}
+use Rattle.cell_types.specs.declared.refusal.Fault.TheVariants.{Tampered, Failed}
 use Rattle.worm_device.specs.Calls.{Called}
 use Rattle.worm_device.specs.Counts.{IsStill}
 use Rattle.worm_device.specs.State.{DeviceState}
@@ -165,7 +165,7 @@ module _ (j : Journal) (k : ℕ) (less : k < j.count) {old mid now : DeviceState
   -- a journal cell was not read
   pub entry_refused : (fault : Fault) → EntryEnds j k floor mid now (Err fault)
       → PutsPhase (IsEntryPut old.image j.place j.count) old now (Err fault)
-  entry_refused ReadFault ends = phase_ended ReadFault (record {
+  entry_refused Failed ends = phase_ended Failed (record {
     called = c0;
     only = λ tells still. changes_wider (entry_left j.count (omega (arith, less))) (puts_now.only tells still);
     ends = omega (arith, ends, puts.called.faults);
@@ -215,10 +215,10 @@ module _ (j : Journal) (k : ℕ) (less : k < j.count) {old mid now : DeviceState
 
       pub entry_held : (fault : Fault) → Puts (IsThis put) now new (Err fault)
           → PutsPhase (IsEntryPut old.image j.place j.count) old new (Err fault)
-      entry_held ReadFault then = phase_ended ReadFault (record {
+      entry_held Failed then = phase_ended Failed (record {
         called = called_then c0 then.called;
         only = λ tells. (puts_ended (entry_left j.count (omega (arith, less))) (entry_right tells j.count less) tt
-            puts_now ReadFault then).only tells;
+            puts_now Failed then).only tells;
         ends = omega (arith, then.ends, c0.faults);
       })
       entry_held (Tampered e) then = phase_ended (Tampered e) (record {

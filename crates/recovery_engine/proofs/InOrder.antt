@@ -5,7 +5,7 @@ use Rattle.cell_types.specs.Image.{Image, Extends, IsUnchanged}
 use Rattle.cell_types.specs.Layout.{Layout, pool_at}
 use Rattle.cell_types.specs.declared.refusal.Evidence.{Evidence}
 use Rattle.cell_types.specs.declared.refusal.Fault.{Fault}
-use Rattle.cell_types.specs.declared.refusal.Fault.TheVariants.{Tampered, ReadFault}
+use Rattle.cell_types.specs.declared.refusal.Fault.TheVariants.{Tampered, Failed}
 use Rattle.commit_record.specs.Reservations.{reservation_of}
 use Rattle.commit_record.specs.States.{IsNoState, IsState, StateEnds}
 use Rattle.commit_record.specs.declared.reservation.Reservation.{Reservation}
@@ -82,7 +82,7 @@ no_state_rule (IsNoState.done_wrongly start length bytes journal r c commits no_
 -- the slot is no state, or a read failed
 pub fault_here : (g : Layout) (n : ℕ) (v0 v1 : ViewState) (fault : Fault) → StateEnds g n v0 v1 (Err fault)
     → LastEnds g n v0 v1 (Err fault)
-fault_here g n v0 v1 ReadFault ends = ends
+fault_here g n v0 v1 Failed ends = ends
 fault_here g n v0 v1 (Tampered e) ends = λ tells.
     let out = ends.2 tells in
     record {
@@ -96,7 +96,7 @@ module _ (g : Layout) (n m : ℕ) (next : n ≡ m + 1) (less : n < g.slots) (v0 
     (two : Viewed v1 v2) where
   -- the slot before is no state, or a read failed
   pub fault_before : (fault : Fault) → StateEnds g m v1 v2 (Err fault) → LastEnds g n v0 v2 (Err fault)
-  fault_before ReadFault ends = omega (arith, ends, one.called.faults)
+  fault_before Failed ends = omega (arith, ends, one.called.faults)
   fault_before (Tampered e) ends = λ tells.
       let out = ends.2 (subst IsTrue (sym one.called.tells) tells) in
       record {

@@ -2,7 +2,7 @@
 use Rattle.std.proofs.Common.{◌≡◌, ◌≢◌, ◌≤◌, ◌<◌, ◌+◌, ◌^◌, ◌⊎◌, ℕ, List, Some, None, Ok, Err, refl, sym, ap, ◌∙◌, inl, inr, ⊎_elim, subst, arith}
 use Rattle.std.specs.Prelude.{IsTrue, Result}
 use Rattle.cell_types.specs.Image.{Image, Extends, IsUnchanged}
-use Rattle.cell_types.specs.Layout.{Layout, reserve_at, outcome_at, done_at, list_at}
+use Rattle.cell_types.specs.Layout.{Layout, reserve_at, outcome_at, done_at, lists_at}
 use Rattle.cell_types.specs.Records.{IsRecordCell, record_bytes}
 use Rattle.cell_types.specs.Refusals.{refusal_of_fault}
 use Rattle.cell_types.specs.declared.geometry.TheConstants.{MAX_SLOTS}
@@ -88,7 +88,7 @@ found_looked old now e rule called quiet licensed = record {
 module _ (g : Layout) (n s l b j : ℕ) where
   -- a journal cell that is in order is fit
   in_order_fits : (image : Image) (k floor : ℕ) (cell : List ℕ) → image (journal_at s l j + k) ≡ Some cell
-      → IsFloor (list_at g 0) image (journal_at s l j) k floor → IsInOrder g image n s l b j k
+      → IsFloor (lists_at g) image (journal_at s l j) k floor → IsInOrder g image n s l b j k
       → IsUnfit floor (document_at s l b j) cell → ⊥
   in_order_fits image k floor cell stands floor_is o unfit =
       let value : o.copies.entry ≡ cell = value_is o.copies.entry cell (sym o.copies.stands ∙ stands) in
@@ -102,7 +102,7 @@ module _ (g : Layout) (n s l b j : ℕ) where
       }))
       (λ (rest : (target_of cell < floor) ⊎ (document_at s l b j ≤ target_of cell)). ⊎_elim
       (λ (low : target_of cell < floor). ⊎_elim
-      (λ (a : (k ≡ 0) × (floor ≡ list_at g 0)). omega (arith, low, a.1, here, behind_log o.index))
+      (λ (a : (k ≡ 0) × (floor ≡ lists_at g)). omega (arith, low, a.1, here, behind_log o.index))
       (λ (c : (m : ℕ) × (before : List ℕ) × (k ≡ m + 1) × (image (journal_at s l j + m) ≡ Some before)
       × (floor ≡ target_of before + 1)). ⊎_elim
       (λ (first : k ≡ 0). omega (arith, first, c.2))
@@ -230,13 +230,13 @@ journal_checked g n s l b j old new state journal result e f ends =
     by_result : (r : Result (Unit {0}) Fault) → JournalEnds (journal_of g n s l b j) old new r
         → SlotCheckEnds g n (Committed s l b j) old new r
     by_result (Ok tt) h = h
-    by_result (Err faults.ReadFault) h = h
+    by_result (Err faults.Failed) h = h
     by_result (Err (faults.Tampered e)) h = h
 
 -- a look at the slot's journal names no target
 pub check_names : (g : Layout) (n : ℕ) (s0 s4 s5 : DeviceState) (state : SlotState) (fault : Fault) → IsTrue s4.tells
     → SlotCheckEnds g n state s4 s5 (Err fault) → NamesTarget s0 s5 (Err (refusal_of_fault fault))
-check_names g n s0 s4 s5 state faults.ReadFault tells ends = tt
+check_names g n s0 s4 s5 state faults.Failed tells ends = tt
 check_names g n s0 s4 s5 Unused (faults.Tampered e) tells ends = absurd (ends tells)
 check_names g n s0 s4 s5 (Reserved s l) (faults.Tampered e) tells ends = absurd (ends tells)
 check_names g n s0 s4 s5 (Abandoned s l) (faults.Tampered e) tells ends = absurd (ends tells)
@@ -263,7 +263,7 @@ module _ (g : Layout) (n : ℕ) (s0 s3 s4 s5 : DeviceState) (c03 : Called s0 s3)
       → (IsStill s4.foreign_writes s5.foreign_writes → IsUnchanged s4.image s5.image)
       → (IsTrue s0.tells → IsVolume s4.cells s4.image g) → (IsTrue s4.tells → IsLast g s3.image s4.image n state)
       → SlotCheckEnds g n state s4 s5 (Err fault) → SettleEnds s0 s5 (Err (refusal_of_fault fault))
-  check_refused state faults.ReadFault quiet_45 volume last ends = omega (arith, ends, c04.faults)
+  check_refused state faults.Failed quiet_45 volume last ends = omega (arith, ends, c04.faults)
   check_refused Unused (faults.Tampered e) quiet_45 volume last ends = λ tells. absurd (ends (tells_4 tells))
   check_refused (Reserved s l) (faults.Tampered e) quiet_45 volume last ends = λ tells. absurd (ends (tells_4 tells))
   check_refused (Abandoned s l) (faults.Tampered e) quiet_45 volume last ends = λ tells. absurd (ends (tells_4 tells))
@@ -315,13 +315,13 @@ module _ (g : Layout) (n : ℕ) (s0 s3 s4 s5 : DeviceState) (c03 : Called s0 s3)
         })
 
     module _ (s l b j : ℕ) (commits : Commits g s4.image n s l b j) (none : s3.image (done_at n) ≡ None)
-        (entries : AreEntries (list_at g 0) s4.image (journal_at s l j) (document_at s l b j) j)
+        (entries : AreEntries (lists_at g) s4.image (journal_at s l j) (document_at s l b j) j)
         (phases : PutsPhases (end_plan s4.image n (Committed s l b j)) 2 s4 s5 (Err (faults.Tampered e))) where
       -- no target is a cell of the log
       no_target : (put : Put) → IsEntryPut s4.image (journal_at s l j) j put → put.at ≡ done_at n → ⊥
       no_target put h here =
-          let low : list_at g 0 ≤ target_of put.value =
-          entries_from (list_at g 0) s4.image (journal_at s l j) (document_at s l b j) j entries h.0 put.value h.1
+          let low : lists_at g ≤ target_of put.value =
+          entries_from (lists_at g) s4.image (journal_at s l j) (document_at s l b j) j entries h.0 put.value h.1
           h.2.stands in
           omega (arith, commits.reserves.slot, here, h.2.at, low)
 
@@ -335,7 +335,7 @@ module _ (g : Layout) (n : ℕ) (s0 s3 s4 s5 : DeviceState) (c03 : Called s0 s3)
           h.2
 
       few : n < MAX_SLOTS
-      few = omega (arith, commits.reserves.slot, volume.volume.is.well_formed.1.slots)
+      few = omega (arith, commits.reserves.slot, volume.volume.is.well_formed.0.slots)
 
       -- the slot is committed still, or done now
       stores_5 : IsStill s0.foreign_writes s5.foreign_writes → Stores g s5.image n s l b j
@@ -368,7 +368,7 @@ module _ (g : Layout) (n : ℕ) (s0 s3 s4 s5 : DeviceState) (c03 : Called s0 s3)
           (⊎_elim
           (λ (first : (twice.planned.0 ≡ 0) × IsEntryPut s4.image (journal_at s l j) j twice.other).
           taken.differs (sym twice.is
-          ∙ entries_apart (list_at g 0) s4.image (journal_at s l j) (document_at s l b j) j entries first.1.0 is.0
+          ∙ entries_apart (lists_at g) s4.image (journal_at s l j) (document_at s l b j) j entries first.1.0 is.0
           twice.other.value taken.put.value first.1.1 is.1 first.1.2.stands is.2.stands
           (sym first.1.2.at ∙ twice.here ∙ is.2.at)))
           (λ (final : (twice.planned.0 ≡ 1) × (twice.other ≡ done_put n)).
@@ -405,7 +405,7 @@ module _ (g : Layout) (n : ℕ) (s0 s3 s4 s5 : DeviceState) (c03 : Called s0 s3)
           let value : h.cell ≡ put.value = value_is h.cell put.value (sym h.stands ∙ is.2.stands) in
           let copy : IsCopy put.value = subst IsCopy value h.fit.copy in
           let small : target_of put.value < 2 ^ 32 =
-          omega (arith, h.fit.to, ap target_of value, commits.reserves.to, volume.volume.is.well_formed.1.cells) in
+          omega (arith, h.fit.to, ap target_of value, commits.reserves.to, volume.volume.is.well_formed.0.cells) in
           let stands : s5.image (journal_at s l j + k) ≡ Some put.value =
           c45.image.keeps (journal_at s l j + k) put.value is.2.stands in
           let other : s5.image (target_of put.value) ≡ Some taken.found = ap s5.image (sym is.2.at) ∙ taken.stands in
@@ -473,7 +473,7 @@ module _ (g : Layout) (n : ℕ) (s0 s3 s4 s5 : DeviceState) (c03 : Called s0 s3)
       → IsLast g s3.image s4.image n state → HasJournal g state s4.image
       → PutsPhases (end_plan s4.image n state) (end_phases state) s4 s5 (Err fault)
       → NamesTarget s0 s5 (Err (refusal_of_fault fault))
-  end_names state faults.ReadFault volume tells last entries phases = tt
+  end_names state faults.Failed volume tells last entries phases = tt
   end_names Unused (faults.Tampered e) volume tells last entries phases =
       absurd (let t = phases.puts.ends tells in omega (arith, t.planned.1))
   end_names (Abandoned s l) (faults.Tampered e) volume tells last entries phases =
@@ -504,7 +504,7 @@ module _ (g : Layout) (n : ℕ) (s0 s3 s4 s5 : DeviceState) (c03 : Called s0 s3)
       → (IsTrue s4.tells → IsLast g s3.image s4.image n state) → (IsTrue s4.tells → HasJournal g state s4.image)
       → PutsPhases (end_plan s4.image n state) (end_phases state) s4 s5 (Err fault)
       → SettleEnds s0 s5 (Err (refusal_of_fault fault))
-  end_refused state faults.ReadFault volume last entries phases = omega (arith, phases.puts.ends, c04.faults)
+  end_refused state faults.Failed volume last entries phases = omega (arith, phases.puts.ends, c04.faults)
   end_refused state (faults.Tampered e) volume last entries phases = λ tells.
       let t4 = tells_4 tells in
       taken_found (volume tells) t4 e state (last t4) (entries t4) phases
@@ -521,8 +521,8 @@ not_reserve g image n m (Reserved s l) less entries put h here = ⊎_elim
     h.2
 not_reserve g image n m (Committed s l b j) less entries put h here = ⊎_elim
     (λ (first : (h.0 ≡ 0) × IsEntryPut image (journal_at s l j) j put).
-    let low : list_at g 0 ≤ target_of put.value =
-    entries_from (list_at g 0) image (journal_at s l j) (document_at s l b j) j entries first.1.0 put.value first.1.1
+    let low : lists_at g ≤ target_of put.value =
+    entries_from (lists_at g) image (journal_at s l j) (document_at s l b j) j entries first.1.0 put.value first.1.1
     first.1.2.stands in
     omega (arith, less, here, first.1.2.at, low))
     (λ (final : (h.0 ≡ 1) × (put ≡ done_put n)). omega (arith, here, ap (λ (x : Put). x.at) final.1))

@@ -1,6 +1,6 @@
 -- What settling knows when all that stood is sure, and it has only looked since.
-use Rattle.std.proofs.Common.{true, false, ◌≡◌, ◌≤◌, ◌<◌, ◌+◌, ◌-◌, ◌⊎◌, ℕ, Ok, Err, refl, sym, ◌∙◌, inl, inr, ⊎_elim, subst, arith}
-use Rattle.std.specs.Prelude.{IsTrue, IsOk, IfOk, Result}
+use Rattle.std.proofs.Common.{true, false, ◌≡◌, ◌≤◌, ◌<◌, ◌+◌, ◌-◌, ◌⊎◌, ◌↔◌, ℕ, zero, suc, List, Option, None, Some, Ok, Err, refl, sym, ◌∙◌, inl, inr, ⊎_elim, subst, arith}
+use Rattle.std.specs.Prelude.{IsNone, IsTrue, IsOk, IfOk, Result}
 use Rattle.cell_types.specs.Image.{Image, Extends, Between, IsUnchanged}
 use Rattle.cell_types.specs.declared.refusal.Fault.{Fault}
 use Rattle.cell_types.specs.declared.refusal.Refusal.{Refusal}
@@ -29,6 +29,18 @@ use Rattle.recovery_engine.specs.declared.settling.Ready.{Ready}
 
 pub false_true : false ≡ true → ⊥
 false_true e = cc
+
+true_false : true ≡ false → ⊥
+true_false e = cc
+
+-- where no reserve cell is handed over there is none
+pub none_is : (last : Option (List ℕ)) → last ≡ None → IsNone last
+none_is last is = subst IsNone (sym is) refl
+
+-- where one is, a slot is used
+pub some_used : (last : Option (List ℕ)) (cell : List ℕ) (u : ℕ) → last ≡ Some cell → (IsNone last ↔ (u ≡ 0)) → 1 ≤ u
+some_used last cell zero is none = absurd (true_false (subst IsNone is (none.1 refl)))
+some_used last cell (suc u) is none = omega arith
 
 -- a crash keeps what was sure at old, and leaves nothing that does not stand
 pub record IsSpared (old now : DeviceState) (image : Image) : Type 0 where

@@ -1,5 +1,5 @@
 -- A volume that is settled: from the looks over the slot's last cell to the end.
-use Rattle.std.proofs.Common.{◌≡◌, ◌≤◌, ◌<◌, ◌+◌, ◌⊎◌, ℕ, List, Some, None, Ok, Err, refl, sym, ◌∙◌, inl, inr, ⊎_elim, subst, arith}
+use Rattle.std.proofs.Common.{◌≡◌, ◌≤◌, ◌<◌, ◌+◌, ◌⊎◌, ℕ, Some, None, Ok, Err, refl, sym, ◌∙◌, inl, inr, ⊎_elim, subst, arith}
 use Rattle.std.specs.Prelude.{IsTrue}
 use Rattle.cell_types.specs.Image.{Extends, IsUnchanged}
 use Rattle.cell_types.specs.Layout.{Layout, IsLayout, reserve_at, outcome_at, done_at}
@@ -31,7 +31,6 @@ use Rattle.recovery_engine.specs.LastSlot.{IsLast, IsNamed, IsSlotRule, LastEnds
 use Rattle.recovery_engine.specs.Settling.{StepMakes, IsReady, LiesInBounds, NamesTarget, SettleEnds, unused}
 use Rattle.tamper_rules.specs.declared.numbers.TheConstants.{OTHER_TARGET, RESERVE_CELL, OUTCOME_CELL, DONE_CELL}
 use Rattle.cell_types.specs.declared.geometry.Volume.{Volume}
-use Rattle.cell_types.specs.declared.record_cell.TheConstants.{FORMAT_VERSION}
 use Rattle.cell_types.specs.Refusals.{refusal_of_fault}
 use Rattle.recovery_engine.specs.Ending.{HasJournal, abandon_put, done_put, end_plan, end_phases, step_of}
 use Rattle.phase_writer.specs.Putting.{PutsPhases}
@@ -42,9 +41,6 @@ use Rattle.recovery_engine.specs.declared.settling.Ready.{Ready}
 use Rattle.recovery_engine.proofs.Licensed.{stays_free, found_looked}
 use Rattle.recovery_engine.proofs.Looked.{Looked}
 use Rattle.recovery_engine.proofs.States.{reserved_by}
-
-none_some : (a : List ℕ) → Some a ≡ None → ⊥
-none_some a e = cc
 
 none_cells : (a : Reservation) → None ≡ Some a → ⊥
 none_cells a e = cc
@@ -166,7 +162,7 @@ module _ (g : Layout) (n u : ℕ) (cells : Reservation) (next : u ≡ n + 1) (le
   }
 
 -- a volume of which no slot is used
-pub unused_bounds : (new : DeviceState) (volume : Volume) → volume.version ≡ FORMAT_VERSION
+pub unused_bounds : (new : DeviceState) (volume : Volume) → volume.version ≡ volume.geometry.version
     → IsLayout volume.geometry → volume.geometry.cells ≡ new.cells → LiesInBounds new (unused volume)
 unused_bounds new volume version layout size = record {
   version = version;
@@ -221,7 +217,7 @@ not_other number rule six = ⊎_elim
 pub last_names : (g : Layout) (n : ℕ) (s0 s3 s4 : DeviceState) (fault : Fault) → IsTrue s3.tells
     → LastEnds g n (seen_directly s3 0) (seen_directly s4 0) (Err fault)
     → NamesTarget s0 s4 (Err (refusal_of_fault fault))
-last_names g n s0 s3 s4 faults.ReadFault tells ends = tt
+last_names g n s0 s3 s4 faults.Failed tells ends = tt
 last_names g n s0 s3 s4 (faults.Tampered e) tells ends = λ six still.
     absurd (not_other e.rule (ends tells).rule six)
 
@@ -231,25 +227,8 @@ pub last_refused : (g : Layout) (n : ℕ) (s0 s3 s4 : DeviceState) (fault : Faul
     → (IsTrue s0.tells → IsVolume s4.cells s4.image g)
     → LastEnds g n (seen_directly s3 0) (seen_directly s4 0) (Err fault)
     → SettleEnds s0 s4 (Err (refusal_of_fault fault))
-last_refused g n s0 s3 s4 faults.ReadFault c03 c34 quiet volume ends = omega (arith, ends, c03.faults)
+last_refused g n s0 s3 s4 faults.Failed c03 c34 quiet volume ends = omega (arith, ends, c03.faults)
 last_refused g n s0 s3 s4 (faults.Tampered e) c03 c34 quiet volume ends = λ tells.
     let named = ends (subst IsTrue (sym c03.tells) tells) in
     found_looked s0 s4 e (inl named.rule) (called_then c03 c34) quiet
     (named_licensed g s0 s3 s4 e c03 c34 (volume tells) named)
-
-some_cells : (a : Reservation) → Some a ≡ None → ⊥
-some_cells a e = cc
-
--- a slot below the horizon has a reserve cell
-pub never_unused : (g : Layout) (n u : ℕ) (s3 s4 : DeviceState) (state : SlotState) → n < u → AreTaken s3.image u
-    → IsLast g s3.image s4.image n state → reservation_of state ≡ None → ⊥
-never_unused g n u s3 s4 Unused less taken last none =
-    let w = taken n less in none_some w.found (sym w.stands ∙ last.is.reserve)
-never_unused g n u s3 s4 (Reserved s l) less taken last none =
-    some_cells (record { start = s; length = l }) none
-never_unused g n u s3 s4 (Abandoned s l) less taken last none =
-    some_cells (record { start = s; length = l }) none
-never_unused g n u s3 s4 (Committed s l b j) less taken last none =
-    some_cells (record { start = s; length = l }) none
-never_unused g n u s3 s4 (Done s l b j) less taken last none =
-    some_cells (record { start = s; length = l }) none

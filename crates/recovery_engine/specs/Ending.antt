@@ -1,12 +1,12 @@
 -- How the last slot is ended: the cells that its state asks for, in which order.
 use Rattle.std.specs.Prelude.{◌≡◌, ⊤, ◌⊎◌, ℕ, Result, Ok, Err, IsTrue}
 use Rattle.cell_types.specs.Image.{Image}
-use Rattle.cell_types.specs.Layout.{Layout, outcome_at, done_at, list_at}
+use Rattle.cell_types.specs.Layout.{Layout, outcome_at, done_at, lists_at}
 use Rattle.cell_types.specs.Records.{record_bytes}
 use Rattle.cell_types.specs.declared.record_cell.RecordCell.TheVariants as records
 use Rattle.cell_types.specs.declared.refusal.Evidence.{Evidence}
 use Rattle.cell_types.specs.declared.refusal.Fault.{Fault}
-use Rattle.cell_types.specs.declared.refusal.Fault.TheVariants.{Tampered, ReadFault}
+use Rattle.cell_types.specs.declared.refusal.Fault.TheVariants.{Tampered, Failed}
 use Rattle.stored_documents.specs.Documents.{document_at}
 use Rattle.tamper_rules.specs.Journals.{journal_at}
 use Rattle.tamper_rules.specs.declared.numbers.TheConstants.{OUTCOME_CELL, DONE_CELL, BROKEN_JOURNAL}
@@ -35,7 +35,7 @@ abbrev pub journal_of : Layout → ℕ → ℕ → ℕ → ℕ → ℕ → Journ
 journal_of g n start length bytes journal = record {
   place = journal_at start length journal;
   count = journal;
-  first = list_at g 0;
+  first = lists_at g;
   below = document_at start length bytes journal;
   commit = record {
     rule = BROKEN_JOURNAL;
@@ -76,7 +76,7 @@ step_of n state = steps.Nothing
 -- where the slot is committed, each cell of its journal asks for what it may ask for
 abbrev pub HasJournal : Layout → SlotState → Image → Type 0
 HasJournal g (Committed start length bytes journal) image =
-    AreEntries (list_at g 0) image (journal_at start length journal) (document_at start length bytes journal) journal
+    AreEntries (lists_at g) image (journal_at start length journal) (document_at start length bytes journal) journal
 HasJournal g state image = ⊤
 
 -- the slot is committed, and this says of its journal what is wrong with it
@@ -88,5 +88,5 @@ HasFlaw g n state image e = ⊥
 -- how a look at a slot's journal may end, and why
 abbrev pub SlotCheckEnds : Layout → ℕ → SlotState → DeviceState → DeviceState → Result Unit Fault → Type 0
 SlotCheckEnds g n state old new (Ok u) = IsTrue old.tells → HasJournal g state new.image
-SlotCheckEnds g n state old new (Err ReadFault) = Rose old.faults new.faults
+SlotCheckEnds g n state old new (Err Failed) = Rose old.faults new.faults
 SlotCheckEnds g n state old new (Err (Tampered e)) = IsTrue old.tells → HasFlaw g n state new.image e

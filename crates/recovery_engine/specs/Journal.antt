@@ -3,7 +3,7 @@ use Rattle.std.specs.Prelude.{◌≡◌, ◌<◌, ◌+◌, ◌⊎◌, ℕ, Some,
 use Rattle.cell_types.specs.Image.{Image}
 use Rattle.cell_types.specs.declared.refusal.Evidence.{Evidence}
 use Rattle.cell_types.specs.declared.refusal.Fault.{Fault}
-use Rattle.cell_types.specs.declared.refusal.Fault.TheVariants.{Tampered, ReadFault}
+use Rattle.cell_types.specs.declared.refusal.Fault.TheVariants.{Tampered, Failed}
 use Rattle.tamper_rules.specs.declared.numbers.TheConstants.{BROKEN_JOURNAL}
 use Rattle.worm_device.specs.Counts.{Rose}
 use Rattle.worm_device.specs.State.{DeviceState}
@@ -34,7 +34,7 @@ abbrev pub EntryEnds : Journal → ℕ → ℕ → DeviceState → DeviceState �
 EntryEnds j k floor old new (Ok put) =
     IsFit floor j.below put.value × (put.at ≡ target_of put.value)
     × (IsTrue old.tells → IsEntryOf new.image j.place k put)
-EntryEnds j k floor old new (Err ReadFault) = Rose old.faults new.faults
+EntryEnds j k floor old new (Err Failed) = Rose old.faults new.faults
 EntryEnds j k floor old new (Err (Tampered e)) =
     IsTrue old.tells
     → ((e ≡ j.commit) × (new.image (j.place + k) ≡ None)) ⊎ IsUnfitAt (j.place + k) floor j.below new.image e
@@ -50,5 +50,5 @@ pub record IsFlawed (j : Journal) (image : Image) (e : Evidence) : Type 0 where
 -- how a look at a journal may end, and why
 abbrev pub JournalEnds : Journal → DeviceState → DeviceState → Result Unit Fault → Type 0
 JournalEnds j old new (Ok u) = IsTrue old.tells → AreEntries j.first new.image j.place j.below j.count
-JournalEnds j old new (Err ReadFault) = Rose old.faults new.faults
+JournalEnds j old new (Err Failed) = Rose old.faults new.faults
 JournalEnds j old new (Err (Tampered e)) = IsTrue old.tells → IsFlawed j new.image e

@@ -6,7 +6,7 @@ use Rattle.cell_types.specs.Records.{record_bytes}
 use Rattle.cell_types.specs.declared.record_cell.RecordCell.TheVariants.{Reserve}
 use Rattle.cell_types.specs.declared.refusal.Evidence.{Evidence}
 use Rattle.cell_types.specs.declared.refusal.Fault.{Fault}
-use Rattle.cell_types.specs.declared.refusal.Fault.TheVariants.{Tampered, ReadFault}
+use Rattle.cell_types.specs.declared.refusal.Fault.TheVariants.{Tampered, Failed}
 use Rattle.stored_documents.specs.Slots.{EndsBelow, HasEnded}
 use Rattle.stored_documents.specs.Volumes.{IsVolume}
 use Rattle.tamper_rules.specs.Rules.{IsBroken, IsPlaceOf}
@@ -56,7 +56,7 @@ pub record IsNamed (g : Layout) (cells from to : ℕ) (image : Image) (e : Evide
 -- how a look at the last slot may end, and why
 abbrev pub LastEnds : Layout → ℕ → ViewState → ViewState → Result SlotState Fault → Type 0
 LastEnds g n old new (Ok state) = LiesInPool g state × (IsTrue old.base.tells → IsLast g old.image new.image n state)
-LastEnds g n old new (Err ReadFault) = Rose old.base.faults new.base.faults
+LastEnds g n old new (Err Failed) = Rose old.base.faults new.base.faults
 LastEnds g n old new (Err (Tampered e)) =
     IsTrue old.base.tells
     → IsNamed g new.cells old.base.foreign_writes new.base.foreign_writes new.image e

@@ -2,7 +2,6 @@
 use Rattle.std.specs.Prelude.{◌≡◌, ◌≢◌, ◌<◌, ◌≤◌, ◌+◌, ◌⊎◌, ℕ, List, Some, None, Result, Ok, Err, IsTrue, IsOk, IfOk, ⊤}
 use Rattle.cell_types.specs.Image.{Image, Extends, IsUnchanged}
 use Rattle.cell_types.specs.Layout.{Layout, IsLayout, reserve_at, pool_at}
-use Rattle.cell_types.specs.declared.record_cell.TheConstants.{FORMAT_VERSION}
 use Rattle.cell_types.specs.declared.refusal.Evidence.{Evidence}
 use Rattle.cell_types.specs.declared.refusal.Refusal.{Refusal}
 use Rattle.cell_types.specs.declared.refusal.Refusal.TheVariants.{Tampered, DeviceFault, NotFormatted, NotAVolume, WrongSize}
@@ -74,7 +73,7 @@ unused volume = record { volume = volume; horizon = 0; edge = pool_at volume.geo
 
 -- the bounds that hold over each device, also over one that does not tell
 pub record LiesInBounds (new : DeviceState) (r : Ready) : Type 0 where
-  pub version : r.volume.version ≡ FORMAT_VERSION
+  pub version : r.volume.version ≡ r.volume.geometry.version
   pub layout : IsLayout r.volume.geometry
   pub size : r.volume.geometry.cells ≡ new.cells
   pub horizon : r.horizon ≤ r.volume.geometry.slots

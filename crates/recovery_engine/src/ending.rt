@@ -37,7 +37,7 @@ pub fn journal_of(
     Journal {
         place,
         count: journal,
-        first: geometry.list_at(0),
+        first: geometry.lists_at(),
         below: place - document_cells(bytes),
         commit: Evidence {
             rule: BROKEN_JOURNAL,

@@ -8,7 +8,7 @@ ghost use Rattle.worm_device.specs.Counts.{IsStill};
 ghost use Rattle.cell_types.specs.Image.{IsUnchanged};
 ghost use Rattle.recovery_engine.specs.Journal.{EntryEnds, JournalEnds, IsEntryPut};
 
-use cell_types::{Cell, Evidence, Fault, RecordCell, address_of, decode};
+use cell_types::{Cell, Evidence, Fault, RecordCell, address_of, breach, decode};
 use phase_writer::{Blame, Put, put_cell};
 use tamper_rules::BROKEN_JOURNAL;
 use worm_device::Device;
@@ -59,19 +59,12 @@ fn entry<D: Device>(device: &mut D, journal: &Journal, k: u32, floor: u32) -> Re
     ensures ends { EntryEnds journal.now k floor (D.state device.old) (D.state device.new) result }
 {
     let at = journal.place + k;
-    let Ok(found) = device.read(at) else {
-        return Err(Fault::ReadFault);
-    };
-    let Some(cell) = found else {
+    let Some(cell) = device.read(at)? else {
         return Err(Fault::Tampered(journal.commit));
     };
     let target = address_of(cell);
     if !is_copy(cell) || target < floor || target >= journal.below {
-        return Err(Fault::Tampered(Evidence {
-            rule: BROKEN_JOURNAL,
-            cell: at,
-            found: cell,
-        }));
+        return Err(breach(BROKEN_JOURNAL, at, cell));
     }
     Ok(Put {
         at: target,
@@ -113,8 +106,6 @@ pub fn apply_journal<D: Device>(device: &mut D, journal: &Journal) -> Result<(),
         put_cell(device, &put)?;
         floor = put.at + 1;
     }
-    let Ok(()) = device.sync() else {
-        return Err(Fault::ReadFault);
-    };
+    device.sync()?;
     Ok(())
 }

@@ -1,27 +1,36 @@
 //! The last slot of the log: its state, and that it follows the one before.
-ghost use Rattle.std.specs.Prelude.{◌≡◌, ◌<◌, ◌≤◌, ◌+◌, ◌^◌, ◌↔◌, IfSome, IsTrue};
+ghost use Rattle.std.specs.Prelude.{◌≡◌, ◌<◌, ◌≤◌, ◌+◌, ◌^◌, ◌↔◌, IfOk, IfSome, IsSome, IsTrue, Some};
+ghost use Rattle.cell_types.specs.Layout.{reserve_at};
 ghost use Rattle.worm_device.specs.Views.{Viewed};
 ghost use Rattle.commit_record.specs.Reservations.{reservation_of};
 ghost use Rattle.recovery_engine.specs.LastSlot.{IsFollowed, IsReserveCell, LastEnds};
 
-use cell_types::{Evidence, Fault, Geometry, RecordCell, Volume, encode};
-use commit_record::{Reservation, SlotState, slot_state};
+use cell_types::{Cell, Evidence, Fault, Geometry, RecordCell, Volume, encode};
+use commit_record::{Reservation, SlotState, slot_state, slot_state_of};
 use tamper_rules::RESERVE_CELL;
 use worm_device::View;
 
 /// The state of a slot that follows those below it: its cells begin where theirs end, and the slot before is abandoned
-/// or done. Else what is out of place. Makes at most six reads.
-pub fn last_slot<V: View>(view: &mut V, volume: &Volume, last: u32) -> Result<SlotState, Fault>
+/// or done. Else what is out of place. Its reserve cell was read already. Makes at most five reads.
+pub fn last_slot<V: View>(
+    view: &mut V,
+    volume: &Volume,
+    last: u32,
+    reserve: Cell,
+) -> Result<SlotState, Fault>
     requires slot { last < volume.now.geometry.slots }
     requires size { volume.now.geometry.cells ≤ (V.seen view.old).cells }
+    requires stands { IsTrue (V.seen view.old).base.tells →
+        (V.seen view.old).image (reserve_at last) ≡ Some reserve }
     ensures viewed { Viewed (V.seen view.old) (V.seen view.new) }
-    ensures reads { (V.seen view.new).base.reads ≤ (V.seen view.old).base.reads + 6 }
+    ensures reads { (V.seen view.new).base.reads ≤ (V.seen view.old).base.reads + 5 }
+    ensures used { IfOk result (λ state. IsSome (reservation_of state)) }
     ensures ends { LastEnds volume.now.geometry last (V.seen view.old) (V.seen view.new) result }
 {
     let geometry = volume.geometry;
-    let state = slot_state(view, volume, last)?;
+    let state = slot_state_of(view, volume, last, reserve)?;
     let Some(cells) = state.reservation() else {
-        return Ok(state);
+        unreachable!()
     };
     if last == 0 {
         if cells.start != geometry.pool_at() {

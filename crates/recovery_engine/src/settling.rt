@@ -3,7 +3,7 @@ ghost use Rattle.std.specs.Prelude.{◌≡◌};
 ghost use Rattle.recovery_engine.specs.Settling.{Settles, unused};
 
 use crate::ending::{check_slot, end_slot, step_of};
-use crate::looks::{horizon_of_device, last_slot_of_device, open_device};
+use crate::looks::{last_slot_of_device, log_end_of_device, open_device};
 use cell_types::{Refusal, Volume};
 use worm_device::Device;
 
@@ -53,27 +53,23 @@ impl Ready {
 pub fn settle<D: Device>(device: &mut D) -> Result<Ready, Refusal>
     ensures { Settles (D.state device.old) (D.state device.new) result }
 {
-    let Ok(()) = device.sync() else {
-        return Err(Refusal::DeviceFault);
-    };
+    device.sync()?;
     let volume = open_device(device)?;
-    let Ok(horizon) = horizon_of_device(device, &volume) else {
-        return Err(Refusal::DeviceFault);
+    let log = log_end_of_device(device, &volume)?;
+    let Some(reserve) = log.last else {
+        return Ok(Ready::unused(volume));
     };
-    if horizon == 0 {
-        return Ok(Ready::unused(volume));
-    }
-    let last = horizon - 1;
-    let state = last_slot_of_device(device, &volume, last)?;
+    let last = log.horizon - 1;
+    let state = last_slot_of_device(device, &volume, last, reserve)?;
+    // Its reserve cell is written.
     let Some(cells) = state.reservation() else {
-        // A device that tells what it holds has the reserve cell that was just seen there.
-        return Ok(Ready::unused(volume));
+        unreachable!()
     };
     check_slot(device, &volume.geometry, last, &state)?;
     end_slot(device, &volume.geometry, last, &state)?;
     Ok(Ready {
         volume,
-        horizon,
+        horizon: log.horizon,
         edge: cells.end(),
         step: step_of(last, &state),
     })

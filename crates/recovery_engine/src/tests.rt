@@ -3,7 +3,7 @@
 ghost use Rattle.std.specs.Prelude.{◌≤◌};
 
 use crate::{Ready, Step, settle};
-use cell_types::{Cell, Evidence, Geometry, Refusal, Volume};
+use cell_types::{Cell, Evidence, FIRST_VERSION, Geometry, Refusal, Volume};
 use std::alloc::Global;
 use std::test::Fail;
 use worm_device::Device;
@@ -103,7 +103,7 @@ fn record_of(alloc: Global, cells: &[Written], added: &[Change]) -> Result<Vec<C
 
 /// The small volume, settled.
 fn ready(horizon: u32, edge: u32, step: Step) -> Result<Ready, Fail> {
-    let geometry = Geometry::new(8, 2, 1_000).ok_or("no layout")?;
+    let geometry = Geometry::new(8, 2, 1_000, FIRST_VERSION).ok_or("no layout")?;
     let volume = Volume {
         version: 1,
         geometry,

@@ -1,14 +1,14 @@
 -- Behind a document's whole index the lists and the tree stand as they should.
-use Rattle.std.proofs.Common.{◌≡◌, ◌<◌, ◌≤◌, ◌+◌, ◌*◌, ⊎_elim, inl, inr, ℕ, List, Option, Some, None, subst, sym, arith, ◌∙◌}
+use Rattle.std.proofs.Common.{◌≡◌, ◌<◌, ◌≤◌, ◌+◌, ⊎_elim, inl, inr, ℕ, List, Option, Some, None, subst, sym, arith, ◌∙◌}
 use Rattle.cell_types.specs.Image.{Image, Extends}
-use Rattle.cell_types.specs.Layout.{Layout, list_at, pool_at}
+use Rattle.cell_types.specs.Layout.{Layout, list_at, pool_at, all_lists}
 use Rattle.stored_documents.proofs.Extending.{written_on}
 use Rattle.index_paths.specs.Blocks.{Leads}
 use Rattle.index_paths.specs.HashPaths.{nibble}
 use Rattle.index_paths.specs.Nodes.{AreApart, IsNode}
 use Rattle.volume_growth.proofs.ListShapes.{adds_extends}
 use Rattle.worm_device.proofs.Images.{extends_then}
-use Rattle.term_tags.specs.declared.rows.Posting.{Posting}
+use Rattle.index_paths.specs.Postings.{ListedPosting}
 use Rattle.hash_tree.specs.Levels.{node_of}
 use Rattle.hash_tree.specs.Steps.{IsOpenAt}
 use Rattle.hash_tree.specs.declared.level.Level.{Level}
@@ -33,9 +33,10 @@ blank_within g level bucket (Some child) half at =
 far : {node cell i : ℕ} → AreApart node 32 cell 1 → i < 32 → cell ≡ node + i → ⊥
 far apart less here = ⊎_elim (λ low. omega (arith, low, less, here)) (λ high. omega (arith, high, here)) apart
 
-module _ {g : Layout} {n : ℕ} {rows : List Posting} {level : Level} {place : Open} {from to : ℕ} {old new : Image}
-    (pool : pool_at g ≤ from) (inside : to ≤ g.cells) (stand : IndexesStand g old from (256 * n))
-    (path : EndsPath g old level place) (index : IndexStands g n rows level place from to old new) where
+module _ {g : Layout} {n : ℕ} {bound behind : ℕ → ℕ} {rows : List ListedPosting} {level : Level} {place : Open}
+    {from to : ℕ} {old new : Image} (pool : pool_at g ≤ from) (inside : to ≤ g.cells)
+    (stand : IndexesStand g old from bound) (path : EndsPath g old level place)
+    (index : IndexStands g n behind rows level place from to old new) where
   pub half : nibble level.digest level.number < 16
   half = nibble_low level.digest path.digest level.number
 
@@ -79,7 +80,7 @@ module _ {g : Layout} {n : ℕ} {rows : List Posting} {level : Level} {place : O
       ∙ adds.others cell (λ here.
       far {i = 16 + nibble level.digest level.number} apart (omega (arith, half)) (omega (arith, here)))
 
-  pub block_same : (l block i : ℕ) → l < g.lists → Leads index.between (pool_at g) index.next block (list_at g l) → i < 256
+  pub block_same : (l block i : ℕ) → l < all_lists g → Leads index.between (pool_at g) index.next block (list_at g l) → i < 256
       → new (block + i) ≡ index.between (block + i)
   block_same l block i list leads less =
       let below = leads_below leads (omega (arith, list, pool, index.lists.more)) in
@@ -87,7 +88,7 @@ module _ {g : Layout} {n : ℕ} {rows : List Posting} {level : Level} {place : O
       (⊎_elim (λ low. inl (omega (arith, low))) (λ high. inr (omega (arith, high, less)))
       (tree.apart level.number (node_of g level) l block node list leads))
 
-  pub stands_behind : IndexesStand g new to (256 * (n + 1))
+  pub stands_behind : IndexesStand g new to behind
   stands_behind = record {
     lists = lists_aside index.lists.lists (extends rooted.grows) index.more block_same;
     tree = record {

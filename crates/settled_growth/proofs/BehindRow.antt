@@ -7,7 +7,7 @@ use Rattle.index_paths.specs.Nodes.{IsNode, root, under}
 use Rattle.volume_growth.specs.TreeShapes.{IsWellRooted}
 use Rattle.volume_growth.proofs.ListShapes.{holds_back}
 use Rattle.volume_growth.proofs.TreeShapes.{node_place, rooted_apart, rooted_wider}
-use Rattle.term_tags.specs.declared.rows.Posting.{Posting}
+use Rattle.index_paths.specs.Postings.{ListedPosting}
 use Rattle.index_growth.specs.Standing.{RowStands}
 use Rattle.settled_growth.specs.Laws.{TreeStands}
 
@@ -25,8 +25,8 @@ node_before {g} {image} {v} {node} {from} pool w is = ⊎_elim
     (λ (there : (pool_at g ≤ node) × (node + 32 ≤ from)). there.1)
     (node_place w is)
 
-module _ {g : Layout} {n : ℕ} {rows : List Posting} {count from to : ℕ} {old new : Image} (pool : pool_at g ≤ from)
-    (tree : TreeStands g old from) (row : RowStands g n rows count from to old new) where
+module _ {g : Layout} {behind : ℕ → ℕ} {rows : List ListedPosting} {count from to : ℕ} {old new : Image}
+    (pool : pool_at g ≤ from) (tree : TreeStands g old from) (row : RowStands g behind rows count from to old new) where
   -- each cell of a node is as it was
   pub node_same : {v node i : ℕ} → IsNode g old v node → i < 32 → new (node + i) ≡ old (node + i)
   node_same {v} {node} {i} is less =

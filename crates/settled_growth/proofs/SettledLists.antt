@@ -1,8 +1,8 @@
 -- The lists of a settled image stand as they should.
-use Rattle.std.proofs.Common.{◌≡◌, ◌≢◌, ◌<◌, ◌≤◌, ◌+◌, ◌*◌, ◌/◌, ◌⊎◌, ⊎_elim, inl, inr, ℕ, refl, sym, subst, arith}
+use Rattle.std.proofs.Common.{◌≡◌, ◌≢◌, ◌<◌, ◌≤◌, ◌+◌, ◌*◌, ◌⊎◌, ⊎_elim, inl, inr, ℕ, refl, sym, subst, arith}
 use Rattle.std.proofs.lemmas.Bool.{cases_lt}
 use Rattle.cell_types.specs.Image.{Image}
-use Rattle.cell_types.specs.Layout.{Layout, IsLayout, list_at, pool_at}
+use Rattle.cell_types.specs.Layout.{Layout, IsLayout, list_at, pool_at, all_lists}
 use Rattle.cell_types.specs.declared.record_cell.RecordCell.TheVariants.{Jump}
 use Rattle.stored_documents.specs.Slots.{IsEdge, IsHorizon}
 use Rattle.stored_documents.specs.Volumes.{Holds}
@@ -12,15 +12,17 @@ use Rattle.index_paths.specs.Nodes.{IsBlockOf, AreApart}
 use Rattle.tamper_rules.specs.Rules
 use Rattle.tamper_rules.specs.Rules.{IsTruePosting, LeadsWell, PointerRule, PostingRule}
 use Rattle.tamper_rules.specs.Settling.{IsSettled}
+use Rattle.index_paths.proofs.Tags.{of_word, word_slot}
 use Rattle.tamper_rules.proofs.GivenUp.{jumps, leads_further}
 use Rattle.tamper_rules.proofs.Settled.{below_horizon, written}
 use Rattle.volume_growth.proofs.SettledShapes.{edge_inside, leads_wider, settled_listed}
 use Rattle.volume_growth.proofs.SettledTrails.{settled_trails}
 use Rattle.index_growth.specs.Standing.{ListsStand}
+use Rattle.settled_growth.specs.Laws.{below_slot}
 
 module _ {g : Layout} {image : Image} {edge n : ℕ} (layout : IsLayout g) (s : IsSettled g image)
     (e : IsEdge g image image edge) (horizon : IsHorizon g image image n) (free : n < g.slots) where
-  block_of : {l block : ℕ} → l < g.lists → Leads image (pool_at g) edge block (list_at g l) → IsBlockOf g image l block
+  block_of : {l block : ℕ} → l < all_lists g → Leads image (pool_at g) edge block (list_at g l) → IsBlockOf g image l block
   block_of list leads = record { list = list; leads = leads_wider (edge_inside layout e) leads }
 
   -- each posting is one of a slot below the horizon
@@ -31,9 +33,11 @@ module _ {g : Layout} {image : Image} {edge n : ℕ} (layout : IsLayout g) (s : 
       s.met Rules.Postings (block + place) (record { found = holds.cell; stands = holds.stands }) in
       let true_posting : IsTruePosting g image l p = rule l block place p b less refl holds in
       let live = true_posting.live in
-      let below : p.key / 256 < n =
-      below_horizon g image s n (p.key / 256) free horizon live.slot (written live.done.done.commits.reserves) in
-      omega (arith, below)
+      let word = of_word g true_posting.stamp true_posting.body true_posting.slot l p (omega (arith, b.list, layout.version)) true_posting.is in
+      let slot = word_slot g true_posting.body true_posting.slot l p true_posting.postings word in
+      let below : true_posting.slot < n =
+      below_horizon g image s n true_posting.slot free horizon live.slot (written live.done.done.commits.reserves) in
+      omega (arith, below, slot)
 
   -- a block that a pointer leads to lies in the pool, and meets no block of another list
   record LiesApart (l block : ℕ) : Type 0 where
@@ -86,7 +90,7 @@ module _ {g : Layout} {image : Image} {edge n : ℕ} (layout : IsLayout g) (s : 
           (λ more. inr (omega (arith, first, also, more, differ)))
           (cases_lt l k)
 
-  pub settled_stand : ListsStand g image edge (256 * n)
+  pub settled_stand : ListsStand g image edge (below_slot n)
   settled_stand = record {
     well = λ l list. settled_listed layout s e list;
     trails = λ l list block place q leads less holds. settled_trails s e (block_of list leads) less holds;

@@ -1,7 +1,8 @@
 //! That a settled volume takes a document's index, and that its lists and its tree stand behind it as before.
 //!
 //! On a settled volume whose horizon is slot 3 no list has a posting of slot 3 or a later one, since each posting is one
-//! of a live slot's document. So a key of slot 3 is greater than each that is there:
+//! of a live slot's document. So a key of slot 3 is greater than each that is there, and 768 is a bound of each list
+//! (`below_slot`):
 //!
 //!     list 0     keys 0, 257, 512        a key of slot 3 is 768 or more
 //!     list 1     keys 1, 256             768 is greater, too

@@ -1,4 +1,5 @@
 -- What planning answers, where nobody else wrote, is a planned index over the image as it stood.
+use Rattle.index_paths.specs.Postings.{ArePostings}
 use Rattle.std.proofs.Common.{◌≡◌, ◌+◌, ℕ, List, Option, Some, None, sym, subst, arith}
 use Rattle.std.specs.Prelude.{IsTrue}
 use Rattle.sha2.specs.Sha256.{sha256}
@@ -15,12 +16,12 @@ use Rattle.hash_tree.specs.declared.path.Open.{Open}
 use Rattle.tree_growth.specs.Readiness.{PassedDown, blank_of}
 use Rattle.index_growth.specs.Journal.{IsJournal}
 use Rattle.index_growth.specs.Standing.{IndexStands}
-use Rattle.settled_growth.specs.Laws.{EndsPath}
+use Rattle.settled_growth.specs.Laws.{EndsPath, below_slot}
 use Rattle.ingest_plan.specs.Planning.{IsPlanned, cut_at, laid_over}
 use Rattle.ingest_plan.specs.declared.plan.PlannedIndex.{PlannedIndex}
 use Rattle.settled_plans.specs.Laws.{IsPlannedIndex, TakesSlot}
 use Rattle.settled_plans.proofs.Laying.{over_is, with_same}
-use Rattle.settled_plans.proofs.Taken.{cut_at_edge, old_edge, stand, stands_at_cost}
+use Rattle.settled_plans.proofs.Taken.{cut_at_edge, keys_of_slot, old_edge, stand, stands_at_cost}
 
 -- a path that is passed down is so in each image that extends this one
 passed_down_on : (g : Layout) {old new : Image} (id : List ℕ) (level : Level) (child : Option ℕ) → Extends old new
@@ -43,15 +44,17 @@ module _ {g : Layout} {p : Plan} {level : Level} {place : Open} {made : PlannedI
       (is.blank tells (subst (λ (image : Image). image (blank_of place) ≡ None) (sym cut_same) ends.blank)
       cell value row)
 
-  stands : IndexStands g p.slot is.rows level place p.start (p.start + made.block_length) old.image
+  stands : IndexStands g p.slot (below_slot (p.slot + 1)) is.rows level place p.start (p.start + made.block_length) old.image
       (laid_over is.planned old.image)
-  stands = (stands_at_cost (old_edge takes) made takes.settled (is.stands tells still) (stand takes).lists).stands
+  stands = (stands_at_cost (old_edge takes) made takes.settled
+      (is.stands tells still (below_slot p.slot) (below_slot (p.slot + 1)) (keys_of_slot is.are))
+      (stand takes).lists).stands
 
   pub answered : IsPlannedIndex g old.image (laid_over is.planned old.image) p is.rows level place
       (p.start + made.block_length) is.planned
   answered = record {
     takes = takes;
-    rows_are = is.are;
+    rows_are = subst (λ (s : Option ℕ). ArePostings g s p.body p.slot is.rows) (sym takes.stamp) is.are;
     ends = ends;
     digest = digest;
     passed = passed;

@@ -1,10 +1,9 @@
 -- Where a document's index is planned on a settled volume: what stood before, between postings and bucket, and behind.
-use Rattle.std.proofs.Common.{◌≡◌, ◌<◌, ◌≤◌, ◌+◌, ◌*◌, ◌⊎◌, ⊎_elim, inl, inr, ℕ, List, slice_get, Some, None, refl, sym, ◌∙◌, subst, ap, arith, length}
+use Rattle.std.proofs.Common.{◌≡◌, ◌<◌, ◌≤◌, ◌+◌, ◌⊎◌, ⊎_elim, inl, inr, ℕ, List, slice_get, Some, None, refl, sym, ◌∙◌, subst, arith, length}
 use Rattle.std.proofs.lemmas.Bool.{cases_lt}
-use Rattle.std.specs.Option.{option_map}
-use Rattle.std.proofs.lemmas.Option.{none-some, slice_get-map}
+use Rattle.std.proofs.lemmas.Option.{none-some}
 use Rattle.cell_types.specs.Image.{Image, Extends}
-use Rattle.cell_types.specs.Layout.{Layout, list_at, pool_at}
+use Rattle.cell_types.specs.Layout.{Layout, list_at, pool_at, all_lists}
 use Rattle.cell_types.specs.Records.{IsRecordCell}
 use Rattle.cell_types.specs.declared.record_cell.RecordCell.{RecordCell}
 use Rattle.cell_types.specs.declared.record_cell.RecordCell.TheVariants.{Jump, Bucket, Child}
@@ -14,14 +13,12 @@ use Rattle.stored_documents.proofs.Holding.{some_is}
 use Rattle.index_paths.specs.Blocks.{Leads, pointer_at, posting_record}
 use Rattle.index_paths.specs.HashPaths.{fingerprint_of, nibble}
 use Rattle.index_paths.specs.Nodes.{IsNode, under}
-use Rattle.index_paths.specs.Postings.{IsPostingOf}
+use Rattle.index_paths.specs.Postings.{IsPostingOf, ListedPosting}
 use Rattle.tamper_rules.proofs.GoingOn.{leads_to_on}
 use Rattle.tamper_rules.proofs.Images.{look}
 use Rattle.tamper_rules.proofs.Writing.{same_or_not}
 use Rattle.volume_growth.specs.Ingesting.{Plan}
 use Rattle.volume_growth.proofs.SettledShapes.{leads_wider}
-use Rattle.term_tags.specs.Listing.{listed}
-use Rattle.term_tags.specs.declared.rows.Posting.{Posting}
 use Rattle.hash_tree.specs.Levels.{bucket_at, child_at, node_of}
 use Rattle.hash_tree.specs.declared.level.Level.{Level}
 use Rattle.hash_tree.specs.declared.path.Open.{Open}
@@ -29,7 +26,7 @@ use Rattle.list_growth.proofs.KeptTrails.{leads_below}
 use Rattle.tree_growth.proofs.Paths.{nibble_low}
 use Rattle.tree_growth.specs.Rooting.{IsRooted, TreeGrows, in_bucket, in_new_node}
 use Rattle.index_growth.specs.Standing.{IsAddedTo, posting, pointer}
-use Rattle.settled_growth.specs.Laws.{IndexesStand, TreeStands}
+use Rattle.settled_growth.specs.Laws.{IndexesStand, TreeStands, below_slot}
 use Rattle.settled_growth.proofs.BehindBucket as bucket
 use Rattle.settled_growth.proofs.BehindRow.{node_back, node_on}
 use Rattle.settled_growth.proofs.ListsAside.{was_block}
@@ -38,12 +35,12 @@ use Rattle.settled_plans.proofs.Taken as taken
 
 -- A planned cell is one of the document's postings in a block of the posting's list, a pointer of a list's block to
 -- another of its blocks, the document's bucket in a node, or a child cell of a node that leads to a node.
-pub data IsPlannedCell (g : Layout) (n : ℕ) (rows : List Posting) (level : Level) (to : ℕ) (image : Image) (cell : ℕ)
+pub data IsPlannedCell (g : Layout) (n : ℕ) (rows : List ListedPosting) (level : Level) (to : ℕ) (image : Image) (cell : ℕ)
     (value : List ℕ) : Type 0 where
-  a_posting : (i : ℕ) (a : Posting) (block at : ℕ) → slice_get rows i ≡ Some a → a.list < g.lists
+  a_posting : (i : ℕ) (a : ListedPosting) (block at : ℕ) → slice_get rows i ≡ Some a → a.list < all_lists g
       → Leads image (pool_at g) to block (list_at g a.list) → at < 128 → cell ≡ block + at
-      → IsRecordCell (posting_record (listed n a).posting) cell value → IsPlannedCell g n rows level to image cell value
-  a_pointer : (l block i digit target : ℕ) → l < g.lists → Leads image (pool_at g) to block (list_at g l)
+      → IsRecordCell (posting_record a.posting) cell value → IsPlannedCell g n rows level to image cell value
+  a_pointer : (l block i digit target : ℕ) → l < all_lists g → Leads image (pool_at g) to block (list_at g l)
       → i < 8 → 1 ≤ digit → digit ≤ 15 → cell ≡ pointer_at block i digit
       → Leads image (pool_at g) to target (list_at g l) → IsRecordCell (Jump target) cell value
       → IsPlannedCell g n rows level to image cell value
@@ -60,7 +57,7 @@ record_there {image} {at} {cell} {value} {r} same h is =
     let here : Holds image cell r = subst (λ (c : ℕ). Holds image c r) (sym same) h in
     subst (λ (v : List ℕ). IsRecordCell r cell v) (some_is here.cell value (sym here.stands ∙ is)) here.is
 
-module _ {g : Layout} {old laid : Image} {p : Plan} {rows : List Posting} {level : Level} {place : Open} {to : ℕ}
+module _ {g : Layout} {old laid : Image} {p : Plan} {rows : List ListedPosting} {level : Level} {place : Open} {to : ℕ}
     {planned : Image} (h : IsPlannedIndex g old laid p rows level place to planned) where
   pub pool_before : pool_at g ≤ p.start
   pool_before = taken.pool_before h.takes
@@ -68,7 +65,7 @@ module _ {g : Layout} {old laid : Image} {p : Plan} {rows : List Posting} {level
   pub blank_from : (cell : ℕ) → p.start ≤ cell → old cell ≡ None
   blank_from cell from = taken.blank_from h.takes cell from
 
-  pub stand : IndexesStand g old p.start (256 * p.slot)
+  pub stand : IndexesStand g old p.start (below_slot p.slot)
   stand = taken.stand h.takes
 
   pub to_inside : to ≤ g.cells
@@ -89,14 +86,14 @@ module _ {g : Layout} {old laid : Image} {p : Plan} {rows : List Posting} {level
   pub is_rooted : IsRooted g level place p.slot h.stands.next to h.stands.between laid
   is_rooted = bucket.rooted pool_before to_inside stand h.ends h.stands
 
-  pub stand_behind : IndexesStand g laid to (256 * (p.slot + 1))
+  pub stand_behind : IndexesStand g laid to (below_slot (p.slot + 1))
   stand_behind = bucket.stands_behind pool_before to_inside stand h.ends h.stands
 
   pub extends_between : Extends h.stands.between laid
   extends_between = bucket.extends pool_before to_inside stand h.ends h.stands is_rooted.grows
 
   -- a block was one before, or is new
-  pub block_was : (l block : ℕ) → l < g.lists → Leads laid (pool_at g) to block (list_at g l)
+  pub block_was : (l block : ℕ) → l < all_lists g → Leads laid (pool_at g) to block (list_at g l)
       → Leads old (pool_at g) p.start block (list_at g l) ⊎ (p.start ≤ block)
   block_was l block list leads =
       h.stands.lists.blocks l block list
@@ -113,11 +110,9 @@ module _ {g : Layout} {old laid : Image} {p : Plan} {rows : List Posting} {level
       (is_rooted.nodes v node is)
 
   -- each posting of the row is one of the document's
-  pub is_listed : (i : ℕ) (a : Posting) → slice_get rows i ≡ Some a
-      → (a.list < g.lists) × IsPostingOf g.lists p.body p.slot a.list (listed p.slot a).posting
-  is_listed i a row =
-      h.rows_are.each i (listed p.slot a)
-      (slice_get-map (listed p.slot) rows i ∙ ap (λ o. option_map (listed p.slot) o) row)
+  pub is_listed : (i : ℕ) (a : ListedPosting) → slice_get rows i ≡ Some a
+      → (a.list < all_lists g) × IsPostingOf g p.stamp p.body p.slot a.list a.posting
+  is_listed i a row = h.rows_are.each i a row
 
   -- between postings and bucket nothing new stands behind the postings' blocks
   pub between_blank : (cell : ℕ) → old cell ≡ None → h.stands.next ≤ cell → h.stands.between cell ≡ None
@@ -126,10 +121,10 @@ module _ {g : Layout} {old laid : Image} {p : Plan} {rows : List Posting} {level
       (λ found. absurd (outside (h.stands.lists.added cell found.0 found.1 none)))
       (look h.stands.between cell)
     where
-      lists_below : (l : ℕ) → l < g.lists → list_at g l + 256 ≤ h.stands.next
+      lists_below : (l : ℕ) → l < all_lists g → list_at g l + 256 ≤ h.stands.next
       lists_below l list = omega (arith, list, pool_before, h.stands.lists.more)
 
-      outside : {value : List ℕ} → IsAddedTo g p.slot rows (length rows) h.stands.between h.stands.next cell value → ⊥
+      outside : {value : List ℕ} → IsAddedTo g rows (length rows) h.stands.between h.stands.next cell value → ⊥
       outside (posting i a block at count row leads less is same) =
           omega (arith, leads_below leads (lists_below a.list (is_listed i a row).0), less, is, far)
       outside (pointer l block i digit target list leads levels low high is other same) =
@@ -173,7 +168,7 @@ module _ {g : Layout} {old laid : Image} {p : Plan} {rows : List Posting} {level
   leads_on leads = leads_wider h.stands.more (leads_to_on extends_between leads)
 
   -- what the postings add
-  of_row : {cell : ℕ} {value : List ℕ} → IsAddedTo g p.slot rows (length rows) h.stands.between h.stands.next cell value
+  of_row : {cell : ℕ} {value : List ℕ} → IsAddedTo g rows (length rows) h.stands.between h.stands.next cell value
       → IsPlannedCell g p.slot rows level to laid cell value
   of_row (posting i a block at count row leads less is same) =
       a_posting i a block at row (is_listed i a row).0 (leads_on leads) less is same
@@ -187,7 +182,7 @@ module _ {g : Layout} {old laid : Image} {p : Plan} {rows : List Posting} {level
       (λ found.
       let same : found.0 ≡ value =
       some_is found.0 value (sym (extends_between.keeps cell found.0 found.1) ∙ h.laid_is.adds cell value is) in
-      of_row (subst (λ (v : List ℕ). IsAddedTo g p.slot rows (length rows) h.stands.between h.stands.next cell v) same
+      of_row (subst (λ (v : List ℕ). IsAddedTo g rows (length rows) h.stands.between h.stands.next cell v) same
       (h.stands.lists.added cell found.0 found.1 (h.blank cell value is))))
       (look h.stands.between cell)
 

@@ -1,16 +1,16 @@
 -- The plan's cells fill its slot.
-use Rattle.std.proofs.Common.{◌≡◌, ◌<◌, ◌≤◌, ◌+◌, ◌⊎◌, ⊎_elim, inl, inr, ℕ, List, length, refl, arith}
+use Rattle.std.proofs.Common.{◌≡◌, ◌<◌, ◌≤◌, ◌+◌, ◌⊎◌, ⊎_elim, inl, inr, ℕ, List, length, refl, arith, Option, Some, None, sym, ◌∙◌, subst}
 use Rattle.cell_types.specs.Image.{Image}
 use Rattle.cell_types.specs.Layout.{Layout, list_at, reserve_at, outcome_at, done_at}
 use Rattle.cell_types.specs.Records.{record_bytes}
 use Rattle.cell_types.specs.declared.record_cell.RecordCell.TheVariants.{Reserve, Commit, Done}
-use Rattle.stored_documents.specs.Slots.{Reserves}
+use Rattle.stored_documents.specs.Slots.{Reserves, IsStampOf}
 use Rattle.index_paths.specs.Nodes.{IsBlockOf}
+use Rattle.index_paths.specs.Postings.{ListedPosting}
 use Rattle.tamper_rules.specs.Journals.{LiesInBlocks}
 use Rattle.volume_growth.specs.Filling.{IsFilled}
 use Rattle.volume_growth.specs.Ingesting.{Plan, Reserving, Committing, Finishing, stored_of}
 use Rattle.volume_growth.proofs.Filled.{mine, stores_on'}
-use Rattle.term_tags.specs.declared.rows.Posting.{Posting}
 use Rattle.hash_tree.specs.declared.level.Level.{Level}
 use Rattle.hash_tree.specs.declared.path.Open.{Open}
 use Rattle.settled_plans.specs.Laws.{IsPlannedIndex}
@@ -22,7 +22,10 @@ use Rattle.settled_plans.proofs.Rows.{all_rows, commit_cell, done_cell, reserve_
 use Rattle.settled_plans.proofs.Standing.{block_back, block_lies, blocks}
 use Rattle.settled_plans.proofs.Tiles.{tiles}
 
-module _ {g : Layout} {old laid : Image} {p : Plan} {rows : List Posting} {level : Level} {place : Open} {to : ℕ}
+not_stamped : (seconds : ℕ) → None ≡ Some seconds → ⊥
+not_stamped seconds e = cc
+
+module _ {g : Layout} {old laid : Image} {p : Plan} {rows : List ListedPosting} {level : Level} {place : Open} {to : ℕ}
     {planned : Image} (h : IsPlannedIndex g old laid p rows level place to planned) where
   reserves : Reserves g (new_image h) p.slot p.start p.reserved
   reserves = record {
@@ -58,6 +61,8 @@ module _ {g : Layout} {old laid : Image} {p : Plan} {rows : List Posting} {level
       is = done_cell h;
     };
     fits = omega (arith, h.takes.room, more h);
+    stamp = subst (λ (s : Option ℕ). IsStampOf g (new_image h) p.slot s) (sym h.takes.stamp) (omega (arith, h.takes.layout.version));
+    rises = λ m lower seconds given d s. absurd (not_stamped seconds (sym h.takes.stamp ∙ given));
     rows = all_rows h;
     is_identifier = h.takes.identifier;
     is_body = h.takes.body;

@@ -2,15 +2,15 @@
 use Rattle.std.proofs.Common.{◌≡◌, ◌<◌, ◌≤◌, ◌+◌, ◌*◌, ◌⊎◌, ⊎_elim, inl, inr, ℕ, suc, zero, List, [], length, slice_get, Some, refl, sym, subst, arith}
 use Rattle.std.proofs.lemmas.Option.{slice_get-get_or}
 use Rattle.cell_types.specs.Image.{Image}
-use Rattle.cell_types.specs.Layout.{Layout, list_at, pool_at}
+use Rattle.cell_types.specs.Layout.{Layout, list_at, pool_at, all_lists}
 use Rattle.cell_types.specs.declared.record_cell.RecordCell.{RecordCell}
 use Rattle.index_paths.specs.Blocks.{Leads}
 use Rattle.index_paths.specs.Nodes.{IsNode}
+use Rattle.index_paths.specs.Postings.{ListedPosting}
 use Rattle.tamper_rules.specs.Journals.{IsIndexCell}
 use Rattle.volume_growth.specs.Filling.{IsCopy, IsPlannedCopy}
 use Rattle.volume_growth.specs.Ingesting.{Plan}
 use Rattle.volume_growth.proofs.SettledShapes.{leads_wider}
-use Rattle.term_tags.specs.declared.rows.Posting.{Posting}
 use Rattle.hash_tree.specs.declared.level.Level.{Level}
 use Rattle.hash_tree.specs.declared.path.Open.{Open}
 use Rattle.settled_plans.specs.Laws.{IsPlannedIndex}
@@ -18,9 +18,9 @@ use Rattle.settled_plans.proofs.Behind.{IsPlannedCell, a_posting, a_pointer, a_b
 use Rattle.settled_plans.proofs.NewImage.{ends_there}
 use Rattle.settled_plans.proofs.OldPlaces.{block_cell, node_cell}
 
-module _ {g : Layout} {old laid : Image} {p : Plan} {rows : List Posting} {level : Level} {place : Open} {to : ℕ}
+module _ {g : Layout} {old laid : Image} {p : Plan} {rows : List ListedPosting} {level : Level} {place : Open} {to : ℕ}
     {planned : Image} (h : IsPlannedIndex g old laid p rows level place to planned) where
-  in_block : (l block i cell : ℕ) → l < g.lists → Leads laid (pool_at g) to block (list_at g l) → i < 256
+  in_block : (l block i cell : ℕ) → l < all_lists g → Leads laid (pool_at g) to block (list_at g l) → i < 256
       → cell ≡ block + i
       → IsIndexCell g old p.slot cell ⊎ (p.start ≤ cell)
   in_block l block i cell list leads less here = ⊎_elim

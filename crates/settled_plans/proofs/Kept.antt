@@ -5,9 +5,9 @@ use Rattle.cell_types.specs.Layout.{Layout}
 use Rattle.stored_documents.specs.Documents.{Stands}
 use Rattle.stored_documents.proofs.Extending.{volume_on}
 use Rattle.index_paths.specs.Keeping.{IsKept}
+use Rattle.index_paths.specs.Postings.{ListedPosting}
 use Rattle.volume_growth.specs.Ingesting.{Plan, Storing}
 use Rattle.volume_growth.proofs.Filled.{mine}
-use Rattle.term_tags.specs.declared.rows.Posting.{Posting}
 use Rattle.hash_tree.specs.declared.level.Level.{Level}
 use Rattle.hash_tree.specs.declared.path.Open.{Open}
 use Rattle.settled_plans.specs.Laws.{IsPlannedIndex}
@@ -15,7 +15,7 @@ use Rattle.settled_plans.proofs.Filled.{filled}
 use Rattle.settled_plans.proofs.NewImage.{new_image}
 use Rattle.settled_plans.proofs.Rows.{all_rows, extends_new}
 
-module _ {g : Layout} {old laid : Image} {p : Plan} {rows : List Posting} {level : Level} {place : Open} {to : ℕ}
+module _ {g : Layout} {old laid : Image} {p : Plan} {rows : List ListedPosting} {level : Level} {place : Open} {to : ℕ}
     {planned : Image} (h : IsPlannedIndex g old laid p rows level place to planned) where
   stands : Stands g.cells (new_image h) p.slot p.id p.body
   stands = record {
@@ -27,7 +27,7 @@ module _ {g : Layout} {old laid : Image} {p : Plan} {rows : List Posting} {level
     slot = h.takes.slot;
     done = mine (filled h);
     spells = λ k below.
-        (all_rows h).adds _ _ (Storing, inl (record { place = k; below = below; at = refl; is = refl }));
+        (all_rows h).adds _ _ (Storing, inl (inl (record { place = k; below = below; at = refl; is = refl })));
     is_identifier = h.takes.identifier;
     is_body = h.takes.body;
   }

@@ -1,6 +1,6 @@
 -- What planning answers on a settled volume costs the document's need.
 use Rattle.std.proofs.Common.{◌≡◌, ◌<◌, ◌+◌, ℕ, List, Option, Some, None, refl, ap, subst, arith, ◌∙◌}
-use Rattle.std.specs.Prelude.{IsTrue, length, map, take}
+use Rattle.std.specs.Prelude.{IsTrue, length, take}
 use Rattle.std.proofs.lemmas.List.{take_all}
 use Rattle.sha2.specs.Sha256.{sha256}
 use Rattle.cell_types.specs.Image.{Image}
@@ -9,22 +9,21 @@ use Rattle.stored_documents.specs.Documents.{stored_bytes}
 use Rattle.stored_documents.specs.Slots.{EndsBelow, IsEdge, IsHorizon, cells_for}
 use Rattle.index_paths.specs.HashPaths.{IsPassed, nibble}
 use Rattle.index_paths.specs.Keeping.{sought_in}
+use Rattle.index_paths.specs.Postings.{ListedPosting}
 use Rattle.tamper_rules.specs.Settling.{IsSettled}
 use Rattle.volume_growth.specs.Needs.{BucketCosts, IsNeed, PostingsCost, in_bucket, in_new_node}
 use Rattle.worm_device.specs.Counts.{IsStill}
 use Rattle.worm_device.specs.State.{DeviceState}
-use Rattle.term_tags.specs.Listing.{listed}
-use Rattle.term_tags.specs.declared.rows.Posting.{Posting}
 use Rattle.hash_tree.specs.Levels.{node_of}
 use Rattle.hash_tree.specs.Steps.{IsOpenAt}
 use Rattle.hash_tree.specs.declared.level.Level.{Level}
 use Rattle.hash_tree.specs.declared.path.Open.{Open}
 use Rattle.tree_growth.specs.Readiness.{PassedDown, blank_in, cost_in, cost_of}
-use Rattle.settled_growth.specs.Laws.{EndsPath}
+use Rattle.settled_growth.specs.Laws.{EndsPath, below_slot}
 use Rattle.settled_growth.proofs.SettledLists.{settled_stand}
 use Rattle.ingest_plan.specs.Planning.{IsPlanned}
 use Rattle.ingest_plan.specs.declared.plan.PlannedIndex.{PlannedIndex}
-use Rattle.settled_plans.proofs.Taken.{stands_at_cost}
+use Rattle.settled_plans.proofs.Taken.{keys_of_slot, stands_at_cost}
 
 -- where a path ends at this place, the bucket goes there, into the node or into a new one
 bucket_costs : (g : Layout) (image : Image) (id : List ℕ) (level : Level) (bucket : ℕ) (child : Option ℕ)
@@ -48,26 +47,27 @@ module _ {g : Layout} {n edge : ℕ} {id body : List ℕ} {level : Level} {place
     (slot : n < g.slots) (begins : EndsBelow g old.image n edge) (ends : EndsPath g old.image level place)
     (digest : level.digest ≡ sha256 id) (passed : PassedDown g old.image (sought_in g.cells g id) level place.child)
     (is : IsPlanned g n edge level place body made old new) where
-  pub needed : IsNeed g old.image n id body
+  pub needed : IsNeed g old.image n id body None
       (cells_for (length (stored_bytes id body)) + length made.journal.items + made.block_length)
   needed =
       let e : IsEdge g old.image old.image edge =
       record { u = n; most = horizon.most; free = horizon.free; ends = begins } in
       let at_cost =
-      stands_at_cost e made settled (is.stands tells still) (settled_stand layout settled e horizon slot) in
+      stands_at_cost e made settled (is.stands tells still (below_slot n) (below_slot (n + 1)) (keys_of_slot is.are))
+      (settled_stand layout settled e horizon slot) in
       let row = at_cost.stands.lists in
       let all : take (length is.rows) is.rows ≡ is.rows = take_all (length is.rows) is.rows (omega arith) in
       record {
         edge = edge;
         is_edge = e;
-        rows = map (listed n) is.rows;
+        rows = is.rows;
         are = is.are;
         new = at_cost.stands.between;
         to = at_cost.stands.next;
         postings = row.cost;
         costs = subst
-            (λ (rows : List Posting).
-            PostingsCost g at_cost.stands.between at_cost.stands.next (map (listed n) rows) old.image edge row.cost)
+            (λ (rows : List ListedPosting).
+            PostingsCost g at_cost.stands.between at_cost.stands.next rows old.image edge row.cost)
             all row.costs;
         bucket = cost_of place;
         bucket_costs =

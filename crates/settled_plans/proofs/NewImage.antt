@@ -2,11 +2,12 @@
 use Rattle.std.proofs.Common.{◌≡◌, ◌<◌, ◌≤◌, ◌+◌, ◌-◌, ◌⊎◌, ⊎_elim, ℕ, List, length, slice_get, Option, None, refl, sym, ◌∙◌, ap, arith}
 use Rattle.std.proofs.lemmas.Option.{none-some}
 use Rattle.cell_types.specs.Image.{Image}
-use Rattle.cell_types.specs.Layout.{Layout, list_at, reserve_at, outcome_at, done_at}
+use Rattle.cell_types.specs.Layout.{Layout, reserve_at, outcome_at, done_at, lists_at}
 use Rattle.cell_types.specs.Records.{record_bytes}
 use Rattle.cell_types.specs.declared.record_cell.RecordCell.TheVariants.{Reserve, Commit, Done}
 use Rattle.stored_documents.specs.Documents.{content_at, document_at}
 use Rattle.stored_documents.specs.Slots.{cells_for}
+use Rattle.index_paths.specs.Postings.{ListedPosting}
 use Rattle.tamper_rules.specs.Journals.{journal_at}
 use Rattle.tamper_rules.specs.Rules
 use Rattle.tamper_rules.specs.Rules.{DoneRule, OutcomeRule}
@@ -14,14 +15,13 @@ use Rattle.tamper_rules.specs.Settling.{IsWith}
 use Rattle.tamper_rules.proofs.Images.{look}
 use Rattle.volume_growth.specs.Filling.{blocks_end}
 use Rattle.volume_growth.specs.Ingesting.{Plan, stored_of}
-use Rattle.term_tags.specs.declared.rows.Posting.{Posting}
 use Rattle.hash_tree.specs.declared.level.Level.{Level}
 use Rattle.hash_tree.specs.declared.path.Open.{Open}
 use Rattle.settled_plans.specs.Laws.{IsPlannedIndex}
 use Rattle.settled_plans.proofs.Behind.{blank_from, more, planned_low, pool_before}
 use Rattle.settled_plans.proofs.Laying.{IsIn, blank_with, held, held_is, one_cell, one_is, laid_on, over_is, row_from, row_is, with_both, with_same}
 
-module _ {g : Layout} {old laid : Image} {p : Plan} {rows : List Posting} {level : Level} {place : Open} {to : ℕ}
+module _ {g : Layout} {old laid : Image} {p : Plan} {rows : List ListedPosting} {level : Level} {place : Open} {to : ℕ}
     {planned : Image} (h : IsPlannedIndex g old laid p rows level place to planned) where
   abbrev pub bytes : ℕ
   bytes = length (stored_of p)
@@ -64,7 +64,7 @@ module _ {g : Layout} {old laid : Image} {p : Plan} {rows : List Posting} {level
       laid_on (one_cell (reserve_at p.slot) (record_bytes (Reserve p.start p.reserved) (reserve_at p.slot))) with_commit
 
   -- where they lie
-  planned_from : {cell : ℕ} {value : List ℕ} → IsIn planned cell value → list_at g 0 ≤ cell
+  planned_from : {cell : ℕ} {value : List ℕ} → IsIn planned cell value → lists_at g ≤ cell
   planned_from {cell} {value} row = (h.index cell value row.is).from
 
   planned_to : {cell : ℕ} {value : List ℕ} → IsIn planned cell value → cell < to
@@ -86,7 +86,7 @@ module _ {g : Layout} {old laid : Image} {p : Plan} {rows : List Posting} {level
   outcome_blank = ⊎_elim
       (λ none. none)
       (λ found.
-      let rule : OutcomeRule old p.slot =
+      let rule : OutcomeRule g old p.slot =
       h.takes.settled.met Rules.OutcomeCells (outcome_at p.slot)
       (record { found = found.0; stands = found.1 }) p.slot h.takes.slot refl in
       absurd (none-some _ (sym (h.takes.horizon.free h.takes.slot) ∙ rule.reserve.stands)))
@@ -141,7 +141,7 @@ module _ {g : Layout} {old laid : Image} {p : Plan} {rows : List Posting} {level
 
   -- all of them lie behind the slots
   stored_from : {cell : ℕ} {value : List ℕ}
-      → (Planned cell value ⊎ OfJournal cell value) ⊎ OfDocument cell value → list_at g 0 ≤ cell
+      → (Planned cell value ⊎ OfJournal cell value) ⊎ OfDocument cell value → lists_at g ≤ cell
   stored_from {cell} {value} rows = ⊎_elim
       (λ (row : Planned cell value ⊎ OfJournal cell value). ⊎_elim
       (λ is. planned_from is)

@@ -10,10 +10,10 @@ use Rattle.stored_documents.proofs.Extending.{holds_on}
 use Rattle.index_paths.specs.HashPaths.{PassedTo, fingerprint_of, nibble}
 use Rattle.index_paths.specs.Keeping.{sought_in}
 use Rattle.index_paths.specs.Nodes.{IsNode, IsOnPath}
+use Rattle.index_paths.specs.Postings.{ListedPosting}
 use Rattle.tamper_rules.proofs.GoingOn.{on_path_on}
 use Rattle.volume_growth.specs.Ingesting.{Plan}
 use Rattle.volume_growth.proofs.ListShapes.{holds_back, written_back}
-use Rattle.term_tags.specs.declared.rows.Posting.{Posting}
 use Rattle.hash_tree.specs.Levels.{node_of}
 use Rattle.hash_tree.specs.declared.level.Level.{Level}
 use Rattle.hash_tree.specs.declared.path.Open.{Open}
@@ -33,7 +33,7 @@ passed_to : (g : Layout) {image : Image} (id : List ℕ) (level : Level) (child 
 passed_to g id level None passed = passed
 passed_to g id level (Some child) (to, above) = to
 
-module _ {g : Layout} {old laid : Image} {p : Plan} {rows : List Posting} {level : Level} {place : Open} {to : ℕ}
+module _ {g : Layout} {old laid : Image} {p : Plan} {rows : List ListedPosting} {level : Level} {place : Open} {to : ℕ}
     {planned : Image} (h : IsPlannedIndex g old laid p rows level place to planned) where
   -- a blank cell of a node was blank between postings and bucket
   node_blank : {v node : ℕ} (i : ℕ) → IsNode g laid v node → i < 32 → old (node + i) ≡ None

@@ -1,8 +1,8 @@
 -- The new postings are the document's.
-use Rattle.std.proofs.Common.{◌≡◌, ◌<◌, ◌+◌, ◌/◌, ⊎_elim, ℕ, List, slice_get, Some, None, sym, ◌∙◌, subst, arith}
-use Rattle.std.proofs.lemmas.Option.{none-some, slice_get_within}
+use Rattle.std.proofs.Common.{◌≡◌, ◌<◌, ◌+◌, ⊎_elim, ℕ, List, slice_get, Some, None, sym, ◌∙◌, subst, arith}
+use Rattle.std.proofs.lemmas.Option.{none-some}
 use Rattle.cell_types.specs.Image.{Image}
-use Rattle.cell_types.specs.Layout.{Layout, list_at, pool_at}
+use Rattle.cell_types.specs.Layout.{Layout, list_at, pool_at, all_lists}
 use Rattle.cell_types.specs.Records.{IsRecordCell}
 use Rattle.cell_types.specs.declared.record_cell.RecordCell.{RecordCell}
 use Rattle.cell_types.specs.declared.record_cell.RecordCell.TheVariants.{Jump, Bucket, Child}
@@ -10,13 +10,11 @@ use Rattle.stored_documents.specs.Volumes.{Holds}
 use Rattle.stored_documents.proofs.Holding.{one_record_holds}
 use Rattle.index_paths.specs.Blocks.{Leads, PostingFields, posting_record}
 use Rattle.index_paths.specs.Nodes.{IsBlockOf}
-use Rattle.index_paths.specs.Postings.{IsPostingOf}
+use Rattle.index_paths.specs.Postings.{IsPostingOf, ListedPosting}
 use Rattle.index_paths.proofs.Fronts.{one_posting}
 use Rattle.tamper_rules.proofs.Writing.{same_or_not}
 use Rattle.volume_growth.specs.Ingesting.{Plan}
 use Rattle.volume_growth.proofs.ListShapes.{holds_back}
-use Rattle.term_tags.specs.Listing.{listed}
-use Rattle.term_tags.specs.declared.rows.Posting.{Posting}
 use Rattle.hash_tree.specs.declared.level.Level.{Level}
 use Rattle.hash_tree.specs.declared.path.Open.{Open}
 use Rattle.settled_plans.specs.Laws.{IsPlannedIndex}
@@ -33,10 +31,10 @@ no_bucket_posts a slot fingerprint same = cc
 no_child_posts : (a : PostingFields) (target : ℕ) → Child target ≡ posting_record a → ⊥
 no_child_posts a target same = cc
 
-module _ {g : Layout} {old laid : Image} {p : Plan} {rows : List Posting} {level : Level} {place : Open} {to : ℕ}
+module _ {g : Layout} {old laid : Image} {p : Plan} {rows : List ListedPosting} {level : Level} {place : Open} {to : ℕ}
     {planned : Image} (h : IsPlannedIndex g old laid p rows level place to planned) where
   -- cells of blocks are the same only where their lists are
-  same_list : (l k a b i j : ℕ) → l < g.lists → k < g.lists → Leads laid (pool_at g) to a (list_at g l)
+  same_list : (l k a b i j : ℕ) → l < all_lists g → k < all_lists g → Leads laid (pool_at g) to a (list_at g l)
       → Leads laid (pool_at g) to b (list_at g k) → i < 256 → j < 256 → a + i ≡ b + j → l ≡ k
   same_list l k a b i j list list' leads leads' less less' same = ⊎_elim
       (λ one. one)
@@ -46,23 +44,16 @@ module _ {g : Layout} {old laid : Image} {p : Plan} {rows : List Posting} {level
       ((stand_behind h).lists.apart l k list list' differ a b leads leads')))
       (same_or_not l k)
 
-  -- the posting is one of the document's, and of its slot
+  -- the posting is one of the document's
   abbrev IsMine : ℕ → PostingFields → Type 0
-  IsMine l q = (q.key / 256 ≡ p.slot) × IsPostingOf g.lists p.body p.slot l q
+  IsMine l q = IsPostingOf g p.stamp p.body p.slot l q
 
-  mine : (i : ℕ) (a : Posting) (cell : ℕ) (value : List ℕ) → slice_get rows i ≡ Some a
-      → IsRecordCell (posting_record (listed p.slot a).posting) cell value
-      → IsMine a.list (listed p.slot a).posting
-  mine i a cell value row is =
-      let of_document = (is_listed h i a row).1 in
-      let below = slice_get_within of_document.tags of_document.ordinal _ of_document.here in
-      let last = is.fits.1 in
-      let key = of_document.key in
-      (omega (arith, below, of_document.last, last, key), of_document)
+  mine : (i : ℕ) (a : ListedPosting) → slice_get rows i ≡ Some a → IsMine a.list a.posting
+  mine i a row = (is_listed h i a row).1
 
   pub postings : (l block at : ℕ) (q : PostingFields) → IsBlockOf g (new_image h) l block → at < 128
       → old (block + at) ≡ None → Holds (new_image h) (block + at) (posting_record q)
-      → (q.key / 256 ≡ p.slot) × IsPostingOf g.lists p.body p.slot l q
+      → IsPostingOf g p.stamp p.body p.slot l q
   postings l block at q b less none holds = of_kind (planned_cell h (block + at) held.cell is_planned)
     where
       leads : Leads laid (pool_at g) to block (list_at g l)
@@ -87,11 +78,11 @@ module _ {g : Layout} {old laid : Image} {p : Plan} {rows : List Posting} {level
           let of_list : a.list ≡ l =
           same_list a.list l other block k at list b.list leads' leads (omega (arith, below)) (omega (arith, less))
           (sym here) in
-          let same : (listed p.slot a).posting ≡ q =
-          one_posting laid (block + at) (listed p.slot a).posting q
+          let same : a.posting ≡ q =
+          one_posting laid (block + at) a.posting q
           (record { cell = held.cell; stands = held.stands; is = is }) held in
           subst (λ (r : PostingFields). IsMine l r) same
-          (subst (λ (m : ℕ). IsMine m (listed p.slot a).posting) of_list (mine i a (block + at) held.cell row is))
+          (subst (λ (m : ℕ). IsMine m a.posting) of_list (mine i a row))
       of_kind (a_pointer m other i digit target list leads' levels low high here to_other is) =
           absurd (no_jump_posts q target (one is))
       of_kind (a_bucket v node x is under here bucket) = absurd (no_bucket_posts q _ _ (one bucket))

@@ -2,17 +2,17 @@
 use Rattle.std.proofs.Common.{◌≡◌, ◌<◌, ◌≤◌, ◌+◌, ◌-◌, ◌⊎◌, ⊎_elim, inl, inr, ℕ, List, length, length-append, Some, None, refl, sym, ◌∙◌, subst, arith}
 use Rattle.std.proofs.lemmas.Option.{none-some, slice_get_within, slice_get-get_or}
 use Rattle.cell_types.specs.Image.{Image, Extends}
-use Rattle.cell_types.specs.Layout.{Layout, list_at, reserve_at, outcome_at, done_at}
+use Rattle.cell_types.specs.Layout.{Layout, reserve_at, outcome_at, done_at, lists_at}
 use Rattle.cell_types.specs.Records.{IsRecordCell, record_bytes}
 use Rattle.cell_types.specs.declared.record_cell.RecordCell.TheVariants.{Reserve, Commit, Done}
 use Rattle.cell_types.proofs.OneRecord.{one_record}
 use Rattle.stored_documents.specs.Documents.{content_at}
 use Rattle.stored_documents.specs.Slots.{cells_for}
 use Rattle.stored_documents.proofs.Extending.{blank_before}
+use Rattle.index_paths.specs.Postings.{ListedPosting}
 use Rattle.tamper_rules.specs.Settling.{IsWith}
 use Rattle.tamper_rules.proofs.Images.{look}
-use Rattle.volume_growth.specs.Ingesting.{Plan, Reserving, Storing, Committing, Applying, Finishing, stored_of, ContentRow, CopyRow, AppliedRow, AnyRow}
-use Rattle.term_tags.specs.declared.rows.Posting.{Posting}
+use Rattle.volume_growth.specs.Ingesting.{Plan, Reserving, Storing, Committing, Applying, Finishing, stored_of, StoredRow, AppliedRow, AnyRow}
 use Rattle.hash_tree.specs.declared.level.Level.{Level}
 use Rattle.hash_tree.specs.declared.path.Open.{Open}
 use Rattle.settled_plans.specs.Laws.{IsPlannedIndex}
@@ -20,7 +20,11 @@ use Rattle.settled_plans.proofs.Behind.{more, planned_low, some_planned, to_insi
 use Rattle.settled_plans.proofs.Laying.{blank_with, held_is, held_there, one_is, one_there, row_is, row_there, with_same}
 use Rattle.settled_plans.proofs.NewImage.{OfCommit, OfDocument, OfDone, OfJournal, OfReserve, Planned, bytes, document, document_cells, is_all, journal, journal_cells, new_image}
 
-module _ {g : Layout} {old laid : Image} {p : Plan} {rows : List Posting} {level : Level} {place : Open} {to : ℕ}
+-- a plan without a stamp has no row for one
+not_stamped : (seconds : ℕ) → None ≡ Some seconds → ⊥
+not_stamped seconds e = cc
+
+module _ {g : Layout} {old laid : Image} {p : Plan} {rows : List ListedPosting} {level : Level} {place : Open} {to : ℕ}
     {planned : Image} (h : IsPlannedIndex g old laid p rows level place to planned) where
   -- a planned cell is copied in the journal
   pub of_planned : (cell : ℕ) (value : List ℕ) → planned cell ≡ Some value → AppliedRow p cell value
@@ -93,11 +97,11 @@ module _ {g : Layout} {old laid : Image} {p : Plan} {rows : List Posting} {level
   to_row cell value (inl (inl (inl (inl (inl row))))) = (Applying, of_planned cell value row.is)
   to_row cell value (inl (inl (inl (inl (inr row))))) =
       let k = row_is (journal h) (journal_cells h) row.is in
-      (Storing, inr (record { place = k.0; entry = k.2; at = k.1 }))
+      (Storing, inl (inr (record { place = k.0; entry = k.2; at = k.1 })))
   to_row cell value (inl (inl (inl (inr row)))) =
       let k = row_is (document h) (document_cells h) row.is in
       let left = held_is (cells_for (bytes h) - k.0) (content_at (stored_of p) k.0) value k.2 in
-      (Storing, inl (record { place = k.0; below = omega (arith, left.0); at = k.1; is = left.1 }))
+      (Storing, inl (inl (record { place = k.0; below = omega (arith, left.0); at = k.1; is = left.1 })))
   to_row cell value (inl (inl (inr row))) =
       let one = one_is row.is in (
         Finishing,
@@ -125,7 +129,7 @@ module _ {g : Layout} {old laid : Image} {p : Plan} {rows : List Posting} {level
         },
       )
 
-  stored : (cell : ℕ) (value : List ℕ) → ContentRow p cell value ⊎ CopyRow p cell value → AllOf cell value
+  stored : (cell : ℕ) (value : List ℕ) → StoredRow p cell value → AllOf cell value
   stored cell value (inl row) =
       inl (inl (inl (inr (record {
         is = row_there (document h) (document_cells h) row.place row.at
@@ -138,7 +142,8 @@ module _ {g : Layout} {old laid : Image} {p : Plan} {rows : List Posting} {level
 
   from_row : (cell : ℕ) (value : List ℕ) → AnyRow p cell value → AllOf cell value
   from_row cell value (Reserving, row) = inr (record { is = one_there row.at row.is.same })
-  from_row cell value (Storing, row) = stored cell value row
+  from_row cell value (Storing, inl row) = stored cell value row
+  from_row cell value (Storing, inr row) = absurd (not_stamped row.seconds (sym h.takes.stamp ∙ row.given))
   from_row cell value (Committing, row) = inl (inr (record { is = one_there row.at row.is.same }))
   from_row cell value (Applying, row) = inl (inl (inl (inl (inl (record { is = to_planned row })))))
   from_row cell value (Finishing, row) = inl (inl (inr (record { is = one_there row.at row.is.same })))
@@ -156,7 +161,7 @@ module _ {g : Layout} {old laid : Image} {p : Plan} {rows : List Posting} {level
   }
 
   -- and nothing else in the lists, the root and the new blocks
-  pub same_new : (cell : ℕ) → list_at g 0 ≤ cell → cell < to → new_image h cell ≡ laid cell
+  pub same_new : (cell : ℕ) → lists_at g ≤ cell → cell < to → new_image h cell ≡ laid cell
   same_new cell from below = ⊎_elim
       (λ none. blank_with all_rows (blank_before h.laid_is.keeps none) (λ found row. far found none row) ∙ sym none)
       (λ found. extends_new.keeps cell found.0 found.1 ∙ sym found.1)
@@ -164,8 +169,9 @@ module _ {g : Layout} {old laid : Image} {p : Plan} {rows : List Posting} {level
     where
       far : (found : List ℕ) → laid cell ≡ None → AnyRow p cell found → ⊥
       far found none (Reserving, row) = omega (arith, row.at, from, h.takes.slot)
-      far found none (Storing, inl row) = omega (arith, row.at, h.takes.room, below)
-      far found none (Storing, inr row) =
+      far found none (Storing, inl (inl row)) = omega (arith, row.at, h.takes.room, below)
+      far found none (Storing, inr row) = omega (arith, row.row.at, from, h.takes.slot)
+      far found none (Storing, inl (inr row)) =
           omega (arith, row.at, h.takes.room, below, slice_get_within p.journal row.place found row.entry)
       far found none (Committing, row) = omega (arith, row.at, from, h.takes.slot)
       far found none (Applying, row) = none-some _ (sym none ∙ h.laid_is.adds cell found (to_planned row))

@@ -1,9 +1,10 @@
 -- The lists and the tree stand in the new image as they do behind the index.
-use Rattle.std.proofs.Common.{◌≡◌, ◌<◌, ◌≤◌, ◌+◌, ◌*◌, ◌⊎◌, ⊎_elim, inl, inr, ℕ, List, sym, subst, arith}
+use Rattle.std.proofs.Common.{◌≡◌, ◌<◌, ◌≤◌, ◌+◌, ◌⊎◌, ⊎_elim, inl, inr, ℕ, List, sym, subst, arith}
 use Rattle.cell_types.specs.Image.{Image}
-use Rattle.cell_types.specs.Layout.{Layout, list_at, pool_at, root_at}
+use Rattle.cell_types.specs.Layout.{Layout, list_at, pool_at, root_at, all_lists, lists_at}
 use Rattle.index_paths.specs.Blocks.{Leads}
 use Rattle.index_paths.specs.Nodes.{AreApart, IsBlockOf, IsNode, root, under}
+use Rattle.index_paths.specs.Postings.{ListedPosting}
 use Rattle.tamper_rules.proofs.Writing.{same_or_not}
 use Rattle.volume_growth.specs.Filling.{blocks_end}
 use Rattle.volume_growth.specs.Ingesting.{Plan}
@@ -12,11 +13,11 @@ use Rattle.volume_growth.specs.TreeShapes.{IsWellRooted}
 use Rattle.volume_growth.proofs.ListShapes.{back, holds_back}
 use Rattle.volume_growth.proofs.SettledShapes.{leads_wider}
 use Rattle.volume_growth.proofs.TreeShapes.{node_place, rooted_apart}
-use Rattle.term_tags.specs.declared.rows.Posting.{Posting}
 use Rattle.hash_tree.specs.declared.level.Level.{Level}
 use Rattle.hash_tree.specs.declared.path.Open.{Open}
 use Rattle.list_growth.proofs.KeptTrails.{leads_below}
 use Rattle.index_growth.specs.Standing.{ListsStand}
+use Rattle.settled_growth.specs.Laws.{below_slot}
 use Rattle.settled_growth.proofs.ListsAside.{lists_aside, was_block}
 use Rattle.settled_growth.proofs.SettledTrees.{block_place}
 use Rattle.settled_plans.specs.Laws.{IsPlannedIndex}
@@ -24,26 +25,26 @@ use Rattle.settled_plans.proofs.Behind.{block_was, more, node_was, pool_before, 
 use Rattle.settled_plans.proofs.NewImage.{ends_there, new_image}
 use Rattle.settled_plans.proofs.Rows.{extends_new, same_new}
 
-module _ {g : Layout} {old laid : Image} {p : Plan} {rows : List Posting} {level : Level} {place : Open} {to : ℕ}
+module _ {g : Layout} {old laid : Image} {p : Plan} {rows : List ListedPosting} {level : Level} {place : Open} {to : ℕ}
     {planned : Image} (h : IsPlannedIndex g old laid p rows level place to planned) where
   -- a block lies behind the slots, and before the document
-  pub block_lies : (l block : ℕ) → l < g.lists → Leads laid (pool_at g) to block (list_at g l)
-      → (list_at g 0 ≤ block) × (block + 256 ≤ to)
+  pub block_lies : (l block : ℕ) → l < all_lists g → Leads laid (pool_at g) to block (list_at g l)
+      → (lists_at g ≤ block) × (block + 256 ≤ to)
   block_lies l block list leads = (
     ⊎_elim (λ first. omega (arith, first)) (λ pool. omega (arith, pool)) (block_place leads),
     leads_below leads (omega (arith, list, pool_before h, more h)),
   )
 
-  pub block_same : (l block i : ℕ) → l < g.lists → Leads laid (pool_at g) to block (list_at g l) → i < 256
+  pub block_same : (l block i : ℕ) → l < all_lists g → Leads laid (pool_at g) to block (list_at g l) → i < 256
       → new_image h (block + i) ≡ laid (block + i)
   block_same l block i list leads less =
       let lies = block_lies l block list leads in
       same_new h (block + i) (omega (arith, lies.0)) (omega (arith, lies.1, less))
 
-  pub new_lists : ListsStand g (new_image h) to (256 * (p.slot + 1))
+  pub new_lists : ListsStand g (new_image h) to (below_slot (p.slot + 1))
   new_lists = lists_aside (stand_behind h).lists (extends_new h) (omega arith) block_same
 
-  pub block_laid : (l block : ℕ) → l < g.lists → Leads (new_image h) (pool_at g) to block (list_at g l)
+  pub block_laid : (l block : ℕ) → l < all_lists g → Leads (new_image h) (pool_at g) to block (list_at g l)
       → Leads laid (pool_at g) to block (list_at g l)
   block_laid l block list leads =
       was_block (stand_behind h).lists (extends_new h) (omega arith) block_same l block list leads
@@ -53,7 +54,7 @@ module _ {g : Layout} {old laid : Image} {p : Plan} {rows : List Posting} {level
   block_back {l} {block} b = block_laid l block b.list (back (to_inside h) (new_lists.well l b.list) b.leads)
 
   -- a node lies behind the slots, and before the document
-  pub node_lies : {v node : ℕ} → IsNode g laid v node → (list_at g 0 ≤ node) × (node + 32 ≤ to)
+  pub node_lies : {v node : ℕ} → IsNode g laid v node → (lists_at g ≤ node) × (node + 32 ≤ to)
   node_lies {v} {node} is = ⊎_elim
       (λ (at : node ≡ root_at g). (omega (arith, at), omega (arith, at, pool_before h, more h)))
       (λ (there : (pool_at g ≤ node) × (node + 32 ≤ to)). (omega (arith, there.0), there.1))
@@ -82,7 +83,7 @@ module _ {g : Layout} {old laid : Image} {p : Plan} {rows : List Posting} {level
       rooted_apart (stand_behind h).tree.rooted (extends_new h) (λ v node x is less. child_same x is less)
 
   -- what a well made plan says of lists and tree
-  pub lists : (l : ℕ) → l < g.lists → IsWellListed (new_image h) (pool_at g) (blocks_end p) (list_at g l)
+  pub lists : (l : ℕ) → l < all_lists g → IsWellListed (new_image h) (pool_at g) (blocks_end p) (list_at g l)
   lists l list =
       subst (λ (end : ℕ). IsWellListed (new_image h) (pool_at g) end (list_at g l)) (sym (ends_there h))
       (new_lists.well l list)

@@ -1,23 +1,24 @@
 -- What stands where a plan takes the slot at the horizon of a settled volume.
-use Rattle.std.proofs.Common.{◌≡◌, ◌≤◌, ◌+◌, ◌*◌, ⊎_elim, ℕ, List, None, refl, sym, subst, arith}
+use Rattle.std.proofs.Common.{◌≡◌, ◌≤◌, ◌+◌, ⊎_elim, ℕ, List, None, refl, sym, subst, arith}
 use Rattle.std.specs.Prelude.{nat_lt, if◌then◌else◌, Bool, true, false}
 use Rattle.std.proofs.lemmas.Bool.Decides.{nat_tests}
 use Rattle.cell_types.specs.Image.{Image}
 use Rattle.cell_types.specs.Layout.{Layout, pool_at}
 use Rattle.stored_documents.specs.Slots.{IsEdge, Reserves}
+use Rattle.index_paths.specs.Postings.{ArePostings, ListedPosting}
 use Rattle.tamper_rules.specs.Rules
 use Rattle.tamper_rules.specs.Rules.{BlankRule}
 use Rattle.tamper_rules.specs.Settling.{IsSettled}
 use Rattle.tamper_rules.proofs.Images.{look, same_image}
 use Rattle.volume_growth.specs.Ingesting.{Plan}
-use Rattle.term_tags.specs.declared.rows.Posting.{Posting}
 use Rattle.hash_tree.specs.declared.level.Level.{Level}
 use Rattle.hash_tree.specs.declared.path.Open.{Open}
-use Rattle.index_growth.specs.Standing.{ListsStand}
-use Rattle.settled_growth.specs.Laws.{IndexesStand}
+use Rattle.index_growth.specs.Standing.{HasKeysBetween, ListsStand}
+use Rattle.settled_growth.specs.Laws.{IndexesStand, below_slot}
 use Rattle.settled_growth.proofs.SettledLists.{settled_stand}
 use Rattle.settled_growth.proofs.SettledTrees.{settled_tree}
 use Rattle.ingest_plan.specs.Planning.{StandsAtCost, cut_at}
+use Rattle.ingest_plan.proofs.Postings.{key_of_slot}
 use Rattle.ingest_plan.specs.declared.plan.PlannedIndex.{PlannedIndex}
 use Rattle.settled_plans.specs.Laws.{TakesSlot}
 
@@ -53,15 +54,24 @@ module _ {g : Layout} {image : Image} {edge : ℕ} (e : IsEdge g image image edg
   cut_at_edge settled = same_image (λ cell. cut_cell edge cell image (λ far. blank_behind settled cell far))
 
   -- what is planned over the image up to there stands over the image itself
-  pub stands_at_cost : {n : ℕ} {rows : List Posting} {level : Level} {place : Open} (made : PlannedIndex)
-      {planned : Image} → IsSettled g image
-      → (ListsStand g (cut_at edge image) edge (256 * n)
-      → StandsAtCost g n edge rows level place made (cut_at edge image) planned)
-      → ListsStand g image edge (256 * n) → StandsAtCost g n edge rows level place made image planned
-  stands_at_cost {n} {rows} {level} {place} made {planned} settled stands lists =
+  pub stands_at_cost : {n : ℕ} {bound behind : ℕ → ℕ} {rows : List ListedPosting} {level : Level} {place : Open}
+      (made : PlannedIndex) {planned : Image} → IsSettled g image
+      → (ListsStand g (cut_at edge image) edge bound
+      → StandsAtCost g n edge behind rows level place made (cut_at edge image) planned)
+      → ListsStand g image edge bound → StandsAtCost g n edge behind rows level place made image planned
+  stands_at_cost {n} {bound} {behind} {rows} {level} {place} made {planned} settled stands lists =
       let same = cut_at_edge settled in
-      subst (λ (below : Image). StandsAtCost g n edge rows level place made below planned) same
-      (stands (subst (λ (below : Image). ListsStand g below edge (256 * n)) (sym same) lists))
+      subst (λ (below : Image). StandsAtCost g n edge behind rows level place made below planned) same
+      (stands (subst (λ (below : Image). ListsStand g below edge bound) (sym same) lists))
+
+-- a document's keys lie between the bounds below its slot and below the next
+pub keys_of_slot : {g : Layout} {body : List ℕ} {n : ℕ} {rows : List ListedPosting} → ArePostings g None body n rows
+    → HasKeysBetween rows (below_slot n) (below_slot (n + 1))
+keys_of_slot {g} {body} {n} {rows} are = record {
+  rise = λ l. omega arith;
+  from = λ i p is. (key_of_slot g body n rows are i p is).0;
+  to = λ i p is. (key_of_slot g body n rows are i p is).1;
+}
 
 module _ {g : Layout} {old : Image} {p : Plan} {to : ℕ} (takes : TakesSlot g old p to) where
   pub old_edge : IsEdge g old old p.start
@@ -78,7 +88,7 @@ module _ {g : Layout} {old : Image} {p : Plan} {to : ℕ} (takes : TakesSlot g o
   pub blank_from : (cell : ℕ) → p.start ≤ cell → old cell ≡ None
   blank_from cell from = blank_behind old_edge takes.settled cell from
 
-  pub stand : IndexesStand g old p.start (256 * p.slot)
+  pub stand : IndexesStand g old p.start (below_slot p.slot)
   stand = record {
     lists = settled_stand takes.layout takes.settled old_edge takes.horizon takes.slot;
     tree = settled_tree takes.layout takes.settled old_edge;

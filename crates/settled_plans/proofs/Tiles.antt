@@ -5,7 +5,7 @@ use Rattle.std.specs.Prelude.{Contains}
 use Rattle.std.proofs.lemmas.Bool.{cases_lt}
 use Rattle.std.proofs.lemmas.Option.{none-some, get_or_from_slice_get, slice_get-get_or, slice_get-map, slice_get_within}
 use Rattle.cell_types.specs.Image.{Image}
-use Rattle.cell_types.specs.Layout.{Layout, list_at, pool_at}
+use Rattle.cell_types.specs.Layout.{Layout, list_at, pool_at, all_lists}
 use Rattle.cell_types.specs.Records.{IsRecordCell}
 use Rattle.cell_types.specs.declared.record_cell.RecordCell.{RecordCell}
 use Rattle.cell_types.specs.declared.record_cell.RecordCell.TheVariants.{Jump, Bucket, Child}
@@ -13,6 +13,7 @@ use Rattle.stored_documents.specs.Volumes.{Holds}
 use Rattle.stored_documents.proofs.Holding.{one_record_holds, some_is}
 use Rattle.index_paths.specs.Blocks.{Leads, PostingFields, posting_record}
 use Rattle.index_paths.specs.Nodes.{AreApart, IsNode}
+use Rattle.index_paths.specs.Postings.{ListedPosting}
 use Rattle.tamper_rules.specs.Journals.{Copies, IsIndexRecord, journal_at}
 use Rattle.tamper_rules.specs.Rules.{HasChild, HasJump, IsSize, TilingRule}
 use Rattle.tamper_rules.specs.Rules as rules
@@ -20,8 +21,6 @@ use Rattle.tamper_rules.proofs.GivenUp.{children, jumps}
 use Rattle.tamper_rules.proofs.Writing.{same_or_not}
 use Rattle.volume_growth.specs.Ingesting.{Plan, Storing, stored_of}
 use Rattle.cell_pool.specs.Grants.{Grant, Tile}
-use Rattle.term_tags.specs.Listing.{listed}
-use Rattle.term_tags.specs.declared.rows.Posting.{Posting}
 use Rattle.hash_tree.specs.declared.level.Level.{Level}
 use Rattle.hash_tree.specs.declared.path.Open.{Open}
 use Rattle.index_growth.specs.Granting.{IsLedTo, to_block, to_node}
@@ -95,7 +94,7 @@ mapped : (found : Option Grant) (target : ℕ) → option_map (λ (grant : Grant
 mapped None target is = absurd (none-some _ is)
 mapped (Some grant) target is = (grant, refl, cc)
 
-module _ {g : Layout} {old laid : Image} {p : Plan} {rows : List Posting} {level : Level} {place : Open} {to : ℕ}
+module _ {g : Layout} {old laid : Image} {p : Plan} {rows : List ListedPosting} {level : Level} {place : Open} {to : ℕ}
     {planned : Image} (h : IsPlannedIndex g old laid p rows level place to planned) where
   -- what the journal copies in the new image is planned
   copies_planned : {at cell : ℕ} {r : RecordCell} → Copies (new_image h) p.start p.reserved (length p.journal) at cell r
@@ -103,7 +102,7 @@ module _ {g : Layout} {old laid : Image} {p : Plan} {rows : List Posting} {level
   copies_planned {at} {cell} {r} copies =
       let found = slice_get-get_or p.journal at [] copies.below in
       let there = (all_rows h).adds (journal_at p.start p.reserved (length p.journal) + at) _
-      (Storing, inr (record { place = at; entry = found; at = refl })) in
+      (Storing, inl (inr (record { place = at; entry = found; at = refl }))) in
       let same = some_is _ copies.entry (sym there ∙ copies.stands) in
       record {
         cell = copies.entry;
@@ -128,7 +127,7 @@ module _ {g : Layout} {old laid : Image} {p : Plan} {rows : List Posting} {level
           below = slice_get_within p.journal row.place holds.cell row.entry;
           entry = holds.cell;
           stands = (all_rows h).adds (journal_at p.start p.reserved (length p.journal) + row.place) holds.cell
-              (Storing, inr (record { place = row.place; entry = row.entry; at = refl }));
+              (Storing, inl (inr (record { place = row.place; entry = row.entry; at = refl })));
           index = index;
           address = row.address;
           is = holds.is;
@@ -142,7 +141,7 @@ module _ {g : Layout} {old laid : Image} {p : Plan} {rows : List Posting} {level
 
   -- The cells at a target are a block of a list, or a node.
   data IsPiece (target : ℕ) : ℕ → Type 0 where
-    a_block : (size l : ℕ) → size ≡ 256 → l < g.lists → Leads laid (pool_at g) to target (list_at g l)
+    a_block : (size l : ℕ) → size ≡ 256 → l < all_lists g → Leads laid (pool_at g) to target (list_at g l)
         → IsPiece target size
     a_node : (size w : ℕ) → size ≡ 32 → IsNode g laid w target → IsPiece target size
 
@@ -152,7 +151,7 @@ module _ {g : Layout} {old laid : Image} {p : Plan} {rows : List Posting} {level
     where
       of_kind : IsPlannedCell g p.slot rows level to laid cell holds.cell → IsPiece target 256
       of_kind (a_posting i a block at row list leads less here is) =
-          absurd (no_posting_jumps (listed p.slot a).posting target (one_planned holds holds.stands is))
+          absurd (no_posting_jumps a.posting target (one_planned holds holds.stands is))
       of_kind (a_pointer l block i digit other list leads levels low high here to_other is) =
           let same = jumps other target (one_planned holds holds.stands is) in
           a_block 256 l refl list (subst (λ (t : ℕ). Leads laid (pool_at g) to t (list_at g l)) same to_other)
@@ -166,7 +165,7 @@ module _ {g : Layout} {old laid : Image} {p : Plan} {rows : List Posting} {level
     where
       of_kind : IsPlannedCell g p.slot rows level to laid cell holds.cell → IsPiece target 32
       of_kind (a_posting i a block at row list leads less here is) =
-          absurd (no_posting_leads (listed p.slot a).posting target (one_planned holds holds.stands is))
+          absurd (no_posting_leads a.posting target (one_planned holds holds.stands is))
       of_kind (a_pointer l block i digit other list leads levels low high here to_other is) =
           absurd (no_jump_leads other target (one_planned holds holds.stands is))
       of_kind (a_bucket v node x is less here bucket) =

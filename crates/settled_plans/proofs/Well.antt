@@ -1,10 +1,11 @@
 -- A planned index is well made.
-use Rattle.std.proofs.Common.{ℕ, List}
+use Rattle.stored_documents.proofs.Stamps.{one}
+use Rattle.index_paths.specs.Postings.{IsPostingOf, ListedPosting}
+use Rattle.std.proofs.Common.{ℕ, List, Option, subst}
 use Rattle.cell_types.specs.Image.{Image}
 use Rattle.cell_types.specs.Layout.{Layout}
 use Rattle.volume_growth.specs.Filling.{IsWellPlanned}
 use Rattle.volume_growth.specs.Ingesting.{Plan}
-use Rattle.term_tags.specs.declared.rows.Posting.{Posting}
 use Rattle.hash_tree.specs.declared.level.Level.{Level}
 use Rattle.hash_tree.specs.declared.path.Open.{Open}
 use Rattle.settled_plans.specs.Laws.{IsPlannedIndex}
@@ -15,10 +16,10 @@ use Rattle.settled_plans.proofs.Nodes.{new_buckets, new_children}
 use Rattle.settled_plans.proofs.Postings.{postings}
 use Rattle.settled_plans.proofs.Standing.{apart, apart_nodes, blocks, lists, nodes, tree}
 
-pub well : {g : Layout} {old laid : Image} {p : Plan} {rows : List Posting} {level : Level} {place : Open} {to : ℕ}
+pub well : {g : Layout} {old laid : Image} {p : Plan} {rows : List ListedPosting} {level : Level} {place : Open} {to : ℕ}
     {planned : Image} → IsPlannedIndex g old laid p rows level place to planned
     → (new : Image) × IsWellPlanned g old new p
-well h = (
+well {g} {old} {laid} {p} h = (
   new_image h,
   record {
     filled = filled h;
@@ -29,7 +30,9 @@ well h = (
     blocks = blocks h;
     postings = postings h;
     has_postings = h.rows_are.exist;
-    trails = (kept h).trails;
+    trails = λ l q below is. (kept h).trails l q below
+        (subst (λ (s : Option ℕ). IsPostingOf g s p.body p.slot l q)
+        (one g (new_image h) p.slot p.stamp (kept h).stamp (filled h).stamp (kept h).is_stamp) is);
     tree = tree h;
     nodes = nodes h;
     new_children = new_children h;

@@ -1,5 +1,5 @@
 -- What is planned for a document on a settled volume, and that it is well made.
-use Rattle.std.specs.Prelude.{◌≡◌, ◌<◌, ◌≤◌, ◌+◌, ℕ, List, length, map, Some, None, IsTrue}
+use Rattle.std.specs.Prelude.{◌≡◌, ◌<◌, ◌≤◌, ◌+◌, ℕ, List, length, Some, None, IsTrue}
 use Rattle.sha2.specs.Sha256.{sha256}
 use Rattle.cell_types.specs.Image.{Image, Extends, IsUnchanged}
 use Rattle.cell_types.specs.Layout.{Layout, IsLayout}
@@ -7,15 +7,13 @@ use Rattle.stored_documents.specs.Documents.{IsBody, IsIdentifier, Stands, store
 use Rattle.stored_documents.specs.Slots.{EndsBelow, IsHorizon, cells_for}
 use Rattle.stored_documents.specs.Volumes.{IsVolume}
 use Rattle.index_paths.specs.Keeping.{IsKept, sought_in}
-use Rattle.index_paths.specs.Postings.{ArePostings}
+use Rattle.index_paths.specs.Postings.{ArePostings, ListedPosting}
 use Rattle.tamper_rules.specs.Settling.{IsSettled, IsWith}
 use Rattle.volume_growth.specs.Filling.{IsWellPlanned}
 use Rattle.volume_growth.specs.Ingesting.{Plan, stored_of}
 use Rattle.volume_growth.specs.Needs.{IsNeed}
 use Rattle.worm_device.specs.Counts.{IsStill}
 use Rattle.worm_device.specs.State.{DeviceState}
-use Rattle.term_tags.specs.Listing.{listed}
-use Rattle.term_tags.specs.declared.rows.Posting.{Posting}
 use Rattle.hash_tree.specs.declared.level.Level.{Level}
 use Rattle.hash_tree.specs.declared.path.Open.{Open}
 use Rattle.tree_growth.specs.Readiness.{PassedDown}
@@ -23,7 +21,7 @@ use Rattle.index_growth.specs.Granting.{GivesWhatIsLedTo}
 use Rattle.index_growth.specs.Indexes.{IsIndexCell}
 use Rattle.index_growth.specs.Journal.{IsJournal}
 use Rattle.index_growth.specs.Standing.{IndexStands}
-use Rattle.settled_growth.specs.Laws.{EndsPath}
+use Rattle.settled_growth.specs.Laws.{EndsPath, below_slot}
 use Rattle.ingest_plan.specs.Planning.{IsPlanned}
 use Rattle.ingest_plan.specs.declared.plan.PlannedIndex.{PlannedIndex}
 
@@ -38,6 +36,7 @@ pub record TakesSlot (g : Layout) (old : Image) (p : Plan) (to : ℕ) : Type 0 w
   pub begins : EndsBelow g old p.slot p.start
   pub room : p.start + p.reserved ≡ to + cells_for (length (stored_of p)) + length p.journal
   pub inside : p.start + p.reserved ≤ g.cells
+  pub stamp : p.stamp ≡ None
   pub identifier : IsIdentifier p.id
   pub body : IsBody p.body
   pub absent : (m : ℕ) (other : List ℕ) → Stands g.cells old m p.id other → ⊥
@@ -45,10 +44,10 @@ pub record TakesSlot (g : Layout) (old : Image) (p : Plan) (to : ℕ) : Type 0 w
 -- The index of the plan's document is planned, and laid is the old image with its cells: index cells that were blank,
 -- which the plan's journal copies. Its postings and its bucket go where lists and path ask for them; each new block and
 -- node is led to by a planned cell; and once these cells stand, the document is kept where it stands.
-pub record IsPlannedIndex (g : Layout) (old laid : Image) (p : Plan) (rows : List Posting) (level : Level)
+pub record IsPlannedIndex (g : Layout) (old laid : Image) (p : Plan) (rows : List ListedPosting) (level : Level)
     (place : Open) (to : ℕ) (planned : Image) : Type 0 where
   pub takes : TakesSlot g old p to
-  pub rows_are : ArePostings g.lists p.body p.slot (map (listed p.slot) rows)
+  pub rows_are : ArePostings g p.stamp p.body p.slot rows
   pub ends : EndsPath g old level place
   pub digest : level.digest ≡ sha256 p.id
   pub passed : PassedDown g old (sought_in g.cells g p.id) level place.child
@@ -58,14 +57,14 @@ pub record IsPlannedIndex (g : Layout) (old laid : Image) (p : Plan) (rows : Lis
   pub blank : (cell : ℕ) (value : List ℕ) → planned cell ≡ Some value → old cell ≡ None
   pub grants : GivesWhatIsLedTo planned p.start to
   pub laid_is : IsWith (λ cell value. planned cell ≡ Some value) old laid
-  pub stands : IndexStands g p.slot rows level place p.start to old laid
+  pub stands : IndexStands g p.slot (below_slot (p.slot + 1)) rows level place p.start to old laid
   pub keeps : (image : Image) → Extends old image → Extends planned image → Stands g.cells image p.slot p.id p.body
       → IsKept g.cells image g (record { slot = p.slot; id = p.id; body = p.body })
 
 -- so the plan is well made: with its cells the old image becomes one of which `volume_growth` has its laws
 abbrev pub PlanIsWell : Type 0
 PlanIsWell =
-    (g : Layout) (old laid : Image) (p : Plan) (rows : List Posting) (level : Level) (place : Open) (to : ℕ)
+    (g : Layout) (old laid : Image) (p : Plan) (rows : List ListedPosting) (level : Level) (place : Open) (to : ℕ)
     (planned : Image)
     → IsPlannedIndex g old laid p rows level place to planned → (new : Image) × IsWellPlanned g old new p
 
@@ -92,5 +91,5 @@ AnswerIsNeed =
     → EndsPath g old.image level place → level.digest ≡ sha256 id
     → PassedDown g old.image (sought_in g.cells g id) level place.child
     → IsPlanned g n edge level place body made old new
-    → IsNeed g old.image n id body
+    → IsNeed g old.image n id body None
     (cells_for (length (stored_bytes id body)) + length made.journal.items + made.block_length)

@@ -3,7 +3,7 @@ use Rattle.std.proofs.Common.{◌≡◌, ◌≤◌, ◌⊎◌, ℕ, List, Some, 
 use Rattle.std.specs.Prelude.{Result}
 use Rattle.std.proofs.lemmas.Option.{none-some}
 use Rattle.cell_types.specs.Image.{Image, Extends}
-use Rattle.cell_types.specs.Layout.{Layout, IsLayout, outcome_at, done_at, list_at}
+use Rattle.cell_types.specs.Layout.{Layout, IsLayout, outcome_at, done_at, lists_at}
 use Rattle.cell_types.specs.Records.{record_bytes}
 use Rattle.cell_types.specs.declared.record_cell.RecordCell.TheVariants as records
 use Rattle.cell_types.specs.declared.refusal.Refusal.{Refusal}
@@ -32,14 +32,14 @@ use Rattle.stored_documents.proofs.Holding.{some_is}
 pub data IsEndCell (g : Layout) (n at : ℕ) (value : List ℕ) : Type 0 where
   abandon : at ≡ outcome_at n → value ≡ record_bytes records.Abandon (outcome_at n) → IsEndCell g n at value
   done : at ≡ done_at n → value ≡ record_bytes (records.Done n) (done_at n) → IsEndCell g n at value
-  entry : list_at g 0 ≤ at → IsCopy value → IsEndCell g n at value
+  entry : lists_at g ≤ at → IsCopy value → IsEndCell g n at value
 
 -- the same, by the slot's state
 abbrev pub EndsState : Layout → ℕ → SlotState → ℕ → List ℕ → Type 0
 EndsState g n (Reserved start length) at value =
     (at ≡ outcome_at n) × (value ≡ record_bytes records.Abandon (outcome_at n))
 EndsState g n (Committed start length bytes journal) at value =
-    ((list_at g 0 ≤ at) × IsCopy value) ⊎ ((at ≡ done_at n) × (value ≡ record_bytes (records.Done n) (done_at n)))
+    ((lists_at g ≤ at) × IsCopy value) ⊎ ((at ≡ done_at n) × (value ≡ record_bytes (records.Done n) (done_at n)))
 EndsState g n state at value = ⊥
 
 -- what ends the state of a slot is one of these cells
@@ -47,7 +47,7 @@ pub ends_by_cell : (g : Layout) (n : ℕ) (state : SlotState) (at : ℕ) (value 
     → IsEndCell g n at value
 ends_by_cell g n (Reserved start length) at value e = IsEndCell.abandon e.0 e.1
 ends_by_cell g n (Committed start length bytes journal) at value e = ⊎_elim
-    (λ (c : (list_at g 0 ≤ at) × IsCopy value). IsEndCell.entry c.0 c.1)
+    (λ (c : (lists_at g ≤ at) × IsCopy value). IsEndCell.entry c.0 c.1)
     (λ (d : (at ≡ done_at n) × (value ≡ record_bytes (records.Done n) (done_at n))). IsEndCell.done d.0 d.1)
     e
 ends_by_cell g n Unused at value e = absurd e
@@ -74,10 +74,10 @@ put_ends g image n (Committed start length bytes journal) entries put p = ⊎_el
     (λ (a : (p.0 ≡ 1) × IsEntryPut image (journal_at start length journal) journal put).
     let all = entries (omega arith) in
     let here = all a.1.0 a.1.1 in
-    let low : list_at g 0 ≤ put.at = omega (
+    let low : lists_at g ≤ put.at = omega (
       arith,
       a.1.2.at,
-      entries_from (list_at g 0) image
+      entries_from (lists_at g) image
           (journal_at start length journal) (document_at start length bytes journal) journal all a.1.0 put.value a.1.1
           a.1.2.stands,
     ) in
@@ -133,7 +133,7 @@ module _ (g : Layout) (old new : Image) (n : ℕ) (layout : IsLayout g) (grows :
       let same : s.0 ≡ record_bytes (records.Done n) (done_at n) = ⊎_elim
       (λ (stood : old (done_at n) ≡ Some s.0). absurd (none-some s.0 (sym is.done ∙ stood)))
       (λ (e : EndsState g n (Committed start length bytes journal) (done_at n) s.0). ⊎_elim
-      (λ (c : (list_at g 0 ≤ done_at n) × IsCopy s.0). absurd (omega (arith, c.0, is.commits.reserves.slot)))
+      (λ (c : (lists_at g ≤ done_at n) × IsCopy s.0). absurd (omega (arith, c.0, is.commits.reserves.slot)))
       (λ (d : (done_at n ≡ done_at n) × (s.0 ≡ record_bytes (records.Done n) (done_at n))). d.1) e)
       (adds (done_at n) s.0 s.1) in (
         Done start length bytes journal,

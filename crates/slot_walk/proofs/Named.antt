@@ -2,7 +2,7 @@
 use Rattle.std.proofs.Common.{◌≡◌, ◌≢◌, ◌≤◌, ◌<◌, ◌⊎◌, ℕ, List, Some, Ok, refl, sym, ap, ◌∙◌, ⊎_elim, inl, inr, subst, arith}
 use Rattle.std.specs.Prelude.{IsTrue}
 use Rattle.cell_types.specs.Image.{Image, Extends}
-use Rattle.cell_types.specs.Layout.{Layout, reserve_at, outcome_at, done_at}
+use Rattle.cell_types.specs.Layout.{Layout, spare_at, reserve_at, outcome_at, done_at}
 use Rattle.cell_types.specs.declared.record_cell.RecordCell.{RecordCell}
 use Rattle.cell_types.specs.declared.refusal.Evidence.{Evidence}
 use Rattle.stored_documents.specs.Documents.{Spells, document_at, stored_bytes}
@@ -33,7 +33,7 @@ use Rattle.slot_walk.proofs.Walked.{in_slots, is_ready, same_since, still_lookin
 
 -- a cell that tells the state of slot n
 abbrev IsOwn : ℕ → ℕ → Type 0
-IsOwn n at = (at ≡ reserve_at n) ⊎ (at ≡ outcome_at n) ⊎ (at ≡ done_at n)
+IsOwn n at = (at ≡ reserve_at n) ⊎ (at ≡ outcome_at n) ⊎ (at ≡ done_at n) ⊎ (at ≡ spare_at n)
 
 -- what is out of place is one of the slot's cells, by one of their rules
 own_cell : {g : Layout} {before after : Image} {n rule cell : ℕ} → IsNoState g before after n rule cell
@@ -41,10 +41,10 @@ own_cell : {g : Layout} {before after : Image} {n rule cell : ℕ} → IsNoState
 own_cell (reserves_none rule at none) = (inl rule, inl at)
 own_cell (ends_unreserved rule at blank) = (inr (inl rule), inr (inl at))
 own_cell (ends_wrongly s l rule at reserves no_abandon no_commit) = (inr (inl rule), inr (inl at))
-own_cell (done_unreserved rule at blank no_outcome) = (inr (inr rule), inr (inr at))
-own_cell (done_unended s l rule at reserves no_outcome) = (inr (inr rule), inr (inr at))
-own_cell (done_abandoned s l rule at abandons) = (inr (inr rule), inr (inr at))
-own_cell (done_wrongly s l b j rule at commits not_done) = (inr (inr rule), inr (inr at))
+own_cell (done_unreserved rule at blank no_outcome) = (inr (inr rule), inr (inr (inl at)))
+own_cell (done_unended s l rule at reserves no_outcome) = (inr (inr rule), inr (inr (inl at)))
+own_cell (done_abandoned s l rule at abandons) = (inr (inr rule), inr (inr (inl at)))
+own_cell (done_wrongly s l b j rule at commits not_done) = (inr (inr rule), inr (inr (inl at)))
 
 -- What the same cells hold is the same.
 holds_in : {a b : Image} {at : ℕ} {r : RecordCell} → b at ≡ a at → Holds a at r → Holds b at r
@@ -59,40 +59,45 @@ abandons_in : {g : Layout} {a b : Image} {n start length : ℕ} → b (reserve_a
 abandons_in same there x = record { reserves = reserves_in same x.reserves; outcome = holds_in there x.outcome }
 
 commits_in : {g : Layout} {a b : Image} {n start length bytes journal : ℕ} → b (reserve_at n) ≡ a (reserve_at n)
-    → b (outcome_at n) ≡ a (outcome_at n) → Commits g a n start length bytes journal
+    → b (outcome_at n) ≡ a (outcome_at n) → b (spare_at n) ≡ a (spare_at n) → Commits g a n start length bytes journal
     → Commits g b n start length bytes journal
-commits_in same there c =
-    record { reserves = reserves_in same c.reserves; outcome = holds_in there c.outcome; fits = c.fits }
+commits_in same there spare c = record {
+  reserves = reserves_in same c.reserves;
+  outcome = holds_in there c.outcome;
+  fits = c.fits;
+  stamped = λ version. let t = c.stamped version in record { seconds = t.seconds; stamp = holds_in spare t.stamp };
+}
 
 -- a slot's three cells say by themselves that they are no state
 no_state_in : {g : Layout} {a b : Image} {n rule cell : ℕ} → b (reserve_at n) ≡ a (reserve_at n)
-    → b (outcome_at n) ≡ a (outcome_at n) → b (done_at n) ≡ a (done_at n) → IsNoState g a a n rule cell
+    → b (outcome_at n) ≡ a (outcome_at n) → b (done_at n) ≡ a (done_at n) → b (spare_at n) ≡ a (spare_at n)
+    → IsNoState g a a n rule cell
     → IsNoState g b b n rule cell
-no_state_in reserve outcome done (reserves_none rule at none) =
+no_state_in reserve outcome done spare (reserves_none rule at none) =
     reserves_none rule at (λ s l r. none s l (reserves_in (sym reserve) r))
-no_state_in reserve outcome done (ends_unreserved rule at blank) = ends_unreserved rule at (reserve ∙ blank)
-no_state_in reserve outcome done (ends_wrongly s l rule at reserves no_abandon no_commit) =
+no_state_in reserve outcome done spare (ends_unreserved rule at blank) = ends_unreserved rule at (reserve ∙ blank)
+no_state_in reserve outcome done spare (ends_wrongly s l rule at reserves no_abandon no_commit) =
     ends_wrongly s l rule at (reserves_in reserve reserves)
     (λ x. no_abandon (abandons_in (sym reserve) (sym outcome) x))
-    (λ b j c. no_commit b j (commits_in (sym reserve) (sym outcome) c))
-no_state_in reserve outcome done (done_unreserved rule at blank no_outcome) =
+    (λ b j c. no_commit b j (commits_in (sym reserve) (sym outcome) (sym spare) c))
+no_state_in reserve outcome done spare (done_unreserved rule at blank no_outcome) =
     done_unreserved rule at (reserve ∙ blank) (outcome ∙ no_outcome)
-no_state_in reserve outcome done (done_unended s l rule at reserves no_outcome) =
+no_state_in reserve outcome done spare (done_unended s l rule at reserves no_outcome) =
     done_unended s l rule at (reserves_in reserve reserves) (outcome ∙ no_outcome)
-no_state_in reserve outcome done (done_abandoned s l rule at abandons) =
+no_state_in reserve outcome done spare (done_abandoned s l rule at abandons) =
     done_abandoned s l rule at (abandons_in reserve outcome abandons)
-no_state_in reserve outcome done (done_wrongly s l b j rule at commits not_done) =
-    done_wrongly s l b j rule at (commits_in reserve outcome commits) (λ h. not_done (holds_in (sym done) h))
+no_state_in reserve outcome done spare (done_wrongly s l b j rule at commits not_done) =
+    done_wrongly s l b j rule at (commits_in reserve outcome spare commits) (λ h. not_done (holds_in (sym done) h))
 
 -- the cells of another slot end no slot
 ends_elsewhere : {g : Layout} {m n at : ℕ} {value : List ℕ} → n < g.slots → n ≢ m → IsOwn n at
     → IsEndCell g m at value → ⊥
 ends_elsewhere slot differs own (IsEndCell.abandon at is) = ⊎_elim (λ a. omega (arith, a, at))
-    (λ rest. ⊎_elim (λ b. differs (omega (arith, b, at))) (λ c. omega (arith, c, at)) rest) own
+    (λ rest. ⊎_elim (λ b. differs (omega (arith, b, at))) (λ last. ⊎_elim (λ c. omega (arith, c, at)) (λ d. omega (arith, d, at)) last) rest) own
 ends_elsewhere slot differs own (IsEndCell.done at is) = ⊎_elim (λ a. omega (arith, a, at))
-    (λ rest. ⊎_elim (λ b. omega (arith, b, at)) (λ c. differs (omega (arith, c, at))) rest) own
+    (λ rest. ⊎_elim (λ b. omega (arith, b, at)) (λ last. ⊎_elim (λ c. differs (omega (arith, c, at))) (λ d. omega (arith, d, at)) last) rest) own
 ends_elsewhere slot differs own (IsEndCell.entry from copy) = ⊎_elim (λ a. omega (arith, a, from, slot))
-    (λ rest. ⊎_elim (λ b. omega (arith, b, from, slot)) (λ c. omega (arith, c, from, slot)) rest) own
+    (λ rest. ⊎_elim (λ b. omega (arith, b, from, slot)) (λ last. ⊎_elim (λ c. omega (arith, c, from, slot)) (λ d. omega (arith, d, from, slot)) last) rest) own
 
 one_of_three : (n m : ℕ) → (n < m) ⊎ (m < n) ⊎ (n ≡ m)
 one_of_three n m = grind arith
@@ -171,7 +176,7 @@ module _ {r : Ready} {old settled new : DeviceState} (w : HasWalked r old settle
           no_state_breaks old.cells g old.image n rule cell volume_was slot
           (record { found = written.found; stands = stands })
           (no_state_in (sym (same (reserve_at n) (inl refl))) (sym (same (outcome_at n) (inr (inl refl))))
-          (sym (same (done_at n) (inr (inr refl)))) no_state)
+          (sym (same (done_at n) (inr (inr (inl refl))))) (sym (same (spare_at n) (inr (inr (inr refl))))) no_state)
 
       elsewhere : n ≢ ends.slot → IsBroken old.cells old.image rule cell
       elsewhere differs = broken_as_it_was (λ at value own e.

@@ -1,21 +1,21 @@
 -- What stood before settling, where nobody else wrote: all that settling does not put.
 use Rattle.std.proofs.Common.{◌≡◌, ◌≤◌, ◌<◌, ◌+◌, ◌*◌, ℕ, List, Some, refl, sym, ap, ◌∙◌, ⊎_elim, inl, inr, arith, length, slice_index, take, drop}
 use Rattle.cell_types.specs.Image.{Image, Extends}
-use Rattle.cell_types.specs.Layout.{Layout, reserve_at, outcome_at, done_at}
+use Rattle.cell_types.specs.Layout.{Layout, spare_at, reserve_at, outcome_at, done_at}
 use Rattle.cell_types.specs.Records.{record_bytes}
 use Rattle.cell_types.specs.declared.record_cell.RecordCell.{RecordCell}
 use Rattle.cell_types.specs.declared.record_cell.RecordCell.TheVariants as records
-use Rattle.cell_types.specs.declared.record_cell.RecordCell.TheVariants.{Volume, Reserve, Commit, Abandon, Done, Posting, Jump, Bucket, Child}
+use Rattle.cell_types.specs.declared.record_cell.RecordCell.TheVariants.{Volume, Reserve, Commit, Abandon, Done, Posting, Jump, Bucket, Child, Stamp}
 use Rattle.stored_documents.specs.Documents.{Spells, content_at}
-use Rattle.stored_documents.specs.Slots.{AreTaken, IsDone, Reserves, Stores}
+use Rattle.stored_documents.specs.Slots.{HasStamp, AreTaken, IsDone, Reserves, Stores}
 use Rattle.stored_documents.specs.Volumes.{Holds, IsVolume}
 use Rattle.stored_documents.proofs.Holding.{some_is}
 use Rattle.commit_record.proofs.Breaking.{no_both}
 use Rattle.tamper_rules.proofs.Images.{look}
 use Rattle.slot_walk.proofs.EndCells.{IsEndCell}
 
--- a record's first byte is its kind, one of nine
-kind_is_low : (r : RecordCell) (at : ℕ) → slice_index (record_bytes r at) 0 ≤ 9
+-- a record's first byte is its kind, one of ten
+kind_is_low : (r : RecordCell) (at : ℕ) → slice_index (record_bytes r at) 0 ≤ 10
 kind_is_low (Volume version slots lists cells) at = omega arith
 kind_is_low (Reserve start size) at = omega arith
 kind_is_low (Commit bytes journal) at = omega arith
@@ -25,12 +25,13 @@ kind_is_low (Posting key last tag) at = omega arith
 kind_is_low (Jump target) at = omega arith
 kind_is_low (Bucket slot fingerprint) at = omega arith
 kind_is_low (Child target) at = omega arith
+kind_is_low (Stamp seconds) at = omega arith
 
 -- so no record is a content cell
 no_record : (r : RecordCell) (at : ℕ) (value stored : List ℕ) (k : ℕ) → value ≡ record_bytes r at
     → value ≡ content_at stored k → ⊥
 no_record r at value stored k is same =
-    let low : slice_index (record_bytes r at) 0 ≤ 9 = kind_is_low r at in
+    let low : slice_index (record_bytes r at) 0 ≤ 10 = kind_is_low r at in
     let kind : slice_index (record_bytes r at) 0 ≡ 16 + length (take 15 (drop (15 * k) stored)) =
     ap (λ (v : List ℕ). slice_index v 0) (sym is ∙ same) in
     omega (arith, low, kind)
@@ -64,6 +65,15 @@ module _ {g : Layout} {m : ℕ} {old new : Image} (grows : Extends old new)
   reserve_stood {n} value slot = stood (reserve_at n) value not
     where
       not : IsEndCell g m (reserve_at n) value → ⊥
+      not (IsEndCell.abandon at is) = omega (arith, at)
+      not (IsEndCell.done at is) = omega (arith, at)
+      not (IsEndCell.entry from copy) = omega (arith, from, slot)
+
+  -- stamps stood
+  pub stamp_stood : {n seconds : ℕ} → n < g.slots → HasStamp new n seconds → HasStamp old n seconds
+  stamp_stood {n} slot h = record { cell = h.cell; stands = stood (spare_at n) h.cell not h.stands; is = h.is }
+    where
+      not : IsEndCell g m (spare_at n) h.cell → ⊥
       not (IsEndCell.abandon at is) = omega (arith, at)
       not (IsEndCell.done at is) = omega (arith, at)
       not (IsEndCell.entry from copy) = omega (arith, from, slot)
@@ -108,6 +118,8 @@ module _ {g : Layout} {m : ℕ} {old new : Image} (grows : Extends old new)
       };
       outcome = commit_stood r.slot d.commits.outcome;
       fits = d.commits.fits;
+      stamped = λ version. let t = d.commits.stamped version in
+          record { seconds = t.seconds; stamp = stamp_stood r.slot t.stamp };
     };
     done = ⊎_elim inl
         (λ (s : (v : List ℕ) × (old (done_at n) ≡ Some v)).

@@ -3,7 +3,7 @@ use Rattle.std.proofs.Common.{◌<◌, ℕ, List, Option, Some, None, Result, Ok
 use Rattle.std.specs.Prelude.{IsTrue}
 use Rattle.cell_types.specs.Layout.{Layout}
 use Rattle.cell_types.specs.declared.refusal.Fault.{Fault}
-use Rattle.cell_types.specs.declared.refusal.Fault.TheVariants.{Tampered, ReadFault}
+use Rattle.cell_types.specs.declared.refusal.Fault.TheVariants.{Tampered, Failed}
 use Rattle.worm_device.specs.State.{DeviceState}
 use Rattle.worm_device.specs.Views.{Viewed, seen_directly}
 use Rattle.worm_device.proofs.Resting.{rests_of}
@@ -78,7 +78,7 @@ module _ (r : Ready) (id : List ℕ) {entry new : DeviceState} {lent back : ℕ}
     λ tells.
         let w = walked s in has_none w tells id (ends.1 (tells_settled w tells)),
   )
-  walk_ends (Err ReadFault) old s ends = ends.fails
+  walk_ends (Err Failed) old s ends = ends.fails
   walk_ends (Err (Tampered e)) old s ends = λ tells.
       let w = walked s in
       is_found w tells ends.n e ends.below ends.fails.0 (ends.fails.2 (tells_settled w tells))

@@ -3,7 +3,7 @@ use Rattle.std.specs.Prelude.{◌≡◌, ◌<◌, ◌+◌, ◌⊎◌, ℕ, List,
 use Rattle.cell_types.specs.Image.{Image, IsUnchanged}
 use Rattle.cell_types.specs.Layout.{Layout}
 use Rattle.cell_types.specs.declared.refusal.Fault.{Fault}
-use Rattle.cell_types.specs.declared.refusal.Fault.TheVariants.{Tampered, ReadFault}
+use Rattle.cell_types.specs.declared.refusal.Fault.TheVariants.{Tampered, Failed}
 use Rattle.stored_documents.specs.Documents.{IsBody, IsDocument, IsIdentifier, Spells, document_at, stored_bytes}
 use Rattle.stored_documents.specs.Slots.{AreTaken, IsDoneSlot, Stores}
 use Rattle.stored_documents.specs.Volumes.{IsVolume}
@@ -84,7 +84,7 @@ WalkEnds r id old entry new (Ok (Some n)) =
     × (IsTrue old.tells → IsDoneSlot r.volume.geometry new.image n × IsFirstSlot id n old new)
 WalkEnds r id old entry new (Ok None) =
     (new.faults ≡ entry.faults) × (IsTrue old.tells → HasNone OfAll id old new)
-WalkEnds r id old entry new (Err ReadFault) = Rose entry.faults new.faults
+WalkEnds r id old entry new (Err Failed) = Rose entry.faults new.faults
 WalkEnds r id old entry new (Err (Tampered e)) = IsTrue old.tells → IsFound IsQueryRule old new e
 
 -- a walk looks alone

@@ -10,7 +10,7 @@ use worm_device::{Device, Direct};
 ///
 /// # Errors
 ///
-/// `Tampered` where the cells of a slot are no state (rules 1 to 3), or a document is broken (rule 4); `ReadFault`.
+/// `Tampered` where the cells of a slot are no state (rules 1 to 3), or a document is broken (rule 4); `Failed`.
 #[tactic(auto, using(crate::proofs::Walking::walks))]
 pub fn first_with_identifier<D: Device>(
     device: &mut D,

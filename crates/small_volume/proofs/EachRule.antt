@@ -1,23 +1,22 @@
 -- The rules that need no digest, at the cells of the small volume.
-use Rattle.std.proofs.Common.{◌≡◌, ◌<◌, ◌≤◌, ◌+◌, inl, inr, ℕ, suc, zero, List, [], Some, refl, sym, ◌∙◌, subst, ap, arith, codes, drop}
+use Rattle.std.proofs.Common.{◌≡◌, ◌<◌, ◌≤◌, ◌+◌, inl, inr, ℕ, suc, zero, [], refl, sym, ◌∙◌, subst, ap, arith, codes}
 use Rattle.std.proofs.lemmas.Bool.{cases_lt}
 use Rattle.std.proofs.lemmas.Option.{none-some}
-use Rattle.byteorder.specs.Endian.{big_number}
 use Rattle.cell_types.specs.Layout.{done_at, list_at}
 use Rattle.cell_types.specs.declared.record_cell.RecordCell.{RecordCell}
 use Rattle.cell_types.specs.declared.record_cell.RecordCell.TheVariants.{Reserve, Bucket}
-use Rattle.cell_types.proofs.OneRecord.{address_in}
 use Rattle.stored_documents.specs.Documents.{document_at}
 use Rattle.stored_documents.specs.Volumes.{IsWritten}
-use Rattle.stored_documents.proofs.Holding.{one_record_holds, some_is}
+use Rattle.stored_documents.proofs.Holding.{one_record_holds}
 use Rattle.stored_documents.proofs.OneDocument.{reserves}
-use Rattle.index_paths.specs.Blocks.{Leads, arrived, onwards, pointer_at, posting_record}
-use Rattle.index_paths.specs.Nodes.{IsNode, root, under}
+use Rattle.index_paths.specs.Blocks.{Leads, posting_record}
+use Rattle.index_paths.specs.Nodes.{IsNode}
 use Rattle.tamper_rules.specs.Journals.{Copies, IsNamed, IsInOrder, of_list, of_root, journal_at}
 use Rattle.tamper_rules.specs.Rules
 use Rattle.tamper_rules.specs.Rules.{ReserveRule, OutcomeRule, DoneRule, HasDocument, JournalRule, RedoneRule, BlankRule, IsDoneIndexCell, EntryRule, HoldsInOrder, PointerRule, ChildRule, TilingRule}
-use Rattle.small_volume.specs.SmallVolume.{small_image, small_layout, reserve_cell, hello_cell, world_cell, bucket_cell, a_fingerprint}
-use Rattle.small_volume.proofs.Found.{numbers, reserves_are, of_slot_0, no_jump, no_child, edge_is}
+use Rattle.small_volume.specs.SmallVolume.{small_cells, small_image, small_layout, reserve_cell, hello_cell, world_cell, bucket_cell, a_fingerprint}
+use Rattle.small_volume.proofs.Found.{numbers, alone, copied_to, heads_only, root_only}
+use Rattle.small_volume.proofs.OneSlot.{edge_alone, of_one, reserves_alone}
 use Rattle.small_volume.proofs.Small.{reserve_0, commit_0, done_0, reserves_0, slot_0, spells, is_a, is_hello_world}
 use Rattle.small_volume.proofs.Small.{hello_posting, hello_is, hello_holds, world_posting, world_is, world_holds, bucket_is}
 
@@ -32,7 +31,7 @@ reserve_rule = record {
 }
 
 -- rule 2, of slot 0: 13 bytes take one cell, and the journal three, of the four that are reserved
-pub outcome_rule : OutcomeRule small_image 0
+pub outcome_rule : OutcomeRule small_layout small_image 0
 outcome_rule = record {
   reserve = record { found = reserve_cell; stands = refl };
   outcome = inr (
@@ -42,6 +41,7 @@ outcome_rule = record {
     λ start reserved h.
         let same = one_record_holds small_image 4 (Reserve 580 4) (Reserve start reserved) reserve_0 h in
         omega (arith, (reserves 580 4 start reserved same).1),
+    λ is. absurd (omega (arith, is)),
   );
 }
 
@@ -138,50 +138,36 @@ journal_written = at_place (λ place. IsWritten small_image (581 + place))
 -- rule 5
 pub journal_rule : (cell : ℕ) → JournalRule small_layout small_image cell
 journal_rule cell = record {
-  copy = λ n start reserved bytes journal place s below at. of_slot_0
+  copy = λ n start reserved bytes journal place s below at. of_one alone
       (λ n start reserved bytes journal. place < journal
       → IsInOrder small_layout small_image n start reserved bytes journal place)
       (in_order place) s below;
-  commit = λ n start reserved bytes journal place s below at. of_slot_0
+  commit = λ n start reserved bytes journal place s below at. of_one alone
       (λ n start reserved bytes journal. place < journal
       → IsWritten small_image (journal_at start reserved journal + place))
       (journal_written place) s below;
 }
 
--- the number in the last four bytes of a cell
-abbrev address_of : List ℕ → ℕ
-address_of held = big_number 4 (drop 12 held)
-
--- a journal cell that holds the same as the cell of its own number has that cell as its target
-copied_to : (place number target : ℕ) (copied : RecordCell) (held : List ℕ) → address_of held ≡ number
-    → small_image number ≡ Some held → small_image (581 + place) ≡ Some held
-    → Copies small_image 580 4 3 place target copied → small_image target ≡ small_image (581 + place)
-copied_to place number target copied held read stands here c =
-    let entry : c.entry ≡ held = some_is c.entry held (sym c.stands ∙ here) in
-    let address : address_of c.entry ≡ target = address_in copied target c.entry c.address c.is in
-    let to : target ≡ number = sym address ∙ ap address_of entry ∙ read in
-    ap small_image to ∙ stands ∙ sym here
-
--- so each target holds what its copy holds
+-- each target holds what its copy holds
 redone : (target : ℕ) (copied : RecordCell) (place : ℕ) → place < 3 → Copies small_image 580 4 3 place target copied
     → small_image target ≡ small_image (581 + place)
 redone target copied = at_place
     (λ place. Copies small_image 580 4 3 place target copied → small_image target ≡ small_image (581 + place))
-    (copied_to 0 36 target copied hello_cell refl refl refl)
-    (copied_to 1 37 target copied world_cell refl refl refl)
-    (copied_to 2 560 target copied bucket_cell refl refl refl)
+    (copied_to small_image 580 4 3 0 36 target copied hello_cell refl refl refl)
+    (copied_to small_image 580 4 3 1 37 target copied world_cell refl refl refl)
+    (copied_to small_image 580 4 3 2 560 target copied bucket_cell refl refl refl)
 
 -- rule 6
 pub redone_rule : (cell : ℕ) → RedoneRule small_layout small_image cell
 redone_rule cell = record {
   done = λ n start reserved bytes journal place target copied d c at.
-      of_slot_0
+      of_one alone
       (λ n start reserved bytes journal. Copies small_image start reserved journal place target copied
       → small_image target ≡ small_image (journal_at start reserved journal + place))
       (λ c. redone target copied place c.below c) (record { commits = d.commits; done = inr d.done }) c
       ∙ ap small_image (sym at);
   committed = λ n start reserved bytes journal place target copied d c at.
-      let place = reserves_are d.commits.reserves in
+      let place = reserves_alone alone d.commits.reserves in
       absurd (none-some _ (sym d.done ∙ ap (λ (k : ℕ). small_image (done_at k)) place.0 ∙ done_0.stands));
 }
 
@@ -216,7 +202,7 @@ named cell w (Rules.IsDoneIndexCell.of_list l lies) =
 named cell w (Rules.IsDoneIndexCell.of_root lies) =
     let is : cell ≡ 560 = omega (arith, numbers cell w, lies.from, lies.below) in
     subst (IsNamed small_layout small_image) (sym is) (named_by 2 560 (Bucket 0 a_fingerprint) copies_560)
-named cell w (Rules.IsDoneIndexCell.of_slot m start reserved bytes journal d low high) = absurd (of_slot_0
+named cell w (Rules.IsDoneIndexCell.of_slot m start reserved bytes journal d low high) = absurd (of_one alone
     (λ n start reserved bytes journal. start ≤ cell → cell < document_at start reserved bytes journal → ⊥)
     (λ low high. omega arith) (record { commits = d.commits; done = inr d.done }) low high)
 
@@ -224,16 +210,14 @@ named cell w (Rules.IsDoneIndexCell.of_slot m start reserved bytes journal d low
 pub blank_rule : (cell : ℕ) → IsWritten small_image cell → BlankRule small_layout small_image cell
 blank_rule cell w = record {
   kept_blank = λ some. omega (arith, numbers cell w);
-  spare = λ n inside at. omega (arith, numbers cell w);
+  spare = λ n inside at. absurd (omega (arith, numbers cell w));
   named = named cell w;
-  edge = λ at e pool. omega (arith, edge_is e, numbers cell w);
+  edge = λ at e pool. omega (arith, edge_alone alone e, numbers cell w);
 }
 
 -- a list has its first block and no other
 pub heads_alone : {from to last block : ℕ} → Leads small_image from to last block → block ≡ last
-heads_alone (arrived block is) = is
-heads_alone (onwards block level digit target ls d1 d2 jump from to rest) =
-    absurd (no_jump (pointer_at block level digit) target jump)
+heads_alone leads = heads_only small_cells refl leads
 
 -- the first place of the first block holds a posting
 first_place : HoldsInOrder small_image 36 0
@@ -273,8 +257,7 @@ pointer_rule cell w = λ l block level digit b ls d1 d2 at.
 
 -- the root is the one node
 pub root_alone : {v node : ℕ} → IsNode small_layout small_image v node → (v ≡ 0) × (node ≡ 548)
-root_alone (root v node is at) = (is, at)
-root_alone (under v node w above x is rest xs less child from to) = absurd (no_child (above + 16 + x) node child)
+root_alone o = root_only small_layout small_cells refl o
 
 -- rule 12: no place of a child cell is written
 pub child_rule : (cell : ℕ) → IsWritten small_image cell → ChildRule small_layout small_image cell

@@ -1,78 +1,85 @@
--- What is found in the small volume, where anything is.
-use Rattle.std.proofs.Common.{◌≡◌, ◌<◌, ◌⊎◌, inl, inr, ℕ, List, [], ◌∷◌, Some, None, refl, sym, ◌∙◌, ap, subst, arith, slice_index}
+-- What is found in an image that is written out, where anything is.
+use Rattle.std.proofs.Common.{◌≡◌, ◌+◌, ◌⊎◌, inl, inr, ℕ, List, [], ◌∷◌, Some, true, sym, ◌∙◌, ap, arith, drop, slice_index}
 use Rattle.std.proofs.lemmas.Option.{none-some}
-use Rattle.cell_types.specs.Layout.{reserve_at, outcome_at}
-use Rattle.cell_types.specs.declared.record_cell.RecordCell.TheVariants.{Reserve, Commit, Jump, Child}
-use Rattle.stored_documents.specs.Slots.{Reserves, Stores, IsEdge}
+use Rattle.byteorder.specs.Endian.{big_number}
+use Rattle.cell_types.specs.Image.{Image}
+use Rattle.cell_types.specs.Layout.{Layout, reserve_at, root_at}
+use Rattle.cell_types.specs.declared.record_cell.RecordCell.{RecordCell}
+use Rattle.cell_types.specs.declared.record_cell.RecordCell.TheVariants.{Jump, Child}
+use Rattle.cell_types.proofs.OneRecord.{address_in}
 use Rattle.stored_documents.specs.Volumes.{Holds, IsWritten}
-use Rattle.stored_documents.proofs.Holding.{one_record_holds}
-use Rattle.stored_documents.proofs.OneDocument.{reserves, commits}
+use Rattle.stored_documents.proofs.Holding.{some_is}
+use Rattle.index_paths.specs.Blocks.{Leads, arrived, onwards, pointer_at}
+use Rattle.index_paths.specs.Nodes.{IsNode, root, under}
+use Rattle.tamper_rules.specs.Journals.{Copies, journal_at}
 use Rattle.small_volume.specs.Images.{image_of}
 use Rattle.small_volume.specs.SmallVolume.{small_image, small_layout, small_cells}
-use Rattle.small_volume.proofs.Small.{reserve_0, commit_0}
-use Rattle.small_volume.proofs.Values.{first_or_other, none_of_kind}
+use Rattle.small_volume.proofs.OneSlot.{IsAlone}
+use Rattle.small_volume.proofs.Small.{slot_0}
+use Rattle.small_volume.proofs.Values.{first_or_other, has_no, none_of_kind}
 
 -- the cell has one of the row's numbers
-abbrev IsOneOf : List (ℕ × List ℕ) → ℕ → Type 0
+abbrev pub IsOneOf : List (ℕ × List ℕ) → ℕ → Type 0
 IsOneOf [] cell = ⊥
 IsOneOf ((at, value) ∷ cells) cell = (cell ≡ at) ⊎ IsOneOf cells cell
 
 -- each written cell has
-one_of : (cells : List (ℕ × List ℕ)) (cell : ℕ) (value : List ℕ) → image_of cells cell ≡ Some value
-    → IsOneOf cells cell
-one_of [] cell value stands = none-some value stands
-one_of ((at, first) ∷ cells) cell value stands = elim (first_or_other at first cells cell) [
-  | inl same ↦ inl same.0
-  | inr differ ↦ inr (one_of cells cell value (sym differ.1 ∙ stands))
-]
+pub one_of : (cells : List (ℕ × List ℕ)) (cell : ℕ) → IsWritten (image_of cells) cell → IsOneOf cells cell
+one_of cells cell w = by cells w.stands
+  where
+    by : (cells : List (ℕ × List ℕ)) → image_of cells cell ≡ Some w.found → IsOneOf cells cell
+    by [] stands = none-some w.found stands
+    by ((at, first) ∷ cells) stands = elim (first_or_other at first cells cell) [
+      | inl same ↦ inl same.0
+      | inr differ ↦ inr (by cells (sym differ.1 ∙ stands))
+    ]
 
--- the numbers of the eleven written cells
+-- where no cell of a row is a jump cell, no pointer is set
+no_pointer : (cells : List (ℕ × List ℕ)) → has_no 7 cells ≡ true → (cell target : ℕ)
+    → Holds (image_of cells) cell (Jump target) → ⊥
+no_pointer cells none cell target h =
+    none_of_kind 7 cells none cell h.cell h.stands (ap (λ v. slice_index v 0) h.is.same)
+
+-- so a list has its first block and no other
+pub heads_only : (cells : List (ℕ × List ℕ)) → has_no 7 cells ≡ true → {from to last block : ℕ}
+    → Leads (image_of cells) from to last block → block ≡ last
+heads_only cells none (arrived block is) = is
+heads_only cells none (onwards block level digit target ls d1 d2 jump from to rest) =
+    absurd (no_pointer cells none (pointer_at block level digit) target jump)
+
+-- where no cell of a row is a child cell, no node is under another
+no_child : (cells : List (ℕ × List ℕ)) → has_no 9 cells ≡ true → (cell target : ℕ)
+    → Holds (image_of cells) cell (Child target) → ⊥
+no_child cells none cell target h =
+    none_of_kind 9 cells none cell h.cell h.stands (ap (λ v. slice_index v 0) h.is.same)
+
+-- so the root is the one node
+pub root_only : (g : Layout) (cells : List (ℕ × List ℕ)) → has_no 9 cells ≡ true → {v node : ℕ}
+    → IsNode g (image_of cells) v node → (v ≡ 0) × (node ≡ root_at g)
+root_only g cells none (root v node is at) = (is, at)
+root_only g cells none (under v node w above x is rest xs less child from to) =
+    absurd (no_child cells none (above + 16 + x) node child)
+
+-- the number in the last four bytes of a cell
+abbrev address_of : List ℕ → ℕ
+address_of held = big_number 4 (drop 12 held)
+
+-- a journal cell that holds the same as the cell of its own number has that cell as its target
+pub copied_to : (image : Image) (start size journal place number target : ℕ) (copied : RecordCell) (held : List ℕ)
+    → address_of held ≡ number → image number ≡ Some held → image (journal_at start size journal + place) ≡ Some held
+    → Copies image start size journal place target copied → image target ≡ image (journal_at start size journal + place)
+copied_to image start size journal place number target copied held read stands here c =
+    let entry : c.entry ≡ held = some_is c.entry held (sym c.stands ∙ here) in
+    let address : address_of c.entry ≡ target = address_in copied target c.entry c.address c.is in
+    let to : target ≡ number = sym address ∙ ap address_of entry ∙ read in
+    ap image to ∙ stands ∙ sym here
+
+-- the numbers of the small volume's eleven written cells
 pub numbers : (cell : ℕ) → IsWritten small_image cell
     → (cell ≡ 0) ⊎ (cell ≡ 4) ⊎ (cell ≡ 5) ⊎ (cell ≡ 6) ⊎ (cell ≡ 36) ⊎ (cell ≡ 37) ⊎ (cell ≡ 560)
     ⊎ (cell ≡ 580) ⊎ (cell ≡ 581) ⊎ (cell ≡ 582) ⊎ (cell ≡ 583) ⊎ ⊥
-numbers cell w = one_of small_cells cell w.found w.stands
+numbers cell w = one_of small_cells cell w
 
--- no other slot is taken
-pub only_slot_0 : (n : ℕ) → n < 8 → IsWritten small_image (reserve_at n) → n ≡ 0
-only_slot_0 n inside w = omega (arith, numbers (reserve_at n) w)
-
--- what slot 0 reserves
-pub reserves_are : {n start length : ℕ} → Reserves small_layout small_image n start length
-    → (n ≡ 0) × (start ≡ 580) × (length ≡ 4)
-reserves_are {n} {start} {length} r =
-    let first : n ≡ 0 = only_slot_0 n r.slot (record { found = r.reserve.cell; stands = r.reserve.stands }) in
-    let held = subst (λ (k : ℕ). Holds small_image (reserve_at k) (Reserve start length)) first r.reserve in
-    let same = one_record_holds small_image 4 (Reserve start length) (Reserve 580 4) held reserve_0 in
-    let both = reserves start length 580 4 same in
-    (first, both.0, both.1)
-
--- What holds of slot 0, its cells, its bytes and its journal, holds of each slot that is committed or done.
-pub of_slot_0 : (P : ℕ → ℕ → ℕ → ℕ → ℕ → Type 0) → P 0 580 4 13 3 → {n start reserved bytes journal : ℕ}
-    → Stores small_layout small_image n start reserved bytes journal → P n start reserved bytes journal
-of_slot_0 P is {n} {start} {reserved} {bytes} {journal} s =
-    let place = reserves_are s.commits.reserves in
-    let held = subst (λ (k : ℕ). Holds small_image (outcome_at k) (Commit bytes journal)) place.0 s.commits.outcome in
-    let same = one_record_holds small_image 5 (Commit bytes journal) (Commit 13 3) held commit_0 in
-    let sizes = commits bytes journal 13 3 same in
-    subst (λ (k : ℕ). P k start reserved bytes journal) (sym place.0)
-    (subst (λ (k : ℕ). P 0 k reserved bytes journal) (sym place.1)
-    (subst (λ (k : ℕ). P 0 580 k bytes journal) (sym place.2)
-    (subst (λ (k : ℕ). P 0 580 4 k journal) (sym sizes.0)
-    (subst (λ (k : ℕ). P 0 580 4 13 k) (sym sizes.1) is))))
-
--- no pointer is set
-pub no_jump : (cell target : ℕ) → Holds small_image cell (Jump target) → ⊥
-no_jump cell target h = none_of_kind 7 small_cells refl cell h.cell h.stands (ap (λ v. slice_index v 0) h.is.same)
-
--- and no child cell
-pub no_child : (cell target : ℕ) → Holds small_image cell (Child target) → ⊥
-no_child cell target h = none_of_kind 9 small_cells refl cell h.cell h.stands (ap (λ v. slice_index v 0) h.is.same)
-
--- each edge is at 584
-pub edge_is : {at : ℕ} → IsEdge small_layout small_image small_image at → at ≡ 584
-edge_is {at} e = elim e.ends [
-  | inl none ↦
-      let blank : small_image (reserve_at e.u) ≡ None = e.free (omega (arith, none.0)) in
-      absurd (none-some _ (sym blank ∙ ap (λ (k : ℕ). small_image (reserve_at k)) none.0 ∙ reserve_0.stands))
-  | inr some ↦ let place = reserves_are some.4 in omega (arith, place.1, place.2, some.5)
-]
+-- its slot 0 alone is taken
+pub alone : IsAlone small_layout small_image 580 4 13 3
+alone = record { some = omega arith; only = λ n inside w. omega (arith, numbers (reserve_at n) w); done = slot_0 }

@@ -1,9 +1,9 @@
 -- The rules that need digests, at the cells of the small volume.
-use Rattle.std.proofs.Common.{◌≡◌, ◌<◌, ◌+◌, ◌*◌, inl, inr, ℕ, suc, zero, List, [], ◌∷◌, Some, refl, sym, ◌∙◌, subst, ap, arith, codes, length}
+use Rattle.std.proofs.Common.{◌≡◌, ◌<◌, ◌+◌, ◌*◌, inl, inr, ℕ, suc, zero, List, [], ◌∷◌, Some, None, refl, sym, ◌∙◌, subst, ap, arith, codes, length}
 use Rattle.std.specs.Prelude.{slice_get}
 use Rattle.std.proofs.lemmas.Bool.{cases_lt}
 use Rattle.std.proofs.lemmas.Option.{none-some}
-use Rattle.cell_types.specs.Layout.{list_at}
+use Rattle.cell_types.specs.Layout.{all_lists, list_at}
 use Rattle.cell_types.specs.declared.record_cell.RecordCell.TheVariants.{Bucket}
 use Rattle.stored_documents.specs.Slots.{IsLive}
 use Rattle.stored_documents.specs.Volumes.{Holds, IsWritten}
@@ -12,7 +12,7 @@ use Rattle.index_paths.specs.Blocks.{PostingFields, posting_record, InFront, Tra
 use Rattle.index_paths.specs.HashPaths
 use Rattle.index_paths.specs.HashPaths.{fingerprint_of, nibble}
 use Rattle.index_paths.specs.Nodes.{root}
-use Rattle.index_paths.specs.Postings.{IsPostingOf}
+use Rattle.index_paths.specs.Postings.{IsPostingOf, IsWordPosting}
 use Rattle.index_paths.proofs.Fronts.{one_posting}
 use Rattle.tamper_rules.specs.Rules.{PostingRule, IsTruePosting, BucketRule, IsTrueBucket, TrailRule, PathRule}
 use Rattle.small_volume.specs.SmallVolume.{small_image, small_layout, hello_tag, world_tag, a_fingerprint}
@@ -31,8 +31,9 @@ live_0 = record {
 }
 
 -- `hello` is the first posting of its document
-is_hello : IsPostingOf 2 (codes "hello world") 0 0 hello_posting
+is_hello : IsWordPosting small_layout (codes "hello world") 0 0 hello_posting
 is_hello = record {
+  list = omega arith;
   tags = hello_tag ∷ world_tag ∷ [];
   are = tags_of_0;
   ordinal = 0;
@@ -42,8 +43,9 @@ is_hello = record {
 }
 
 -- `world` is the second
-is_world : IsPostingOf 2 (codes "hello world") 0 0 world_posting
+is_world : IsWordPosting small_layout (codes "hello world") 0 0 world_posting
 is_world = record {
+  list = omega arith;
   tags = hello_tag ∷ world_tag ∷ [];
   are = tags_of_0;
   ordinal = 1;
@@ -55,23 +57,29 @@ is_world = record {
 -- so the posting in cell 36 is a true one
 true_hello : IsTruePosting small_layout small_image 0 hello_posting
 true_hello = record {
+  slot = 0;
   live = live_0;
+  stamp = None;
+  is_stamp = omega arith;
   id = codes "a";
   body = codes "hello world";
   stands = stands_0;
   postings = postings;
-  is = is_hello;
+  is = inl is_hello;
 }
 
 -- and so is the posting in cell 37
 true_world : IsTruePosting small_layout small_image 0 world_posting
 true_world = record {
+  slot = 0;
   live = live_0;
+  stamp = None;
+  is_stamp = omega arith;
   id = codes "a";
   body = codes "hello world";
   stands = stands_0;
   postings = postings;
-  is = is_world;
+  is = inl is_world;
 }
 
 -- rule 9
@@ -144,9 +152,9 @@ same_fields p key last tag k l t =
     ap (λ (n : ℕ). fields n p.last p.tag) k ∙ ap (λ (n : ℕ). fields key n p.tag) l ∙ ap (fields key last) t
 
 -- each posting of the document is one of these two, and has a trail
-trail_of : (l : ℕ) (p : PostingFields) → l < 2 → IsPostingOf 2 (codes "hello world") 0 l p
+trail_of_word : (l : ℕ) (p : PostingFields) → l < 2 → IsWordPosting small_layout (codes "hello world") 0 l p
     → (at : ℕ) × Trail small_image 580 1000 at p (list_at small_layout l)
-trail_of zero p below i =
+trail_of_word zero p below i =
     let all = only_tags i.tags i.are in
     by i.ordinal i.key (i.last ∙ ap length all) (ap (λ (ts : List (List ℕ)). slice_get ts i.ordinal) (sym all) ∙ i.here)
   where
@@ -161,14 +169,19 @@ trail_of zero p below i =
         let same = same_fields p 1 1 world_tag (omega (arith, key)) (omega (arith, last)) tag in
         (37, subst (λ (q : PostingFields). Trail small_image 580 1000 37 q 36) (sym same) world_trail)
     by (suc (suc ordinal)) key last found = absurd (none-some p.tag found)
-trail_of (suc zero) p below i =
+trail_of_word (suc zero) p below i =
     let none = sym (no_tags i.tags i.are) in
     absurd (none-some p.tag (ap (λ (ts : List (List ℕ)). slice_get ts i.ordinal) none ∙ i.here))
-trail_of (suc (suc l)) p below i = absurd (omega arith)
+trail_of_word (suc (suc l)) p below i = absurd (omega arith)
+
+trail_of : (l : ℕ) (p : PostingFields) → l < all_lists small_layout → IsPostingOf small_layout None (codes "hello world") 0 l p
+    → (at : ℕ) × Trail small_image 580 1000 at p (list_at small_layout l)
+trail_of l p below (inl word) = trail_of_word l p (omega (arith, below)) word
+trail_of l p below (inr (seconds, given, list, is)) = absurd (omega (arith, below, list))
 
 -- rule 13
 pub trail_rule : TrailRule small_layout small_image 0 (codes "hello world")
-trail_rule = record { postings = postings; trails = trail_of }
+trail_rule = record { postings = postings; stamp = None; is_stamp = omega arith; trails = trail_of }
 
 -- rule 14
 pub path_rule : PathRule small_layout small_image 0 (codes "a")

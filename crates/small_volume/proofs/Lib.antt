@@ -3,7 +3,13 @@ pub mod Digests
 pub mod EachRule
 pub mod Found
 pub mod Index
+pub mod OneSlot
 pub mod Settled
 pub mod Small
+pub mod StampOrder
+pub mod Stamped
+pub mod StampedIndex
+pub mod StampedRules
+pub mod StampedSettled
 pub mod Tags
 pub mod Values

@@ -19,6 +19,8 @@ layout = record {
   some_lists = omega arith;
   lists = omega arith;
   cells = omega arith;
+  some_version = omega arith;
+  version = omega arith;
   pool = omega arith;
 }
 
@@ -26,7 +28,7 @@ layout = record {
 pub volume_is : IsRecordCell (volume_record small_layout) 0 volume_cell
 volume_is = record {
   fits = (omega arith, omega arith, omega arith, omega arith);
-  well_formed = (refl, layout, refl);
+  well_formed = (layout, refl);
   same = refl;
 }
 
@@ -112,7 +114,7 @@ reserves_0 = record { slot = omega arith; reserve = reserve_0; from = omega arit
 
 -- and it is done
 pub slot_0 : IsDone small_layout small_image 0 580 4 13 3
-slot_0 = record { commits = record { reserves = reserves_0; outcome = commit_0; fits = omega arith }; done = done_0 }
+slot_0 = record { commits = record { reserves = reserves_0; outcome = commit_0; fits = omega arith; stamped = λ is. absurd (omega (arith, is)) }; done = done_0 }
 
 -- the stored bytes take one cell, which is cell 580
 pub spells : Spells small_image 580 (stored_bytes (codes "a") (codes "hello world"))

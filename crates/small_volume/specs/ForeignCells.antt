@@ -1,4 +1,4 @@
--- Cells that somebody else writes into the small volume.
+-- Cells that somebody else writes into the small volume, and into the stamped one.
 use Rattle.std.specs.Prelude.{ℕ, List, [], ◌∷◌}
 
 -- for cell 12, the reserve cell of slot 2: kind 2, 1 cell from cell 584 on
@@ -60,3 +60,31 @@ abbrev pub second_slot_cells : List (ℕ × List ℕ)
 second_slot_cells =
     (8, reserve_cell_1) ∷ (9, commit_cell_1) ∷ (10, done_cell_1) ∷ (584, content_cell_1) ∷ (585, jump_cell)
     ∷ (164, jump_cell) ∷ []
+
+-- for cell 8 of the stamped volume, the reserve cell of slot 1: kind 2, 1 cell from cell 839 on
+abbrev pub next_reserve_cell : List ℕ
+next_reserve_cell =
+    0x02 ∷ 0x00 ∷ 0x00 ∷ 0x03 ∷ 0x47 ∷ 0x00 ∷ 0x00 ∷ 0x00 ∷ 0x01 ∷ 0x00 ∷ 0x00 ∷ 0x00
+    ∷ 0x00 ∷ 0x00 ∷ 0x00 ∷ 0x08 ∷ []
+
+-- for its cell 11, the spare cell of slot 1: kind 10, the stamp 1000, which slot 0 has
+abbrev pub same_stamp_cell : List ℕ
+same_stamp_cell =
+    0x0a ∷ 0x00 ∷ 0x00 ∷ 0x03 ∷ 0xe8 ∷ 0x00 ∷ 0x00 ∷ 0x00 ∷ 0x00 ∷ 0x00 ∷ 0x00 ∷ 0x00
+    ∷ 0x00 ∷ 0x00 ∷ 0x00 ∷ 0x0b ∷ []
+
+-- the same, with the stamp 5
+abbrev pub earlier_stamp_cell : List ℕ
+earlier_stamp_cell =
+    0x0a ∷ 0x00 ∷ 0x00 ∷ 0x00 ∷ 0x05 ∷ 0x00 ∷ 0x00 ∷ 0x00 ∷ 0x00 ∷ 0x00 ∷ 0x00 ∷ 0x00
+    ∷ 0x00 ∷ 0x00 ∷ 0x00 ∷ 0x0b ∷ []
+
+-- the same, with the stamp 1001
+abbrev pub later_stamp_cell : List ℕ
+later_stamp_cell =
+    0x0a ∷ 0x00 ∷ 0x00 ∷ 0x03 ∷ 0xe9 ∷ 0x00 ∷ 0x00 ∷ 0x00 ∷ 0x00 ∷ 0x00 ∷ 0x00 ∷ 0x00
+    ∷ 0x00 ∷ 0x00 ∷ 0x00 ∷ 0x0b ∷ []
+
+-- a second slot that is reserved and has this stamp
+abbrev pub next_slot_cells : List ℕ → List (ℕ × List ℕ)
+next_slot_cells stamp = (8, next_reserve_cell) ∷ (11, stamp) ∷ []

@@ -1,3 +1,4 @@
 pub mod Images
 pub mod SmallVolume
+pub mod StampedVolume
 pub mod ForeignCells

@@ -6,9 +6,9 @@ use Rattle.cell_types.specs.Layout.{Layout}
 use Rattle.stored_documents.specs.Documents.{Document}
 use Rattle.small_volume.specs.Images.{image_of}
 
--- 8 slots, 2 lists, 1,000 cells
+-- 8 slots, 2 lists, 1,000 cells, version 1
 abbrev pub small_layout : Layout
-small_layout = record { slots = 8; lists = 2; cells = 1000 }
+small_layout = record { slots = 8; lists = 2; cells = 1000; version = 1 }
 
 -- cell 0: kind 1, version 1, 8 slots, 2 lists, 1,000 cells
 abbrev pub volume_cell : List ℕ

@@ -1,7 +1,7 @@
 //! Which rule is broken where somebody else wrote into the small volume. Most of the foreign cells are well-formed
 //! where they stand, and only what stands around them breaks a rule.
 ghost use Rattle.std.specs.Prelude.{codes, [], ◌∷◌};
-ghost use Rattle.cell_types.specs.declared.record_cell.RecordCell.TheVariants.{Abandon, Done, Jump, Posting, Reserve};
+ghost use Rattle.cell_types.specs.declared.record_cell.RecordCell.TheVariants.{Abandon, Done, Jump, Posting, Reserve, Stamp};
 ghost use Rattle.stored_documents.specs.Documents.{Stands};
 ghost use Rattle.stored_documents.specs.Volumes.{Holds};
 ghost use Rattle.tamper_rules.specs.Rules.{IsBroken};
@@ -9,6 +9,7 @@ ghost use Rattle.tamper_rules.specs.declared.numbers.TheConstants.{BLOCK_OUT_OF_
 ghost use Rattle.small_volume.specs.ForeignCells.{abandon_cell, done_cell_1, early_reserve_cell, late_posting_cell, second_slot_cells, stray_cell};
 ghost use Rattle.small_volume.specs.Images.{with_cell, with_cells};
 ghost use Rattle.small_volume.specs.SmallVolume.{hello_tag, small_image};
+ghost use Rattle.small_volume.specs.StampedVolume.{stamp_cell};
 
 /// A reserve cell of slot 2, where slot 1 has none.
 pub fn a_reserve_cell_behind_a_free_slot_breaks_rule_1()
@@ -31,6 +32,12 @@ pub fn a_done_cell_without_a_commit_cell_breaks_rule_3()
 /// A cell of the pool, where the reservations end before it.
 pub fn a_written_cell_behind_the_edge_breaks_rule_7()
     ensures { IsBroken 1000 (with_cell small_image 700 stray_cell) STRAY_CELL 700 }
+{}
+
+/// A stamp in the spare cell of slot 0, though a volume of version 1 has none.
+pub fn a_stamp_where_none_belongs_breaks_rule_7()
+    ensures holds { Holds (with_cell small_image 7 stamp_cell) 7 (Stamp 1000) }
+    ensures broken { IsBroken 1000 (with_cell small_image 7 stamp_cell) STRAY_CELL 7 }
 {}
 
 /// A posting at place 248 of a block, which is behind the pointers.

@@ -56,7 +56,7 @@ module _ (g : Layout) (n : ℕ) (p : Plan) (id body : List ℕ) (old new : Devic
       let less = w.filled.reserves.slot in
       let r : DoneRule old.image n =
       w.filled.before.met Rules.DoneCells (done_at n) (record { found = x.0; stands = x.1 }) n less refl in
-      let o : OutcomeRule old.image n = w.filled.before.met Rules.OutcomeCells (outcome_at n)
+      let o : OutcomeRule g old.image n = w.filled.before.met Rules.OutcomeCells (outcome_at n)
       (record { found = r.commit.cell; stands = r.commit.stands }) n less refl in
       none-some _ (sym (w.filled.horizon.free less) ∙ o.reserve.stands)))
       (look old.image (done_at n))

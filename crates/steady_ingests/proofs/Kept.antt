@@ -78,13 +78,4 @@ module _ (id body : List ℕ) (old new : DeviceState) (called : Called old new) 
       let layout : g ≡ w.0 = one_layout g w.0 (volume_on called.image v) there in
       ends.1 (sym w.2 ∙ sym (ap (λ (k : Layout). k.cells) layout) ∙ v.size ∙ sym called.cells ∙ sym ends.0))
       comes
-  refused_keeps refusals.Usage other comes ends = absurd ends
-  refused_keeps refusals.BadIdentifier other comes ends = absurd ends
-  refused_keeps refusals.TooLong other comes ends = absurd ends
-  refused_keeps (refusals.BadWord n) other comes ends = absurd ends
-  refused_keeps (refusals.BadScript n) other comes ends = absurd ends
-  refused_keeps refusals.SourceFault other comes ends = absurd ends
-  refused_keeps refusals.SinkFault other comes ends = absurd ends
-  refused_keeps (refusals.NotBlank n) other comes ends = absurd ends
-  refused_keeps refusals.TooSmall other comes ends = absurd ends
-  refused_keeps refusals.Absent other comes ends = absurd ends
+  refused_keeps refusal other comes ends = absurd ends

@@ -1,5 +1,5 @@
 -- The phases in which a plan is put, against the rows of the plan.
-use Rattle.std.proofs.Common.{◌≡◌, ◌≤◌, ◌<◌, ◌+◌, ◌^◌, ℕ, zero, suc, List, length, Some, refl, sym, ap, ◌∙◌, inl, inr, ⊎_elim, subst, arith}
+use Rattle.std.proofs.Common.{None, ◌≡◌, ◌≤◌, ◌<◌, ◌+◌, ◌^◌, ℕ, zero, suc, List, length, Some, refl, sym, ap, ◌∙◌, inl, inr, ⊎_elim, subst, arith}
 use Rattle.std.proofs.lemmas.Option.{slice_get_within}
 use Rattle.cell_types.specs.Image.{Image, Extends}
 use Rattle.cell_types.specs.Layout.{Layout, reserve_at, outcome_at, done_at}
@@ -48,6 +48,10 @@ phase_of (suc (suc (suc zero))) most = (Applying, omega arith, λ x le. le)
 phase_of (suc (suc (suc (suc zero)))) most = (Finishing, omega arith, λ x le. le)
 phase_of (suc (suc (suc (suc (suc j))))) most = (Finishing, omega arith, λ x le. most_order x)
 
+-- the plan has no stamp
+not_stamped : (seconds : ℕ) → None ≡ Some seconds → ⊥
+not_stamped seconds e = cc
+
 module _ (g : Layout) (n : ℕ) (p : Plan) (id body : List ℕ) (old after : Image) (d : PlansDocument p id body)
     (suits : Suits g p) (w : IsWellPlanned g old after (plan_of n p id body)) where
   count_is : length p.document.now ≡ cells_for (length (stored_bytes id body))
@@ -82,17 +86,17 @@ module _ (g : Layout) (n : ℕ) (p : Plan) (id body : List ℕ) (old after : Ima
         (λ (a : IsInRow (document_from p) p.document.now STRAY_CELL put).
         let below : a.place < cells_for (length (stored_bytes id body)) =
         omega (arith, slice_get_within p.document.now a.place put.value a.value, count_is) in
-        inl (record {
+        inl (inl (record {
           place = a.place;
           below = below;
           at = sym here ∙ a.at ∙ sym (content_place a.place);
           is = sym is ∙ some_is _ _ (sym a.value ∙ d.each a.place below);
-        }))
-        (λ (a : IsInRow (document_from p + length p.document.now) p.journal.now STRAY_CELL put). inr (record {
+        })))
+        (λ (a : IsInRow (document_from p + length p.document.now) p.journal.now STRAY_CELL put). inl (inr (record {
           place = a.place;
           entry = a.value ∙ ap (λ (x : List ℕ). Some x) is;
           at = sym here ∙ a.at ∙ sym (copy_place a.place);
-        }))
+        })))
         h,
   )
   put_row (suc (suc zero)) put h cell value here is = (
@@ -137,7 +141,8 @@ module _ (g : Layout) (n : ℕ) (p : Plan) (id body : List ℕ) (old after : Ima
     row_put Reserving less cell value row =
         ap image row.at ∙ all (reserve_put n (reserved_by p)) (0, less, refl)
         ∙ ap (λ (x : List ℕ). Some x) (sym row.is.same)
-    row_put Storing less cell value row = ⊎_elim
+    row_put Storing less cell value (inr row) = absurd (not_stamped row.seconds row.given)
+    row_put Storing less cell value (inl row) = ⊎_elim
         (λ (c : ContentRow (plan_of n p id body) cell value).
         ap image (c.at ∙ content_place c.place)
         ∙ all (record {

@@ -2,7 +2,7 @@
 use Rattle.std.proofs.Common.{◌≡◌, ◌≤◌, ◌<◌, ℕ, zero, suc, List, Some, refl, ap, ⊎_elim, subst, arith}
 use Rattle.std.specs.Prelude.{IsTrue, Result}
 use Rattle.cell_types.specs.Image.{Extends, Image}
-use Rattle.cell_types.specs.Layout.{Layout, list_at, reserve_at}
+use Rattle.cell_types.specs.Layout.{Layout, reserve_at, lists_at}
 use Rattle.cell_types.specs.declared.refusal.Refusal.{Refusal}
 use Rattle.stored_documents.specs.Documents.{document_at}
 use Rattle.stored_documents.specs.Volumes.{IsVolume}
@@ -45,7 +45,7 @@ module _ {cells more : ℕ} {old image after : Image} (m : ℕ) (g : Layout) (gr
       (λ (a : (j ≡ 1) × IsEntryPut image (journal_at s l k) k put).
       let e = ending (omega arith) in
       let entry = a.1 in
-      let low = entries_from (list_at e.layout 0) image (journal_at s l k) (document_at s l b k) k e.journal entry.0
+      let low = entries_from (lists_at e.layout) image (journal_at s l k) (document_at s l b k) k e.journal entry.0
       put.value entry.1 entry.2.stands in
       let below : n < e.layout.slots =
       subst (λ (o : Layout). n < o.slots) (one_layout g e.layout volume (volume_on grows e.volume)) inside in

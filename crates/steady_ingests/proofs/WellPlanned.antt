@@ -54,6 +54,7 @@ plan_of n p id body = record {
   reserved = (reserved_by p).length;
   id = id;
   body = body;
+  stamp = None;
   journal = p.journal.now;
 }
 
@@ -176,8 +177,8 @@ module _ (old looked : DeviceState) (r : Ready) (tells : IsTrue old.tells) (h : 
     }
 
     -- what it takes is the document's need
-    pub need : IsNeed g looked.image r.horizon id body (need_with id body index)
-    need = subst (λ (i : Image). IsNeed g i r.horizon id body (need_with id body index)) (sym same_walked)
+    pub need : IsNeed g looked.image r.horizon id body None (need_with id body index)
+    need = subst (λ (i : Image). IsNeed g i r.horizon id body None (need_with id body index)) (sym same_walked)
         (needed tells_walked still_walked h.settles.ends.0.layout
         (subst (λ (i : Image). IsSettled g i) same_walked settled_now)
         (subst (λ (i : Image). IsHorizon g i i r.horizon) same_walked horizon_now) less
@@ -211,6 +212,7 @@ module _ (old looked : DeviceState) (r : Ready) (tells : IsTrue old.tells) (h : 
             ∙ ap cells_for document.bytes in
             omega (arith, count, blocks);
         inside = suits.to;
+        stamp = refl;
         identifier = document.identifier;
         body = document.is_body;
         absent = absent;

@@ -2,7 +2,7 @@
 use Rattle.std.proofs.Common.{◌≡◌, ◌≤◌, ◌<◌, ◌+◌, ◌⊎◌, ℕ, List, Some, refl, sym, ap, ◌∙◌, inl, inr, ⊎_elim, subst, arith}
 use Rattle.std.proofs.lemmas.Option.{none-some}
 use Rattle.cell_types.specs.Image.{Image, Extends}
-use Rattle.cell_types.specs.Layout.{Layout, reserve_at, outcome_at, done_at, list_at}
+use Rattle.cell_types.specs.Layout.{Layout, reserve_at, outcome_at, done_at, lists_at}
 use Rattle.cell_types.specs.declared.geometry.TheConstants.{MAX_SLOTS}
 use Rattle.cell_types.specs.declared.record_cell.RecordCell.{RecordCell}
 use Rattle.cell_types.specs.declared.record_cell.RecordCell.TheVariants as records
@@ -34,14 +34,14 @@ pub record GivesUp (g : Layout) (image after : Image) (n : ℕ) : Type 0 where
 pub record Completes (g : Layout) (image after : Image) (n start reserved journal : ℕ) : Type 0 where
   pub one : IsOneHorizon g image (n + 1)
   pub copies : (k : ℕ) → k < journal → (target : ℕ) × (copied : RecordCell)
-      × Copies image start reserved journal k target copied × (list_at g 0 ≤ target)
+      × Copies image start reserved journal k target copied × (lists_at g ≤ target)
   pub rows : IsWith (λ cell value. JournalRow image start reserved journal cell value
       ⊎ DoneRow n cell value) image after
 
 module _ {cells : ℕ} {old : Image} (g : Layout) (v : IsVolume cells old g) (n : ℕ)
     (h : IsHorizon g old old (n + 1)) where
   small : n < g.slots → n < MAX_SLOTS
-  small less = omega (arith, less, v.volume.is.well_formed.1.slots)
+  small less = omega (arith, less, v.volume.is.well_formed.0.slots)
 
   horizon_ended : Settled cells old → HasEnded g old old n
   horizon_ended s =
@@ -186,7 +186,7 @@ module _ {cells : ℕ} {old : Image} (g : Layout) (v : IsVolume cells old g) (n 
 
       entry_row : (cell : ℕ) (value : List ℕ) (put : Put) → put.at ≡ cell → put.value ≡ value → IsEntryPut old
           (journal_at start reserved journal) journal put → JournalRow old start reserved journal cell value ×
-          (list_at g 0 ≤ cell)
+          (lists_at g ≤ cell)
       entry_row cell value put here is x =
           let o = carried_out.copies x.0 x.1 in
           let stands : old (journal_at start reserved journal + x.0) ≡ Some value = x.2.stands ∙ ap

@@ -2,13 +2,14 @@
 use Rattle.std.proofs.Common.{◌≡◌, ◌<◌, ◌≤◌, ◌+◌, ◌*◌, ◌^◌, ◌⊎◌, ℕ, List, Some, None, refl, sym, ap, ◌∙◌, inl, inr, ⊎_elim, subst, arith, length, slice_index, take, drop}
 use Rattle.std.proofs.lemmas.Option.{none-some}
 use Rattle.cell_types.specs.Image.{Image, Extends}
-use Rattle.cell_types.specs.Layout.{Layout, reserve_at, outcome_at, done_at, list_at}
+use Rattle.cell_types.specs.Layout.{Layout, spare_at, reserve_at, outcome_at, done_at, lists_at}
 use Rattle.cell_types.specs.Records.{IsRecordCell, record_bytes}
+use Rattle.cell_types.specs.declared.geometry.TheConstants.{STAMPED_VERSION}
 use Rattle.cell_types.specs.declared.record_cell.RecordCell.{RecordCell}
-use Rattle.cell_types.specs.declared.record_cell.RecordCell.TheVariants.{Volume, Reserve, Commit, Abandon, Done, Posting, Jump, Bucket, Child}
+use Rattle.cell_types.specs.declared.record_cell.RecordCell.TheVariants.{Volume, Reserve, Commit, Abandon, Done, Posting, Jump, Bucket, Child, Stamp}
 use Rattle.cell_types.proofs.OneRecord.{address_in, body_in, body_is_one, one_record}
 use Rattle.stored_documents.specs.Documents.{content_at}
-use Rattle.stored_documents.specs.Slots.{cells_for, Commits, EndsBelow, HasEnded, IsAbandonedSlot, IsDoneSlot, IsHorizon, Reserves, Stores}
+use Rattle.stored_documents.specs.Slots.{HasStamp, IsStamped, cells_for, Commits, EndsBelow, HasEnded, IsAbandonedSlot, IsDoneSlot, IsHorizon, Reserves, Stores}
 use Rattle.stored_documents.specs.Volumes.{Holds, IsVolume, IsWritten}
 use Rattle.stored_documents.proofs.Extending.{blank_before, commits_on, holds_on, volume_on, written_on}
 use Rattle.stored_documents.proofs.Holding.{some_is}
@@ -32,10 +33,10 @@ use Rattle.steady_volumes.specs.Steadiness.{IsSoundRule}
 pub data IsAdded (g : Layout) (n cell : ℕ) (value : List ℕ) : Type 0 where
   as_abandon : cell ≡ outcome_at n → IsRecordCell Abandon (outcome_at n) value → IsAdded g n cell value
   as_done : cell ≡ done_at n → IsRecordCell (Done n) (done_at n) value → IsAdded g n cell value
-  as_copy : (r : RecordCell) → IsIndexRecord r → cell < 2 ^ 32 → list_at g 0 ≤ cell → IsRecordCell r cell value
+  as_copy : (r : RecordCell) → IsIndexRecord r → cell < 2 ^ 32 → lists_at g ≤ cell → IsRecordCell r cell value
       → IsAdded g n cell value
 
-kind_is_low : (r : RecordCell) (at : ℕ) → slice_index (record_bytes r at) 0 ≤ 9
+kind_is_low : (r : RecordCell) (at : ℕ) → slice_index (record_bytes r at) 0 ≤ 10
 kind_is_low (Volume version slots lists cells) at = omega arith
 kind_is_low (Reserve start size) at = omega arith
 kind_is_low (Commit bytes journal) at = omega arith
@@ -45,12 +46,13 @@ kind_is_low (Posting key last tag) at = omega arith
 kind_is_low (Jump target) at = omega arith
 kind_is_low (Bucket slot fingerprint) at = omega arith
 kind_is_low (Child target) at = omega arith
+kind_is_low (Stamp seconds) at = omega arith
 
 -- no record's cell is a content cell
 no_content : {r : RecordCell} {at : ℕ} {value : List ℕ} (stored : List ℕ) (k : ℕ) → IsRecordCell r at value
     → value ≡ content_at stored k → ⊥
 no_content {r} {at} {value} stored k is same =
-    let low : slice_index (record_bytes r at) 0 ≤ 9 = kind_is_low r at in
+    let low : slice_index (record_bytes r at) 0 ≤ 10 = kind_is_low r at in
     let kind : slice_index (record_bytes r at) 0 ≡ 16 + length (take 15 (drop (15 * k) stored)) =
     ap (λ (v : List ℕ). slice_index v 0) (sym is.same ∙ same) in
     omega (arith, low, kind)
@@ -139,6 +141,16 @@ module _ {g : Layout} {image after : Image} (e : Extends image after) (s : IsSet
         not (as_done at r) = absurd (omega (arith, at))
         not (as_copy r index small far cell) = absurd (omega (arith, far, inside))
 
+    -- and so did stamps
+    stamp_stood : (m seconds : ℕ) → m < g.slots → HasStamp after m seconds → HasStamp image m seconds
+    stamp_stood m seconds inside x =
+        record { cell = x.cell; stands = ⊎_elim (λ was. was) not (adds (spare_at m) x.cell x.stands); is = x.is }
+      where
+        not : IsAdded g n (spare_at m) x.cell → image (spare_at m) ≡ Some x.cell
+        not (as_abandon at r) = absurd (omega (arith, at))
+        not (as_done at r) = absurd (omega (arith, at))
+        not (as_copy r index small far cell) = absurd (omega (arith, far, inside))
+
     reserves_back : {m start reserved : ℕ} → Reserves g after m start reserved → Reserves g image m start reserved
     reserves_back {m} r = record {
       slot = r.slot;
@@ -174,6 +186,8 @@ module _ {g : Layout} {image after : Image} (e : Extends image after) (s : IsSet
       reserves = reserves_back c.reserves;
       outcome = outcome_stood m c.reserves.slot (λ same is. no_abandon bytes journal is) c.outcome;
       fits = c.fits;
+      stamped = λ version. let t = c.stamped version in
+          record { seconds = t.seconds; stamp = stamp_stood m t.seconds c.reserves.slot t.stamp };
     }
 
     stores_back : {m start reserved bytes journal : ℕ} → Stores g after m start reserved bytes journal
@@ -304,9 +318,9 @@ module _ {g : Layout} {image after : Image} (e : Extends image after) (s : IsSet
               (r.before k is);
         }
 
-    outcome_rule : (m : ℕ) → m < g.slots → IsWritten image (outcome_at m) → OutcomeRule image m
+    outcome_rule : (m : ℕ) → m < g.slots → IsWritten image (outcome_at m) → OutcomeRule g image m
     outcome_rule m inside w =
-        let r : OutcomeRule after m = s.met Rules.OutcomeCells (outcome_at m) (written_on e w) m inside refl in
+        let r : OutcomeRule g after m = s.met Rules.OutcomeCells (outcome_at m) (written_on e w) m inside refl in
         record {
           reserve = record {
             found = r.reserve.found;
@@ -317,11 +331,12 @@ module _ {g : Layout} {image after : Image} (e : Extends image after) (s : IsSet
               (λ (a : Holds after (outcome_at m) Abandon). inl (back w a))
               (λ (c : (bytes : ℕ) × (journal : ℕ) × Holds after (outcome_at m) (Commit bytes journal)
               × ((start reserved : ℕ) → Holds after (reserve_at m) (Reserve start reserved)
-              → cells_for bytes + journal ≤ reserved)). inr (
+              → cells_for bytes + journal ≤ reserved) × (g.version ≡ STAMPED_VERSION → IsStamped after m)). inr (
                 c.0,
                 c.1,
                 back w c.2,
                 λ start reserved x. c.3 start reserved (holds_on e x),
+                λ version. let t = c.4 version in record { seconds = t.seconds; stamp = stamp_stood m t.seconds inside t.stamp },
               ))
               r.outcome;
         }
@@ -434,10 +449,10 @@ sound_unbroken cells image number cell t rule b = by t.after t.is t.settled
         (λ at value is. ⊎_elim inl
         (λ (rows : JournalRow image start reserved journal at value ⊎ DoneRow n at value). inr (⊎_elim
         (λ (row : JournalRow image start reserved journal at value).
-        let far : list_at k 0 ≤ at = target_behind_log ready.in_order row.copies in
+        let far : lists_at k ≤ at = target_behind_log ready.in_order row.copies in
         let entry : row.copies.entry ≡ value = some_is row.copies.entry value (sym row.copies.stands ∙ row.stands) in
         as_copy row.copied row.copies.index row.copies.address
-        (subst (λ (l : Layout). list_at l 0 ≤ at) same far)
+        (subst (λ (l : Layout). lists_at l ≤ at) same far)
         (subst (IsRecordCell row.copied at) entry row.copies.is))
         (λ (row : DoneRow n at value). as_done row.at row.is)
         rows))

@@ -4,7 +4,7 @@ use Rattle.cell_types.specs.Image.{Image, Extends}
 use Rattle.cell_types.specs.Layout.{Layout}
 use Rattle.cell_types.specs.declared.record_cell.RecordCell.{RecordCell}
 use Rattle.stored_documents.specs.Volumes.{Holds, IsVolume, IsWritten}
-use Rattle.stored_documents.specs.Slots.{Reserves, Abandons, Commits, IsUnused, IsReserved, IsAbandoned, IsCommitted, IsDone, IsDoneSlot, IsAbandonedSlot, HasEnded, AreTaken, IsHorizon, EndsBelow, IsEdge, IsLive}
+use Rattle.stored_documents.specs.Slots.{Reserves, Abandons, Commits, IsStamped, IsUnused, IsReserved, IsAbandoned, IsCommitted, IsDone, IsDoneSlot, IsAbandonedSlot, HasEnded, AreTaken, IsHorizon, EndsBelow, IsEdge, IsLive}
 use Rattle.stored_documents.specs.Documents.{Spells, Stands, IsDocument}
 
 -- a record stays where it stands
@@ -21,10 +21,19 @@ pub reserves_on : {g : Layout} {old new : Image} {n start length : ℕ} → Exte
     → Reserves g old n start length → Reserves g new n start length
 reserves_on e r = record { slot = r.slot; reserve = holds_on e r.reserve; from = r.from; to = r.to }
 
+-- a slot keeps its stamp
+pub stamped_on : {old new : Image} {n : ℕ} → Extends old new → IsStamped old n → IsStamped new n
+stamped_on e s = record { seconds = s.seconds; stamp = holds_on e s.stamp }
+
 -- a slot keeps its document and its journal
 pub commits_on : {g : Layout} {old new : Image} {n start length bytes journal : ℕ} → Extends old new
     → Commits g old n start length bytes journal → Commits g new n start length bytes journal
-commits_on e c = record { reserves = reserves_on e c.reserves; outcome = holds_on e c.outcome; fits = c.fits }
+commits_on e c = record {
+  reserves = reserves_on e c.reserves;
+  outcome = holds_on e c.outcome;
+  fits = c.fits;
+  stamped = λ v. stamped_on e (c.stamped v);
+}
 
 -- a slot that is done stays so
 pub done_on : {g : Layout} {old new : Image} {n start length bytes journal : ℕ} → Extends old new

@@ -1,8 +1,8 @@
--- What was seen of slots goes on.
-use Rattle.std.specs.Prelude.{ℕ}
+-- What was seen of slots goes on, and a slot has one stamp.
+use Rattle.std.specs.Prelude.{◌≡◌, ℕ, Option}
 use Rattle.cell_types.specs.Image.{Image, Extends}
-use Rattle.cell_types.specs.Layout.{Layout}
-use Rattle.stored_documents.specs.Slots.{IsUnused, IsReserved, IsAbandoned, IsCommitted, IsDone, HasEnded, IsHorizon, IsEdge, IsLive}
+use Rattle.cell_types.specs.Layout.{Layout, IsLayout}
+use Rattle.stored_documents.specs.Slots.{Commits, IsUnused, IsReserved, IsAbandoned, IsCommitted, IsDone, HasEnded, IsHorizon, IsEdge, IsLive, IsStampOf}
 
 -- What was seen between two images was seen between any that lie further apart.
 pub record SeenFurther : Type 0 where
@@ -30,3 +30,9 @@ pub record SeenFurther : Type 0 where
       → Extends after after'
       → IsEdge g before after at → IsEdge g before' after' at
   pub live : (g : Layout) (after after' : Image) (n : ℕ) → Extends after after' → IsLive g after n → IsLive g after' n
+
+-- A slot has at most one stamp, and one that states its document has it.
+pub record StampsAreOne : Type 0 where
+  pub one : (g : Layout) (image : Image) (n : ℕ) (a b : Option ℕ) → IsStampOf g image n a → IsStampOf g image n b → a ≡ b
+  pub some : (g : Layout) (image : Image) (n start length bytes journal : ℕ) → IsLayout g
+      → Commits g image n start length bytes journal → (stamp : Option ℕ) × IsStampOf g image n stamp

@@ -1,12 +1,14 @@
--- The states of a slot, by its reserve, outcome and done cell.
+-- The states of a slot, by its reserve, outcome and done cell, and on a volume of stamped documents by its spare cell,
+-- which has the stamp.
 --
 -- A state is said of two images, one of which extends the other: what it needs written stands in the later one,
 -- and what it needs blank was blank in the earlier one. So a call that reads three cells while somebody else
 -- writes can say what it saw. A state in one image is that state where both are this image.
-use Rattle.std.specs.Prelude.{◌≡◌, ◌<◌, ◌≤◌, ◌+◌, ◌/◌, ◌⊎◌, ℕ, None}
+use Rattle.std.specs.Prelude.{◌≡◌, ◌<◌, ◌≤◌, ◌+◌, ◌/◌, ◌⊎◌, ℕ, Option, Some, None}
 use Rattle.cell_types.specs.Image.{Image}
-use Rattle.cell_types.specs.Layout.{Layout, reserve_at, outcome_at, done_at, pool_at}
-use Rattle.cell_types.specs.declared.record_cell.RecordCell.TheVariants.{Reserve, Commit, Abandon, Done}
+use Rattle.cell_types.specs.Layout.{Layout, reserve_at, outcome_at, done_at, spare_at, pool_at}
+use Rattle.cell_types.specs.declared.record_cell.RecordCell.TheVariants.{Reserve, Commit, Abandon, Done, Stamp}
+use Rattle.cell_types.specs.declared.geometry.TheConstants.{STAMPED_VERSION}
 use Rattle.stored_documents.specs.Volumes.{Holds, IsWritten}
 
 -- how many content cells so many stored bytes take: 15 bytes in each, rounded up
@@ -25,11 +27,27 @@ pub record Abandons (g : Layout) (image : Image) (n start length : ℕ) : Type 0
   pub reserves : Reserves g image n start length
   pub outcome : Holds image (outcome_at n) Abandon
 
--- slot n states a document of so many stored bytes and a journal of so many cells, which fit into its cells
+-- slot n has this stamp
+abbrev pub HasStamp : Image → ℕ → ℕ → Type 0
+HasStamp image n seconds = Holds image (spare_at n) (Stamp seconds)
+
+-- the stamp of slot n: on a volume of stamped documents that of its spare cell, and none on another
+abbrev pub IsStampOf : Layout → Image → ℕ → Option ℕ → Type 0
+IsStampOf g image n None = g.version < STAMPED_VERSION
+IsStampOf g image n (Some seconds) = (g.version ≡ STAMPED_VERSION) × HasStamp image n seconds
+
+-- slot n has a stamp
+pub record IsStamped (image : Image) (n : ℕ) : Type 0 where
+  pub seconds : ℕ
+  pub stamp : HasStamp image n seconds
+
+-- slot n states a document of so many stored bytes and a journal of so many cells, which fit into its cells; on a volume
+-- of stamped documents it has a stamp
 pub record Commits (g : Layout) (image : Image) (n start length bytes journal : ℕ) : Type 0 where
   pub reserves : Reserves g image n start length
   pub outcome : Holds image (outcome_at n) (Commit bytes journal)
   pub fits : cells_for bytes + journal ≤ length
+  pub stamped : g.version ≡ STAMPED_VERSION → IsStamped image n
 
 -- nothing has come of slot n
 pub record IsUnused (g : Layout) (before : Image) (n : ℕ) : Type 0 where

@@ -5,7 +5,6 @@ use Rattle.cell_types.specs.Layout.{Layout}
 use Rattle.cell_types.specs.Records.{IsRecordCell}
 use Rattle.cell_types.specs.declared.record_cell.RecordCell.{RecordCell}
 use Rattle.cell_types.specs.declared.record_cell.RecordCell.TheVariants.{Volume}
-use Rattle.cell_types.specs.declared.record_cell.TheConstants.{FORMAT_VERSION}
 
 -- something stands in the cell of this number
 pub record IsWritten (image : Image) (at : ℕ) : Type 0 where
@@ -20,7 +19,7 @@ pub record Holds (image : Image) (at : ℕ) (r : RecordCell) : Type 0 where
 
 -- the volume cell of this layout
 abbrev pub volume_record : Layout → RecordCell
-volume_record g = Volume FORMAT_VERSION g.slots g.lists g.cells
+volume_record g = Volume g.version g.slots g.lists g.cells
 
 -- Cell 0 is a volume cell that states the device's number of cells, and the layout is the one that it states.
 pub record IsVolume (cells : ℕ) (image : Image) (g : Layout) : Type 0 where

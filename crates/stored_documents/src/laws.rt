@@ -1,7 +1,8 @@
 //! Laws: what the definitions mean together, over all images. Each is a function that does nothing and whose
 //! contract is the law.
 ghost use Rattle.stored_documents.specs.Documents.{DocumentsAreOne, DocumentsHoldOn, ListsAreOne, StandsHoldsOn};
-ghost use Rattle.stored_documents.specs.Laws.{SeenFurther};
+ghost use Rattle.stored_documents.specs.Laws.{SeenFurther, StampsAreOne};
+ghost use Rattle.stored_documents.specs.WordValues.{WordsByValue};
 ghost use Rattle.stored_documents.specs.Words.{WordsAreOne};
 
 /// A document that stands in an image stands in each image that extends it.
@@ -19,6 +20,11 @@ pub fn seen_further()
     ensures { SeenFurther }
 {}
 
+/// A slot has one stamp.
+pub fn stamps_are_one()
+    ensures { StampsAreOne }
+{}
+
 /// A slot has one document.
 pub fn documents_are_one()
     ensures { DocumentsAreOne }
@@ -27,6 +33,11 @@ pub fn documents_are_one()
 /// A body has one list of words, and reading it from its first byte on gives it.
 pub fn words_are_one()
     ensures { WordsAreOne }
+{}
+
+/// What the rules of words make of a few bodies.
+pub fn words_by_value()
+    ensures { WordsByValue }
 {}
 
 /// A volume has one list of its documents.

@@ -13,19 +13,25 @@
 //! a **horizon**, and the end of slot 0's cells, 584, an **edge**. On an image that somebody else has written there may
 //! be several.
 //!
+//! The version of a volume decides two things here. Its **rule of words**: by the first version words are made of bytes,
+//! by later ones of characters, in their case folding. And whether its documents are **stamped**: on a volume of the
+//! third version slot 0 states a document only where cell 7, its spare cell, holds a stamp.
+//!
 //! A state is said of two images: what it needs written stands in the later one, and what it needs blank was blank in
 //! the earlier one. So a call that reads three cells, while somebody else writes, can say what it saw. What is said of
 //! written cells alone goes on in every image that extends the first: that is what the laws here say.
 //!
-//! There is no code beside the laws. The definitions are in specs/: `Volumes`, `Slots`, `Documents`, `Words`, in this
-//! order.
+//! There is no code beside the laws and `rule_of`. The definitions are in specs/: `Volumes`, `Slots`, `Documents`,
+//! `Words`, in this order; `WordValues` has the words of a few bodies.
 #![tactic(auto)]
 
 mod laws;
 mod limits;
+mod word_rules;
 
 pub use laws::{
-    documents_are_one, documents_hold_on, lists_are_one, seen_further, stands_holds_on,
-    words_are_one,
+    documents_are_one, documents_hold_on, lists_are_one, seen_further, stamps_are_one,
+    stands_holds_on, words_are_one, words_by_value,
 };
 pub use limits::{MAX_BODY_BYTES, MAX_IDENTIFIER_BYTES};
+pub use word_rules::{WordRule, rule_of};

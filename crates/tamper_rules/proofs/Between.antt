@@ -3,7 +3,7 @@ use Rattle.std.proofs.Common.{◌≡◌, ◌<◌, ◌≤◌, ◌+◌, ⊎_elim, 
 use Rattle.std.proofs.lemmas.Option.{none-some}
 use Rattle.std.proofs.lemmas.Bool.{cases_lt}
 use Rattle.cell_types.specs.Image.{Image, Extends}
-use Rattle.cell_types.specs.Layout.{Layout, reserve_at, outcome_at, done_at, list_at}
+use Rattle.cell_types.specs.Layout.{Layout, reserve_at, outcome_at, done_at, lists_at}
 use Rattle.cell_types.specs.Records.{IsRecordCell}
 use Rattle.cell_types.specs.declared.record_cell.RecordCell.TheVariants.{Commit, Abandon}
 use Rattle.tamper_rules.specs.Rules
@@ -41,8 +41,8 @@ commit_stood {cells} {image} {after} (completed k n start reserved more entries 
     (λ rows. absurd (⊎_elim
     (λ (row : JournalRow image start reserved entries (outcome_at m) h.cell).
     let same : k ≡ g = one_layout k g v vol in
-    let far : list_at k 0 ≤ outcome_at m = target_behind_log ready.in_order row.copies in
-    let low : outcome_at m < list_at k 0 = subst (λ (j : Layout). outcome_at m < list_at j 0) (sym same) (let z : outcome_at m < list_at g 0 = omega arith in z) in
+    let far : lists_at k ≤ outcome_at m = target_behind_log ready.in_order row.copies in
+    let low : outcome_at m < lists_at k = subst (λ (j : Layout). outcome_at m < lists_at j) (sym same) (let z : outcome_at m < lists_at g = omega arith in z) in
     omega arith)
     (λ (row : DoneRow n (outcome_at m) h.cell). omega (arith, row.at)) rows))
     (w.only (outcome_at m) h.cell h.stands)
@@ -61,8 +61,8 @@ done_added {cells} {image} {after} (completed k n start reserved more entries v 
     (λ rows. ⊎_elim
     (λ (row : JournalRow image start reserved entries (done_at m) d.found). absurd (
     let same : k ≡ g = one_layout k g v vol in
-    let far : list_at k 0 ≤ done_at m = target_behind_log ready.in_order row.copies in
-    let low : done_at m < list_at k 0 = subst (λ (j : Layout). done_at m < list_at j 0) (sym same) (let z : done_at m < list_at g 0 = omega arith in z) in
+    let far : lists_at k ≤ done_at m = target_behind_log ready.in_order row.copies in
+    let low : done_at m < lists_at k = subst (λ (j : Layout). done_at m < lists_at j) (sym same) (let z : done_at m < lists_at g = omega arith in z) in
     omega arith))
     (λ (row : DoneRow n (done_at m) d.found).
     let is : n ≡ m = omega (arith, row.at) in
@@ -82,7 +82,7 @@ in_log g image s u h m inside w = ⊎_elim
 pub commit_done : (g : Layout) (image : Image) → IsSettled g image → (m bytes journal : ℕ) → m < g.slots
     → Holds image (outcome_at m) (Commit bytes journal) → IsDoneSlot g image m
 commit_done g image s m bytes journal inside h =
-    let o : OutcomeRule image m = s.met Rules.OutcomeCells (outcome_at m) (record { found = h.cell; stands = h.stands }) m inside refl in
+    let o : OutcomeRule g image m = s.met Rules.OutcomeCells (outcome_at m) (record { found = h.cell; stands = h.stands }) m inside refl in
     let u = some_horizon g image s in
     ⊎_elim
     (λ (a : IsAbandonedSlot g image image m). absurd (no_abandon bytes journal (one_record_holds image (outcome_at m) (Commit bytes journal) Abandon h a.abandoned.abandons.outcome)))

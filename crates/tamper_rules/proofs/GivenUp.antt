@@ -3,35 +3,37 @@ use Rattle.std.proofs.Common.{◌≡◌, ◌<◌, ◌≤◌, ◌+◌, ◌⊎◌,
 use Rattle.std.proofs.lemmas.Option.{none-some}
 use Rattle.std.proofs.lemmas.Bool.{cases_order}
 use Rattle.cell_types.specs.Image.{Image, Extends}
-use Rattle.cell_types.specs.Layout.{Layout, reserve_at, outcome_at, done_at, list_at, pool_at}
+use Rattle.cell_types.specs.Layout.{Layout, reserve_at, outcome_at, done_at, spare_at, list_at, pool_at, lists_at}
 use Rattle.cell_types.specs.declared.record_cell.RecordCell.{RecordCell}
 use Rattle.cell_types.specs.declared.record_cell.RecordCell.TheVariants.{Commit, Abandon, Jump, Child, Volume}
 use Rattle.index_paths.specs.Blocks.{Leads, arrived, onwards, pointer_at}
 use Rattle.stored_documents.specs.Documents.{Stands, Spells, document_at}
 use Rattle.index_paths.specs.Nodes.{IsBlockOf, IsNode, root, under}
-use Rattle.tamper_rules.specs.Rules.{Pointers, Children, LeadsWell, LeadsDownWell}
+use Rattle.tamper_rules.specs.Rules.{Pointers, Children, LeadsWell, LeadsDownWell, IsTrueStamp}
 use Rattle.tamper_rules.specs.Settling.{IsSettled}
-use Rattle.stored_documents.specs.Slots.{cells_for, Reserves, Commits, Stores, IsAbandonedSlot, IsDoneSlot, IsDone, HasEnded, IsHorizon, EndsBelow, IsEdge}
+use Rattle.stored_documents.specs.Slots.{cells_for, Reserves, Commits, IsStamped, HasStamp, Stores, IsAbandonedSlot, IsDoneSlot, IsDone, HasEnded, IsHorizon, EndsBelow, IsEdge}
 use Rattle.stored_documents.specs.Volumes.{Holds, IsWritten, IsVolume, volume_record}
 use Rattle.stored_documents.proofs.Extending.{holds_on, blank_before, reserves_on, done_on}
 use Rattle.stored_documents.proofs.Holding.{one_record_holds}
 use Rattle.tamper_rules.proofs.Images.{look}
 use Rattle.tamper_rules.proofs.Settled.{written, taken_below, taken_to, below_horizon, ends_before, edge_horizon, one_end}
 
--- the cell is the reserve cell or the outcome cell of slot n, or one of those that it reserves
+-- the cell is the reserve cell, the outcome cell or the spare cell of slot n, or one of those that it reserves
 pub data IsOf (n start length cell : ℕ) : Type 0 where
   of_reserve : cell ≡ reserve_at n → IsOf n start length cell
   of_outcome : cell ≡ outcome_at n → IsOf n start length cell
+  of_spare : cell ≡ spare_at n → IsOf n start length cell
   of_range : start ≤ cell → cell < start + length → IsOf n start length cell
 
 -- New is old with slot n, at a horizon of old, given up: it reserves cells from the edge on, in which anything may
--- have been written, and has its abandon cell.
+-- have been written, and has its abandon cell; where its spare cell is written it holds a stamp in order.
 pub record IsGivenUp (g : Layout) (old new : Image) (n start length : ℕ) : Type 0 where
   pub horizon : IsHorizon g old old n
   pub keeps : Extends old new
   pub reserves : Reserves g new n start length
   pub begins : EndsBelow g old n start
   pub outcome : Holds new (outcome_at n) Abandon
+  pub stamp : IsWritten new (spare_at n) → IsTrueStamp g new n
   pub only : (cell : ℕ) (value : List ℕ) → new cell ≡ Some value → (old cell ≡ Some value) ⊎ IsOf n start length cell
 
 abbrev IsNoAbandon : RecordCell → Type 0
@@ -62,48 +64,50 @@ module _ {g : Layout} {old new : Image} {n start size : ℕ} (s : IsSettled g ol
   free = u.reserves.slot
 
   -- cells of the log
-  pub log_was : (cell : ℕ) (value : List ℕ) → cell < list_at g 0 → (cell ≡ reserve_at n → ⊥)
-      → (cell ≡ outcome_at n → ⊥) → new cell ≡ Some value → old cell ≡ Some value
-  log_was cell value low no_reserve no_outcome is = ⊎_elim (λ was. was) (λ of. absurd (none of)) (u.only cell value is)
+  pub log_was : (cell : ℕ) (value : List ℕ) → cell < lists_at g → (cell ≡ reserve_at n → ⊥)
+      → (cell ≡ outcome_at n → ⊥) → (cell ≡ spare_at n → ⊥) → new cell ≡ Some value → old cell ≡ Some value
+  log_was cell value low no_reserve no_outcome no_spare is = ⊎_elim (λ was. was) (λ of. absurd (none of)) (u.only cell value is)
     where
       none : IsOf n start size cell → ⊥
       none (of_reserve at) = no_reserve at
       none (of_outcome at) = no_outcome at
+      none (of_spare at) = no_spare at
       none (of_range from to) = omega (arith, u.reserves.from)
 
   -- cells behind the log and before the edge
-  pub was : (cell : ℕ) (value : List ℕ) → list_at g 0 ≤ cell → cell < start → new cell ≡ Some value
+  pub was : (cell : ℕ) (value : List ℕ) → lists_at g ≤ cell → cell < start → new cell ≡ Some value
       → old cell ≡ Some value
   was cell value low high is = ⊎_elim (λ h. h) (λ of. absurd (none of)) (u.only cell value is)
     where
       none : IsOf n start size cell → ⊥
       none (of_reserve at) = omega (arith, u.reserves.slot)
       none (of_outcome at) = omega (arith, u.reserves.slot)
+      none (of_spare at) = omega (arith, u.reserves.slot)
       none (of_range from to) = omega arith
 
-  pub held : {cell : ℕ} {r : RecordCell} → list_at g 0 ≤ cell → cell < start → Holds new cell r → Holds old cell r
+  pub held : {cell : ℕ} {r : RecordCell} → lists_at g ≤ cell → cell < start → Holds new cell r → Holds old cell r
   held low high h = record { cell = h.cell; stands = was _ h.cell low high h.stands; is = h.is }
 
-  pub stood : {cell : ℕ} → list_at g 0 ≤ cell → cell < start → IsWritten new cell → IsWritten old cell
+  pub stood : {cell : ℕ} → lists_at g ≤ cell → cell < start → IsWritten new cell → IsWritten old cell
   stood low high w = record { found = w.found; stands = was _ w.found low high w.stands }
 
   pub reserve_was : {m : ℕ} → m < g.slots → (m ≡ n → ⊥) → IsWritten new (reserve_at m) → IsWritten old (reserve_at m)
-  reserve_was {m} inside other w = record { found = w.found; stands = log_was (reserve_at m) w.found (omega arith) (λ same. other (omega arith)) (λ same. omega arith) w.stands }
+  reserve_was {m} inside other w = record { found = w.found; stands = log_was (reserve_at m) w.found (omega arith) (λ same. other (omega arith)) (λ same. omega arith) (λ same. omega arith) w.stands }
 
   pub reserve_held : {m : ℕ} {r : RecordCell} → m < g.slots → (m ≡ n → ⊥) → Holds new (reserve_at m) r
       → Holds old (reserve_at m) r
-  reserve_held {m} inside other h = record { cell = h.cell; stands = log_was (reserve_at m) h.cell (omega arith) (λ same. other (omega arith)) (λ same. omega arith) h.stands; is = h.is }
+  reserve_held {m} inside other h = record { cell = h.cell; stands = log_was (reserve_at m) h.cell (omega arith) (λ same. other (omega arith)) (λ same. omega arith) (λ same. omega arith) h.stands; is = h.is }
 
   pub outcome_held : {m : ℕ} {r : RecordCell} → m < g.slots → (m ≡ n → ⊥) → Holds new (outcome_at m) r
       → Holds old (outcome_at m) r
-  outcome_held {m} inside other h = record { cell = h.cell; stands = log_was (outcome_at m) h.cell (omega arith) (λ same. omega arith) (λ same. other (omega arith)) h.stands; is = h.is }
+  outcome_held {m} inside other h = record { cell = h.cell; stands = log_was (outcome_at m) h.cell (omega arith) (λ same. omega arith) (λ same. other (omega arith)) (λ same. omega arith) h.stands; is = h.is }
 
   pub done_held : {m : ℕ} {r : RecordCell} → m < g.slots → Holds new (done_at m) r → Holds old (done_at m) r
-  done_held {m} inside h = record { cell = h.cell; stands = log_was (done_at m) h.cell (omega arith) (λ same. omega arith) (λ same. omega arith) h.stands; is = h.is }
+  done_held {m} inside h = record { cell = h.cell; stands = log_was (done_at m) h.cell (omega arith) (λ same. omega arith) (λ same. omega arith) (λ same. omega arith) h.stands; is = h.is }
 
   pub done_blank : (m : ℕ) → m < g.slots → old (done_at m) ≡ None → new (done_at m) ≡ None
   done_blank m inside none = ⊎_elim (λ blank. blank)
-      (λ h. absurd (none-some _ (sym none ∙ log_was (done_at m) h.0 (omega arith) (λ same. omega arith) (λ same. omega arith) h.1)))
+      (λ h. absurd (none-some _ (sym none ∙ log_was (done_at m) h.0 (omega arith) (λ same. omega arith) (λ same. omega arith) (λ same. omega arith) h.1)))
       (look new (done_at m))
 
   -- a slot with a commit cell is another slot
@@ -115,9 +119,15 @@ module _ {g : Layout} {old new : Image} {n start size : ℕ} (s : IsSettled g ol
       → Reserves g old m start' length'
   reserves_back other r = record { slot = r.slot; reserve = reserve_held r.slot other r.reserve; from = r.from; to = r.to }
 
+  pub stamp_held : {m seconds : ℕ} → m < g.slots → (m ≡ n → ⊥) → HasStamp new m seconds → HasStamp old m seconds
+  stamp_held {m} inside other h = record { cell = h.cell; stands = log_was (spare_at m) h.cell (omega arith) (λ same. omega arith) (λ same. omega arith) (λ same. other (omega arith)) h.stands; is = h.is }
+
+  stamped_back : {m : ℕ} → m < g.slots → (m ≡ n → ⊥) → IsStamped new m → IsStamped old m
+  stamped_back inside other h = record { seconds = h.seconds; stamp = stamp_held inside other h.stamp }
+
   pub commits_back : {m start' length' bytes journal : ℕ} → Commits g new m start' length' bytes journal
       → Commits g old m start' length' bytes journal
-  commits_back c = record { reserves = reserves_back (is_other c) c.reserves; outcome = outcome_held c.reserves.slot (is_other c) c.outcome; fits = c.fits }
+  commits_back c = record { reserves = reserves_back (is_other c) c.reserves; outcome = outcome_held c.reserves.slot (is_other c) c.outcome; fits = c.fits; stamped = λ e. stamped_back c.reserves.slot (is_other c) (c.stamped e) }
 
   pub stores_back : {m start' length' bytes journal : ℕ} → Stores g new m start' length' bytes journal
       → Stores g old m start' length' bytes journal
@@ -183,7 +193,7 @@ module _ {g : Layout} {old new : Image} {n start size : ℕ} (s : IsSettled g ol
   -- a block of a list was one before, and lies before the edge
   pub record IsOldBlock (l block : ℕ) : Type 0 where
     pub is : IsBlockOf g old l block
-    pub low : list_at g 0 ≤ block
+    pub low : lists_at g ≤ block
     pub high : block + 256 ≤ start
 
   old_target : {l block level digit target : ℕ} → IsOldBlock l block → level < 8 → 1 ≤ digit → digit ≤ 15
@@ -214,7 +224,7 @@ module _ {g : Layout} {old new : Image} {n start size : ℕ} (s : IsSettled g ol
   -- a node was one before, and lies before the edge
   pub record IsOldNode (v node : ℕ) : Type 0 where
     pub is : IsNode g old v node
-    pub low : list_at g 0 ≤ node
+    pub low : lists_at g ≤ node
     pub high : node + 32 ≤ start
 
   pub node_was : {v node : ℕ} → IsNode g new v node → IsOldNode v node
@@ -235,8 +245,8 @@ module _ {g : Layout} {old new : Image} {n start size : ℕ} (s : IsSettled g ol
       was _ _ (omega (arith, r.from, fits)) (omega (arith, ends r, fits, below)) (spells k below)
 
 abbrev layout_of : RecordCell → Layout
-layout_of (Volume version slots lists cells) = record { slots = slots; lists = lists; cells = cells }
-layout_of _ = record { slots = 0; lists = 0; cells = 0 }
+layout_of (Volume version slots lists cells) = record { slots = slots; lists = lists; cells = cells; version = version }
+layout_of _ = record { slots = 0; lists = 0; cells = 0; version = 0 }
 
 -- a volume has one layout
 volumes : (g h : Layout) → volume_record g ≡ volume_record h → g ≡ h

@@ -3,22 +3,23 @@ use Rattle.std.proofs.Common.{◌≡◌, ◌<◌, ◌≤◌, ◌+◌, ◌⊎◌,
 use Rattle.std.proofs.lemmas.Option.{none-some}
 use Rattle.std.proofs.lemmas.Bool.{cases_order, cases_lt}
 use Rattle.cell_types.specs.Image.{Image}
-use Rattle.cell_types.specs.Layout.{Layout, reserve_at, outcome_at, done_at, list_at, pool_at}
+use Rattle.cell_types.specs.Layout.{Layout, reserve_at, outcome_at, done_at, spare_at, pool_at, lists_at}
 use Rattle.cell_types.specs.declared.record_cell.RecordCell.{RecordCell}
 use Rattle.cell_types.specs.declared.record_cell.RecordCell.TheVariants.{Commit, Abandon}
 use Rattle.index_paths.specs.Blocks.{PostingFields, posting_record}
 use Rattle.stored_documents.specs.Documents.{Stands, stored_bytes, document_at}
 use Rattle.tamper_rules.specs.Journals.{journal_at, Copies}
 use Rattle.tamper_rules.specs.Rules
-use Rattle.tamper_rules.specs.Rules.{Rule, IsMet, ReserveRule, OutcomeRule, DoneRule, DocumentRule, HasDocument, JournalRule, RedoneRule, BlankRule, IsDoneIndexCell, HoldsInOrder, EntryRule, IsTruePosting, PostingRule, LeadsWell, PointerRule, IsTrueBucket, BucketRule, LeadsDownWell, ChildRule, TrailRule, PathRule, HasJump, HasChild, IsSize, Tile, TilingRule}
+use Rattle.tamper_rules.specs.Rules.{Rule, IsMet, ReserveRule, OutcomeRule, DoneRule, DocumentRule, HasDocument, JournalRule, RedoneRule, BlankRule, IsTrueStamp, IsDoneIndexCell, HoldsInOrder, EntryRule, IsTruePosting, PostingRule, LeadsWell, PointerRule, IsTrueBucket, BucketRule, LeadsDownWell, ChildRule, TrailRule, PathRule, HasJump, HasChild, IsSize, Tile, TilingRule}
 use Rattle.tamper_rules.specs.Settling.{IsSettled}
 use Rattle.stored_documents.specs.Slots.{Commits, IsCommitted, IsAbandonedSlot, IsDoneSlot, IsDone, HasEnded, IsHorizon, IsLive}
 use Rattle.stored_documents.specs.Volumes.{Holds, IsWritten, IsVolume}
-use Rattle.stored_documents.proofs.Extending.{holds_on, written_on, blank_before, volume_on, reserves_on, ends_on, live_on, spells_on, stands_on}
+use Rattle.stored_documents.proofs.Extending.{holds_on, written_on, blank_before, volume_on, reserves_on, ends_on, live_on, spells_on, stands_on, stamped_on}
 use Rattle.stored_documents.proofs.Holding.{one_record_holds}
+use Rattle.stored_documents.proofs.Stamps.{stamp_on}
 use Rattle.index_paths.proofs.Fronts.{front_on}
 use Rattle.tamper_rules.proofs.FullFronts.{ends_full, full_ends}
-use Rattle.tamper_rules.proofs.GivenUp.{no_abandon, log_was, held, stood, reserve_was, reserve_held, done_blank, stores_back, done_back, ended_on, ends, horizon_is, edge_is, old_edge, block_was, node_was, spells_back, one_layout, IsGivenUp, IsOf, of_reserve, of_outcome, of_range}
+use Rattle.tamper_rules.proofs.GivenUp.{no_abandon, log_was, held, stood, reserve_was, reserve_held, done_blank, stores_back, done_back, ended_on, ends, horizon_is, edge_is, old_edge, block_was, node_was, spells_back, one_layout, IsGivenUp, IsOf, of_reserve, of_outcome, of_spare, of_range, is_other, stamp_held}
 use Rattle.tamper_rules.proofs.GoingOn.{copies_on, copies_back, blocks_on, in_order_on, named_on, on_path_on, stores_go_on}
 use Rattle.index_paths.proofs.HashTrails.{hash_trail_on}
 use Rattle.tamper_rules.proofs.Images.{look}
@@ -48,24 +49,24 @@ module _ {g : Layout} {old new : Image} {n start size : ℕ} (v : IsVolume g.cel
         before = λ k is. ended_on s u (s.ended n k u.horizon (omega arith));
       }
 
-  rule_2 : (m : ℕ) → m < g.slots → IsWritten new (outcome_at m) → OutcomeRule new m
+  rule_2 : (m : ℕ) → m < g.slots → IsWritten new (outcome_at m) → OutcomeRule g new m
   rule_2 m inside w = ⊎_elim
-      (λ same. subst (λ (k : ℕ). OutcomeRule new k) (sym same) (record { reserve = written u.reserves; outcome = inl u.outcome }))
+      (λ same. subst (λ (k : ℕ). OutcomeRule g new k) (sym same) (record { reserve = written u.reserves; outcome = inl u.outcome }))
       (λ differ.
       let other : m ≡ n → ⊥ = λ same. ⊎_elim (λ less. omega arith) (λ above. omega arith) differ in
-      let before : IsWritten old (outcome_at m) = record { found = w.found; stands = log_was s u (outcome_at m) w.found (omega arith) (λ same. omega arith) (λ same. other (omega arith)) w.stands } in
-      let r : OutcomeRule old m = s.met Rules.OutcomeCells (outcome_at m) before m inside refl in
+      let before : IsWritten old (outcome_at m) = record { found = w.found; stands = log_was s u (outcome_at m) w.found (omega arith) (λ same. omega arith) (λ same. other (omega arith)) (λ same. omega arith) w.stands } in
+      let r : OutcomeRule g old m = s.met Rules.OutcomeCells (outcome_at m) before m inside refl in
       record {
         reserve = written_on u.keeps r.reserve;
         outcome = ⊎_elim (λ h. inl (holds_on u.keeps h))
-            (λ h. inr (h.0, h.1, holds_on u.keeps h.2, λ from reserved r. h.3 from reserved (reserve_held s u inside other r)))
+            (λ h. inr (h.0, h.1, holds_on u.keeps h.2, λ from reserved r. h.3 from reserved (reserve_held s u inside other r), λ e. stamped_on u.keeps (h.4 e)))
             r.outcome;
       })
       (cases_order m n)
 
   rule_3 : (m : ℕ) → m < g.slots → IsWritten new (done_at m) → DoneRule new m
   rule_3 m inside w =
-      let before : IsWritten old (done_at m) = record { found = w.found; stands = log_was s u (done_at m) w.found (omega arith) (λ same. omega arith) (λ same. omega arith) w.stands } in
+      let before : IsWritten old (done_at m) = record { found = w.found; stands = log_was s u (done_at m) w.found (omega arith) (λ same. omega arith) (λ same. omega arith) (λ same. omega arith) w.stands } in
       let r : DoneRule old m = s.met Rules.DoneCells (done_at m) before m inside refl in
       record { done = holds_on u.keeps r.done; bytes = r.bytes; journal = r.journal; commit = holds_on u.keeps r.commit }
 
@@ -127,7 +128,7 @@ module _ {g : Layout} {old new : Image} {n start size : ℕ} (v : IsVolume g.cel
 
   record WasIndex (cell : ℕ) : Type 0 where
     is : IsDoneIndexCell g old cell
-    low : list_at g 0 ≤ cell
+    low : lists_at g ≤ cell
     high : cell < start
 
   index_was : {cell : ℕ} → IsDoneIndexCell g new cell → WasIndex cell
@@ -150,19 +151,38 @@ module _ {g : Layout} {old new : Image} {n start size : ℕ} (v : IsVolume g.cel
         high = omega (arith, e, b.commits.fits);
       }
 
+  -- a stamp is that of the slot that is given up, or was one before
+  true_stamp : (m : ℕ) → m < g.slots → IsWritten new (spare_at m) → IsTrueStamp g new m
+  true_stamp m inside w = ⊎_elim
+      (λ same. subst (λ (k : ℕ). IsTrueStamp g new k) (sym same) (u.stamp (subst (λ (k : ℕ). IsWritten new (spare_at k)) same w)))
+      (λ differ.
+      let other : m ≡ n → ⊥ = λ same. ⊎_elim (λ less. omega arith) (λ above. omega arith) differ in
+      let before : IsWritten old (spare_at m) = record { found = w.found; stands = log_was s u (spare_at m) w.found (omega arith) (λ is. omega arith) (λ is. omega arith) (λ is. other (omega arith)) w.stands } in
+      let r : BlankRule g old (spare_at m) = s.met Rules.StrayCells (spare_at m) before in
+      let t : IsTrueStamp g old m = r.spare m inside refl in
+      record {
+        version = t.version;
+        reserve = written_on u.keeps t.reserve;
+        seconds = t.seconds;
+        stamp = holds_on u.keeps t.stamp;
+        rises = λ k lower less d h.
+            let b = done_back s u d.done in
+            t.rises k lower less (record { start = d.start; length = d.length; bytes = d.bytes; journal = d.journal; done = b })
+            (stamp_held s u b.commits.reserves.slot (is_other s u d.done.commits) h);
+      })
+      (cases_order m n)
+
   rule_7 : (cell : ℕ) → IsWritten new cell → BlankRule g new cell
   rule_7 cell w = record {
     kept_blank = λ one. ⊎_elim
         (λ less.
-        let before : IsWritten old cell = record { found = w.found; stands = log_was s u cell w.found (omega arith) (λ same. omega arith) (λ same. omega arith) w.stands } in
+        let before : IsWritten old cell = record { found = w.found; stands = log_was s u cell w.found (omega arith) (λ same. omega arith) (λ same. omega arith) (λ same. omega arith) w.stands } in
         let r : BlankRule g old cell = s.met Rules.StrayCells cell before in
         r.kept_blank one)
         (λ le. le)
         (cases_lt cell 4);
     spare = λ m inside same.
-        let before : IsWritten old cell = record { found = w.found; stands = log_was s u cell w.found (omega arith) (λ is. omega arith) (λ is. omega arith) w.stands } in
-        let r : BlankRule g old cell = s.met Rules.StrayCells cell before in
-        r.spare m inside same;
+        true_stamp m inside (subst (λ (c : ℕ). IsWritten new c) same w);
     named = λ i.
         let k = index_was i in
         let r : BlankRule g old cell = s.met Rules.StrayCells cell (stood s u k.low k.high w) in
@@ -173,6 +193,7 @@ module _ {g : Layout} {old new : Image} {n start size : ℕ} (v : IsVolume g.cel
       of_new : (at : ℕ) → at ≡ start + size → pool_at g ≤ cell → IsOf n start size cell → cell < at
       of_new at is pool (of_reserve same) = absurd (omega (arith, u.reserves.slot))
       of_new at is pool (of_outcome same) = absurd (omega (arith, u.reserves.slot))
+      of_new at is pool (of_spare same) = absurd (omega (arith, u.reserves.slot))
       of_new at is pool (of_range from to) = omega arith
 
       in_range : (at : ℕ) → at ≡ start + size → pool_at g ≤ cell
@@ -210,11 +231,11 @@ module _ {g : Layout} {old new : Image} {n start size : ℕ} (v : IsVolume g.cel
   rule_9 : (cell : ℕ) → IsWritten new cell → PostingRule g new cell
   rule_9 cell w l block place p b below at h =
       let k = block_was s u b in
-      let low : list_at g 0 ≤ cell = omega (arith, k.low) in
+      let low : lists_at g ≤ cell = omega (arith, k.low) in
       let high : cell < start = omega (arith, k.high) in
       let r : PostingRule g old cell = s.met Rules.Postings cell (stood s u low high w) in
       let t : IsTruePosting g old l p = r l block place p k.is below at (held s u low high h) in
-      record { live = live t.live; id = t.id; body = t.body; stands = stands_on u.keeps t.stands; postings = t.postings; is = t.is }
+      record { slot = t.slot; stamp = t.stamp; is_stamp = stamp_on g t.slot t.stamp u.keeps t.is_stamp; live = live t.live; id = t.id; body = t.body; stands = stands_on u.keeps t.stands; postings = t.postings; is = t.is }
 
   rule_10 : (cell : ℕ) → IsWritten new cell → PointerRule g new cell
   rule_10 cell w l block level digit b ls d1 d2 at =
@@ -321,7 +342,7 @@ module _ {g : Layout} {old new : Image} {n start size : ℕ} (v : IsVolume g.cel
   rule_13 m id body t =
       let b = stands_back t in
       let r : TrailRule g old m body = s.met Rules.Trails (done_at m) (done_written b) m id body refl b in
-      record { postings = r.postings; trails = λ l p below is. let k = r.trails l p below is in (k.0, trail_on u.keeps k.1) }
+      record { postings = r.postings; stamp = r.stamp; is_stamp = stamp_on g m r.stamp u.keeps r.is_stamp; trails = λ l p below is. let k = r.trails l p below is in (k.0, trail_on u.keeps k.1) }
 
   rule_14 : (m : ℕ) (id body : List ℕ) → Stands g.cells new m id body → PathRule g new m id
   rule_14 m id body t =
@@ -401,7 +422,7 @@ module _ {g : Layout} {old new : Image} {n start size : ℕ} (v : IsVolume g.cel
           nothing_done = ⊎_elim (λ none. none)
               (λ h.
               let r : DoneRule old n = s.met Rules.DoneCells (done_at n) (record { found = h.0; stands = h.1 }) n u.reserves.slot refl in
-              let o : OutcomeRule old n = s.met Rules.OutcomeCells (outcome_at n) (record { found = r.commit.cell; stands = r.commit.stands }) n u.reserves.slot refl in
+              let o : OutcomeRule g old n = s.met Rules.OutcomeCells (outcome_at n) (record { found = r.commit.cell; stands = r.commit.stands }) n u.reserves.slot refl in
               absurd (none-some _ (sym (u.horizon.free u.reserves.slot) ∙ o.reserve.stands)))
               (look old (done_at n))
 

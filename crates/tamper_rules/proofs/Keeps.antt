@@ -15,7 +15,7 @@ keeps_one g image d s is =
     let w : IsWritten image (done_at d.slot) = record { found = is.stands.done.done.cell; stands = is.stands.done.done.stands } in
     let trails : TrailRule g image d.slot d.body = s.met Trails (done_at d.slot) w d.slot d.id d.body refl is.stands in
     let path : PathRule g image d.slot d.id = s.met Paths (done_at d.slot) w d.slot d.id d.body refl is.stands in
-    record { stands = is.stands; postings = trails.postings; trails = trails.trails; path = path.path }
+    record { stands = is.stands; postings = trails.postings; stamp = trails.stamp; is_stamp = trails.is_stamp; trails = trails.trails; path = path.path }
 
 pub keeps_all : (cells : ℕ) (image : Image) (documents : List Document) → Settled cells image
     → AreDocuments cells image documents → Kept cells image documents

@@ -2,10 +2,10 @@
 use Rattle.std.proofs.Common.{◌≡◌, ◌<◌, ◌≤◌, ◌+◌, ◌*◌, ◌⊎◌, ⊎_elim, inl, inr, ℕ, suc, zero, List, Some, None, refl, sym, ◌∙◌, subst, ap, arith, length, slice_index, take, drop}
 use Rattle.std.proofs.lemmas.Option.{none-some}
 use Rattle.cell_types.specs.Image.{Image, Extends}
-use Rattle.cell_types.specs.Layout.{Layout, reserve_at, outcome_at, list_at}
+use Rattle.cell_types.specs.Layout.{Layout, reserve_at, outcome_at, lists_at}
 use Rattle.cell_types.specs.Records.{IsRecordCell, record_bytes}
 use Rattle.cell_types.specs.declared.record_cell.RecordCell.{RecordCell}
-use Rattle.cell_types.specs.declared.record_cell.RecordCell.TheVariants.{Volume, Reserve, Commit, Abandon, Done, Posting, Jump, Bucket, Child}
+use Rattle.cell_types.specs.declared.record_cell.RecordCell.TheVariants.{Volume, Reserve, Commit, Abandon, Done, Posting, Jump, Bucket, Child, Stamp}
 use Rattle.stored_documents.specs.Documents.{Document, IsDocument, AreDocuments, Stands, stored_bytes, content_at}
 use Rattle.tamper_rules.specs.Settling.{IsSettled, AbandonRow, JournalRow, DoneRow, After, nothing, abandoned, completed, Sound, Held, none, of_after}
 use Rattle.stored_documents.specs.Slots.{IsDone, IsDoneSlot, IsHorizon}
@@ -21,7 +21,7 @@ use Rattle.stored_documents.proofs.OneDocument.{one_document}
 use Rattle.tamper_rules.proofs.Settled.{written, taken_below, some_horizon}
 use Rattle.tamper_rules.proofs.SettlingGoesOn.{target_behind_log}
 
-kind_low : (r : RecordCell) (at : ℕ) → slice_index (record_bytes r at) 0 ≤ 9
+kind_low : (r : RecordCell) (at : ℕ) → slice_index (record_bytes r at) 0 ≤ 10
 kind_low (Volume version slots lists cells) at = omega arith
 kind_low (Reserve start size) at = omega arith
 kind_low (Commit bytes journal) at = omega arith
@@ -31,12 +31,13 @@ kind_low (Posting key last tag) at = omega arith
 kind_low (Jump target) at = omega arith
 kind_low (Bucket slot fingerprint) at = omega arith
 kind_low (Child target) at = omega arith
+kind_low (Stamp seconds) at = omega arith
 
 -- a record is no content cell
 no_content : {r : RecordCell} {at : ℕ} {value : List ℕ} (stored : List ℕ) (k : ℕ) → IsRecordCell r at value
     → value ≡ content_at stored k → ⊥
 no_content {r} {at} {value} stored k is same =
-    let low : slice_index (record_bytes r at) 0 ≤ 9 = kind_low r at in
+    let low : slice_index (record_bytes r at) 0 ≤ 10 = kind_low r at in
     let kind : slice_index (record_bytes r at) 0 ≡ 16 + length (take 15 (drop (15 * k) stored)) = ap (λ (v : List ℕ). slice_index v 0) (sym is.same ∙ same) in
     omega (arith, low, kind)
 
@@ -67,15 +68,14 @@ reserve_stood {cells} {image} (completed k n start reserved bytes journal v h c 
     (λ rows. absurd (⊎_elim
     (λ (row : JournalRow image start reserved journal (reserve_at m) value).
     let same : k ≡ g = one_layout k g v vol in
-    let far : list_at k 0 ≤ reserve_at m = target_behind_log ready.in_order row.copies in
-    let low : reserve_at m < list_at k 0 = subst (λ (j : Layout). reserve_at m < list_at j 0) (sym same) (let z : reserve_at m < list_at g 0 = omega arith in z) in
+    let far : lists_at k ≤ reserve_at m = target_behind_log ready.in_order row.copies in
+    let low : reserve_at m < lists_at k = subst (λ (j : Layout). reserve_at m < lists_at j) (sym same) (let z : reserve_at m < lists_at g = omega arith in z) in
     omega arith)
     (λ (row : DoneRow n (reserve_at m) value). omega (arith, row.at)) rows))
     (w.only (reserve_at m) value is)
 
 module _ {g : Layout} {lower upper a b : Image} (v : IsVolume g.cells lower g) (e : Extends lower upper)
-    (x : After g.cells lower a) (y : After g.cells upper b) (sa : IsSettled g a) (sb : IsSettled g b)
-    (same : (m bytes journal : ℕ) → m < g.slots → Holds upper (outcome_at m) (Commit bytes journal) → IsWritten lower (outcome_at m)) where
+    (x : After g.cells lower a) (y : After g.cells upper b) (sb : IsSettled g b) where
   vu : IsVolume g.cells upper g
   vu = volume_on e v
 
@@ -104,21 +104,34 @@ module _ {g : Layout} {lower upper a b : Image} (v : IsVolume g.cells lower g) (
         journal = t.journal;
         volume = vb;
         slot = r.slot;
-        done = record { commits = record { reserves = record { slot = r.slot; reserve = reserve; from = r.from; to = r.to }; outcome = outcome; fits = d.commits.fits }; done = done.done.done };
+        done = record { commits = record { reserves = record { slot = r.slot; reserve = reserve; from = r.from; to = r.to }; outcome = outcome; fits = d.commits.fits; stamped = done.done.commits.stamped }; done = done.done.done };
         spells = λ k below. (after_keeps y).keeps _ _ (e.keeps _ _ (content_stood x _ (stored_bytes id body) k (t.spells k below)));
         is_identifier = t.is_identifier;
         is_body = t.is_body;
       }
 
-  document_up : (d : Document) → IsDocument g.cells a d.slot d.id d.body → IsDocument g.cells b d.slot d.id d.body
+  -- what settling makes of an image has each document of what it makes of an earlier one
+  pub document_up : (d : Document) → IsDocument g.cells a d.slot d.id d.body → IsDocument g.cells b d.slot d.id d.body
   document_up d t = let z = stands_up t.stands in
       record { stands = z; taken = taken_below g b sb d.slot (stands_inside vb z) (written z.done.commits.reserves) }
 
+module _ {g : Layout} {lower upper a b : Image} (v : IsVolume g.cells lower g) (e : Extends lower upper)
+    (x : After g.cells lower a) (y : After g.cells upper b) (sa : IsSettled g a) (sb : IsSettled g b)
+    (same : (m bytes journal : ℕ) → m < g.slots → Holds upper (outcome_at m) (Commit bytes journal) → IsWritten lower (outcome_at m)) where
+  early : IsVolume g.cells a g
+  early = volume_on (after_keeps x) v
+
+  late : IsVolume g.cells upper g
+  late = volume_on e v
+
+  rises : (d : Document) → IsDocument g.cells a d.slot d.id d.body → IsDocument g.cells b d.slot d.id d.body
+  rises = document_up v e x y sb
+
   document_down : (d : Document) → IsDocument g.cells b d.slot d.id d.body → IsDocument g.cells a d.slot d.id d.body
   document_down d t =
-      let inside : d.slot < g.slots = stands_inside vb t.stands in
+      let inside : d.slot < g.slots = stands_inside (volume_on (after_keeps y) late) t.stands in
       let c : Holds upper (outcome_at d.slot) (Commit (length (stored_bytes d.id d.body)) t.stands.journal) =
-      commit_stood y d.slot (length (stored_bytes d.id d.body)) t.stands.journal g inside vu t.stands.done.commits.outcome in
+      commit_stood y d.slot (length (stored_bytes d.id d.body)) t.stands.journal g inside late t.stands.done.commits.outcome in
       let w = same d.slot (length (stored_bytes d.id d.body)) t.stands.journal inside c in
       let low : Holds a (outcome_at d.slot) (Commit (length (stored_bytes d.id d.body)) t.stands.journal) = record {
         cell = w.found;
@@ -127,19 +140,19 @@ module _ {g : Layout} {lower upper a b : Image} (v : IsVolume g.cells lower g) (
       } in
       let done : IsDoneSlot g a d.slot = commit_done g a sa d.slot (length (stored_bytes d.id d.body)) t.stands.journal inside low in
       let u = some_horizon g a sa in
-      let z = done_stands va sa u.0 u.1 done in
-      let one = one_document g.cells b d.slot z.0 z.1 d.id d.body (stands_up z.2) t.stands in
+      let z = done_stands early sa u.0 u.1 done in
+      let one = one_document g.cells b d.slot z.0 z.1 d.id d.body (stands_up v e x y sb z.2) t.stands in
       let mine : Stands g.cells a d.slot d.id d.body = subst (λ (i : List ℕ). Stands g.cells a d.slot i d.body) one.0 (subst (λ (k : List ℕ). Stands g.cells a d.slot z.0 k) one.1 z.2) in
       record { stands = mine; taken = taken_below g a sa d.slot inside (written mine.done.commits.reserves) }
 
   pub documents_up : (ds : List Document) → AreDocuments g.cells a ds → AreDocuments g.cells b ds
-  documents_up ds are = record { rise = are.rise; each = λ d. (λ t. (are.each d).0 (document_down d t), λ c. document_up d ((are.each d).1 c)) }
+  documents_up ds are = record { rise = are.rise; each = λ d. (λ t. (are.each d).0 (document_down d t), λ c. rises d ((are.each d).1 c)) }
 
   pub documents_down : (ds : List Document) → AreDocuments g.cells b ds → AreDocuments g.cells a ds
-  documents_down ds are = record { rise = are.rise; each = λ d. (λ t. (are.each d).0 (document_up d t), λ c. document_down d ((are.each d).1 c)) }
+  documents_down ds are = record { rise = are.rise; each = λ d. (λ t. (are.each d).0 (rises d t), λ c. document_down d ((are.each d).1 c)) }
 
 -- the after of a sound image, settled for this layout
-settled_for : {g : Layout} {image : Image} → IsVolume g.cells image g → (t : Sound g.cells image)
+pub settled_for : {g : Layout} {image : Image} → IsVolume g.cells image g → (t : Sound g.cells image)
     → IsSettled g (t.after)
 settled_for {g} {image} v t = subst (λ (k : Layout). IsSettled k t.after) (one_layout t.settled.layout g t.settled.volume (volume_on (after_keeps t.is) v)) t.settled.settled
 
@@ -151,7 +164,7 @@ horizon_of {g} {image} v after (abandoned k n start reserved w h r x) settled = 
 horizon_of {g} {image} v after (completed k n start reserved bytes journal w h c ready x) settled = (n + 1, subst (λ (j : Layout). IsHorizon j image image (n + 1)) (one_layout k g w v) h.is)
 
 -- what a sound image holds
-held_of : {g : Layout} {image : Image} → IsVolume g.cells image g → (t : Sound g.cells image)
+pub held_of : {g : Layout} {image : Image} → IsVolume g.cells image g → (t : Sound g.cells image)
     → (ds : List Document) → Held g.cells image ds → AreDocuments g.cells (t.after) ds
 held_of {g} {image} v t ds (none blank is) = absurd (none-some _ (sym (blank 0) ∙ v.volume.stands))
 held_of {g} {image} v t ds (of_after after a are) = subst (λ (i : Image). AreDocuments g.cells i ds) (one_after g.cells image after t.after a t.is) are

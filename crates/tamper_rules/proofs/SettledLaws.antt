@@ -60,7 +60,7 @@ module _ {cells : ℕ} {image : Image} {g : Layout} (l : IsLayout g) (v : IsVolu
   }
   met_0 Rules.StrayCells = record {
     kept_blank = λ one. absurd (omega arith);
-    spare = λ n inside at. omega arith;
+    spare = λ n inside at. absurd (omega arith);
     named = λ i. absurd (no_index i);
     edge = λ at e pool. absurd (omega arith);
   }

@@ -2,7 +2,7 @@
 use Rattle.std.proofs.Common.{◌≡◌, ◌<◌, ◌≤◌, ◌+◌, ◌⊎◌, ⊎_elim, inl, inr, ℕ, List, Some, None, refl, sym, ◌∙◌, subst, ap, arith}
 use Rattle.std.proofs.lemmas.Option.{none-some}
 use Rattle.cell_types.specs.Image.{Image, Extends, IsUnchanged}
-use Rattle.cell_types.specs.Layout.{Layout, reserve_at, outcome_at, done_at, list_at}
+use Rattle.cell_types.specs.Layout.{Layout, reserve_at, outcome_at, done_at, lists_at}
 use Rattle.cell_types.specs.declared.record_cell.RecordCell.{RecordCell}
 use Rattle.tamper_rules.specs.Journals.{journal_at, Copies, IsIndexCell, of_list, of_root, of_slot, IsInOrder}
 use Rattle.tamper_rules.specs.Settling.{Settled, IsOneHorizon, IsWith, AbandonRow, JournalRow, DoneRow, IsReady, After, nothing, abandoned, completed}
@@ -14,14 +14,14 @@ use Rattle.tamper_rules.proofs.GoingOn.{copies_on, copies_back, one_copy, in_ord
 use Rattle.tamper_rules.proofs.Images.{same_image, same_both, look, all_of_it}
 
 -- an index cell lies behind the log
-pub behind_log : {g : Layout} {image : Image} {n cell : ℕ} → IsIndexCell g image n cell → list_at g 0 ≤ cell
+pub behind_log : {g : Layout} {image : Image} {n cell : ℕ} → IsIndexCell g image n cell → lists_at g ≤ cell
 behind_log (of_list l lies) = omega (arith, lies.from)
 behind_log (of_root lies) = omega (arith, lies.from)
 behind_log (of_slot m le b) = omega (arith, b.from, b.stores.commits.reserves.from)
 
 -- so does each target of a journal in order
 pub target_behind_log : {g : Layout} {image : Image} {n start reserved bytes journal place target : ℕ} {r : RecordCell}
-    → ((k : ℕ) → k < journal → IsInOrder g image n start reserved bytes journal k) → Copies image start reserved journal place target r → list_at g 0 ≤ target
+    → ((k : ℕ) → k < journal → IsInOrder g image n start reserved bytes journal k) → Copies image start reserved journal place target r → lists_at g ≤ target
 target_behind_log {g} {image} {n} {start} {reserved} {bytes} {journal} {place} {target} {r} each c =
     let o = each place c.below in
     let same = one_copy image start reserved journal place target o.target r o.copied c o.copies in
@@ -55,15 +55,15 @@ module _ {cells : ℕ} {old after image : Image} (settled : Settled cells after)
       (ready : IsReady g old n start reserved bytes journal)
       (w : IsWith (λ cell value. JournalRow old start reserved journal cell value ⊎ DoneRow n cell value) old after) where
     -- the log changes in the done cell alone
-    log_was : (cell : ℕ) (value : List ℕ) → cell < list_at g 0 → (cell ≡ done_at n → ⊥)
+    log_was : (cell : ℕ) (value : List ℕ) → cell < lists_at g → (cell ≡ done_at n → ⊥)
         → image cell ≡ Some value → old cell ≡ Some value
     log_was cell value low other is = ⊎_elim (λ was. was)
         (λ rows. absurd (⊎_elim
-        (λ (row : JournalRow old start reserved journal cell value). let far : list_at g 0 ≤ cell = target_behind_log ready.in_order row.copies in omega arith)
+        (λ (row : JournalRow old start reserved journal cell value). let far : lists_at g ≤ cell = target_behind_log ready.in_order row.copies in omega arith)
         (λ (row : DoneRow n cell value). other row.at) rows))
         (w.only cell value (f.keeps cell value is))
 
-    log_blank : (cell : ℕ) → cell < list_at g 0 → (cell ≡ done_at n → ⊥) → old cell ≡ None → image cell ≡ None
+    log_blank : (cell : ℕ) → cell < lists_at g → (cell ≡ done_at n → ⊥) → old cell ≡ None → image cell ≡ None
     log_blank cell low other blank = ⊎_elim (λ none. none)
         (λ h. absurd (none-some _ (sym blank ∙ log_was cell h.0 low other h.1)))
         (look image cell)

@@ -1,10 +1,12 @@
 -- The fifteen rules of a volume. Each is said as what holds at a written cell where it is kept; it is broken at a
 -- written cell of its place where that does not hold.
-use Rattle.std.specs.Prelude.{◌≡◌, ◌≢◌, ◌<◌, ◌≤◌, ◌+◌, ◌/◌, ◌⊎◌, ◌↔◌, ℕ, List, [], ◌∷◌, length, None, Contains}
+use Rattle.std.specs.Prelude.{◌≡◌, ◌≢◌, ◌<◌, ◌≤◌, ◌+◌, ◌/◌, ◌⊎◌, ◌↔◌, ℕ, List, [], ◌∷◌, length, Option, None, Contains}
 use Rattle.sha2.specs.Sha256.{sha256}
 use Rattle.cell_types.specs.Image.{Image}
-use Rattle.cell_types.specs.Layout.{Layout, FirstBlock, Root, LiesIn, reserve_at, outcome_at, done_at, spare_at, list_at, root_at, pool_at}
+use Rattle.cell_types.specs.Layout.{Layout, FirstBlock, Root, LiesIn, all_lists, reserve_at, outcome_at, done_at, spare_at, list_at, root_at, pool_at, lists_at}
+use Rattle.cell_types.specs.declared.geometry.TheConstants.{STAMPED_VERSION}
 use Rattle.cell_types.specs.declared.record_cell.RecordCell.{RecordCell}
+use Rattle.cell_types.specs.declared.refusal.Evidence.{Evidence}
 use Rattle.cell_types.specs.declared.record_cell.RecordCell.TheVariants.{Reserve, Commit, Abandon, Done, Jump, Bucket, Child}
 use Rattle.index_paths.specs.Blocks.{PostingFields, posting_record, InFront, InSpan, pointer_at, Trail}
 use Rattle.stored_documents.specs.Documents.{IsIdentifier, IsBody, Spells, Stands, stored_bytes, document_at}
@@ -12,7 +14,7 @@ use Rattle.index_paths.specs.HashPaths.{HashTrail, fingerprint_of, nibble}
 use Rattle.tamper_rules.specs.Journals.{journal_at, Copies, LiesInBlocks, IsNamed, IsInOrder}
 use Rattle.index_paths.specs.Keeping.{sought_in}
 use Rattle.index_paths.specs.Nodes.{IsBlockOf, IsNode, IsOnPath, AreApart}
-use Rattle.stored_documents.specs.Slots.{cells_for, Reserves, Stores, IsCommitted, IsDone, HasEnded, EndsBelow, IsEdge, IsLive}
+use Rattle.stored_documents.specs.Slots.{cells_for, Reserves, Stores, IsCommitted, IsDone, IsDoneSlot, HasEnded, EndsBelow, IsEdge, IsLive, HasStamp, IsStamped, IsStampOf}
 use Rattle.tamper_rules.specs.declared.numbers.TheConstants.{RESERVE_CELL, OUTCOME_CELL, DONE_CELL, BROKEN_DOCUMENT, BROKEN_JOURNAL, OTHER_TARGET, STRAY_CELL, BLOCK_OUT_OF_ORDER, FAKE_POSTING, LOST_POINTER, FAKE_BUCKET, LOST_CHILD, MISSING_TRAIL, MISSING_PATH, UNTILED_BLOCKS}
 use Rattle.stored_documents.specs.Volumes.{Holds, IsWritten, IsVolume}
 use Rattle.index_paths.specs.Postings.{IsPostingOf, HasPostings}
@@ -27,13 +29,15 @@ pub record ReserveRule (g : Layout) (image : Image) (n : ℕ) : Type 0 where
   pub before : (m : ℕ) → n ≡ m + 1 → HasEnded g image image m
 
 -- Rule 2, at the outcome cell of slot n: the slot's reserve cell is written, and the cell is an abandon cell, or a
--- commit cell of no more cells than the reserve cell states, where this is well-formed.
-pub record OutcomeRule (image : Image) (n : ℕ) : Type 0 where
+-- commit cell of no more cells than the reserve cell states, where this is well-formed; on a volume of stamped documents
+-- a slot with a commit cell has a stamp.
+pub record OutcomeRule (g : Layout) (image : Image) (n : ℕ) : Type 0 where
   pub reserve : IsWritten image (reserve_at n)
   pub outcome : Holds image (outcome_at n) Abandon
       ⊎ ((bytes : ℕ) × (journal : ℕ) × Holds image (outcome_at n) (Commit bytes journal)
       × ((start reserved : ℕ) → Holds image (reserve_at n) (Reserve start reserved)
-      → cells_for bytes + journal ≤ reserved))
+      → cells_for bytes + journal ≤ reserved)
+      × (g.version ≡ STAMPED_VERSION → IsStamped image n))
 
 -- Rule 3, at the done cell of slot n: it is the done cell of this slot, and the outcome cell is a commit cell.
 pub record DoneRule (image : Image) (n : ℕ) : Type 0 where
@@ -86,11 +90,20 @@ pub data IsDoneIndexCell (g : Layout) (image : Image) (cell : ℕ) : Type 0 wher
   of_slot : (m start reserved bytes journal : ℕ) → IsDone g image m start reserved bytes journal → start ≤ cell
       → cell < document_at start reserved bytes journal → IsDoneIndexCell g image cell
 
--- Rule 7: the cell is none of 1 to 3 and no spare cell; where it lies in a first block, in the root or in the block
+-- the stamp of slot n is in order: the volume's documents are stamped, the slot's reserve cell is written, and the stamp is
+-- greater than that of each lower done slot
+pub record IsTrueStamp (g : Layout) (image : Image) (n : ℕ) : Type 0 where
+  pub version : g.version ≡ STAMPED_VERSION
+  pub reserve : IsWritten image (reserve_at n)
+  pub seconds : ℕ
+  pub stamp : HasStamp image n seconds
+  pub rises : (m lower : ℕ) → m < n → IsDoneSlot g image m → HasStamp image m lower → lower < seconds
+
+-- Rule 7: the cell is none of 1 to 3; a spare cell is a stamp in order; where the cell lies in a first block, in the root or in the block
 -- part of a done slot, a done slot's journal names it; and where it lies in the pool it lies before each edge.
 pub record BlankRule (g : Layout) (image : Image) (cell : ℕ) : Type 0 where
   pub kept_blank : 1 ≤ cell → 4 ≤ cell
-  pub spare : (n : ℕ) → n < g.slots → cell ≢ spare_at n
+  pub spare : (n : ℕ) → n < g.slots → cell ≡ spare_at n → IsTrueStamp g image n
   pub named : IsDoneIndexCell g image cell → IsNamed g image cell
   pub edge : (at : ℕ) → IsEdge g image image at → pool_at g ≤ cell → cell < at
 
@@ -109,14 +122,17 @@ pub record EntryRule (g : Layout) (image : Image) (cell : ℕ) : Type 0 where
       → HoldsInOrder image block place
   pub blank : (l block place : ℕ) → IsBlockOf g image l block → 248 ≤ place → place < 256 → cell ≢ block + place
 
--- slot n is live, and the posting is one of its document's in list l
+-- the posting is one of a live slot's document in list l
 pub record IsTruePosting (g : Layout) (image : Image) (l : ℕ) (p : PostingFields) : Type 0 where
-  pub live : IsLive g image (p.key / 256)
+  pub slot : ℕ
+  pub live : IsLive g image slot
   pub id : List ℕ
   pub body : List ℕ
-  pub stands : Stands g.cells image (p.key / 256) id body
-  pub postings : HasPostings g.lists body
-  pub is : IsPostingOf g.lists body (p.key / 256) l p
+  pub stands : Stands g.cells image slot id body
+  pub postings : HasPostings g body
+  pub stamp : Option ℕ
+  pub is_stamp : IsStampOf g image slot stamp
+  pub is : IsPostingOf g stamp body slot l p
 
 -- Rule 9, at a posting in a block of list l: it is one of its slot's document, which is live.
 abbrev pub PostingRule : Layout → Image → ℕ → Type 0
@@ -217,8 +233,10 @@ ChildRule g image cell = (v node x : ℕ) → IsNode g image v node → x < 16 �
 
 -- Rule 13, at the done cell of slot n: the postings of its document exist, and each of them has a trail.
 pub record TrailRule (g : Layout) (image : Image) (n : ℕ) (body : List ℕ) : Type 0 where
-  pub postings : HasPostings g.lists body
-  pub trails : (l : ℕ) (p : PostingFields) → l < g.lists → IsPostingOf g.lists body n l p
+  pub postings : HasPostings g body
+  pub stamp : Option ℕ
+  pub is_stamp : IsStampOf g image n stamp
+  pub trails : (l : ℕ) (p : PostingFields) → l < all_lists g → IsPostingOf g stamp body n l p
       → (at : ℕ) × Trail image (pool_at g) g.cells at p (list_at g l)
 
 -- Rule 14, at the done cell of slot n: its document has a hash trail, and no lower done slot stands with the same
@@ -298,7 +316,7 @@ number_of Tilings = UNTILED_BLOCKS
 -- the rule is kept at this cell
 abbrev pub IsMet : Layout → Image → Rule → ℕ → Type 0
 IsMet g image ReserveCells cell = (n : ℕ) → n < g.slots → cell ≡ reserve_at n → ReserveRule g image n
-IsMet g image OutcomeCells cell = (n : ℕ) → n < g.slots → cell ≡ outcome_at n → OutcomeRule image n
+IsMet g image OutcomeCells cell = (n : ℕ) → n < g.slots → cell ≡ outcome_at n → OutcomeRule g image n
 IsMet g image DoneCells cell = (n : ℕ) → n < g.slots → cell ≡ done_at n → DoneRule image n
 IsMet g image Documents cell = (n : ℕ) → n < g.slots → cell ≡ outcome_at n → DocumentRule g image n
 IsMet g image Journals cell = JournalRule g image cell
@@ -334,7 +352,7 @@ IsPlace g Documents cell = IsOfSlot g outcome_at cell
 IsPlace g Journals cell = IsOfSlot g outcome_at cell ⊎ IsOfPool g cell
 IsPlace g Targets cell = IsOfPool g cell
 IsPlace g StrayCells cell = ((1 ≤ cell) × (cell ≤ 3)) ⊎ IsOfSlot g spare_at cell
-    ⊎ ((list_at g 0 ≤ cell) × (cell < g.cells))
+    ⊎ ((lists_at g ≤ cell) × (cell < g.cells))
 IsPlace g Entries cell = ((l : ℕ) × LiesIn g (FirstBlock l) cell) ⊎ IsOfPool g cell
 IsPlace g Postings cell = ((l : ℕ) × LiesIn g (FirstBlock l) cell) ⊎ IsOfPool g cell
 IsPlace g Pointers cell = ((l : ℕ) × LiesIn g (FirstBlock l) cell) ⊎ IsOfPool g cell
@@ -358,3 +376,7 @@ pub record IsBroken (cells : ℕ) (image : Image) (number cell : ℕ) : Type 0 w
   pub place : IsPlace layout rule cell
   pub written : IsWritten image cell
   pub not_met : IsMet layout image rule cell → ⊥
+
+-- the cell is a place of the rule that the evidence names
+abbrev pub HasPlace : Layout → Evidence → Type 0
+HasPlace g e = (rule : Rule) × (e.rule ≡ number_of rule) × IsPlace g rule e.cell

@@ -1,6 +1,6 @@
 //! Laws: what the definitions mean together, over all images. Each is a function that does nothing and whose
 //! contract is the law.
-ghost use Rattle.tamper_rules.specs.SettlingLaws.{AfterIsOne, DocumentsExist, EdgeIsOne, FormattedIsSettled, HeldIsOne, SettledIsUnbroken, SettledKeeps, SettlingGoesOn, SteadyHoldsTwo};
+ghost use Rattle.tamper_rules.specs.SettlingLaws.{AfterIsOne, DocumentsExist, EdgeIsOne, FormattedIsSettled, HeldGrows, HeldIsOne, SettledIsUnbroken, SettledKeeps, SettlingGoesOn, SteadyHoldsTwo};
 
 /// A settled image has one horizon and one edge.
 pub fn edge_is_one()
@@ -40,6 +40,11 @@ pub fn documents_exist()
 /// An image holds one list of documents.
 pub fn held_is_one()
     ensures { HeldIsOne }
+{}
+
+/// Of two images that are blank or sound, the later one holds each document that the earlier one holds.
+pub fn held_grows()
+    ensures { HeldGrows }
 {}
 
 /// Where each image that a crash may leave is blank or sound, it holds the documents of the least or those of the

@@ -25,7 +25,7 @@ mod laws;
 mod numbers;
 
 pub use laws::{
-    after_is_one, documents_exist, edge_is_one, formatted_is_settled, held_is_one,
+    after_is_one, documents_exist, edge_is_one, formatted_is_settled, held_grows, held_is_one,
     settled_is_unbroken, settled_keeps, settling_goes_on, steady_holds_two,
 };
 pub use numbers::{

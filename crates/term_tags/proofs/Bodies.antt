@@ -4,7 +4,8 @@ use Rattle.std.specs.Prelude.{Contains}
 use Rattle.std.proofs.lemmas.Nat.{mod_below}
 use Rattle.byteorder.specs.Endian.{big_number}
 use Rattle.sha2.specs.Sha256.{sha256}
-use Rattle.stored_documents.specs.Words.{AreWords}
+use Rattle.cell_types.specs.Layout.{Layout}
+use Rattle.stored_documents.specs.Words.{AreWords, rule_of}
 use Rattle.stored_documents.proofs.Words.{words_are_one}
 use Rattle.index_paths.specs.Postings.{HasTag, AreTags}
 use Rattle.term_tags.specs.Keys.{key_of, keys_of, list_in, tag_in, tags_at, AreInLists, AreKeys}
@@ -30,34 +31,34 @@ term_of lists (t ∷ terms) key (suc k, low, is) =
     let rest = term_of lists terms key (k, omega (arith, low), is) in
     (rest.0, (suc rest.1.0, omega (arith, rest.1.1), rest.1.2), rest.2)
 
-module _ (lists : ℕ) (body : List ℕ) (terms : List (List ℕ)) (keys : List ℕ) (words : AreWords body terms)
-    (are : AreKeys lists terms keys) where
+module _ (g : Layout) (body : List ℕ) (terms : List (List ℕ)) (keys : List ℕ) (words : AreWords (rule_of g.version) body terms)
+    (are : AreKeys g.lists terms keys) where
   -- a tag among the keys is one of the body
-  from_key : (l : ℕ) (tag : List ℕ) → Contains (tags_at l keys) tag → HasTag lists body l tag
+  from_key : (l : ℕ) (tag : List ℕ) → Contains (tags_at l keys) tag → HasTag g body l tag
   from_key l tag has =
       let place = at_place (tags_at l keys) tag has in
       let found = key_at l keys place.0 tag place.1 in
-      let from = term_of lists terms found.key (are.each found.key (member keys found.place found.key found.stands)) in
+      let from = term_of g.lists terms found.key (are.each found.key (member keys found.place found.key found.stands)) in
       record {
         word = from.0;
         among = record { words = terms; are = words; among = from.1 };
-        list = sym (list_back lists from.0) ∙ ap list_in from.2 ∙ found.of_list;
-        same = sym (tag_back lists from.0) ∙ ap tag_in from.2 ∙ found.tag_is;
+        list = sym (list_back g.lists from.0) ∙ ap list_in from.2 ∙ found.of_list;
+        same = sym (tag_back g.lists from.0) ∙ ap tag_in from.2 ∙ found.tag_is;
       }
 
   -- and each tag of the body is among the keys
-  to_key : (l : ℕ) (tag : List ℕ) → HasTag lists body l tag → Contains (tags_at l keys) tag
+  to_key : (l : ℕ) (tag : List ℕ) → HasTag g body l tag → Contains (tags_at l keys) tag
   to_key l tag h =
       let all : h.among.words ≡ terms =
-      words_are_one.one body h.among.words h.among.are ∙ sym (words_are_one.one body terms words) in
+      words_are_one.one (rule_of g.version) body h.among.words h.among.are ∙ sym (words_are_one.one (rule_of g.version) body terms words) in
       let in_terms : Contains terms h.word = subst (λ (ws : List (List ℕ)). Contains ws h.word) all h.among.among in
-      let place = at_place keys (key_of lists h.word) (are.all (key_of lists h.word) (keyed lists terms h.word in_terms)) in
-      subst (Contains (tags_at l keys)) (tag_back lists h.word ∙ h.same)
-      (member (tags_at l keys) _ (tag_in (key_of lists h.word))
-      (tag_at l keys place.0 (key_of lists h.word) place.1 (list_back lists h.word ∙ h.list)))
+      let place = at_place keys (key_of g.lists h.word) (are.all (key_of g.lists h.word) (keyed g.lists terms h.word in_terms)) in
+      subst (Contains (tags_at l keys)) (tag_back g.lists h.word ∙ h.same)
+      (member (tags_at l keys) _ (tag_in (key_of g.lists h.word))
+      (tag_at l keys place.0 (key_of g.lists h.word) place.1 (list_back g.lists h.word ∙ h.list)))
 
   -- so they are the body's tags in the list
-  pub are_tags : (l : ℕ) → AreTags lists body l (tags_at l keys)
+  pub are_tags : (l : ℕ) → AreTags g body l (tags_at l keys)
   are_tags l = record {
     rise = tags_rise l keys are.rise;
     each = from_key l;
@@ -65,10 +66,10 @@ module _ (lists : ℕ) (body : List ℕ) (terms : List (List ℕ)) (keys : List 
   }
 
   -- a list with too many of the keys gets too many tags
-  pub too_many : (counts : List ℕ) (l count : ℕ) → AreCounts lists keys counts → IsFirstOver counts l count
-      → GetsTooMany lists body l count
+  pub too_many : (counts : List ℕ) (l count : ℕ) → AreCounts g.lists keys counts → IsFirstOver counts l count
+      → GetsTooMany g body l count
   too_many counts l count counted over =
-      let below : l < lists = omega (arith, over.below, counted.long) in
+      let below : l < g.lists = omega (arith, over.below, counted.long) in
       record {
         below = below;
         tags = tags_at l keys;

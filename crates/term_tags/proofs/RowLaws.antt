@@ -1,11 +1,12 @@
 -- The rows of the keys of a body's words are the postings of its document.
-use Rattle.std.proofs.Common.{◌≡◌, ◌≤◌, ◌<◌, ◌+◌, ◌∙◌, ℕ, zero, suc, List, [], ◌∷◌, ◌++◌, Some, length, map, take, refl, sym, ap, subst, inl, inr, arith}
+use Rattle.std.proofs.Common.{◌≡◌, ◌≤◌, ◌<◌, ◌+◌, ◌∙◌, ℕ, zero, suc, List, [], ◌∷◌, ◌++◌, Some, None, ⊎_elim, length, map, take, refl, sym, ap, subst, inl, inr, arith}
 use Rattle.std.specs.Prelude.{slice_get}
 use Rattle.std.proofs.lemmas.Bool.{cases_lt}
 use Rattle.std.proofs.lemmas.List.{append_assoc, append-nil}
 use Rattle.std.proofs.lemmas.Option.{none-some, same_Some}
-use Rattle.stored_documents.specs.Words.{AreWords}
-use Rattle.index_paths.specs.Postings.{IsPostingOf, ListedPosting, ComesBefore, ArePostings}
+use Rattle.cell_types.specs.Layout.{Layout, all_lists}
+use Rattle.stored_documents.specs.Words.{AreWords, rule_of}
+use Rattle.index_paths.specs.Postings.{IsPostingOf, IsWordPosting, ListedPosting, ComesBefore, ArePostings}
 use Rattle.index_paths.specs.Blocks.{PostingFields}
 use Rattle.index_paths.proofs.Tags.{tags_one}
 use Rattle.term_tags.specs.Keys.{list_in, tag_in, tags_at, AreInLists, AreKeys}
@@ -73,15 +74,19 @@ comes n keys i j a b less rise p q = elim (cases_lt (list_in a) (list_in b)) [
       inr (same, omega (arith, more, counts))
 ]
 
-module _ (lists : ℕ) (body : List ℕ) (terms : List (List ℕ)) (keys : List ℕ) (words : AreWords body terms)
-    (are : AreKeys lists terms keys)
-    (below : AreInLists lists keys) (fit : (l : ℕ) → l < lists → length (tags_at l keys) ≤ 256) (n : ℕ) where
+no_stamp : (seconds : ℕ) → None ≡ Some seconds → ⊥
+no_stamp seconds e = cc
+
+module _ (g : Layout) (body : List ℕ) (terms : List (List ℕ)) (keys : List ℕ) (words : AreWords (rule_of g.version) body terms)
+    (are : AreKeys g.lists terms keys)
+    (below : AreInLists g.lists keys) (fit : (l : ℕ) → l < g.lists → length (tags_at l keys) ≤ 256) (n : ℕ) where
   -- the row of a key is a posting of the document
   is_posting : (i key : ℕ) → slice_get keys i ≡ Some key
-      → IsPostingOf lists body n (list_in key) (entry n keys (take i keys) key).posting
+      → IsWordPosting g body n (list_in key) (entry n keys (take i keys) key).posting
   is_posting i key p = record {
+    list = below.each key (member keys i key p);
     tags = tags_at (list_in key) keys;
-    are = are_tags lists body terms keys words are (list_in key);
+    are = are_tags g body terms keys words are (list_in key);
     ordinal = length (tags_at (list_in key) (take i keys));
     here = tag_at (list_in key) keys i key p refl;
     key = refl;
@@ -89,11 +94,11 @@ module _ (lists : ℕ) (body : List ℕ) (terms : List (List ℕ)) (keys : List 
   }
 
   -- and each posting of the document is the row of a key
-  has_row : (l : ℕ) (p : PostingFields) → l < lists → IsPostingOf lists body n l p
+  has_row : (l : ℕ) (p : PostingFields) → IsWordPosting g body n l p
       → (i : ℕ) × (slice_get (map (listed n) (rows_of keys)) i ≡ Some (record { list = l; posting = p }))
-  has_row l p less h =
+  has_row l p h =
       let all : h.tags ≡ tags_at l keys =
-      tags_one lists body l h.tags (tags_at l keys) h.are (are_tags lists body terms keys words are l) in
+      tags_one g body l h.tags (tags_at l keys) h.are (are_tags g body terms keys words are l) in
       let found = key_at l keys h.ordinal p.tag
       (subst (λ (ts : List (List ℕ)). slice_get ts h.ordinal ≡ Some p.tag) all h.here) in
       let ordinal : length (tags_at (list_in found.key) (take found.place keys)) ≡ h.ordinal =
@@ -108,9 +113,9 @@ module _ (lists : ℕ) (body : List ℕ) (terms : List (List ℕ)) (keys : List 
       )
 
   -- so the rows are the postings
-  pub are_postings : ArePostings lists body n (map (listed n) (rows_of keys))
+  pub are_postings : ArePostings g None body n (map (listed n) (rows_of keys))
   are_postings = record {
-    exist = record { each = λ l less. (tags_at l keys, are_tags lists body terms keys words are l, fit l less) };
+    exist = record { each = λ l less. (tags_at l keys, are_tags g body terms keys words are l, fit l less) };
     order = λ i j a b less p q.
         let first = row_at n keys i a p in
         let second = row_at n keys j b q in
@@ -120,7 +125,7 @@ module _ (lists : ℕ) (body : List ℕ) (terms : List (List ℕ)) (keys : List 
         (comes n keys i j first.key second.key less rise first.stands second.stands));
     each = λ i a p.
         let row = row_at n keys i a p in
-        subst (λ (x : ListedPosting). (x.list < lists) × IsPostingOf lists body n x.list x.posting) row.is
-        (below.each row.key (member keys i row.key row.stands), is_posting i row.key row.stands);
-    all = has_row;
+        subst (λ (x : ListedPosting). (x.list < all_lists g) × IsPostingOf g None body n x.list x.posting) row.is
+        (omega (arith, below.each row.key (member keys i row.key row.stands)), inl (is_posting i row.key row.stands));
+    all = λ l p less h. ⊎_elim (λ word. has_row l p word) (λ t. absurd (no_stamp t.0 t.1)) h;
   }

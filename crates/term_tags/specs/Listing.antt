@@ -1,9 +1,11 @@
 -- The postings that a document's words give, and how asking for them ends.
-use Rattle.std.specs.Prelude.{◌≡◌, ◌<◌, ◌≤◌, ◌+◌, ◌*◌, ◌-◌, ℕ, List, [], ◌∷◌, ◌++◌, length, map, slice_index, ⊤}
+use Rattle.std.specs.Prelude.{◌≡◌, ◌<◌, ◌≤◌, ◌+◌, ◌*◌, ◌-◌, ℕ, List, [], ◌∷◌, ◌++◌, length, map, slice_index, Option, None, Some, ⊤}
 use Rattle.cell_types.specs.declared.refusal.Refusal.{Refusal}
 use Rattle.cell_types.specs.declared.refusal.Refusal.TheVariants.{TooManyTerms, NoMemory}
-use Rattle.stored_documents.specs.Words.{AreWords}
-use Rattle.index_paths.specs.Postings.{AreTags, ListedPosting, ArePostings}
+use Rattle.cell_types.specs.Layout.{Layout}
+use Rattle.cell_types.specs.declared.geometry.TheConstants.{STAMPED_VERSION}
+use Rattle.stored_documents.specs.Words.{AreWords, rule_of}
+use Rattle.index_paths.specs.Postings.{AreTags, ListedPosting, ArePostings, HasPostings, time_posting}
 use Rattle.term_tags.specs.Keys.{list_in, tag_in, tags_at}
 use Rattle.term_tags.specs.declared.rows.Posting.{Posting}
 
@@ -12,23 +14,48 @@ abbrev pub listed : ℕ → Posting → ListedPosting
 listed n p = record { list = p.list; posting = record { key = 256 * n + p.ordinal; last = p.last; tag = p.tag } }
 
 -- List l is the lowest that gets more than 256 distinct tags of the body, and it gets so many.
-pub record GetsTooMany (lists : ℕ) (body : List ℕ) (l count : ℕ) : Type 0 where
-  pub below : l < lists
+pub record GetsTooMany (g : Layout) (body : List ℕ) (l count : ℕ) : Type 0 where
+  pub below : l < g.lists
   pub tags : List (List ℕ)
-  pub are : AreTags lists body l tags
+  pub are : AreTags g body l tags
   pub number : length tags ≡ count
   pub many : 256 < count
-  pub lowest : (m : ℕ) → m < l → (others : List (List ℕ)) × AreTags lists body m others × (length others ≤ 256)
+  pub lowest : (m : ℕ) → m < l → (others : List (List ℕ)) × AreTags g body m others × (length others ≤ 256)
 
--- of the words of a body these are the postings of its document, in whichever slot
+-- Of a body's lists one is the lowest that gets too many tags, and they have one number; and where there is such a list
+-- the body has no postings.
+pub record TooManyIsOne : Type 0 where
+  pub one : (g : Layout) (body : List ℕ) (l m count number : ℕ) → GetsTooMany g body l count → GetsTooMany g body m number
+      → (l ≡ m) × (count ≡ number)
+  pub none : (g : Layout) (body : List ℕ) (l count : ℕ) → GetsTooMany g body l count → HasPostings g body → ⊥
+
+-- of the words of a body these are the postings of its document, but for that of the time list, in whichever slot of a
+-- volume with so many lists
 abbrev pub GivesPostings : ℕ → List (List ℕ) → List Posting → Type 0
 GivesPostings lists terms rows =
-    (body : List ℕ) → AreWords body terms → (n : ℕ) → ArePostings lists body n (map (listed n) rows)
+    (g : Layout) (body : List ℕ) → g.lists ≡ lists → AreWords (rule_of g.version) body terms → (n : ℕ)
+    → ArePostings g None body n (map (listed n) rows)
+
+-- the posting of a stamp, if there is one
+abbrev pub time_entries : ℕ → ℕ → Option ℕ → List ListedPosting
+time_entries lists n None = []
+time_entries lists n (Some seconds) = record { list = lists; posting = time_posting n seconds } ∷ []
+
+-- a stamp is given only on a volume of stamped documents
+abbrev pub MayHaveStamp : Layout → Option ℕ → Type 0
+MayHaveStamp g None = ⊤
+MayHaveStamp g (Some seconds) = g.version ≡ STAMPED_VERSION
+
+-- of the words of a body these are the postings of its document in slot n, with this stamp
+abbrev pub GivesListed : ℕ → ℕ → Option ℕ → List (List ℕ) → List ListedPosting → Type 0
+GivesListed lists n stamp terms rows =
+    (g : Layout) (body : List ℕ) → g.lists ≡ lists → MayHaveStamp g stamp → AreWords (rule_of g.version) body terms
+    → ArePostings g stamp body n rows
 
 -- of the words of a body this list is the lowest that gets too many tags; want of memory is free
 abbrev pub GivesNone : ℕ → List (List ℕ) → Refusal → Type 0
 GivesNone lists terms (TooManyTerms l count) =
-    (body : List ℕ) → AreWords body terms → GetsTooMany lists body l count
+    (g : Layout) (body : List ℕ) → g.lists ≡ lists → AreWords (rule_of g.version) body terms → GetsTooMany g body l count
 GivesNone lists terms NoMemory = ⊤
 GivesNone lists terms other = ⊥
 

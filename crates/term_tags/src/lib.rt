@@ -13,19 +13,32 @@
 //!                                        list 0, ordinal 1 of 0 to 1, tag 486ea46224d1
 //!                                        list 1, ordinal 0 of 0 to 0, tag 2c26b46b68ff
 //!
-//! A list and a tag together are eight bytes, and so one number, its **key**, which rises by list and then by tag:
-//! 00002cf24dba5fb0, 0000486ea46224d1, 00012c26b46b68ff. `postings` sorts the keys, drops those that stand twice, counts
+//! A list and a tag together are eight bytes, and so one number, the tag's key, which rises by list and then by tag:
+//! 00002cf24dba5fb0, 0000486ea46224d1, 00012c26b46b68ff. `postings` sorts these keys, drops those that stand twice, counts
 //! those of each list, and gives each its ordinal.
 //!
+//! **In an index** a posting has a list and a key of its own: 256 times the document's slot, plus the ordinal. On a volume of stamped
+//! documents there is one more, in the time list, which is behind the lists of words: its key is the stamp, in seconds,
+//! and its tag names the slot. So `document_postings` gives of this body in slot 258, stamped with second 1000:
+//!
+//!     list 0    key 66048    last 1      tag 2cf24dba5fb0
+//!     list 0    key 66049    last 1      tag 486ea46224d1
+//!     list 1    key 66048    last 0      tag 2c26b46b68ff
+//!     list 2    key  1000    last 255    tag 000001020000
+//!
 //! Stands on `word_reader` for terms, on `index_paths`, whose `specs/Postings.antt` says which postings a document has,
-//! and on `sha2`. Begin with `digests.rt`, then `rows.rt`; `specs/Listing.antt` says what an answer means.
+//! and on `sha2`. Begin with `digests.rt`, then `rows.rt` and `listing.rt`; `specs/Listing.antt` says what an answer means.
 #![tactic(auto)]
 
 mod digests;
 mod keys;
+mod laws;
+mod listing;
 mod rows;
 #[cfg(test)]
 mod tests;
 
 pub use digests::{list_of, tag};
+pub use laws::too_many_is_one;
+pub use listing::{ListedPosting, document_postings};
 pub use rows::{MAX_TAGS, Posting, postings};

@@ -195,8 +195,7 @@ module _ (g : Layout) (level : Level) (place : Open) (slot : ℕ) (pool : Pool) 
       (named : GrowthFault) → level.led_by ≡ led → Names led fault named
       → PlansRecord (blank_of place) r owner old new (Err fault)
       → InsertsEntry g level place slot pool pool old new (Err named)
-  refused r owner new None Taken named led is plans = absurd (plans.ends.0 (ready.of_root led))
-  refused r owner new None NoMemory named led is plans =
+  refused r owner new child NoMemory named led is plans =
       subst (λ (n : GrowthFault). InsertsEntry g level place slot pool pool old new (Err n)) (sym is)
       (record {
         cells = plans.cells;
@@ -206,6 +205,7 @@ module _ (g : Layout) (level : Level) (place : Open) (slot : ℕ) (pool : Pool) 
         loans = plans.loans;
         ends = refl;
       })
+  refused r owner new None Taken named led is plans = absurd is
   refused r owner new (Some child) Taken named led is plans =
       subst (λ (n : GrowthFault). InsertsEntry g level place slot pool pool old new (Err n)) (sym is)
       (record {
@@ -219,16 +219,6 @@ module _ (g : Layout) (level : Level) (place : Open) (slot : ℕ) (pool : Pool) 
           refl,
           plans.ends.1,
         );
-      })
-  refused r owner new (Some child) NoMemory named led is plans =
-      subst (λ (n : GrowthFault). InsertsEntry g level place slot pool pool old new (Err n)) (sym is)
-      (record {
-        cells = plans.cells;
-        lower = plans.lower;
-        fresh = plans.fresh;
-        base = plans.base;
-        loans = plans.loans;
-        ends = refl;
       })
 
   pub inserts_nothing : (at : ℕ) (child : Option ℕ) (r : RecordCell) (owner : Owner) (new : ViewState)

@@ -6,7 +6,7 @@ use Rattle.cell_types.specs.Records.{IsRecordCell}
 use Rattle.cell_types.specs.declared.record_cell.RecordCell.{RecordCell}
 use Rattle.cell_types.specs.declared.record_cell.RecordCell.TheVariants.{Bucket, Child}
 use Rattle.cell_types.specs.declared.refusal.Evidence.{Evidence}
-use Rattle.cell_types.specs.declared.refusal.Fault.TheVariants.{Tampered, ReadFault}
+use Rattle.cell_types.specs.declared.refusal.Fault.TheVariants.{Tampered, Failed}
 use Rattle.stored_documents.specs.Volumes.{IsWritten}
 use Rattle.index_paths.specs.HashPaths.{Sought, HashTrail, fingerprint_of, nibble}
 use Rattle.index_paths.specs.Keeping.{sought_in}
@@ -100,7 +100,7 @@ pub record IsTaken (g : Layout) (level : Level) (place : Open) (view : ViewState
 abbrev pub InsertEnds : Layout → Level → Open → ℕ → Pool → Pool → ViewState → ViewState → Result ℕ GrowthFault → Type 0
 InsertEnds g level place slot pool rest old new (Ok at) =
     IsInserted g level place slot at pool rest old new
-InsertEnds g level place slot pool rest old new (Err (Fault ReadFault)) = ⊥
+InsertEnds g level place slot pool rest old new (Err (Fault Failed)) = ⊥
 InsertEnds g level place slot pool rest old new (Err (Fault (Tampered e))) =
     IsTaken g level place old e × (rest ≡ pool) × PlansNothing old new
 InsertEnds g level place slot pool rest old new (Err NoMemory) = rest ≡ pool

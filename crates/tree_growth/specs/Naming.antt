@@ -8,9 +8,9 @@ use Rattle.planned_cells.specs.declared.planning.PlanFault.{PlanFault}
 use Rattle.planned_cells.specs.declared.planning.PlanFault.TheVariants.{Taken, NoMemory}
 use Rattle.hash_tree.specs.declared.level.ChildCell.{ChildCell}
 
--- a taken cell is blamed on the child cell that led to its node, where there is one
+-- a taken cell is blamed on the child cell that led to its node: the root's cells are nobody else's
 abbrev pub Names : Option ChildCell → PlanFault → GrowthFault → Type 0
-Names None fault named = named ≡ growth.NoMemory
+Names led NoMemory named = named ≡ growth.NoMemory
+Names None Taken named = ⊥
 Names (Some child) Taken named =
     named ≡ growth.Fault (Tampered (record { rule = LOST_CHILD; cell = child.cell; found = child.found }))
-Names (Some child) NoMemory named = named ≡ growth.NoMemory

@@ -1,16 +1,19 @@
 //! An entry is planned: its bucket, in the level's node or in a new one.
-ghost use Rattle.std.specs.Prelude.{◌≡◌, ◌<◌, ◌≤◌};
+ghost use Rattle.std.specs.Prelude.{◌≡◌, ◌<◌, ◌≤◌, IsSome};
 ghost use Rattle.cell_pool.specs.Grants.{room_of};
 ghost use Rattle.cell_types.specs.declared.geometry.TheConstants.{MAX_SLOTS};
+ghost use Rattle.index_paths.specs.declared.nodes.TheConstants.{NODE_CELLS};
 ghost use Rattle.index_paths.specs.HashPaths.{fingerprint_of};
+ghost use Rattle.planned_cells.specs.declared.planning.PlanFault.TheVariants as plan;
 ghost use Rattle.worm_device.specs.Overlays.{of_overlay};
 ghost use Rattle.tree_growth.specs.Inserting.{InsertsEntry};
 ghost use Rattle.tree_growth.specs.Naming.{Names};
 ghost use Rattle.tree_growth.specs.Readiness.{IsReady};
 
 use cell_pool::Pool;
-use cell_types::{Evidence, Fault, RecordCell, Volume};
+use cell_types::{RecordCell, Volume, breach};
 use hash_tree::{ChildCell, Level, Open, nibble_of};
+use index_paths::NODE_CELLS;
 use planned_cells::{GrowthFault, PlanFault, plan_record};
 use tamper_rules::LOST_CHILD;
 use worm_device::{Overlay, Owner, View};
@@ -29,7 +32,7 @@ pub fn insert<V: View>(
     slot: u32,
 ) -> Result<u32, GrowthFault>
     requires slot { slot < MAX_SLOTS }
-    requires room { 32 ≤ room_of pool.old }
+    requires room { NODE_CELLS ≤ room_of pool.old }
     requires ready { IsReady volume.now.geometry level.now place pool.old.next (of_overlay V.seen overlay.old) }
     ensures { InsertsEntry volume.now.geometry level.now place slot pool.old pool.new
         (of_overlay V.seen overlay.old) (of_overlay V.seen overlay.new) result }
@@ -62,13 +65,17 @@ pub fn insert<V: View>(
         head: root,
         base: node,
     };
-    let Ok(()) = plan_record(overlay, bucket, entry, below) else {
-        return Err(GrowthFault::NoMemory);
-    };
-    match pool.grant(32) {
-        Some(_) => Ok(bucket),
-        None => Err(GrowthFault::NoMemory),
+    match plan_record(overlay, bucket, entry, below) {
+        Ok(()) => {}
+        Err(PlanFault::NoMemory) => return Err(GrowthFault::NoMemory),
+        // Nothing is planned in the cells that are free.
+        Err(PlanFault::Taken) => unreachable!(),
     }
+    // There is room for a node.
+    let Some(_node) = pool.grant(NODE_CELLS) else {
+        unreachable!()
+    };
+    Ok(bucket)
 }
 
 /// The first seven bytes of a digest.
@@ -80,19 +87,16 @@ fn fingerprint(digest: &[u8; 32]) -> [u8; 7]
     first
 }
 
-/// Why the first cell of an entry was not planned. The cells of the root are nobody else's.
+/// Why the first cell of an entry was not planned: where it is taken, its node is not the root.
 fn refusal(fault: PlanFault, led_by: &Option<ChildCell>) -> GrowthFault
+    requires led { fault ≡ plan.Taken → IsSome led_by.now }
     ensures { Names led_by.now fault result }
 {
-    let Some(child) = led_by else {
-        return GrowthFault::NoMemory;
-    };
     match fault {
-        PlanFault::Taken => GrowthFault::Fault(Fault::Tampered(Evidence {
-            rule: LOST_CHILD,
-            cell: child.cell,
-            found: child.found,
-        })),
         PlanFault::NoMemory => GrowthFault::NoMemory,
+        PlanFault::Taken => {
+            let Some(child) = led_by else { unreachable!() };
+            GrowthFault::Fault(breach(LOST_CHILD, child.cell, child.found))
+        }
     }
 }

@@ -3,7 +3,7 @@ ghost use Rattle.std.specs.Prelude.{◌≡◌};
 
 use crate::insert;
 use cell_pool::Pool;
-use cell_types::{Cell, Evidence, FORMAT_VERSION, Fault, Geometry, RecordCell, Volume, encode};
+use cell_types::{Cell, Evidence, FIRST_VERSION, Fault, Geometry, RecordCell, Volume, encode};
 use hash_tree::{Level, Open, PathStep, next_candidate};
 use planned_cells::GrowthFault;
 use std::test::Fail;
@@ -24,9 +24,9 @@ const BUCKET_OF_B: [u8; 16] = [
 #[test]
 fn the_first_identifier_takes_a_bucket_of_the_root(rt: HostRuntime) -> Result<(), Fail> {
     let mut device = MemoryDevice::new(rt.alloc(), 1_000)?;
-    let geometry = Geometry::new(8, 2, 1_000).ok_or("no volume")?;
+    let geometry = Geometry::new(8, 2, 1_000, FIRST_VERSION).ok_or("no volume")?;
     let volume = Volume {
-        version: FORMAT_VERSION,
+        version: FIRST_VERSION,
         geometry,
     };
     let mut own = PlannedCells::new(rt.alloc());
@@ -64,9 +64,9 @@ fn an_identifier_under_another_takes_a_node(rt: HostRuntime) -> Result<(), Fail>
     device.reserve(2)?;
     let bucket_of_b = Cell::from_bytes(BUCKET_OF_B).ok_or("a blank cell")?;
     let _ = device.write(551, bucket_of_b)?;
-    let geometry = Geometry::new(8, 2, 1_000).ok_or("no volume")?;
+    let geometry = Geometry::new(8, 2, 1_000, FIRST_VERSION).ok_or("no volume")?;
     let volume = Volume {
-        version: FORMAT_VERSION,
+        version: FIRST_VERSION,
         geometry,
     };
     let mut own = PlannedCells::new(rt.alloc());
@@ -126,9 +126,9 @@ fn a_node_that_is_planned_for_a_list_is_evidence(rt: HostRuntime) -> Result<(), 
     let child = encode(RecordCell::Child { target: 580 }, 567);
     let _ = device.write(551, bucket_of_b)?;
     let _ = device.write(567, child)?;
-    let geometry = Geometry::new(8, 2, 1_000).ok_or("no volume")?;
+    let geometry = Geometry::new(8, 2, 1_000, FIRST_VERSION).ok_or("no volume")?;
     let volume = Volume {
-        version: FORMAT_VERSION,
+        version: FIRST_VERSION,
         geometry,
     };
     let mut level = Level::start(E);

@@ -1,25 +1,26 @@
 -- A plan whose cells are all written: the log, the documents, the journals and the blank cells.
-use Rattle.std.proofs.Common.{◌≡◌, ◌≢◌, ◌<◌, ◌≤◌, ◌+◌, ⊎_elim, inl, inr, ℕ, suc, zero, List, [], ◌∷◌, Some, None, refl, sym, ◌∙◌, subst, ap, arith, length}
+use Rattle.std.proofs.Common.{◌≡◌, ◌<◌, ◌≤◌, ◌+◌, ⊎_elim, inl, inr, ℕ, suc, zero, List, [], ◌∷◌, Some, None, refl, sym, ◌∙◌, subst, ap, arith, length}
 use Rattle.std.proofs.lemmas.Option.{none-some, slice_get_within, slice_get-get_or}
 use Rattle.std.proofs.lemmas.Bool.{cases_order}
 use Rattle.cell_types.specs.Image.{Image, Extends}
-use Rattle.cell_types.specs.Layout.{Layout, reserve_at, outcome_at, done_at, spare_at, list_at, pool_at}
+use Rattle.cell_types.specs.Layout.{Layout, reserve_at, outcome_at, done_at, spare_at, pool_at, lists_at}
 use Rattle.cell_types.specs.declared.record_cell.RecordCell.{RecordCell}
 use Rattle.cell_types.specs.declared.record_cell.RecordCell.TheVariants.{Reserve, Commit, Abandon}
 use Rattle.stored_documents.specs.Documents.{Stands, stored_bytes, document_at}
 use Rattle.volume_growth.specs.Filling.{blocks_end, IsCopy, IsPlannedCopy, IsFilled}
-use Rattle.volume_growth.specs.Ingesting.{Plan, Phase, Reserving, Storing, Committing, Applying, Finishing, stored_of, ContentRow, CopyRow, AppliedRow, Row, AnyRow}
+use Rattle.volume_growth.specs.Ingesting.{Plan, Phase, Reserving, Storing, Committing, Applying, Finishing, stored_of, ContentRow, CopyRow, StoredRow, StampRow, AppliedRow, Row, AnyRow}
 use Rattle.tamper_rules.specs.Journals.{journal_at, Copies, IsIndexCell, of_list, of_root, of_slot, IsInOrder, IsNamed}
 use Rattle.tamper_rules.specs.Rules
-use Rattle.tamper_rules.specs.Rules.{ReserveRule, OutcomeRule, DoneRule, DocumentRule, HasDocument, JournalRule, RedoneRule, BlankRule, IsDoneIndexCell, HasJump, HasChild, IsSize, Tile, TilingRule}
+use Rattle.tamper_rules.specs.Rules.{ReserveRule, OutcomeRule, DoneRule, DocumentRule, HasDocument, JournalRule, RedoneRule, BlankRule, IsTrueStamp, IsDoneIndexCell, HasJump, HasChild, IsSize, Tile, TilingRule}
 use Rattle.stored_documents.specs.Slots.{cells_for, Reserves, Commits, Stores, IsAbandonedSlot, IsDoneSlot, IsDone, HasEnded, IsHorizon, EndsBelow, IsEdge}
 use Rattle.stored_documents.specs.Volumes.{Holds, IsWritten}
-use Rattle.stored_documents.proofs.Extending.{holds_on, written_on, blank_before, volume_on, reserves_on, commits_on, done_on, ends_on, spells_on}
+use Rattle.stored_documents.proofs.Extending.{holds_on, written_on, stamped_on, blank_before, volume_on, reserves_on, commits_on, done_on, ends_on, spells_on}
 use Rattle.stored_documents.proofs.Holding.{one_record_holds, some_is}
+use Rattle.stored_documents.proofs.Stamps.{has_stamp, stands_given}
 use Rattle.tamper_rules.proofs.GivenUp.{no_abandon, one_layout}
 use Rattle.tamper_rules.proofs.GoingOn.{copies_on, copies_back, one_copy, named_on}
 use Rattle.tamper_rules.proofs.Images.{look}
-use Rattle.volume_growth.proofs.Ingests.{IsLogCell, is_reserve, is_outcome, is_done}
+use Rattle.volume_growth.proofs.Ingests.{IsLogCell, is_reserve, is_outcome, is_done, is_spare}
 use Rattle.stored_documents.proofs.OneDocument.{reserves, commits}
 use Rattle.tamper_rules.proofs.Settled.{written, taken_below, taken_to, below_horizon, ends_before, edge_horizon, one_end}
 use Rattle.tamper_rules.proofs.SettlingGoesOn.{behind_log}
@@ -33,7 +34,7 @@ module _ {g : Layout} {old new : Image} {p : Plan} (u : IsFilled g old new p) wh
   keeps = u.rows.keeps
 
   pub mine : IsDone g new p.slot p.start p.reserved (length (stored_of p)) (length p.journal)
-  mine = record { commits = record { reserves = u.reserves; outcome = u.commit; fits = u.fits }; done = u.done }
+  mine = record { commits = record { reserves = u.reserves; outcome = u.commit; fits = u.fits; stamped = has_stamp g new p.slot p.stamp u.stamp }; done = u.done }
 
   -- the journal of the plan
   pub applied_entry : {cell : ℕ} {value : List ℕ} → (row : AppliedRow p cell value)
@@ -45,7 +46,7 @@ module _ {g : Layout} {old new : Image} {p : Plan} (u : IsFilled g old new p) wh
   entry_copies {place} {target} {r} e = record {
     below = slice_get_within p.journal place e.value e.entry;
     entry = e.value;
-    stands = u.rows.adds (journal_at p.start p.reserved (length p.journal) + place) e.value (Storing, inr (record { place = place; entry = e.entry; at = refl }));
+    stands = u.rows.adds (journal_at p.start p.reserved (length p.journal) + place) e.value (Storing, inl (inr (record { place = place; entry = e.entry; at = refl })));
     index = e.index;
     address = e.address;
     is = e.is;
@@ -56,7 +57,7 @@ module _ {g : Layout} {old new : Image} {p : Plan} (u : IsFilled g old new p) wh
       → (c : Copies new p.start p.reserved (length p.journal) place target r) → AppliedRow p target c.entry
   copies_applied {place} {target} {r} c =
       let found = slice_get-get_or p.journal place [] c.below in
-      let there = u.rows.adds (journal_at p.start p.reserved (length p.journal) + place) _ (Storing, inr (record { place = place; entry = found; at = refl })) in
+      let there = u.rows.adds (journal_at p.start p.reserved (length p.journal) + place) _ (Storing, inl (inr (record { place = place; entry = found; at = refl }))) in
       let same = some_is _ c.entry (sym there ∙ c.stands) in
       record { place = place; entry = found ∙ ap (λ (v : List ℕ). Some v) same; copied = r; index = c.index; address = c.address; is = c.is }
 
@@ -67,19 +68,19 @@ module _ {g : Layout} {old new : Image} {p : Plan} (u : IsFilled g old new p) wh
       let q = u.in_order row.place e.below in
       (q, (one_copy new p.start p.reserved (length p.journal) row.place cell q.target row.copied q.copied e (entry_copies q.entry)).1)
 
-  pub applied_far : {cell : ℕ} {value : List ℕ} → AppliedRow p cell value → list_at g 0 ≤ cell
+  pub applied_far : {cell : ℕ} {value : List ℕ} → AppliedRow p cell value → lists_at g ≤ cell
   applied_far row = let q = row_target row in ⊎_elim (λ old. omega (arith, behind_log old, q.1)) (λ from. omega (arith, from, u.reserves.from, q.1)) (q.0).index
 
   pub applied_low : {cell : ℕ} {value : List ℕ} → AppliedRow p cell value → cell < blocks_end p
   applied_low row = let q = row_target row in let b = (q.0).before_document in omega (arith, b, q.1)
 
-  pub stored_from : {cell : ℕ} {value : List ℕ} → Row p Storing cell value → blocks_end p ≤ cell
+  pub stored_from : {cell : ℕ} {value : List ℕ} → StoredRow p cell value → blocks_end p ≤ cell
   stored_from {cell} {value} row = ⊎_elim
       (λ (c : ContentRow p cell value). omega (arith, c.at))
       (λ (c : CopyRow p cell value). omega (arith, c.at))
       row
 
-  stored_to : {cell : ℕ} {value : List ℕ} → Row p Storing cell value → cell < p.start + p.reserved
+  stored_to : {cell : ℕ} {value : List ℕ} → StoredRow p cell value → cell < p.start + p.reserved
   stored_to {cell} {value} row = ⊎_elim
       (λ (c : ContentRow p cell value). omega (arith, c.at, c.below, u.fits))
       (λ (c : CopyRow p cell value). let below : c.place < length p.journal = slice_get_within p.journal c.place value c.entry in omega (arith, c.at, u.fits))
@@ -91,16 +92,19 @@ module _ {g : Layout} {old new : Image} {p : Plan} (u : IsFilled g old new p) wh
   pub blocks_to : blocks_end p ≤ p.start + p.reserved
   blocks_to = omega arith
 
-  -- the log changes in three cells
-  pub log_row : (cell : ℕ) (value : List ℕ) → cell < list_at g 0 → (phase : Phase) → Row p phase cell value
+  -- the log changes in four cells
+  pub log_row : (cell : ℕ) (value : List ℕ) → cell < lists_at g → (phase : Phase) → Row p phase cell value
       → IsLogCell p.slot cell
   log_row cell value low Reserving row = is_reserve row.at
-  log_row cell value low Storing row = absurd (let far = stored_from row in omega (arith, far, blocks_from, u.reserves.from))
+  log_row cell value low Storing row = ⊎_elim
+      (λ stored. absurd (let far = stored_from stored in omega (arith, far, blocks_from, u.reserves.from)))
+      (λ (s : StampRow p cell value). is_spare s.row.at)
+      row
   log_row cell value low Committing row = is_outcome row.at
   log_row cell value low Applying row = absurd (let far = applied_far row in omega arith)
   log_row cell value low Finishing row = is_done row.at
 
-  log_was : (cell : ℕ) (value : List ℕ) → cell < list_at g 0 → (IsLogCell p.slot cell → ⊥)
+  log_was : (cell : ℕ) (value : List ℕ) → cell < lists_at g → (IsLogCell p.slot cell → ⊥)
       → new cell ≡ Some value → old cell ≡ Some value
   log_was cell value low other is = ⊎_elim (λ was. was) (λ (row : AnyRow p cell value). absurd (other (log_row cell value low row.0 row.1))) (u.rows.only cell value is)
 
@@ -108,22 +112,31 @@ module _ {g : Layout} {old new : Image} {p : Plan} (u : IsFilled g old new p) wh
   no_reserve other (is_reserve at) = other (omega arith)
   no_reserve other (is_outcome at) = omega arith
   no_reserve other (is_done at) = omega arith
+  no_reserve other (is_spare at) = omega arith
 
   no_outcome : {m : ℕ} → (m ≡ p.slot → ⊥) → IsLogCell p.slot (outcome_at m) → ⊥
   no_outcome other (is_reserve at) = omega arith
   no_outcome other (is_outcome at) = other (omega arith)
   no_outcome other (is_done at) = omega arith
+  no_outcome other (is_spare at) = omega arith
 
   no_done : {m : ℕ} → (m ≡ p.slot → ⊥) → IsLogCell p.slot (done_at m) → ⊥
   no_done other (is_reserve at) = omega arith
   no_done other (is_outcome at) = omega arith
   no_done other (is_done at) = other (omega arith)
+  no_done other (is_spare at) = omega arith
 
-  log_held : {cell : ℕ} {r : RecordCell} → cell < list_at g 0 → (IsLogCell p.slot cell → ⊥) → Holds new cell r
+  no_spare : {m : ℕ} → (m ≡ p.slot → ⊥) → IsLogCell p.slot (spare_at m) → ⊥
+  no_spare other (is_reserve at) = omega arith
+  no_spare other (is_outcome at) = omega arith
+  no_spare other (is_done at) = omega arith
+  no_spare other (is_spare at) = other (omega arith)
+
+  log_held : {cell : ℕ} {r : RecordCell} → cell < lists_at g → (IsLogCell p.slot cell → ⊥) → Holds new cell r
       → Holds old cell r
   log_held {cell} low other h = record { cell = h.cell; stands = log_was cell h.cell low other h.stands; is = h.is }
 
-  pub log_stood : {cell : ℕ} → cell < list_at g 0 → (IsLogCell p.slot cell → ⊥) → IsWritten new cell
+  pub log_stood : {cell : ℕ} → cell < lists_at g → (IsLogCell p.slot cell → ⊥) → IsWritten new cell
       → IsWritten old cell
   log_stood {cell} low other w = record { found = w.found; stands = log_was cell w.found low other w.stands }
 
@@ -134,6 +147,8 @@ module _ {g : Layout} {old new : Image} {p : Plan} (u : IsFilled g old new p) wh
       reserves = record { slot = c.reserves.slot; reserve = log_held (omega (arith, c.reserves.slot)) (no_reserve other) c.reserves.reserve; from = c.reserves.from; to = c.reserves.to };
       outcome = log_held (omega (arith, c.reserves.slot)) (no_outcome other) c.outcome;
       fits = c.fits;
+      stamped = λ version. let t = c.stamped version in
+          record { seconds = t.seconds; stamp = log_held (omega (arith, c.reserves.slot)) (no_spare other) t.stamp };
     }
 
     done_back : {from reserved bytes journal : ℕ} → IsDone g new m from reserved bytes journal
@@ -150,7 +165,7 @@ module _ {g : Layout} {old new : Image} {p : Plan} (u : IsFilled g old new p) wh
   -- slot n was unused
   outcome_blank : old (outcome_at p.slot) ≡ None
   outcome_blank = ⊎_elim (λ none. none)
-      (λ h. let o : OutcomeRule old p.slot = u.before.met Rules.OutcomeCells (outcome_at p.slot) (record { found = h.0; stands = h.1 }) p.slot free refl in
+      (λ h. let o : OutcomeRule g old p.slot = u.before.met Rules.OutcomeCells (outcome_at p.slot) (record { found = h.0; stands = h.1 }) p.slot free refl in
       absurd (none-some _ (sym (u.horizon.free free) ∙ o.reserve.stands)))
       (look old (outcome_at p.slot))
 
@@ -248,20 +263,20 @@ module _ {g : Layout} {old new : Image} {p : Plan} (u : IsFilled g old new p) wh
         before = λ k is. ended_on (u.before.ended p.slot k u.horizon (omega arith));
       }
 
-  pub rule_2 : (m : ℕ) → m < g.slots → IsWritten new (outcome_at m) → OutcomeRule new m
+  pub rule_2 : (m : ℕ) → m < g.slots → IsWritten new (outcome_at m) → OutcomeRule g new m
   rule_2 m inside w = ⊎_elim
-      (λ same. subst (λ (k : ℕ). OutcomeRule new k) (sym same) here)
+      (λ same. subst (λ (k : ℕ). OutcomeRule g new k) (sym same) here)
       (λ other.
-      let r : OutcomeRule old m = u.before.met Rules.OutcomeCells (outcome_at m) (log_stood (omega arith) (no_outcome other) w) m inside refl in
+      let r : OutcomeRule g old m = u.before.met Rules.OutcomeCells (outcome_at m) (log_stood (omega arith) (no_outcome other) w) m inside refl in
       record {
         reserve = written_on keeps r.reserve;
         outcome = ⊎_elim (λ h. inl (holds_on keeps h))
-            (λ h. inr (h.0, h.1, holds_on keeps h.2, λ from reserved r. h.3 from reserved (log_held (omega arith) (no_reserve other) r)))
+            (λ h. inr (h.0, h.1, holds_on keeps h.2, λ from reserved r. h.3 from reserved (log_held (omega arith) (no_reserve other) r), λ version. stamped_on keeps (h.4 version)))
             r.outcome;
       })
       (same_or_not m p.slot)
     where
-      here : OutcomeRule new p.slot
+      here : OutcomeRule g new p.slot
       here = record {
         reserve = written u.reserves;
         outcome = inr (
@@ -271,6 +286,7 @@ module _ {g : Layout} {old new : Image} {p : Plan} (u : IsFilled g old new p) wh
           λ from reserved h.
               let e = reserves from reserved p.start p.reserved (one_record_holds new (reserve_at p.slot) (Reserve from reserved) (Reserve p.start p.reserved) h u.reserves.reserve) in
               omega (arith, e.1, u.fits),
+          has_stamp g new p.slot p.stamp u.stamp,
         );
       }
 
@@ -297,7 +313,7 @@ module _ {g : Layout} {old new : Image} {p : Plan} (u : IsFilled g old new p) wh
         id = p.id;
         body = p.body;
         count = refl;
-        spells = λ k below. u.rows.adds _ _ (Storing, inl (record { place = k; below = below; at = refl; is = refl }));
+        spells = λ k below. u.rows.adds _ _ (Storing, inl (inl (record { place = k; below = below; at = refl; is = refl })));
         is_identifier = u.is_identifier;
         is_body = u.is_body;
       }
@@ -441,7 +457,7 @@ module _ {g : Layout} {old new : Image} {p : Plan} (u : IsFilled g old new p) wh
       (same_or_not m p.slot)
 
   -- none of the log's three cells is an index cell, and none of the stored cells
-  no_log_index : (cell : ℕ) → cell < list_at g 0 → IsDoneIndexCell g new cell → ⊥
+  no_log_index : (cell : ℕ) → cell < lists_at g → IsDoneIndexCell g new cell → ⊥
   no_log_index cell low (Rules.IsDoneIndexCell.of_list l lies) = omega (arith, lies.from)
   no_log_index cell low (Rules.IsDoneIndexCell.of_root lies) = omega (arith, lies.from)
   no_log_index cell low (Rules.IsDoneIndexCell.of_slot m from reserved bytes journal d least high) = omega (arith, d.commits.reserves.from)
@@ -460,35 +476,72 @@ module _ {g : Layout} {old new : Image} {p : Plan} (u : IsFilled g old new p) wh
       let f = blocks_from in omega (arith, b.commits.fits))
       (same_or_not m p.slot)
 
+  -- the stamp of the plan is in order, and each that stood before is
+  mine_true : (seconds : ℕ) → p.stamp ≡ Some seconds → IsTrueStamp g new p.slot
+  mine_true seconds given =
+      let s = stands_given g new p.slot p.stamp seconds u.stamp given in
+      record {
+        version = s.0;
+        reserve = written u.reserves;
+        seconds = seconds;
+        stamp = s.1;
+        rises = λ m lower less d h.
+            let b = done_back (λ same. omega arith) d.done in
+            u.rises m lower seconds given (record { start = d.start; length = d.length; bytes = d.bytes; journal = d.journal; done = b })
+            (log_held (omega (arith, b.commits.reserves.slot)) (no_spare (λ same. omega arith)) h);
+      }
+
+  old_true : (n : ℕ) → n < g.slots → IsTrueStamp g old n → IsTrueStamp g new n
+  old_true n inside t =
+      let low = below_horizon g old u.before p.slot n free u.horizon inside t.reserve in
+      record {
+        version = t.version;
+        reserve = written_on keeps t.reserve;
+        seconds = t.seconds;
+        stamp = holds_on keeps t.stamp;
+        rises = λ m lower less d h.
+            let b = done_back (λ same. omega arith) d.done in
+            t.rises m lower less (record { start = d.start; length = d.length; bytes = d.bytes; journal = d.journal; done = b })
+            (log_held (omega (arith, b.commits.reserves.slot)) (no_spare (λ same. omega arith)) h);
+      }
+
   -- each cell of the plan lies where it may
   record LiesWell (cell : ℕ) : Type 0 where
     kept_blank : 4 ≤ cell
-    spare : (n : ℕ) → n < g.slots → cell ≢ spare_at n
+    spare : (n : ℕ) → n < g.slots → cell ≡ spare_at n → IsTrueStamp g new n
     named : IsDoneIndexCell g new cell → IsNamed g new cell
     edge : pool_at g ≤ cell → cell < p.start + p.reserved
 
   row_lies : (cell : ℕ) (value : List ℕ) → (phase : Phase) → Row p phase cell value → LiesWell cell
   row_lies cell value Reserving row = record {
     kept_blank = omega (arith, row.at);
-    spare = λ n inside same. omega (arith, row.at);
+    spare = λ n inside same. absurd (omega (arith, row.at));
     named = λ i. absurd (no_log_index cell (omega (arith, row.at, free)) i);
     edge = λ pool. absurd (omega (arith, row.at, free));
   }
-  row_lies cell value Storing row = let low = stored_from row in let high = stored_to row in let b = blocks_from in let f = u.reserves.from in record {
-    kept_blank = omega arith;
-    spare = λ n inside same. omega arith;
-    named = λ i. absurd (no_stored_index cell low i);
-    edge = λ pool. high;
-  }
+  row_lies cell value Storing row = ⊎_elim
+      (λ stored. let low = stored_from stored in let high = stored_to stored in let b = blocks_from in let f = u.reserves.from in record {
+        kept_blank = omega arith;
+        spare = λ n inside same. absurd (omega arith);
+        named = λ i. absurd (no_stored_index cell low i);
+        edge = λ pool. high;
+      })
+      (λ (s : StampRow p cell value). record {
+        kept_blank = omega (arith, s.row.at);
+        spare = λ n inside same. subst (λ (k : ℕ). IsTrueStamp g new k) (let e : p.slot ≡ n = omega (arith, s.row.at, same) in e) (mine_true s.seconds s.given);
+        named = λ i. absurd (no_log_index cell (omega (arith, s.row.at, free)) i);
+        edge = λ pool. absurd (omega (arith, s.row.at, free));
+      })
+      row
   row_lies cell value Committing row = record {
     kept_blank = omega (arith, row.at);
-    spare = λ n inside same. omega (arith, row.at);
+    spare = λ n inside same. absurd (omega (arith, row.at));
     named = λ i. absurd (no_log_index cell (omega (arith, row.at, free)) i);
     edge = λ pool. absurd (omega (arith, row.at, free));
   }
   row_lies cell value Applying row = let low = applied_far row in let high = applied_low row in let b = blocks_to in record {
     kept_blank = omega arith;
-    spare = λ n inside same. omega arith;
+    spare = λ n inside same. absurd (omega arith);
     named = λ i. record {
       m = p.slot;
       start = p.start;
@@ -504,7 +557,7 @@ module _ {g : Layout} {old new : Image} {p : Plan} (u : IsFilled g old new p) wh
   }
   row_lies cell value Finishing row = record {
     kept_blank = omega (arith, row.at);
-    spare = λ n inside same. omega (arith, row.at);
+    spare = λ n inside same. absurd (omega (arith, row.at));
     named = λ i. absurd (no_log_index cell (omega (arith, row.at, free)) i);
     edge = λ pool. absurd (omega (arith, row.at, free));
   }
@@ -515,7 +568,7 @@ module _ {g : Layout} {old new : Image} {p : Plan} (u : IsFilled g old new p) wh
       let r : BlankRule g old cell = u.before.met Rules.StrayCells cell (record { found = w.found; stands = was }) in
       record {
         kept_blank = r.kept_blank;
-        spare = r.spare;
+        spare = λ n inside same. old_true n inside (r.spare n inside same);
         named = λ i. named_on keeps (r.named (old_index cell w.found was i));
         edge = λ at e pool. let is = edge_is at e in let less = r.edge p.start old_edge pool in omega arith;
       })

@@ -1,11 +1,11 @@
 -- An image that was left in one phase of an ingest.
-use Rattle.std.proofs.Common.{◌<◌, ◌≤◌, ⊎_elim, ℕ, List, sym, ◌∙◌, arith, length}
+use Rattle.std.proofs.Common.{◌≡◌, ◌<◌, ◌≤◌, ⊎_elim, ℕ, List, sym, ◌∙◌, arith, length}
 use Rattle.std.proofs.lemmas.Option.{none-some}
 use Rattle.std.proofs.lemmas.Bool.{cases_lt}
 use Rattle.cell_types.specs.Image.{Image}
-use Rattle.cell_types.specs.Layout.{Layout, pool_at}
+use Rattle.cell_types.specs.Layout.{Layout, spare_at, pool_at}
 use Rattle.stored_documents.specs.Documents.{document_at}
-use Rattle.volume_growth.specs.Ingesting.{Plan, Phase, Reserving, Storing, Committing, Applying, Finishing, order_of, stored_of, ContentRow, CopyRow, AppliedRow, Row, IsInPhases, IsIngest, IsLeftIn, LeavesSound}
+use Rattle.volume_growth.specs.Ingesting.{Plan, Phase, Reserving, Storing, Committing, Applying, Finishing, order_of, stored_of, ContentRow, CopyRow, StoredRow, StampRow, AppliedRow, Row, IsInPhases, IsIngest, IsLeftIn, LeavesSound}
 use Rattle.tamper_rules.proofs.GoingOn.{one_copy}
 use Rattle.volume_growth.proofs.Ingests.{slot_reserves, in_order, applied_copies, applied_far, stored_from}
 use Rattle.volume_growth.proofs.IngestLeaves.{leaves_sound}
@@ -20,7 +20,7 @@ module _ {g : Layout} {old new : Image} {p : Plan} (i : IsIngest g old new p) wh
       let same = one_copy new p.start p.reserved (length p.journal) row.place cell o.target row.copied o.copied c o.copies in
       omega (arith, o.before_document, same.1)
 
-  stored_high : {cell : ℕ} {value : List ℕ} → Row p Storing cell value
+  stored_high : {cell : ℕ} {value : List ℕ} → StoredRow p cell value
       → document_at p.start p.reserved (length (stored_of p)) (length p.journal) ≤ cell
   stored_high {cell} {value} row = ⊎_elim
       (λ (c : ContentRow p cell value). omega (arith, c.at))
@@ -30,17 +30,26 @@ module _ {g : Layout} {old new : Image} {p : Plan} (i : IsIngest g old new p) wh
   pool_from : pool_at g ≤ p.start
   pool_from = let r = slot_reserves i in r.from
 
+  -- what is stored lies in the slot's cells, or in its spare cell
+  not_stored : {cell : ℕ} {value : List ℕ} → Row p Storing cell value
+      → (p.start ≤ cell → document_at p.start p.reserved (length (stored_of p)) (length p.journal) ≤ cell → ⊥)
+      → (cell ≡ spare_at p.slot → ⊥) → ⊥
+  not_stored {cell} {value} row far spare = ⊎_elim
+      (λ stored. far (stored_from i stored) (stored_high stored))
+      (λ (s : StampRow p cell value). spare s.row.at)
+      row
+
   -- no cell is of two phases
   apart : (one : Phase) (two : Phase) → order_of one < order_of two → (cell : ℕ) (v w : List ℕ)
       → Row p one cell v → Row p two cell w → ⊥
   apart Reserving Reserving less cell v w a b = omega arith
-  apart Reserving Storing less cell v w a b = let far = stored_from i b in omega (arith, far, a.at, i.free, pool_from)
+  apart Reserving Storing less cell v w a b = not_stored b (λ far high. omega (arith, far, a.at, i.free, pool_from)) (λ at. omega (arith, at, a.at))
   apart Reserving Committing less cell v w a b = omega (arith, a.at, b.at)
   apart Reserving Applying less cell v w a b = let far = applied_far i b in omega (arith, far, a.at, i.free)
   apart Reserving Finishing less cell v w a b = omega (arith, a.at, b.at)
-  apart Storing Committing less cell v w a b = let far = stored_from i a in omega (arith, far, b.at, i.free, pool_from)
-  apart Storing Applying less cell v w a b = let low = applied_low b in let high = stored_high a in omega arith
-  apart Storing Finishing less cell v w a b = let far = stored_from i a in omega (arith, far, b.at, i.free, pool_from)
+  apart Storing Committing less cell v w a b = not_stored a (λ far high. omega (arith, far, b.at, i.free, pool_from)) (λ at. omega (arith, at, b.at))
+  apart Storing Applying less cell v w a b = let low = applied_low b in let above = applied_far i b in not_stored a (λ far high. omega arith) (λ at. omega (arith, at, above, i.free))
+  apart Storing Finishing less cell v w a b = not_stored a (λ far high. omega (arith, far, b.at, i.free, pool_from)) (λ at. omega (arith, at, b.at))
   apart Committing Applying less cell v w a b = let far = applied_far i b in omega (arith, far, a.at, i.free)
   apart Committing Finishing less cell v w a b = omega (arith, a.at, b.at)
   apart Applying Finishing less cell v w a b = let far = applied_far i a in omega (arith, far, b.at, i.free)

@@ -2,23 +2,25 @@
 use Rattle.std.proofs.Common.{◌≡◌, ◌<◌, ◌+◌, ◌⊎◌, ⊎_elim, inl, inr, ℕ, List, [], Some, None, refl, sym, ◌∙◌, subst, ap, arith, length}
 use Rattle.std.proofs.lemmas.Option.{none-some, slice_get-get_or}
 use Rattle.cell_types.specs.Image.{Image, Extends}
-use Rattle.cell_types.specs.Layout.{Layout, reserve_at, outcome_at, done_at, list_at}
+use Rattle.cell_types.specs.Layout.{Layout, reserve_at, outcome_at, done_at, spare_at, lists_at}
 use Rattle.cell_types.specs.Records.{IsRecordCell, record_bytes}
 use Rattle.cell_types.specs.declared.record_cell.RecordCell.{RecordCell}
 use Rattle.cell_types.specs.declared.record_cell.RecordCell.TheVariants.{Abandon}
 use Rattle.stored_documents.specs.Documents.{Document, AreDocuments}
-use Rattle.volume_growth.specs.Ingesting.{Plan, Phase, Reserving, Storing, Committing, Applying, Finishing, order_of, stored_of, Row, AnyRow, IsInPhases, IsIngest, LeavesSound}
+use Rattle.volume_growth.specs.Ingesting.{Plan, Phase, Reserving, Storing, Committing, Applying, Finishing, order_of, stored_of, StampRow, Row, AnyRow, IsInPhases, IsIngest, LeavesSound}
 use Rattle.tamper_rules.specs.Journals.{journal_at, Copies, IsIndexCell, of_list, of_root, of_slot, IsInOrder}
+use Rattle.tamper_rules.specs.Rules
+use Rattle.tamper_rules.specs.Rules.{BlankRule, IsTrueStamp}
 use Rattle.tamper_rules.specs.Settling.{Settled, IsOneHorizon, JournalRow, DoneRow, After, nothing, abandoned, completed, of_after}
-use Rattle.stored_documents.specs.Slots.{Reserves, Commits, Stores, IsHorizon}
+use Rattle.stored_documents.specs.Slots.{Reserves, Commits, Stores, IsDone, IsHorizon}
 use Rattle.stored_documents.specs.Volumes.{Holds, IsWritten}
 use Rattle.stored_documents.proofs.Extending.{volume_on, written_on, blank_before, reserves_on, document_on}
 use Rattle.stored_documents.proofs.Holding.{some_is}
-use Rattle.tamper_rules.proofs.GivenUp.{stands_inside, IsGivenUp, IsOf, of_reserve, of_outcome, of_range}
+use Rattle.tamper_rules.proofs.GivenUp.{stands_inside, IsGivenUp, IsOf, of_reserve, of_outcome, of_spare, of_range}
 use Rattle.tamper_rules.proofs.GivenUpRules.{given_up_is_settled, given_up_stands}
 use Rattle.tamper_rules.proofs.GoingOn.{copies_on, copies_back}
 use Rattle.tamper_rules.proofs.Images.{same_both, look, all_of_it}
-use Rattle.volume_growth.proofs.Ingests.{IsLogCell, is_reserve, is_outcome, is_done, slot_reserves, slot_commits, in_order, redone, applied_copies, stored_from, stored_to, log_of, outcome_blank, done_blank, next_horizon, begins_there}
+use Rattle.volume_growth.proofs.Ingests.{IsLogCell, is_reserve, is_outcome, is_done, is_spare, applied_far, slot_reserves, slot_commits, in_order, redone, applied_copies, stored_from, stored_to, log_of, outcome_blank, done_blank, next_horizon, begins_there}
 use Rattle.tamper_rules.proofs.Settled.{written, taken_below, one_horizon}
 use Rattle.tamper_rules.proofs.Writing.{put_cell, put_there, put_other, same_or_not}
 
@@ -87,6 +89,7 @@ module _ {g : Layout} {old new image : Image} {p : Plan} (i : IsIngest g old new
         here (is_reserve at) = same_found (reserve_at m) value i.reserve.cell is (ap image at ∙ reserved)
         here (is_outcome at) = absurd (omega arith)
         here (is_done at) = absurd (omega arith)
+        here (is_spare at) = absurd (omega arith)
 
     to_new : (u : ℕ) → IsHorizon g image image u → IsHorizon g new new u
     to_new u h = record {
@@ -139,10 +142,52 @@ module _ {g : Layout} {old new image : Image} {p : Plan} (i : IsIngest g old new
       of_row : (cell : ℕ) (value : List ℕ) → old cell ≡ None → image cell ≡ Some value → (phase : Phase)
           → Row p phase cell value → IsOf p.slot p.start p.reserved cell
       of_row cell value none is Reserving row = of_reserve row.at
-      of_row cell value none is Storing row = of_range (stored_from i row) (stored_to i row)
+      of_row cell value none is Storing row = ⊎_elim
+          (λ stored. of_range (stored_from i stored) (stored_to i stored))
+          (λ (s : StampRow p cell value). of_spare s.row.at)
+          row
       of_row cell value none is Committing row = of_outcome row.at
       of_row cell value none is Applying row = absurd (none-some _ (sym blank ∙ has_commit Applying (omega arith) cell value row none is))
       of_row cell value none is Finishing row = absurd (none-some _ (sym blank ∙ has_commit Finishing (omega arith) cell value row none is))
+
+      -- but for the abandon cell, what it holds the new image holds
+      in_new : {cell : ℕ} {r : RecordCell} → (cell ≡ outcome_at p.slot → ⊥) → Holds given cell r → Holds new cell r
+      in_new {cell} other h = record { cell = h.cell; stands = f.keeps cell h.cell (sym (elsewhere cell other) ∙ h.stands); is = h.is }
+
+      new_done : {m from reserved bytes journal : ℕ} → m < p.slot → IsDone g given m from reserved bytes journal
+          → IsDone g new m from reserved bytes journal
+      new_done less d =
+          let c = d.commits in
+          let r = c.reserves in
+          record {
+            commits = record {
+              reserves = record { slot = r.slot; reserve = in_new (λ same. omega arith) r.reserve; from = r.from; to = r.to };
+              outcome = in_new (λ same. omega arith) c.outcome;
+              fits = c.fits;
+              stamped = λ version. let t = c.stamped version in record { seconds = t.seconds; stamp = in_new (λ same. omega arith) t.stamp };
+            };
+            done = in_new (λ same. omega arith) d.done;
+          }
+
+      -- its stamp is the new image's
+      given_stamp : IsWritten given (spare_at p.slot) → IsTrueStamp g given p.slot
+      given_stamp w =
+          let there' : new (spare_at p.slot) ≡ Some w.found = f.keeps (spare_at p.slot) w.found (sym (elsewhere (spare_at p.slot) (λ same. omega arith)) ∙ w.stands) in
+          let r : BlankRule g new (spare_at p.slot) = i.after.met Rules.StrayCells (spare_at p.slot) (record { found = w.found; stands = there' }) in
+          let t : IsTrueStamp g new p.slot = r.spare p.slot i.free refl in
+          record {
+            version = t.version;
+            reserve = written (reserves_on to_given here_reserves);
+            seconds = t.seconds;
+            stamp = record {
+              cell = t.stamp.cell;
+              stands = w.stands ∙ ap (λ (v : List ℕ). Some v) (some_is w.found t.stamp.cell (sym there' ∙ t.stamp.stands));
+              is = t.stamp.is;
+            };
+            rises = λ m lower less d h. t.rises m lower less
+                (record { start = d.start; length = d.length; bytes = d.bytes; journal = d.journal; done = new_done less d.done })
+                (in_new (λ same. omega arith) h);
+          }
 
       given_up : IsGivenUp g old given p.slot p.start p.reserved
       given_up = record {
@@ -151,6 +196,7 @@ module _ {g : Layout} {old new image : Image} {p : Plan} (i : IsIngest g old new
         reserves = reserves_on to_given here_reserves;
         begins = begins_there i;
         outcome = record { cell = record_bytes Abandon (outcome_at p.slot); stands = there (outcome_at p.slot) refl; is = is_abandon };
+        stamp = given_stamp;
         only = λ cell value is. ⊎_elim
             (λ same. inr (of_outcome same))
             (λ other. let here : image cell ≡ Some value = sym (elsewhere cell other) ∙ is in
@@ -199,7 +245,7 @@ module _ {g : Layout} {old new image : Image} {p : Plan} (i : IsIngest g old new
     reserved : image (reserve_at p.slot) ≡ Some i.reserve.cell
     reserved = has_reserve Committing (omega arith) (outcome_at p.slot) i.commit.cell commit_row (outcome_blank i) committed
 
-    log_here : (cell : ℕ) (value : List ℕ) → cell < list_at g 0 → (cell ≡ done_at p.slot → ⊥)
+    log_here : (cell : ℕ) (value : List ℕ) → cell < lists_at g → (cell ≡ done_at p.slot → ⊥)
         → new cell ≡ Some value → image cell ≡ Some value
     log_here cell value low other is = ⊎_elim (λ was. e.keeps cell value was) here (log_of i cell value low is)
       where
@@ -207,8 +253,16 @@ module _ {g : Layout} {old new image : Image} {p : Plan} (i : IsIngest g old new
         here (is_reserve at) = same_found cell value i.reserve.cell is (ap image at ∙ reserved)
         here (is_outcome at) = same_found cell value i.commit.cell is (ap image at ∙ committed)
         here (is_done at) = absurd (other at)
+        here (is_spare at) = ⊎_elim (λ was. e.keeps cell value was) (λ (row : AnyRow p cell value). spared at row.0 row.1) (i.rows.only cell value is)
+          where
+            spared : cell ≡ spare_at p.slot → (phase : Phase) → Row p phase cell value → image cell ≡ Some value
+            spared at Reserving row = absurd (omega (arith, row.at))
+            spared at Storing row = stored cell value row
+            spared at Committing row = absurd (omega (arith, row.at))
+            spared at Applying row = absurd (let far = applied_far i row in omega (arith, far, i.free))
+            spared at Finishing row = absurd (omega (arith, row.at))
 
-    holds_here : {cell : ℕ} {r : RecordCell} → cell < list_at g 0 → (cell ≡ done_at p.slot → ⊥)
+    holds_here : {cell : ℕ} {r : RecordCell} → cell < lists_at g → (cell ≡ done_at p.slot → ⊥)
         → Holds new cell r → Holds image cell r
     holds_here {cell} low other h = record { cell = h.cell; stands = log_here cell h.cell low other h.stands; is = h.is }
 
@@ -218,6 +272,8 @@ module _ {g : Layout} {old new image : Image} {p : Plan} (i : IsIngest g old new
       reserves = record { slot = c.reserves.slot; reserve = holds_here (omega (arith, c.reserves.slot)) (λ same. omega arith) c.reserves.reserve; from = c.reserves.from; to = c.reserves.to };
       outcome = holds_here (omega (arith, c.reserves.slot)) (λ same. omega arith) c.outcome;
       fits = c.fits;
+      stamped = λ version. let t = c.stamped version in
+          record { seconds = t.seconds; stamp = holds_here (omega (arith, c.reserves.slot)) (λ same. omega arith) t.stamp };
     }
 
     copies_here : {place target : ℕ} {r : RecordCell}
@@ -225,7 +281,7 @@ module _ {g : Layout} {old new image : Image} {p : Plan} (i : IsIngest g old new
         → Copies image p.start p.reserved (length p.journal) place target r
     copies_here {place} c =
         let entry = slice_get-get_or p.journal place [] c.below in
-        copies_back f (record { found = _; stands = stored (journal_at p.start p.reserved (length p.journal) + place) _ (inr (record { place = place; entry = entry; at = refl })) }) c
+        copies_back f (record { found = _; stands = stored (journal_at p.start p.reserved (length p.journal) + place) _ (inl (inr (record { place = place; entry = entry; at = refl }))) }) c
 
     -- 3. no done cell: settling completes the slot
     module _ (undone : image (done_at p.slot) ≡ None) where
@@ -273,7 +329,7 @@ module _ {g : Layout} {old new image : Image} {p : Plan} (i : IsIngest g old new
         place = row.place;
         copied = row.copied;
         copies = copies_here (applied_copies i row);
-        stands = stored (journal_at p.start p.reserved (length p.journal) + row.place) value (inr (record { place = row.place; entry = row.entry; at = refl }));
+        stands = stored (journal_at p.start p.reserved (length p.journal) + row.place) value (inl (inr (record { place = row.place; entry = row.entry; at = refl })));
       }))
       rest_row cell value is Finishing row = inr (inr row)
 

@@ -2,10 +2,10 @@
 use Rattle.std.proofs.Common.{◌≡◌, ◌<◌, ◌≤◌, ◌+◌, ◌⊎◌, ⊎_elim, inl, inr, ℕ, List, Some, None, refl, sym, ◌∙◌, subst, arith, length}
 use Rattle.std.proofs.lemmas.Option.{none-some, slice_get_within}
 use Rattle.cell_types.specs.Image.{Image}
-use Rattle.cell_types.specs.Layout.{Layout, reserve_at, outcome_at, done_at, list_at, pool_at}
+use Rattle.cell_types.specs.Layout.{Layout, reserve_at, outcome_at, done_at, spare_at, pool_at, lists_at}
 use Rattle.cell_types.specs.declared.record_cell.RecordCell.{RecordCell}
 use Rattle.cell_types.specs.declared.record_cell.RecordCell.TheVariants.{Reserve, Commit, Abandon}
-use Rattle.volume_growth.specs.Ingesting.{Plan, Phase, Reserving, Storing, Committing, Applying, Finishing, stored_of, ContentRow, CopyRow, AppliedRow, Row, AnyRow, IsIngest}
+use Rattle.volume_growth.specs.Ingesting.{Plan, Phase, Reserving, Storing, Committing, Applying, Finishing, stored_of, ContentRow, CopyRow, StoredRow, StampRow, AppliedRow, Row, AnyRow, IsIngest}
 use Rattle.tamper_rules.specs.Journals.{journal_at, Copies, IsInOrder}
 use Rattle.tamper_rules.specs.Rules
 use Rattle.tamper_rules.specs.Rules.{ReserveRule, OutcomeRule, DoneRule, JournalRule, RedoneRule}
@@ -19,11 +19,12 @@ use Rattle.stored_documents.proofs.OneDocument.{reserves, commits}
 use Rattle.tamper_rules.proofs.Settled.{taken_below}
 use Rattle.tamper_rules.proofs.SettlingGoesOn.{behind_log}
 
--- the cell is one of the three of slot n that an ingest writes
+-- the cell is one of the four of slot n that an ingest writes
 pub data IsLogCell (n cell : ℕ) : Type 0 where
   is_reserve : cell ≡ reserve_at n → IsLogCell n cell
   is_outcome : cell ≡ outcome_at n → IsLogCell n cell
   is_done : cell ≡ done_at n → IsLogCell n cell
+  is_spare : cell ≡ spare_at n → IsLogCell n cell
 
 -- the two images
 module _ {g : Layout} {old new : Image} {p : Plan} (i : IsIngest g old new p) where
@@ -39,7 +40,7 @@ module _ {g : Layout} {old new : Image} {p : Plan} (i : IsIngest g old new p) wh
 
   pub slot_commits : Commits g new p.slot p.start p.reserved (length (stored_of p)) (length p.journal)
   slot_commits =
-      let r : OutcomeRule new p.slot = i.after.met Rules.OutcomeCells (outcome_at p.slot) (record { found = i.commit.cell; stands = i.commit.stands }) p.slot i.free refl in
+      let r : OutcomeRule g new p.slot = i.after.met Rules.OutcomeCells (outcome_at p.slot) (record { found = i.commit.cell; stands = i.commit.stands }) p.slot i.free refl in
       record {
         reserves = slot_reserves;
         outcome = i.commit;
@@ -49,6 +50,10 @@ module _ {g : Layout} {old new : Image} {p : Plan} (i : IsIngest g old new p) wh
             let same = commits _ _ _ _ (one_record_holds new (outcome_at p.slot) (Commit (length (stored_of p)) (length p.journal)) (Commit h.0 h.1) i.commit h.2) in
             let fits : cells_for h.0 + h.1 ≤ p.reserved = h.3 p.start p.reserved i.reserve in
             subst (λ (b : ℕ). cells_for b + length p.journal ≤ p.reserved) (sym same.0) (omega (arith, same.1, fits)))
+            r.outcome;
+        stamped = λ version. ⊎_elim
+            (λ h. absurd (no_abandon (length (stored_of p)) (length p.journal) (one_record_holds new (outcome_at p.slot) (Commit (length (stored_of p)) (length p.journal)) Abandon i.commit h)))
+            (λ h. h.4 version)
             r.outcome;
       }
 
@@ -81,13 +86,13 @@ module _ {g : Layout} {old new : Image} {p : Plan} (i : IsIngest g old new p) wh
   applied_copies {cell} {value} row = record {
     below = slice_get_within p.journal row.place value row.entry;
     entry = value;
-    stands = i.rows.adds (journal_at p.start p.reserved (length p.journal) + row.place) value (Storing, inr (record { place = row.place; entry = row.entry; at = refl }));
+    stands = i.rows.adds (journal_at p.start p.reserved (length p.journal) + row.place) value (Storing, inl (inr (record { place = row.place; entry = row.entry; at = refl })));
     index = row.index;
     address = row.address;
     is = row.is;
   }
 
-  pub applied_far : {cell : ℕ} {value : List ℕ} → AppliedRow p cell value → list_at g 0 ≤ cell
+  pub applied_far : {cell : ℕ} {value : List ℕ} → AppliedRow p cell value → lists_at g ≤ cell
   applied_far {cell} {value} row =
       let c = applied_copies row in
       let o = in_order row.place c.below in
@@ -95,35 +100,38 @@ module _ {g : Layout} {old new : Image} {p : Plan} (i : IsIngest g old new p) wh
       omega (arith, behind_log o.index, same.1)
 
   -- what is stored lies in the slot's cells
-  pub stored_from : {cell : ℕ} {value : List ℕ} → Row p Storing cell value → p.start ≤ cell
+  pub stored_from : {cell : ℕ} {value : List ℕ} → StoredRow p cell value → p.start ≤ cell
   stored_from {cell} {value} row = ⊎_elim
       (λ (c : ContentRow p cell value). omega (arith, c.at, slot_commits.fits))
       (λ (c : CopyRow p cell value). omega (arith, c.at, slot_commits.fits))
       row
 
-  pub stored_to : {cell : ℕ} {value : List ℕ} → Row p Storing cell value → cell < p.start + p.reserved
+  pub stored_to : {cell : ℕ} {value : List ℕ} → StoredRow p cell value → cell < p.start + p.reserved
   stored_to {cell} {value} row = ⊎_elim
       (λ (c : ContentRow p cell value). omega (arith, c.at, c.below, slot_commits.fits))
       (λ (c : CopyRow p cell value). let below : c.place < length p.journal = slice_get_within p.journal c.place value c.entry in omega (arith, c.at, slot_commits.fits))
       row
 
-  -- the log changes in three cells
-  pub log_row : (cell : ℕ) (value : List ℕ) → cell < list_at g 0 → (phase : Phase) → Row p phase cell value
+  -- the log changes in four cells
+  pub log_row : (cell : ℕ) (value : List ℕ) → cell < lists_at g → (phase : Phase) → Row p phase cell value
       → IsLogCell p.slot cell
   log_row cell value low Reserving row = is_reserve row.at
-  log_row cell value low Storing row = absurd (let far = stored_from row in omega (arith, far, slot_reserves.from))
+  log_row cell value low Storing row = ⊎_elim
+      (λ stored. absurd (let far = stored_from stored in omega (arith, far, slot_reserves.from)))
+      (λ (s : StampRow p cell value). is_spare s.row.at)
+      row
   log_row cell value low Committing row = is_outcome row.at
   log_row cell value low Applying row = absurd (let far = applied_far row in omega arith)
   log_row cell value low Finishing row = is_done row.at
 
-  pub log_of : (cell : ℕ) (value : List ℕ) → cell < list_at g 0 → new cell ≡ Some value
+  pub log_of : (cell : ℕ) (value : List ℕ) → cell < lists_at g → new cell ≡ Some value
       → (old cell ≡ Some value) ⊎ IsLogCell p.slot cell
   log_of cell value low is = ⊎_elim inl (λ (row : AnyRow p cell value). inr (log_row cell value low row.0 row.1)) (i.rows.only cell value is)
 
   -- slot n was unused
   pub outcome_blank : old (outcome_at p.slot) ≡ None
   outcome_blank = ⊎_elim (λ none. none)
-      (λ h. let o : OutcomeRule old p.slot = i.before.met Rules.OutcomeCells (outcome_at p.slot) (record { found = h.0; stands = h.1 }) p.slot i.free refl in
+      (λ h. let o : OutcomeRule g old p.slot = i.before.met Rules.OutcomeCells (outcome_at p.slot) (record { found = h.0; stands = h.1 }) p.slot i.free refl in
       absurd (none-some _ (sym (i.horizon.free i.free) ∙ o.reserve.stands)))
       (look old (outcome_at p.slot))
 
@@ -152,6 +160,7 @@ module _ {g : Layout} {old new : Image} {p : Plan} (i : IsIngest g old new p) wh
       no_log (is_reserve at) = omega arith
       no_log (is_outcome at) = omega arith
       no_log (is_done at) = omega arith
+      no_log (is_spare at) = omega arith
 
   -- where the old image's reservations end
   pub begins_there : EndsBelow g old p.slot p.start
@@ -167,3 +176,4 @@ module _ {g : Layout} {old new : Image} {p : Plan} (i : IsIngest g old new p) wh
       no_log m next (is_reserve at) = omega arith
       no_log m next (is_outcome at) = omega arith
       no_log m next (is_done at) = omega arith
+      no_log m next (is_spare at) = omega arith

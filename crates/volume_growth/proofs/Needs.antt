@@ -27,7 +27,7 @@ bucket_costs (in_bucket level node path blank is) = (omega arith, omega arith)
 bucket_costs (in_new_node level node less path passed blank is) = (omega arith, omega arith)
 
 pub need_bounded : NeedIsBounded
-need_bounded g image n id body need is =
+need_bounded g image n id body stamp need is =
     let p = postings_cost is.costs in
     let b = bucket_costs is.bucket_costs in
     (omega (arith, p.0, b.0, is.sum), omega (arith, p.1, b.1, is.sum))

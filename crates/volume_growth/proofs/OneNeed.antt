@@ -1,25 +1,22 @@
 -- A document has one need on a settled image: its postings are one row, each of which costs one number and leaves one
 -- image, and its bucket goes to one place.
-use Rattle.std.proofs.Common.{◌≡◌, ◌<◌, ◌≤◌, ◌+◌, ◌*◌, ⊎_elim, ℕ, List, [], ◌∷◌, length, Some, None, zero, suc, refl, ap, sym, subst, arith, ◌∙◌}
-use Rattle.std.specs.Prelude.{Contains, slice_get}
+use Rattle.std.proofs.Common.{◌≡◌, ◌<◌, ◌≤◌, ◌+◌, ⊎_elim, ℕ, List, Some, None, refl, ap, sym, subst, arith, ◌∙◌}
 use Rattle.std.proofs.lemmas.Bool.{cases_lt, cases_order}
-use Rattle.std.proofs.Math.Nat.{mul-le-mul_right}
-use Rattle.std.proofs.lemmas.Option.{get_or_from_slice_get, none-some, slice_get_read, slice_get_within}
+use Rattle.std.proofs.lemmas.Option.{none-some}
 use Rattle.cell_types.specs.Image.{Image}
 use Rattle.cell_types.specs.Layout.{Layout, root_at}
 use Rattle.cell_types.specs.declared.record_cell.RecordCell.{RecordCell}
 use Rattle.cell_types.specs.declared.record_cell.RecordCell.TheVariants.{Jump}
 use Rattle.stored_documents.specs.Volumes.{Holds, IsWritten}
 use Rattle.stored_documents.proofs.Holding.{one_record_holds}
-use Rattle.stored_documents.proofs.Lists.{Rising, one_list}
 use Rattle.index_paths.specs.Blocks.{PostingFields, posting_record, InFront, IsFull, InSpan, pointer_at, at_the_start, behind}
 use Rattle.index_paths.specs.HashPaths.{IsPassed, LeadsDown, PassedTo, Sought, at_root, down, nibble}
 use Rattle.index_paths.specs.Keeping.{sought_in}
-use Rattle.index_paths.specs.Postings.{ListedPosting, ArePostings}
+use Rattle.index_paths.specs.Postings.{ListedPosting}
 use Rattle.index_paths.proofs.Fronts.{one_place}
 use Rattle.index_paths.proofs.HashTrails.{one_child}
+use Rattle.index_paths.proofs.OnePostings.{one_rows}
 use Rattle.index_paths.proofs.Spans.{apart}
-use Rattle.index_paths.proofs.Tags.{tags_one}
 use Rattle.tamper_rules.proofs.GivenUp.{jumps}
 use Rattle.tamper_rules.proofs.Images.{same_image}
 use Rattle.tamper_rules.proofs.Settled.{one_edge}
@@ -282,71 +279,10 @@ one_bucket {g} {image} {id} (in_new_node level node less path passed child is) c
 one_bucket (in_new_node level node less path passed child is) cost' (in_new_node level' node' less' path' passed' child' is') =
     is ∙ sym is'
 
-at_place : (xs : List ListedPosting) (x : ListedPosting) → Contains xs x → (i : ℕ) × (slice_get xs i ≡ Some x)
-at_place xs x (i, below, is) = (i, slice_get_read xs (length xs) i x refl below (sym is))
-
-member : (xs : List ListedPosting) (i : ℕ) (x : ListedPosting) → slice_get xs i ≡ Some x → Contains xs x
-member xs i x p = (i, slice_get_within xs i x p, get_or_from_slice_get xs i x x p)
-
-module _ (lists : ℕ) (body : List ℕ) (n : ℕ) where
-  -- by list and key
-  abbrev number : ListedPosting → ℕ
-  number a = a.list * (256 * (n + 1)) + a.posting.key
-
-  small : (rows : List ListedPosting) → ArePostings lists body n rows → (i : ℕ) (a : ListedPosting)
-      → slice_get rows i ≡ Some a → a.posting.key < 256 * (n + 1)
-  small rows are i a at =
-      let is = (are.each i a at).1 in
-      let t = are.exist.each a.list (are.each i a at).0 in
-      let same : is.tags ≡ t.0 = tags_one lists body a.list is.tags t.0 is.are t.1 in
-      let below = slice_get_within is.tags is.ordinal a.posting.tag is.here in
-      omega (arith, is.key, below, ap length same, t.2)
-
-  greater : (rows : List ListedPosting) → ArePostings lists body n rows → (i j : ℕ) (a b : ListedPosting) → i < j
-      → slice_get rows i ≡ Some a → slice_get rows j ≡ Some b → number a < number b
-  greater rows are i j a b less p q = ⊎_elim
-      (λ (low : a.list < b.list).
-      let more : (a.list + 1) * (256 * (n + 1)) ≤ b.list * (256 * (n + 1)) =
-      mul-le-mul_right (256 * (n + 1)) (omega (arith, low)) in
-      omega (arith, more, small rows are i a p))
-      (λ (s : (a.list ≡ b.list) × (a.posting.key < b.posting.key)).
-      let same : a.list * (256 * (n + 1)) ≡ b.list * (256 * (n + 1)) = ap (λ (l : ℕ). l * (256 * (n + 1))) s.0 in
-      omega (arith, same, s.1))
-      (are.order i j a b less p q)
-
-  rising : (from : ℕ) (rows : List ListedPosting)
-      → ((i : ℕ) (a : ListedPosting) → slice_get rows i ≡ Some a → from ≤ number a)
-      → ((i j : ℕ) (a b : ListedPosting) → i < j → slice_get rows i ≡ Some a → slice_get rows j ≡ Some b
-      → number a < number b)
-      → Rising number from rows
-  rising from [] low rise = tt
-  rising from (a ∷ rows) low rise = (
-    low zero a refl,
-    rising (number a + 1) rows
-        (λ i b is. let h : number a < number b = rise zero (suc i) a b (omega arith) refl is in omega (arith, h))
-        (λ i j b c less p q. rise (suc i) (suc j) b c (omega (arith, less)) p q),
-  )
-
-  within : (first second : List ListedPosting) → ArePostings lists body n first → ArePostings lists body n second
-      → (x : ListedPosting) → Contains first x → Contains second x
-  within first second a b x has =
-      let here = at_place first x has in
-      let is = a.each here.0 x here.1 in
-      let there = b.all x.list x.posting is.0 is.1 in
-      member second there.0 x there.1
-
-  -- a document's postings are one row
-  one_rows : (first second : List ListedPosting) → ArePostings lists body n first → ArePostings lists body n second
-      → first ≡ second
-  one_rows first second a b = one_list number 0 first second
-      (rising 0 first (λ i x is. omega arith) (greater first a))
-      (rising 0 second (λ i x is. omega arith) (greater second b))
-      (within first second a b) (within second first b a)
-
 pub need_one : NeedIsOne
-need_one g image n id body first second settled a b =
+need_one g image n id body stamp first second settled a b =
     let edges : a.edge ≡ b.edge = one_edge g image settled a.edge b.edge a.is_edge b.is_edge in
-    let rows : a.rows ≡ b.rows = one_rows g.lists body n a.rows b.rows a.are b.are in
+    let rows : a.rows ≡ b.rows = one_rows g stamp body n a.rows b.rows a.are b.are in
     let costs = subst (λ (e : ℕ). PostingsCost g a.new a.to b.rows image e a.postings) edges
     (subst (λ (r : List ListedPosting). PostingsCost g a.new a.to r image a.edge a.postings) rows a.costs) in
     let postings : a.postings ≡ b.postings = one_row costs b.postings b.costs in

@@ -3,7 +3,7 @@ use Rattle.std.proofs.Common.{◌≡◌, ◌<◌, ◌≤◌, ◌+◌, ◌⊎◌,
 use Rattle.std.proofs.lemmas.Option.{none-some}
 use Rattle.sha2.specs.Sha256.{sha256}
 use Rattle.cell_types.specs.Image.{Image}
-use Rattle.cell_types.specs.Layout.{Layout, done_at, list_at, pool_at}
+use Rattle.cell_types.specs.Layout.{Layout, done_at, list_at, pool_at, lists_at}
 use Rattle.cell_types.specs.declared.record_cell.RecordCell.TheVariants.{Jump, Child}
 use Rattle.index_paths.specs.Blocks.{PostingFields, posting_record, InFront, at_the_start, behind, pointer_at, Leads}
 use Rattle.stored_documents.specs.Documents.{Stands, document_at}
@@ -19,11 +19,11 @@ use Rattle.tamper_rules.specs.Rules.{Rule, IsMet, EntryRule, IsTruePosting, Post
 use Rattle.tamper_rules.specs.Settling.{IsSettled}
 use Rattle.stored_documents.specs.Slots.{Stores, IsLive}
 use Rattle.stored_documents.specs.Volumes.{Holds, IsWritten}
-use Rattle.index_paths.specs.Postings.{IsPostingOf}
 use Rattle.stored_documents.proofs.Extending.{holds_on, written_on, volume_on, live_on, stands_on}
 use Rattle.volume_growth.proofs.Filled.{free, keeps, mine, edge_is, stands_back, all_ended, old_low, blocks_from, blocks_to, stored_from, entry_copies, applied_entry, stores_on', rule_1, rule_2, rule_3, rule_4, rule_5, rule_6, rule_7, rule_15}
 use Rattle.stored_documents.proofs.Holding.{one_record_holds}
 use Rattle.tamper_rules.proofs.FullFronts.{full_ends}
+use Rattle.stored_documents.proofs.Stamps.{stamp_on}
 use Rattle.tamper_rules.proofs.GivenUp.{children, leads_further}
 use Rattle.tamper_rules.proofs.GoingOn.{on_path_on}
 use Rattle.volume_growth.proofs.TreeShapes.{node_place}
@@ -74,7 +74,7 @@ module _ {g : Layout} {old new : Image} {p : Plan} (w : IsWellPlanned g old new 
     volume = volume_on (keeps u) u.volume;
     slot = free u;
     done = mine u;
-    spells = λ k below. u.rows.adds _ _ (Storing, inl (record { place = k; below = below; at = refl; is = refl }));
+    spells = λ k below. u.rows.adds _ _ (Storing, inl (inl (record { place = k; below = below; at = refl; is = refl })));
     is_identifier = u.is_identifier;
     is_body = u.is_body;
   }
@@ -91,19 +91,22 @@ module _ {g : Layout} {old new : Image} {p : Plan} (w : IsWellPlanned g old new 
       (λ none.
       let k = w.postings l block place q b below (ap old (sym at) ∙ none) (subst (λ (c : ℕ). Holds new c (posting_record q)) at h) in
       record {
-        live = subst (λ (m : ℕ). IsLive g new m) (sym k.0) mine_live;
+        slot = p.slot;
+        live = mine_live;
         id = p.id;
         body = p.body;
-        stands = subst (λ (m : ℕ). Stands g.cells new m p.id p.body) (sym k.0) mine_stands;
+        stands = mine_stands;
         postings = w.has_postings;
-        is = subst (λ (m : ℕ). IsPostingOf g.lists p.body m l q) (sym k.0) k.1;
+        stamp = p.stamp;
+        is_stamp = u.stamp;
+        is = k;
       })
       (λ x. ⊎_elim
       (λ was.
       let r : PostingRule g old cell = u.before.met Rules.Postings cell (record { found = x.0; stands = x.1 }) in
       let held : Holds old cell (posting_record q) = record { cell = h.cell; stands = x.1 ∙ sym (same x.0 x.1) ∙ refl; is = h.is } in
       let t : IsTruePosting g old l q = r l block place q was below at held in
-      record { live = live_on (keeps u) (keeps u) t.live; id = t.id; body = t.body; stands = stands_on (keeps u) t.stands; postings = t.postings; is = t.is })
+      record { slot = t.slot; stamp = t.stamp; is_stamp = stamp_on g t.slot t.stamp (keeps u) t.is_stamp; live = live_on (keeps u) (keeps u) t.live; id = t.id; body = t.body; stands = stands_on (keeps u) t.stands; postings = t.postings; is = t.is })
       (λ fresh. absurd (
       let inside : pool_at g ≤ cell = omega (arith, fresh, at, u.reserves.from) in
       let less = old_low u cell x.0 x.1 inside in omega arith))
@@ -155,11 +158,11 @@ module _ {g : Layout} {old new : Image} {p : Plan} (w : IsWellPlanned g old new 
       (λ same.
       let e = one_document g.cells new p.slot id body p.id p.body (subst (λ (k : ℕ). Stands g.cells new k id body) same t) mine_stands in
       subst (λ (k : ℕ). TrailRule g new k body) (sym same) (subst (λ (b : List ℕ). TrailRule g new p.slot b) (sym e.1)
-      (record { postings = w.has_postings; trails = w.trails })))
+      (record { postings = w.has_postings; stamp = p.stamp; is_stamp = u.stamp; trails = w.trails })))
       (λ other.
       let b = stands_back u other t in
       let r : TrailRule g old m body = u.before.met Rules.Trails (done_at m) (record { found = b.done.done.cell; stands = b.done.done.stands }) m id body refl b in
-      record { postings = r.postings; trails = λ l q below is. let k = r.trails l q below is in (k.0, trail_on (keeps u) k.1) })
+      record { postings = r.postings; stamp = r.stamp; is_stamp = stamp_on g m r.stamp (keeps u) r.is_stamp; trails = λ l q below is. let k = r.trails l q below is in (k.0, trail_on (keeps u) k.1) })
       (same_or_not m p.slot)
 
   rule_14 : (m : ℕ) (id body : List ℕ) → Stands g.cells new m id body → PathRule g new m id
@@ -184,7 +187,7 @@ module _ {g : Layout} {old new : Image} {p : Plan} (w : IsWellPlanned g old new 
 
   -- where a node lies
   node_low : {v node : ℕ} → IsNode g new v node
-      → (list_at g 0 ≤ node) × ((node + 32 ≤ pool_at g) ⊎ (node + 32 ≤ blocks_end p))
+      → (lists_at g ≤ node) × ((node + 32 ≤ pool_at g) ⊎ (node + 32 ≤ blocks_end p))
   node_low n = ⊎_elim (λ is. (omega arith, inl (omega arith))) (λ h. (omega (arith, h.0), inr h.1)) (node_place w.tree n)
 
   node_high : {v node : ℕ} → IsNode g new v node → node + 32 ≤ blocks_end p
@@ -255,7 +258,7 @@ module _ {g : Layout} {old new : Image} {p : Plan} (w : IsWellPlanned g old new 
   applied_row : (v node x : ℕ) (value : List ℕ) → IsNode g new v node → x < 16 → (phase : Phase)
       → Row p phase (node + 16 + x) value → AppliedRow p (node + 16 + x) value
   applied_row v node x value n xs Reserving row = absurd (let low = (node_low n).0 in let f = free u in omega (arith, row.at))
-  applied_row v node x value n xs Storing row = absurd (let high = node_high n in let from = stored_from u row in omega arith)
+  applied_row v node x value n xs Storing row = absurd (let high = node_high n in ⊎_elim (λ stored. let from = stored_from u stored in omega arith) (λ s. let low = (node_low n).0 in let f = free u in omega (arith, s.row.at)) row)
   applied_row v node x value n xs Committing row = absurd (let low = (node_low n).0 in let f = free u in omega (arith, row.at))
   applied_row v node x value n xs Applying row = row
   applied_row v node x value n xs Finishing row = absurd (let low = (node_low n).0 in let f = free u in omega (arith, row.at))
@@ -276,7 +279,7 @@ module _ {g : Layout} {old new : Image} {p : Plan} (w : IsWellPlanned g old new 
         stores = record { commits = (mine u).commits; done = inr u.done };
         place = r.place;
         in_journal = k.below;
-        same = u.rows.adds _ _ (Storing, inr (record { place = r.place; entry = r.entry; at = refl })) ∙ sym c.child.stands;
+        same = u.rows.adds _ _ (Storing, inl (inr (record { place = r.place; entry = r.entry; at = refl }))) ∙ sym c.child.stands;
         in_blocks = w.new_children v node x c.target n xs none c.child;
         before_document = omega (arith, c.inside);
       })

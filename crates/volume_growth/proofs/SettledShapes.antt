@@ -2,7 +2,7 @@
 use Rattle.std.proofs.Common.{◌≡◌, ◌<◌, ◌≤◌, ◌+◌, ◌⊎◌, ⊎_elim, inl, inr, ℕ, List, Some, refl, sym, ◌∙◌, subst, arith}
 use Rattle.std.proofs.lemmas.Bool.{cases_order}
 use Rattle.cell_types.specs.Image.{Image}
-use Rattle.cell_types.specs.Layout.{Layout, IsLayout, list_at, pool_at}
+use Rattle.cell_types.specs.Layout.{Layout, all_lists, IsLayout, list_at, pool_at}
 use Rattle.cell_types.specs.declared.record_cell.RecordCell.TheVariants.{Jump, Child}
 use Rattle.index_paths.specs.Blocks.{Leads, arrived, onwards, pointer_at}
 use Rattle.volume_growth.specs.ListShapes.{IsWellListed}
@@ -30,7 +30,7 @@ edge_inside {g} {image} {at} l e = ⊎_elim
     (λ (w : (m : ℕ) × (start : ℕ) × (length : ℕ) × (e.u ≡ m + 1) × Reserves g image m start length × (at ≡ start + length)). let r = w.4 in omega (arith, r.to, w.5))
     e.ends
 
-module _ {g : Layout} {image : Image} {at l : ℕ} (layout : IsLayout g) (s : IsSettled g image) (e : IsEdge g image image at) (list : l < g.lists) where
+module _ {g : Layout} {image : Image} {at l : ℕ} (layout : IsLayout g) (s : IsSettled g image) (e : IsEdge g image image at) (list : l < all_lists g) where
   block_of : {block : ℕ} → Leads image (pool_at g) at block (list_at g l) → IsBlockOf g image l block
   block_of b = record { list = list; leads = leads_wider (edge_inside layout e) b }
 

@@ -1,5 +1,5 @@
 -- In a settled image each posting of a list has a trail: it is one of its slot's document, whose done cell asks for it.
-use Rattle.std.proofs.Common.{◌≡◌, ◌<◌, ◌≤◌, ◌+◌, ◌/◌, ℕ, refl, arith}
+use Rattle.std.proofs.Common.{◌≡◌, ◌<◌, ◌≤◌, ◌+◌, ℕ, Option, refl, subst, arith}
 use Rattle.cell_types.specs.Image.{Image}
 use Rattle.cell_types.specs.Layout.{Layout, done_at, list_at, pool_at}
 use Rattle.cell_types.specs.declared.record_cell.RecordCell.TheVariants.{Jump}
@@ -7,7 +7,9 @@ use Rattle.stored_documents.specs.Slots.{IsEdge}
 use Rattle.stored_documents.specs.Volumes.{Holds}
 use Rattle.stored_documents.proofs.Holding.{one_record_holds}
 use Rattle.index_paths.specs.Blocks.{PostingFields, posting_record, Trail, here, on, arrived, pointer_at}
+use Rattle.stored_documents.proofs.Stamps.{one}
 use Rattle.index_paths.specs.Nodes.{IsBlockOf}
+use Rattle.index_paths.specs.Postings.{IsPostingOf}
 use Rattle.tamper_rules.specs.Rules
 use Rattle.tamper_rules.specs.Rules.{IsTruePosting, LeadsWell, PointerRule, PostingRule, TrailRule}
 use Rattle.tamper_rules.specs.Settling.{IsSettled}
@@ -60,9 +62,10 @@ module _ {g : Layout} {image : Image} {at : ℕ} (s : IsSettled g image) (e : Is
       let r : PostingRule g image (block + place) =
       s.met Rules.Postings (block + place) (record { found = h.cell; stands = h.stands }) in
       let t : IsTruePosting g image l p = r l block place p b below refl h in
-      let n = p.key / 256 in
+      let n = t.slot in
       let done = t.stands.done.done in
       let k : TrailRule g image n t.body =
       s.met Rules.Trails (done_at n) (record { found = done.cell; stands = done.stands }) n t.id t.body refl t.stands in
-      let trail = k.trails l p b.list t.is in
+      let same : t.stamp ≡ k.stamp = one g image n t.stamp k.stamp t.is_stamp k.is_stamp in
+      let trail = k.trails l p b.list (subst (λ (s : Option ℕ). IsPostingOf g s t.body n l p) same t.is) in
       (trail.0, narrow (record { list = b.list; leads = arrived (list_at g l) refl }) trail.1)

@@ -1,8 +1,8 @@
 -- A plan whose cells are all written.
-use Rattle.std.specs.Prelude.{◌≡◌, ◌<◌, ◌≤◌, ◌+◌, ◌/◌, ◌^◌, ◌⊎◌, ℕ, List, [], ◌∷◌, ◌++◌, length, slice_get, Some, None}
+use Rattle.std.specs.Prelude.{◌≡◌, ◌<◌, ◌≤◌, ◌+◌, ◌^◌, ◌⊎◌, ℕ, List, [], ◌∷◌, ◌++◌, length, slice_get, Some, None}
 use Rattle.sha2.specs.Sha256.{sha256}
 use Rattle.cell_types.specs.Image.{Image}
-use Rattle.cell_types.specs.Layout.{Layout, outcome_at, done_at, list_at, root_at, pool_at}
+use Rattle.cell_types.specs.Layout.{Layout, outcome_at, done_at, all_lists, list_at, root_at, pool_at}
 use Rattle.cell_types.specs.Records.{IsRecordCell}
 use Rattle.cell_types.specs.declared.record_cell.RecordCell.{RecordCell}
 use Rattle.cell_types.specs.declared.record_cell.RecordCell.TheVariants.{Commit, Done, Bucket, Child}
@@ -18,7 +18,7 @@ use Rattle.volume_growth.specs.Ingesting.{Plan, Phase, stored_of, AnyRow, IsLeft
 use Rattle.tamper_rules.specs.Journals.{IsIndexRecord, IsIndexCell, LiesInBlocks}
 use Rattle.tamper_rules.specs.Rules.{TilingRule}
 use Rattle.tamper_rules.specs.Settling.{IsSettled, IsWith}
-use Rattle.stored_documents.specs.Slots.{cells_for, Reserves, IsHorizon, EndsBelow}
+use Rattle.stored_documents.specs.Slots.{cells_for, Reserves, IsDoneSlot, IsHorizon, EndsBelow, HasStamp, IsStampOf}
 use Rattle.stored_documents.specs.Volumes.{Holds, IsWritten, IsVolume}
 
 -- where a plan's block part ends and its document begins
@@ -44,7 +44,8 @@ pub record IsPlannedCopy (g : Layout) (old : Image) (p : Plan) (place : ℕ) : T
   pub index : IsIndexCell g old p.slot target ⊎ (p.start ≤ target)
 
 -- New is old, which is settled, with the cells of a plan: its slot is at the horizon and its cells begin at the edge, it
--- stores a document, and its journal is in order and tiles its blocks.
+-- stores a document, with a stamp past those of the done slots where documents are stamped, and its journal is in order and
+-- tiles its blocks.
 pub record IsFilled (g : Layout) (old new : Image) (p : Plan) : Type 0 where
   pub volume : IsVolume g.cells old g
   pub before : IsSettled g old
@@ -54,6 +55,8 @@ pub record IsFilled (g : Layout) (old new : Image) (p : Plan) : Type 0 where
   pub commit : Holds new (outcome_at p.slot) (Commit (length (stored_of p)) (length p.journal))
   pub done : Holds new (done_at p.slot) (Done p.slot)
   pub fits : cells_for (length (stored_of p)) + length p.journal ≤ p.reserved
+  pub stamp : IsStampOf g new p.slot p.stamp
+  pub rises : (m lower seconds : ℕ) → p.stamp ≡ Some seconds → IsDoneSlot g old m → HasStamp old m lower → lower < seconds
   pub rows : IsWith (AnyRow p) old new
   pub is_identifier : IsIdentifier p.id
   pub is_body : IsBody p.body
@@ -69,7 +72,7 @@ pub record IsFilled (g : Layout) (old new : Image) (p : Plan) : Type 0 where
 -- the document's, on its path. The document has a hash trail, and its identifier is new.
 pub record IsWellPlanned (g : Layout) (old new : Image) (p : Plan) : Type 0 where
   pub filled : IsFilled g old new p
-  pub lists : (l : ℕ) → l < g.lists → IsWellListed new (pool_at g) (blocks_end p) (list_at g l)
+  pub lists : (l : ℕ) → l < all_lists g → IsWellListed new (pool_at g) (blocks_end p) (list_at g l)
   pub owners : (l block : ℕ) → IsBlockOf g new l block
       → (block ≡ list_at g l) ⊎ ((m : ℕ) × LiesInBlocks g new m block × LiesInBlocks g new m (block + 255))
   pub apart : (l k a b : ℕ) → IsBlockOf g new l a → IsBlockOf g new k b → ((b ≡ a) × (k ≡ l)) ⊎ AreApart a 256 b 256
@@ -77,9 +80,9 @@ pub record IsWellPlanned (g : Layout) (old new : Image) (p : Plan) : Type 0 wher
   pub blocks : (l block : ℕ) → IsBlockOf g new l block → IsBlockOf g old l block ⊎ (p.start ≤ block)
   pub postings : (l block place : ℕ) (q : PostingFields) → IsBlockOf g new l block → place < 128
       → old (block + place) ≡ None
-      → Holds new (block + place) (posting_record q) → (q.key / 256 ≡ p.slot) × IsPostingOf g.lists p.body p.slot l q
-  pub has_postings : HasPostings g.lists p.body
-  pub trails : (l : ℕ) (q : PostingFields) → l < g.lists → IsPostingOf g.lists p.body p.slot l q
+      → Holds new (block + place) (posting_record q) → IsPostingOf g p.stamp p.body p.slot l q
+  pub has_postings : HasPostings g p.body
+  pub trails : (l : ℕ) (q : PostingFields) → l < all_lists g → IsPostingOf g p.stamp p.body p.slot l q
       → (at : ℕ) × Trail new (pool_at g) g.cells at q (list_at g l)
   pub tree : IsWellRooted g new (blocks_end p)
   pub nodes : (v node : ℕ) → IsNode g new v node → IsNode g old v node ⊎ (p.start ≤ node)

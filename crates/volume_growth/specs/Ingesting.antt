@@ -1,23 +1,25 @@
 -- The cells that one ingest writes, in five phases.
-use Rattle.std.specs.Prelude.{◌≡◌, ◌<◌, ◌≤◌, ◌+◌, ◌^◌, ◌⊎◌, ℕ, List, length, slice_get, Some, None}
+use Rattle.std.specs.Prelude.{◌≡◌, ◌<◌, ◌≤◌, ◌+◌, ◌^◌, ◌⊎◌, ℕ, List, length, slice_get, Option, Some, None}
 use Rattle.cell_types.specs.Image.{Image, Extends}
-use Rattle.cell_types.specs.Layout.{Layout, reserve_at, outcome_at, done_at}
+use Rattle.cell_types.specs.Layout.{Layout, reserve_at, outcome_at, done_at, spare_at}
 use Rattle.cell_types.specs.Records.{IsRecordCell}
 use Rattle.cell_types.specs.declared.record_cell.RecordCell.{RecordCell}
-use Rattle.cell_types.specs.declared.record_cell.RecordCell.TheVariants.{Reserve, Commit, Done}
+use Rattle.cell_types.specs.declared.record_cell.RecordCell.TheVariants.{Reserve, Commit, Done, Stamp}
 use Rattle.stored_documents.specs.Documents.{Document, AreDocuments, stored_bytes, content_at, document_at}
 use Rattle.tamper_rules.specs.Journals.{journal_at, IsIndexRecord}
 use Rattle.tamper_rules.specs.Settling.{IsSettled, IsWith, RecordRow, DoneRow, Sound, Held}
 use Rattle.stored_documents.specs.Slots.{cells_for, IsHorizon}
 use Rattle.stored_documents.specs.Volumes.{Holds, IsVolume, IsWritten}
 
--- What an ingest is to write: a document into a slot, which reserves these cells, and the cells of its journal.
+-- What an ingest is to write: a document into a slot, which reserves these cells, and the cells of its journal; on a volume
+-- of stamped documents its stamp.
 pub record Plan : Type 0 where
   pub slot : ℕ
   pub start : ℕ
   pub reserved : ℕ
   pub id : List ℕ
   pub body : List ℕ
+  pub stamp : Option ℕ
   pub journal : List (List ℕ)
 
 -- the phases
@@ -39,6 +41,12 @@ order_of Finishing = 4
 -- the bytes that are stored, and how many
 abbrev pub stored_of : Plan → List ℕ
 stored_of p = stored_bytes p.id p.body
+
+-- the stamp, in the slot's spare cell
+pub record StampRow (p : Plan) (cell : ℕ) (value : List ℕ) : Type 0 where
+  pub seconds : ℕ
+  pub given : p.stamp ≡ Some seconds
+  pub row : RecordRow (Stamp seconds) (spare_at p.slot) cell value
 
 -- a cell of the document
 pub record ContentRow (p : Plan) (cell : ℕ) (value : List ℕ) : Type 0 where
@@ -62,10 +70,14 @@ pub record AppliedRow (p : Plan) (cell : ℕ) (value : List ℕ) : Type 0 where
   pub address : cell < 2 ^ 32
   pub is : IsRecordCell copied cell value
 
+-- a cell of the document or of the journal
+abbrev pub StoredRow : Plan → ℕ → List ℕ → Type 0
+StoredRow p cell value = ContentRow p cell value ⊎ CopyRow p cell value
+
 -- in this phase the cell gets this value
 abbrev pub Row : Plan → Phase → ℕ → List ℕ → Type 0
 Row p Reserving cell value = RecordRow (Reserve p.start p.reserved) (reserve_at p.slot) cell value
-Row p Storing cell value = ContentRow p cell value ⊎ CopyRow p cell value
+Row p Storing cell value = StoredRow p cell value ⊎ StampRow p cell value
 Row p Committing cell value = RecordRow (Commit (length (stored_of p)) (length p.journal)) (outcome_at p.slot) cell value
 Row p Applying cell value = AppliedRow p cell value
 Row p Finishing cell value = DoneRow p.slot cell value

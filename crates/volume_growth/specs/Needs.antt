@@ -3,7 +3,7 @@
 --     the document's cells         1 for each 15 stored bytes
 --     a posting                    1: its journal cell; 2 with a jump cell; 258 with a new block besides
 --     the bucket                   1: its journal cell; 34 with a child cell and a new node
-use Rattle.std.specs.Prelude.{◌≡◌, ◌<◌, ◌≤◌, ◌+◌, ◌*◌, ℕ, List, [], ◌∷◌, length, None}
+use Rattle.std.specs.Prelude.{◌≡◌, ◌<◌, ◌≤◌, ◌+◌, ◌*◌, ℕ, List, [], ◌∷◌, length, Option, None}
 use Rattle.cell_types.specs.Image.{Image}
 use Rattle.cell_types.specs.Layout.{Layout, list_at, root_at, pool_at}
 use Rattle.cell_types.specs.declared.record_cell.RecordCell.TheVariants.{Jump}
@@ -101,12 +101,12 @@ pub data BucketCosts (g : Layout) (image : Image) (id : List ℕ) (cost : ℕ) :
       → image (node + 16 + nibble (sought_in g.cells g id).digest level) ≡ None → cost ≡ 34
       → BucketCosts g image id cost
 
--- the need of a document in slot n of a settled image
-pub record IsNeed (g : Layout) (image : Image) (n : ℕ) (id body : List ℕ) (need : ℕ) : Type 0 where
+-- the need of a document with this stamp in slot n of a settled image
+pub record IsNeed (g : Layout) (image : Image) (n : ℕ) (id body : List ℕ) (stamp : Option ℕ) (need : ℕ) : Type 0 where
   pub edge : ℕ
   pub is_edge : IsEdge g image image edge
   pub rows : List ListedPosting
-  pub are : ArePostings g.lists body n rows
+  pub are : ArePostings g stamp body n rows
   pub new : Image
   pub to : ℕ
   pub postings : ℕ
@@ -118,12 +118,13 @@ pub record IsNeed (g : Layout) (image : Image) (n : ℕ) (id body : List ℕ) (n
 -- each posting costs at least its journal cell, and at most a block, a jump cell and its own
 abbrev pub NeedIsBounded : Type 0
 NeedIsBounded =
-    (g : Layout) (image : Image) (n : ℕ) (id body : List ℕ) (need : ℕ) → (is : IsNeed g image n id body need)
+    (g : Layout) (image : Image) (n : ℕ) (id body : List ℕ) (stamp : Option ℕ) (need : ℕ)
+    → (is : IsNeed g image n id body stamp need)
     → (cells_for (length (stored_bytes id body)) + length is.rows + 1 ≤ need)
     × (need ≤ cells_for (length (stored_bytes id body)) + 258 * length is.rows + 34)
 
 -- a document has one need on a settled image
 abbrev pub NeedIsOne : Type 0
 NeedIsOne =
-    (g : Layout) (image : Image) (n : ℕ) (id body : List ℕ) (one other : ℕ) → IsSettled g image
-    → IsNeed g image n id body one → IsNeed g image n id body other → one ≡ other
+    (g : Layout) (image : Image) (n : ℕ) (id body : List ℕ) (stamp : Option ℕ) (one other : ℕ) → IsSettled g image
+    → IsNeed g image n id body stamp one → IsNeed g image n id body stamp other → one ≡ other

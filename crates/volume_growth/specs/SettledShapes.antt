@@ -7,7 +7,7 @@ use Rattle.stored_documents.specs.Documents.{Stands}
 use Rattle.index_paths.specs.HashPaths.{nibble, fingerprint_of}
 use Rattle.stored_documents.specs.Volumes.{Holds, IsWritten}
 use Rattle.cell_types.specs.Image.{Image}
-use Rattle.cell_types.specs.Layout.{Layout, IsLayout, list_at, pool_at}
+use Rattle.cell_types.specs.Layout.{Layout, IsLayout, all_lists, list_at, pool_at}
 use Rattle.volume_growth.specs.ListShapes.{IsWellListed}
 use Rattle.index_paths.specs.Blocks.{PostingFields, posting_record, Trail}
 use Rattle.index_paths.specs.Nodes.{IsBlockOf, IsNode, IsOnPath}
@@ -18,7 +18,7 @@ use Rattle.volume_growth.specs.TreeShapes.{IsWellRooted}
 -- each list of a settled image has its shape, with the edge as the end of its room
 abbrev pub SettledListed : Type 0
 SettledListed = (g : Layout) (image : Image) (at l : ℕ) → IsLayout g → IsSettled g image
-    → IsEdge g image image at → l < g.lists → IsWellListed image (pool_at g) at (list_at g l)
+    → IsEdge g image image at → l < all_lists g → IsWellListed image (pool_at g) at (list_at g l)
 
 -- and so has the tree
 abbrev pub SettledRooted : Type 0

@@ -1,2 +1,7 @@
+pub mod Among
+pub mod Folding
+pub mod Passing
 pub mod Reading
 pub mod Seeking
+pub mod Tables
+pub mod Ways

@@ -3,6 +3,8 @@ use Rattle.std.proofs.Common.{◌≡◌, ◌⊎◌, ◌↔◌, ℕ, Bool, true, 
 use Rattle.std.specs.Prelude.{Contains}
 use Rattle.std.proofs.lemmas.List.{append_assoc, append-nil}
 use Rattle.stored_documents.specs.Words.{is_word_byte, lowered, ended, words_from, words_of, AreWords, HasWord}
+use Rattle.stored_documents.specs.declared.word_rules.WordRule.{WordRule}
+use Rattle.stored_documents.specs.declared.word_rules.WordRule.TheVariants.{Ascii}
 use Rattle.stored_documents.proofs.Words.{words_are_one}
 use Rattle.word_reader.specs.Matching.{run_after, ended_after}
 
@@ -18,11 +20,11 @@ module _ {X : Type 0} (c : Bool) (x y : X) where
   passed e = ap (λ (d : Bool). if d then x else y) e
 
 module _ (run bytes : List ℕ) (b : ℕ) where
-  pub words_on : is_word_byte b ≡ true → words_from run (b ∷ bytes) ≡ words_from (run ++ lowered b ∷ []) bytes
-  words_on e = chosen (is_word_byte b) (words_from (run ++ lowered b ∷ []) bytes) (ended run ++ words_from [] bytes) e
+  pub words_on : is_word_byte b ≡ true → words_from Ascii run (b ∷ bytes) ≡ words_from Ascii (run ++ lowered b ∷ []) bytes
+  words_on e = chosen (is_word_byte b) (words_from Ascii (run ++ lowered b ∷ []) bytes) (ended run ++ words_from Ascii [] bytes) e
 
-  pub words_end : is_word_byte b ≡ false → words_from run (b ∷ bytes) ≡ ended run ++ words_from [] bytes
-  words_end e = passed (is_word_byte b) (words_from (run ++ lowered b ∷ []) bytes) (ended run ++ words_from [] bytes) e
+  pub words_end : is_word_byte b ≡ false → words_from Ascii run (b ∷ bytes) ≡ ended run ++ words_from Ascii [] bytes
+  words_end e = passed (is_word_byte b) (words_from Ascii (run ++ lowered b ∷ []) bytes) (ended run ++ words_from Ascii [] bytes) e
 
   pub run_on : is_word_byte b ≡ true → run_after run (b ∷ bytes) ≡ run_after (run ++ lowered b ∷ []) bytes
   run_on e = chosen (is_word_byte b) (run_after (run ++ lowered b ∷ []) bytes) (run_after [] bytes) e
@@ -77,7 +79,7 @@ module _ (b : ℕ) (e : is_word_byte b ≡ false) where
   ]
 
 -- all terms are those that have ended and the run
-pub both : (bytes run : List ℕ) → words_from run bytes ≡ ended_after run bytes ++ ended (run_after run bytes)
+pub both : (bytes run : List ℕ) → words_from Ascii run bytes ≡ ended_after run bytes ++ ended (run_after run bytes)
 both [] run = refl
 both (a ∷ bytes) run = elim (bool_cases (is_word_byte a)) [
   | inl on ↦ words_on run bytes a on ∙ both bytes (run ++ lowered a ∷ [])
@@ -90,19 +92,20 @@ both (a ∷ bytes) run = elim (bool_cases (is_word_byte a)) [
 ]
 
 -- the words of the body, by the run that has not ended
-pub split : (bytes : List ℕ) → words_of bytes ≡ ended_after [] bytes ++ ended (run_after [] bytes)
+pub split : (bytes : List ℕ) → words_of Ascii bytes ≡ ended_after [] bytes ++ ended (run_after [] bytes)
 unfolding words_of
 split bytes = both bytes []
 
 -- what is read from the first byte on are the words
-pub are_words : (bytes : List ℕ) (words : List (List ℕ)) → words ≡ words_of bytes → AreWords bytes words
-are_words bytes words is = subst (AreWords bytes) (sym is) (words_are_one.read bytes)
+pub are_words : (rule : WordRule) (bytes : List ℕ) (words : List (List ℕ)) → words ≡ words_of rule bytes
+    → AreWords rule bytes words
+are_words rule bytes words is = subst (AreWords rule bytes) (sym is) (words_are_one.read rule bytes)
 
 -- a word of the body is one of those that are read
-pub has_word : (bytes word : List ℕ) → Contains (words_of bytes) word ↔ HasWord bytes word
+pub has_word : (bytes word : List ℕ) → Contains (words_of Ascii bytes) word ↔ HasWord Ascii bytes word
 has_word bytes word = (
-  λ has. record { words = words_of bytes; are = words_are_one.read bytes; among = has },
-  λ h. subst (λ (ws : List (List ℕ)). Contains ws word) (words_are_one.one bytes h.words h.are) h.among,
+  λ has. record { words = words_of Ascii bytes; are = words_are_one.read Ascii bytes; among = has },
+  λ h. subst (λ (ws : List (List ℕ)). Contains ws word) (words_are_one.one Ascii bytes h.words h.are) h.among,
 )
 
 -- a row of one item

@@ -9,12 +9,13 @@ use Rattle.std.proofs.lemmas.Bool.Decides.{nat_tests}
 use Rattle.std.proofs.Math.ListN.{get_or}
 use Rattle.std.proofs.Math.Seq.{get_or-append_seam}
 use Rattle.stored_documents.specs.Words.{is_word_byte, lowered, ended, words_of, HasWord, Matches}
-use Rattle.word_reader.specs.Matching.{run_after, ended_after, Seeks, SeekAll, is_found, cleared, goes_on, pushed}
-use Rattle.word_reader.specs.declared.matcher.Sought.{Sought}
+use Rattle.stored_documents.specs.declared.word_rules.WordRule.TheVariants.{Ascii}
+use Rattle.word_reader.specs.Matching.{run_after, ended_after, Seeks, SeekAll, Tracks, is_found, cleared, goes_on, pushed}
+use Rattle.word_reader.specs.declared.byte_matcher.Sought.{Sought}
 use Rattle.word_reader.proofs.Reading.{bool_cases, chosen, passed, run_last, ended_last, run_gone, ended_more, split, has_word}
 
 -- a test answers one thing
-true_false : true ≡ false → ⊥
+pub true_false : true ≡ false → ⊥
 true_false e = cc
 
 -- what passes one test or the other
@@ -33,7 +34,7 @@ or_right true b e = refl
 or_right false b e = e
 
 -- what passes both tests
-and_of : (a b : Bool) → a ≡ true → b ≡ true → (a && b) ≡ true
+pub and_of : (a b : Bool) → a ≡ true → b ≡ true → (a && b) ≡ true
 and_of true b e f = f
 and_of false b e f = absurd (true_false (sym e))
 
@@ -51,7 +52,7 @@ is_nat_eq : (m n : ℕ) → m ≡ n → nat_eq m n ≡ true
 is_nat_eq m n e = grind (arith, nat_tests)
 
 -- a front with one byte more
-take_more_of : (xs : List ℕ) (i : ℕ) → i < length xs → take (i + 1) xs ≡ take i xs ++ slice_index xs i ∷ []
+pub take_more_of : (xs : List ℕ) (i : ℕ) → i < length xs → take (i + 1) xs ≡ take i xs ++ slice_index xs i ∷ []
 take_more_of xs i less = take_more xs i 0 less
 
 -- a list of one has one member
@@ -76,6 +77,10 @@ is_all term on at = on && (nat_lt 0 at && nat_eq at (length term))
 -- a member of a list is one of an equal list
 carried : {xs ys : List (List ℕ)} → (t : List ℕ) → xs ≡ ys → Contains xs t → Contains ys t
 carried t e has = subst (λ (l : List (List ℕ)). Contains l t) e has
+
+-- a step that leaves the term and what was found
+abbrev pub Keeps : (Sought → Sought) → Type 0
+Keeps f = (s : Sought) → ((f s).bytes.items ≡ s.bytes.items) × (s.found ≡ true → (f s).found ≡ true)
 
 -- What one term is known of, after these bytes.
 module _ (term : List ℕ) (found on : Bool) (at : ℕ) (bytes : List ℕ) (s : Seeks term found on at bytes) where
@@ -103,7 +108,7 @@ module _ (term : List ℕ) (found on : Bool) (at : ℕ) (bytes : List ℕ) (s : 
       ]
 
   -- it is among the words
-  pub found_now : ((found || is_all term on at) ≡ true) ↔ Contains (words_of bytes) term
+  pub found_now : ((found || is_all term on at) ≡ true) ↔ Contains (words_of Ascii bytes) term
   found_now = (
     λ e. carried term (sym (split bytes)) (⊎_elim
         (λ (f : found ≡ true). Contains-append_left (ended_after [] bytes) (ended (run_after [] bytes)) term (s.found_is.0 f))
@@ -171,6 +176,25 @@ module _ (term : List ℕ) (found on : Bool) (at : ℕ) (bytes : List ℕ) (s : 
         ];
   }
 
+-- what is sought is tracked
+pub of_seeks : (t : List ℕ) (found on : Bool) (at : ℕ) (bytes : List ℕ) → Seeks t found on at bytes → Tracks t found on at bytes
+of_seeks t found on at bytes s = record { ended = λ e. s.found_is.0 e; seeks = λ e. s }
+
+-- a word that has ended stays among them
+ended_stays : (t bytes : List ℕ) (b : ℕ) → Contains (ended_after [] bytes) t → Contains (ended_after [] (bytes ++ b ∷ [])) t
+ended_stays t bytes b has = elim (bool_cases (is_word_byte b)) [
+  | inl on ↦ carried t (sym (ended_last b on bytes [])) has
+  | inr off ↦ carried t (sym (ended_more b off bytes [])) (Contains-append_left (ended_after [] bytes) (ended (run_after [] bytes)) t has)
+]
+
+-- what was found is tracked, whatever comes
+pub found_stays : (t : List ℕ) (found on later : Bool) (at k : ℕ) (bytes : List ℕ) (b : ℕ) → Tracks t found on at bytes
+    → found ≡ true → (next : Bool) → next ≡ true → Tracks t next later k (bytes ++ b ∷ [])
+found_stays t found on later at k bytes b h e next is = record {
+  ended = λ f. ended_stays t bytes b (h.ended e);
+  seeks = λ f. absurd (true_false (sym is ∙ f));
+}
+
 -- one of the terms, after one more byte
 seeks_more : (t : List ℕ) (b : ℕ) (x : Sought) (bytes : List ℕ) → x.bytes.items ≡ t
     → Seeks t x.found x.agrees x.front bytes
@@ -217,6 +241,28 @@ bytes_stay b s y e = elim (bool_cases (is_word_byte b)) [
   ]
 ]
 
+-- and what was found stays so
+found_on : (b : ℕ) (s : Sought) → s.found ≡ true → (pushed b s).found ≡ true
+found_on b s e = elim (bool_cases (is_word_byte b)) [
+  | inr off ↦ ap (λ (z : Sought). z.found) (passed (is_word_byte b) _ _ off) ∙ or_left s.found _ e
+  | inl on ↦ elim (bool_cases (goes_on b s)) [
+    | inl goes ↦ ap (λ (z : Sought). z.found) (chosen (is_word_byte b) _ _ on ∙ chosen (goes_on b s) _ _ goes) ∙ e
+    | inr stops ↦ ap (λ (z : Sought). z.found) (chosen (is_word_byte b) _ _ on ∙ passed (goes_on b s) _ _ stops) ∙ e
+  ]
+]
+
+tracks_more : (t : List ℕ) (b : ℕ) (x : Sought) (bytes : List ℕ) → x.bytes.items ≡ t
+    → Tracks t x.found x.agrees x.front bytes
+    → Tracks t (pushed b x).found (pushed b x).agrees (pushed b x).front (bytes ++ b ∷ [])
+tracks_more t b x bytes same h = elim (bool_cases x.found) [
+  | inl e ↦ found_stays t x.found x.agrees (pushed b x).agrees x.front (pushed b x).front bytes b h e (pushed b x).found (found_on b x e)
+  | inr e ↦ of_seeks t (pushed b x).found (pushed b x).agrees (pushed b x).front (bytes ++ b ∷ []) (seeks_more t b x bytes same (h.seeks e))
+]
+
+-- a sought term stays the same, and stays found
+pub pushed_keeps : (b : ℕ) → Keeps (pushed b)
+pushed_keeps b s = (bytes_stay b s (pushed b s) refl, found_on b s)
+
 -- each of the terms, after one more byte
 pub all_more : (b : ℕ) (bytes : List ℕ) (ss : List Sought) (ts : List (List ℕ)) → SeekAll ss ts bytes
     → SeekAll (map (pushed b) ss) ts (bytes ++ b ∷ [])
@@ -225,25 +271,36 @@ all_more b bytes [] (t ∷ ts) all = all
 all_more b bytes (s ∷ ss) [] all = all
 all_more b bytes (s ∷ ss) (t ∷ ts) all = (
   bytes_stay b s (pushed b s) refl ∙ all.0,
-  seeks_more t b s bytes all.0 all.1,
+  tracks_more t b s bytes all.0 all.1,
   all_more b bytes ss ts all.2,
 )
 
 -- the body matches one term more where it has that one too
-matches_more : (bytes t : List ℕ) (ts : List (List ℕ)) → HasWord bytes t → Matches bytes ts → Matches bytes (t ∷ ts)
-matches_more bytes t ts here rest term (zero, low, is) = subst (HasWord bytes) is here
+matches_more : (bytes t : List ℕ) (ts : List (List ℕ)) → HasWord Ascii bytes t → Matches Ascii bytes ts → Matches Ascii bytes (t ∷ ts)
+matches_more bytes t ts here rest term (zero, low, is) = subst (HasWord Ascii bytes) is here
 matches_more bytes t ts here rest term (suc k, low, is) = rest term (k, omega (arith, low), is)
+
+-- what is tracked is found where it is among the words
+tracked_now : (t : List ℕ) (found on : Bool) (at : ℕ) (bytes : List ℕ) → Tracks t found on at bytes
+    → ((found || is_all t on at) ≡ true) ↔ Contains (words_of Ascii bytes) t
+tracked_now t found on at bytes h = elim (bool_cases found) [
+  | inl e ↦ (
+    λ f. carried t (sym (split bytes)) (Contains-append_left (ended_after [] bytes) (ended (run_after [] bytes)) t (h.ended e)),
+    λ has. or_left found _ e,
+  )
+  | inr e ↦ found_now t found on at bytes (h.seeks e)
+]
 
 -- all are found where all match
 pub all_found : (bytes : List ℕ) (ss : List Sought) (ts : List (List ℕ)) → SeekAll ss ts bytes
-    → (list_all is_found ss ≡ true) ↔ Matches bytes ts
+    → (list_all is_found ss ≡ true) ↔ Matches Ascii bytes ts
 all_found bytes [] [] all = (λ e term has. absurd (omega (arith, has.1)), λ m. refl)
 all_found bytes [] (t ∷ ts) all = absurd all
 all_found bytes (s ∷ ss) [] all = absurd all
 all_found bytes (s ∷ ss) (t ∷ ts) all =
-    let same : (is_found s ≡ true) ↔ Contains (words_of bytes) t =
-    subst (λ (l : List ℕ). ((s.found || is_all l s.agrees s.front) ≡ true) ↔ Contains (words_of bytes) t)
-    (sym all.0) (found_now t s.found s.agrees s.front bytes all.1) in
+    let same : (is_found s ≡ true) ↔ Contains (words_of Ascii bytes) t =
+    subst (λ (l : List ℕ). ((s.found || is_all l s.agrees s.front) ≡ true) ↔ Contains (words_of Ascii bytes) t)
+    (sym all.0) (tracked_now t s.found s.agrees s.front bytes all.1) in
     let rest = all_found bytes ss ts all.2 in (
       λ e.
           let p = and_parts (is_found s) (list_all is_found ss) e in
@@ -262,9 +319,13 @@ seeks_none t = record {
   left_it = λ e. absurd (true_false e);
 }
 
+-- and it is tracked so
+pub tracks_none : (t : List ℕ) → Tracks t false true 0 []
+tracks_none t = of_seeks t false true 0 [] (seeks_none t)
+
 -- one term more
 pub all_last : (ss : List Sought) (ts : List (List ℕ)) (s : Sought) (t : List ℕ) → SeekAll ss ts [] → s.bytes.items ≡ t
-    → Seeks t s.found s.agrees s.front [] → SeekAll (ss ++ s ∷ []) (ts ++ t ∷ []) []
+    → Tracks t s.found s.agrees s.front [] → SeekAll (ss ++ s ∷ []) (ts ++ t ∷ []) []
 all_last [] [] s t all same seeks = (same, seeks, tt)
 all_last [] (u ∷ ts) s t all same seeks = absurd all
 all_last (r ∷ ss) [] s t all same seeks = absurd all
@@ -276,4 +337,4 @@ pub all_cleared : (bytes : List ℕ) (ss : List Sought) (ts : List (List ℕ)) �
 all_cleared bytes [] [] all = tt
 all_cleared bytes [] (t ∷ ts) all = all
 all_cleared bytes (s ∷ ss) [] all = all
-all_cleared bytes (s ∷ ss) (t ∷ ts) all = (all.0, seeks_none t, all_cleared bytes ss ts all.2)
+all_cleared bytes (s ∷ ss) (t ∷ ts) all = (all.0, tracks_none t, all_cleared bytes ss ts all.2)

@@ -1,163 +1,94 @@
-//! Whether terms are among the words of bytes that come one by one.
-ghost use Rattle.std.specs.Prelude.{◌≡◌, ◌<◌, ◌↔◌, [], ◌∷◌, ◌++◌, ℕ, List, IsTrue, IfOk, length, map};
-ghost use Rattle.std.specs.List.{list_all};
-ghost use Rattle.stored_documents.specs.Words.{Matches};
-ghost use Rattle.word_reader.specs.Matching.{HasPushed, cleared, goes_on, is_found, is_whole, pushed};
+//! Whether terms are among the words of bytes that come one by one, by either rule of words.
+ghost use Rattle.std.specs.Prelude.{◌≡◌, [], ◌∷◌, ℕ, List, IfOk};
+ghost use Rattle.stored_documents.specs.declared.word_rules.WordRule.{WordRule};
+ghost use Rattle.word_reader.specs.Matching.{FinishEnds, HasPushed, PushEnds, Serves};
 
 use crate::Term;
-use crate::reader::{is_of_word, lower};
+use crate::byte_matcher::ByteMatcher;
+use crate::text_matcher::TextMatcher;
 use cell_types::NoMemory;
 use std::alloc::{AllocError, Global};
+use stored_documents::WordRule;
 
-/// One of the terms, and what the bytes so far say of it.
+/// How a matcher goes about it, by the rule of words.
 #[derive(Debug, Drop)]
-struct Sought {
-    bytes: Vec<u8>,
-    /// Whether it is among the words that have ended.
-    found: bool,
-    /// Whether the run that has not ended is a front of it.
-    agrees: bool,
-    /// How many bytes this front has.
-    front: usize,
+enum Way {
+    ByBytes(ByteMatcher),
+    ByCharacters(TextMatcher),
 }
 
-impl Sought {
-    /// Whether the run so far is the whole term.
-    fn is_whole(&self) -> bool
-        ensures { result ≡ is_whole self.now }
-    {
-        self.agrees && (self.front > 0 && self.front == self.bytes.len())
-    }
-
-    /// Whether it is found, or would be if the bytes ended here.
-    fn is_found(&self) -> bool
-        ensures { result ≡ is_found self.now }
-    {
-        self.found || self.is_whole()
-    }
-
-    /// Whether the byte is the term's next one.
-    fn goes_on(&self, byte: u8) -> bool
-        ensures same { result ≡ goes_on byte self.now }
-        ensures room { IsTrue result → self.now.front < length self.now.bytes.items }
-    {
-        self.agrees && (self.front < self.bytes.len() && self.bytes[self.front] == lower(byte))
-    }
-
-    /// Takes one more byte.
-    fn push(&mut self, byte: u8)
-        ensures { self.new ≡ pushed byte self.old }
-    {
-        if !is_of_word(byte) {
-            self.found = self.is_found();
-            self.agrees = true;
-            self.front = 0;
-            return;
-        }
-        if self.goes_on(byte) {
-            self.front += 1;
-            return;
-        }
-        self.agrees = false;
-    }
-
-    /// Forgets all bytes.
-    fn clear(&mut self)
-        ensures { self.new ≡ cleared self.old }
-    {
-        self.found = false;
-        self.agrees = true;
-        self.front = 0;
-    }
-}
-
-/// Takes one more byte for each of them.
-fn push_each(sought: &mut [Sought], byte: u8)
-    ensures { sought.new ≡ map (pushed byte) sought.old }
-{
-    for one in sought.iter_mut() {
-        one.push(byte);
-    }
-}
-
-/// Forgets all bytes for each of them.
-fn clear_each(sought: &mut [Sought])
-    ensures { sought.new ≡ map cleared sought.old }
-{
-    for one in sought.iter_mut() {
-        one.clear();
-    }
-}
-
-/// Whether each of them is found.
-fn are_found(sought: &[Sought]) -> bool
-    ensures { result ≡ list_all is_found sought.now }
-{
-    for one in sought {
-        if !one.is_found() {
-            return false;
-        }
-    }
-    true
-}
-
-/// Whether all of some terms are among the words of bytes that come one by one. It keeps none of these bytes.
+/// Whether all of some terms are among the words of bytes that come one by one.
+///
+/// By bytes it keeps none of them, and takes memory in `new` alone. By characters it keeps them all.
 #[derive(Debug, Drop)]
 pub struct Matcher {
-    sought: Vec<Sought>,
+    way: Way,
 }
 
 impl Matcher {
-    /// A matcher of these terms, to which no byte was pushed. It alone takes memory.
-    pub fn new(alloc: Global, terms: &[Term]) -> Result<Matcher, NoMemory>
-        ensures { IfOk result (λ matcher. HasPushed matcher terms.now []) }
+    /// A matcher of these terms, to which no byte was pushed.
+    pub fn new(alloc: Global, terms: &[Term], rule: WordRule) -> Result<Matcher, NoMemory>
+        ensures { IfOk result (λ matcher. HasPushed matcher rule terms.now []) }
     {
-        match Self::of_terms(alloc, terms) {
-            Ok(matcher) => Ok(matcher),
-            Err(_) => Err(NoMemory),
+        let way = way_of(alloc, terms, rule)?;
+        Ok(Matcher { way })
+    }
+
+    /// Takes one more byte. By bytes it is always Ok; where memory is short nothing has changed.
+    pub fn push(&mut self, byte: u8) -> Result<(), NoMemory>
+        ensures { PushEnds self.old self.new (byte ∷ []) result }
+    {
+        match &mut self.way {
+            Way::ByBytes(matcher) => {
+                matcher.push(byte);
+                Ok(())
+            }
+            Way::ByCharacters(matcher) => matcher.push_all(&[byte]),
         }
     }
 
-    /// A matcher of these terms.
-    fn of_terms(alloc: Global, terms: &[Term]) -> Result<Matcher, AllocError>
-        ensures { IfOk result (λ matcher. HasPushed matcher terms.now []) }
+    /// Takes these bytes. By bytes it is always Ok; where memory is short nothing has changed.
+    pub fn push_all(&mut self, bytes: &[u8]) -> Result<(), NoMemory>
+        ensures { PushEnds self.old self.new bytes.now result }
     {
-        let mut sought = Vec::new(alloc);
-        for term in terms {
-            let mut bytes = Vec::new(alloc);
-            bytes.extend_from_slice(term.bytes())?;
-            sought.push(Sought {
-                bytes,
-                found: false,
-                agrees: true,
-                front: 0,
-            })?;
+        match &mut self.way {
+            Way::ByBytes(matcher) => {
+                matcher.push_all(bytes);
+                Ok(())
+            }
+            Way::ByCharacters(matcher) => matcher.push_all(bytes),
         }
-        Ok(Matcher { sought })
     }
 
-    /// Takes one more byte.
-    pub fn push(&mut self, byte: u8)
-        ensures { (terms : List (List ℕ)) (bytes : List ℕ) → HasPushed self.old terms bytes
-            → HasPushed self.new terms (bytes ++ byte ∷ []) }
-    {
-        push_each(&mut self.sought, byte);
-    }
-
-    /// Whether each of the terms is among the words of the bytes so far. More bytes may follow.
-    pub fn finish(&mut self) -> bool
-        ensures matches { (terms : List (List ℕ)) (bytes : List ℕ) → HasPushed self.old terms bytes
-            → IsTrue result ↔ Matches bytes terms }
+    /// Whether each of the terms is among the words of the bytes so far. More bytes may follow. By bytes it is always Ok.
+    pub fn finish(&mut self) -> Result<bool, NoMemory>
+        ensures ends { FinishEnds self.old result }
         ensures same { self.new ≡ self.old }
     {
-        are_found(&self.sought)
+        match &self.way {
+            Way::ByBytes(matcher) => Ok(matcher.finish()),
+            Way::ByCharacters(matcher) => matcher.finish(),
+        }
     }
 
     /// Forgets the bytes and keeps the terms, so that it serves for the next body.
     pub fn clear(&mut self)
-        ensures { (terms : List (List ℕ)) (bytes : List ℕ) → HasPushed self.old terms bytes
-            → HasPushed self.new terms [] }
+        ensures { (rule : WordRule) (terms : List (List ℕ)) (bytes : List ℕ) → HasPushed self.old rule terms bytes
+            → HasPushed self.new rule terms [] }
     {
-        clear_each(&mut self.sought);
+        match &mut self.way {
+            Way::ByBytes(matcher) => matcher.clear(),
+            Way::ByCharacters(matcher) => matcher.clear(),
+        }
+    }
+}
+
+/// The way of a rule, to which no byte was pushed.
+fn way_of(alloc: Global, terms: &[Term], rule: WordRule) -> Result<Way, AllocError>
+    ensures { IfOk result (λ way. Serves way rule terms.now []) }
+{
+    match rule {
+        WordRule::Ascii => Ok(Way::ByBytes(ByteMatcher::new(alloc, terms)?)),
+        WordRule::Folded => Ok(Way::ByCharacters(TextMatcher::new(alloc, terms)?)),
     }
 }

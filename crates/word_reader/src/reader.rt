@@ -1,20 +1,21 @@
 //! The words of bytes.
 ghost use Rattle.std.specs.Prelude.{◌≡◌, IfOk};
 ghost use Rattle.stored_documents.specs.Words.{is_word_byte, lowered, AreWords, words_of};
+ghost use Rattle.stored_documents.specs.declared.word_rules.WordRule.TheVariants.{Ascii};
 ghost use Rattle.word_reader.specs.Single.{SingleEnds};
 
 use crate::Term;
+use crate::folded::read_folded;
 use cell_types::NoMemory;
 use std::alloc::{AllocError, Global};
+use stored_documents::WordRule;
 
 /// The words of these bytes, in order and with repeats.
-pub fn words(alloc: Global, bytes: &[u8]) -> Result<Vec<Term>, NoMemory>
-    ensures { IfOk result (λ terms. AreWords bytes.now terms.items) }
+pub fn words(alloc: Global, bytes: &[u8], rule: WordRule) -> Result<Vec<Term>, NoMemory>
+    ensures { IfOk result (λ terms. AreWords rule bytes.now terms.items) }
 {
-    match read_words(alloc, bytes) {
-        Ok(terms) => Ok(terms),
-        Err(_) => Err(NoMemory),
-    }
+    let terms = read_words(alloc, bytes, rule)?;
+    Ok(terms)
 }
 
 /// Why there is no one term of a word.
@@ -27,10 +28,10 @@ pub enum WordFault {
 }
 
 /// The one term that a word of a query holds.
-pub fn single_term(alloc: Global, word: &[u8]) -> Result<Term, WordFault>
-    ensures { SingleEnds word.now result }
+pub fn single_term(alloc: Global, word: &[u8], rule: WordRule) -> Result<Term, WordFault>
+    ensures { SingleEnds rule word.now result }
 {
-    let Ok(mut terms) = read_words(alloc, word) else {
+    let Ok(mut terms) = read_words(alloc, word, rule) else {
         return Err(WordFault::NoMemory);
     };
     if terms.len() != 1 {
@@ -40,9 +41,19 @@ pub fn single_term(alloc: Global, word: &[u8]) -> Result<Term, WordFault>
 }
 
 /// The words, read from the first byte on.
+fn read_words(alloc: Global, bytes: &[u8], rule: WordRule) -> Result<Vec<Term>, AllocError>
+    ensures { IfOk result (λ terms. terms.items ≡ words_of rule bytes.now) }
+{
+    match rule {
+        WordRule::Ascii => read_bytes(alloc, bytes),
+        WordRule::Folded => read_folded(alloc, bytes),
+    }
+}
+
+/// The words of bytes as bytes.
 #[tactic(auto, unfolding(stored_documents::specs::Words::words_of))]
-fn read_words(alloc: Global, bytes: &[u8]) -> Result<Vec<Term>, AllocError>
-    ensures { IfOk result (λ terms. terms.items ≡ words_of bytes.now) }
+fn read_bytes(alloc: Global, bytes: &[u8]) -> Result<Vec<Term>, AllocError>
+    ensures { IfOk result (λ terms. terms.items ≡ words_of Ascii bytes.now) }
 {
     let mut terms = Vec::new(alloc);
     let mut run = Vec::new(alloc);

@@ -1,4 +1,5 @@
 //! One term.
+use std::alloc::{AllocError, Global};
 use std::marker::Model;
 
 /// The bytes of one word, at least one. Contracts see the list of them.
@@ -18,7 +19,7 @@ impl Model for Term {
 }
 
 impl Term {
-    ghost use Rattle.std.specs.Prelude.{◌≡◌, ◌≤◌, length};
+    ghost use Rattle.std.specs.Prelude.{◌≡◌, ◌≤◌, length, IfOk};
 
     /// The term of these bytes.
     pub(crate) fn new(bytes: Vec<u8>) -> Term
@@ -34,5 +35,14 @@ impl Term {
         ensures some { 1 ≤ length self.now }
     {
         &self.bytes
+    }
+
+    /// The same term once more.
+    pub(crate) fn copy(&self, alloc: Global) -> Result<Term, AllocError>
+        ensures { IfOk result (λ copy. copy ≡ self.now) }
+    {
+        let mut bytes = Vec::new(alloc);
+        bytes.extend_from_slice(&self.bytes)?;
+        Ok(Term { bytes })
     }
 }

@@ -1,5 +1,5 @@
 //! The device in memory.
-use cell_types::{FORMAT_VERSION, RecordCell, Refusal, encode};
+use cell_types::{FIRST_VERSION, RecordCell, Refusal, encode};
 use std::alloc::Global;
 use worm_device::Device;
 use worm_memory::MemoryDevice;
@@ -12,7 +12,7 @@ pub fn small_volume(alloc: Global) -> Result<MemoryDevice, Refusal> {
     let mut device = MemoryDevice::new(alloc, CELLS)?;
     device.reserve(2 * CELLS)?;
     let volume = RecordCell::Volume {
-        version: FORMAT_VERSION,
+        version: FIRST_VERSION,
         slots: 8,
         lists: 2,
         cells: CELLS,

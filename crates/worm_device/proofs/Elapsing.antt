@@ -1,8 +1,9 @@
 -- Time that goes on: what a crash could have left, over one call after another.
-use Rattle.std.proofs.Common.{refl, ◌∙◌, inl, inr, ⊎_elim, arith}
+use Rattle.std.proofs.Common.{◌≡◌, ◌<◌, ◌≤◌, refl, sym, ap, ◌∙◌, inl, inr, ⊎_elim, arith}
+use Rattle.std.proofs.lemmas.Bool.{cases_lt}
 use Rattle.cell_types.specs.Image.{Image, Between}
 use Rattle.worm_device.specs.State.{DeviceState, LeftSince}
-use Rattle.worm_device.specs.Calls.{Elapses, HasElapsed, LeavesAll, Called}
+use Rattle.worm_device.specs.Calls.{Elapses, HasElapsed, LeavesAll, Called, Remembers, HasRemembered}
 use Rattle.worm_device.proofs.Images.{extends_self, extends_then, between_wider}
 
 -- no time goes by
@@ -40,6 +41,41 @@ pub elapses_of : {old new : DeviceState} → Called old new → Elapses old new
 unfolding HasElapsed
 elapses_of {old} called = called.crashes old (elapses_self old)
 
+pub remembers_self : (s : DeviceState) → Remembers s s
+remembers_self s = record {
+  later = omega arith;
+  past = λ m before. refl;
+  last = λ later. absurd (omega (arith, later));
+  still = λ same. refl;
+}
+
+pub remembers_then : {a b c : DeviceState} → Remembers a b → Remembers b c → Remembers a c
+remembers_then {a} {b} {c} p q = record {
+  later = omega (arith, p.later, q.later);
+  past = λ m before. q.past m (omega (arith, before, p.later)) ∙ p.past m before;
+  last = λ later. ⊎_elim
+      (λ (less : a.moment < b.moment). q.past a.moment less ∙ p.last less)
+      (λ (most : b.moment ≤ a.moment).
+      let same : b.moment ≡ a.moment = omega (arith, most, p.later) in
+      ap c.past (sym same) ∙ q.last (omega (arith, later, same)) ∙ p.still same)
+      (cases_lt a.moment b.moment);
+  still = λ same. q.still (omega (arith, same, p.later, q.later)) ∙ p.still (omega (arith, same, p.later, q.later));
+}
+
+pub remembered_self : (s : DeviceState) → HasRemembered s s
+unfolding HasRemembered
+remembered_self s = remembers_self s
+
+pub remembered_since : {old new : DeviceState} → Remembers old new → (earlier : DeviceState)
+    → HasRemembered earlier old → HasRemembered earlier new
+unfolding HasRemembered
+remembered_since {old} {new} q earlier p = remembers_then {a = earlier} {b = old} {c = new} p q
+
+-- what was told of the past stays told, as a caller reads it off Called
+pub remembers_of : {old new : DeviceState} → Called old new → Remembers old new
+unfolding HasRemembered
+remembers_of {old} called = called.remembers old (remembers_self old)
+
 -- a row of no calls
 pub called_self : (s : DeviceState) → Called s s
 called_self s = record {
@@ -52,6 +88,7 @@ called_self s = record {
   foreign_writes = omega arith;
   reads = omega arith;
   crashes = λ earlier h. h;
+  remembers = λ earlier h. h;
 }
 
 -- one row of calls after another
@@ -66,6 +103,7 @@ called_then {a} {b} {c} p q = record {
   foreign_writes = omega (arith, p.foreign_writes, q.foreign_writes);
   reads = omega (arith, p.reads, q.reads);
   crashes = λ earlier h. q.crashes earlier (p.crashes earlier h);
+  remembers = λ earlier h. q.remembers earlier (p.remembers earlier h);
 }
 
 -- what a crash in a row of calls could leave

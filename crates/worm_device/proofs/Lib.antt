@@ -1,6 +1,9 @@
+pub mod Compared
 pub mod Counting
 pub mod Covering
 pub mod Elapsing
 pub mod Images
 pub mod Owning
+pub mod ReadRows
 pub mod Resting
+pub mod Rows

@@ -1,6 +1,10 @@
 -- Views while nobody else writes, over one call after another.
-use Rattle.std.proofs.Common.{refl, ◌∙◌, arith}
-use Rattle.worm_device.specs.Views.{ViewState, Rests, HasRested, Viewed}
+use Rattle.std.proofs.Common.{ℕ, refl, ◌∙◌, arith}
+use Rattle.cell_types.specs.Image.{IsUnchanged}
+use Rattle.worm_device.specs.Calls.{Called}
+use Rattle.worm_device.specs.Counts.{IsStill}
+use Rattle.worm_device.specs.State.{DeviceState}
+use Rattle.worm_device.specs.Views.{ViewState, Rests, HasRested, Viewed, seen_directly}
 use Rattle.worm_device.proofs.Counting.{still_first, still_second}
 use Rattle.worm_device.proofs.Elapsing.{called_self, called_then}
 use Rattle.worm_device.proofs.Images.{extends_self, extends_then, unchanged_then}
@@ -55,4 +59,21 @@ viewed_then {a} {b} {c} p q = record {
   fresh = q.fresh ∙ p.fresh;
   loans = q.loans ∙ p.loans;
   quiet = λ earlier h. q.quiet earlier (p.quiet earlier h);
+}
+
+-- A device in which a call changes nothing, as a view of it shows it: the view's own image and the image below are
+-- both the device's.
+pub viewed_directly : (loan : ℕ) (old new : DeviceState) → Called old new
+    → (IsStill old.foreign_writes new.foreign_writes → IsUnchanged old.image new.image)
+    → Viewed (seen_directly old loan) (seen_directly new loan)
+viewed_directly loan old new called only = record {
+  called = called;
+  cells = called.cells;
+  image = called.image;
+  planned = refl;
+  owners = refl;
+  lower = called.image;
+  fresh = called.cells;
+  loans = refl;
+  quiet = rested_since (record { later = called.foreign_writes; shown = only; lower = only; below = only });
 }

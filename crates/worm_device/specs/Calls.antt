@@ -1,9 +1,9 @@
 -- What each call of a device does. Somebody else may write blank cells before any call; where the count of
 -- foreign writes did not rise, nobody did.
-use Rattle.std.specs.Prelude.{◌≡◌, ◌≤◌, ◌⊎◌, ℕ, List, Option, Some, None, Result, IsTrue, MatchResult, ⊤}
+use Rattle.std.specs.Prelude.{◌≡◌, ◌<◌, ◌≤◌, ◌⊎◌, ℕ, List, Option, Some, None, Result, IsTrue, MatchResult, ⊤}
 use Rattle.cell_types.specs.Image.{Image, Extends, Between, IsUnchanged, ChangesOnly}
 use Rattle.worm_device.specs.Counts.{next_count, Rose, IsStill}
-use Rattle.worm_device.specs.State.{DeviceState, LeftSince}
+use Rattle.worm_device.specs.State.{DeviceState, Instant, LeftSince}
 use Rattle.worm_device.specs.declared.device.Failed.{Failed}
 use Rattle.worm_device.specs.declared.device.Written.{Written}
 use Rattle.worm_device.specs.declared.device.Written.TheVariants.{Done, Taken}
@@ -22,6 +22,22 @@ pub record Elapses (old new : DeviceState) : Type 0 where
 unfoldable pub HasElapsed : DeviceState → DeviceState → Type 0
 HasElapsed old new = Elapses old new
 
+-- a state as an instant
+abbrev pub instant_of : DeviceState → Instant
+instant_of s = record { image = s.image; sure = s.sure }
+
+-- What is told of the past stays told: what stood at each moment before old, and what stood at old once time has gone on.
+-- While no time goes by, nothing changes.
+pub record Remembers (old new : DeviceState) : Type 0 where
+  pub later : old.moment ≤ new.moment
+  pub past : (m : ℕ) → m < old.moment → new.past m ≡ old.past m
+  pub last : old.moment < new.moment → new.past old.moment ≡ instant_of old
+  pub still : new.moment ≡ old.moment → instant_of new ≡ instant_of old
+
+-- the same as a name that search does not open
+unfoldable pub HasRemembered : DeviceState → DeviceState → Type 0
+HasRemembered old new = Remembers old new
+
 -- What every call keeps, and so every row of calls: the device stays what it is, and what it keeps from a command's
 -- beginning on; what is written and what is sure stays so, and no count falls. crashes says Elapses of old and new,
 -- from each earlier state on.
@@ -35,6 +51,7 @@ pub record Called (old new : DeviceState) : Type 0 where
   pub foreign_writes : old.foreign_writes ≤ new.foreign_writes
   pub reads : old.reads ≤ new.reads
   pub crashes : (earlier : DeviceState) → HasElapsed earlier old → HasElapsed earlier new
+  pub remembers : (earlier : DeviceState) → HasRemembered earlier old → HasRemembered earlier new
 
 -- A call fails only where that is counted as a fault, and counts none where it answers.
 abbrev pub HasCause : {X : Type 0} → DeviceState → DeviceState → Result X Failed → Type 0

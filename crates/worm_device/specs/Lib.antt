@@ -2,8 +2,11 @@ pub mod Calls
 pub mod Counts
 pub mod Directly
 pub mod Laws
+pub mod Looks
 pub mod Overlaying
 pub mod Overlays
 pub mod Owned
+pub mod ReadRows
+pub mod Rows
 pub mod State
 pub mod Views

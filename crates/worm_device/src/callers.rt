@@ -1,5 +1,5 @@
 //! Generic callers that need no proof: what the words of the contracts are for.
-ghost use Rattle.std.specs.Prelude.{◌≡◌, ◌≢◌, ◌<◌, ◌⊎◌, ℕ, None, Some, IsErr, IsNone, IsTrue, IfOk, IfSome, IfNone};
+ghost use Rattle.std.specs.Prelude.{◌≡◌, ◌≢◌, ◌<◌, ◌≤◌, ◌+◌, ◌⊎◌, ℕ, None, Some, IsErr, IsNone, IsTrue, IfOk, IfSome, IfNone};
 ghost use Rattle.cell_types.specs.Image.{Extends};
 ghost use Rattle.worm_device.specs.Calls.{Called};
 ghost use Rattle.worm_device.specs.Counts.{Rose, IsStill};
@@ -48,6 +48,17 @@ fn look_then_write<D: Device>(device: &mut D, value: Cell) -> Result<Option<Cell
     let found = first_written(&mut Direct::new(device))?;
     device.write(2, value)?;
     Ok(found)
+}
+
+/// Whether sixteen neighbouring cells are blank.
+fn row_is_blank<V: View>(view: &mut V, at: u32) -> Result<bool, Failed>
+    requires { at + 16 ≤ (V.seen view.old).cells }
+    ensures viewed { Viewed (V.seen view.old) (V.seen view.new) }
+    ensures cause { IsErr result → Rose (V.seen view.old).base.faults (V.seen view.new).base.faults }
+{
+    let mut found = [None; 16];
+    view.read_row(at, &mut found)?;
+    Ok(found.iter().all(|cell| cell.is_none()))
 }
 
 /// Nothing is asked of the device.

@@ -43,4 +43,8 @@ impl<'a, D: Device> View for Direct<'a, D> {
     {
         self.device.read(at)
     }
+
+    fn read_row(&mut self, at: u32, cells: &mut [Option<Cell>]) -> Result<(), Failed> {
+        self.device.read_row(at, cells)
+    }
 }

@@ -37,6 +37,7 @@ mod callers;
 mod device;
 mod direct;
 mod laws;
+mod looks;
 mod overlay;
 mod owner;
 mod planned;
@@ -44,12 +45,13 @@ mod planning;
 mod shown;
 mod view;
 
-pub use device::{Device, Failed, Written};
+pub use device::{Device, Failed, RowWritten, Written};
 pub use direct::Direct;
 pub use laws::{
     a_crash_in_a_call, a_crash_now, calls_compose, calls_elapse, crashes_keep_what_was_sure,
     planned_cells_show, views_compose, views_rest,
 };
+pub use looks::{Found, ReadRecord, look, record_at};
 pub use overlay::{OVERLAY_CELLS, Overlay, PlannedCells};
 pub use owner::Owner;
 pub use view::View;

@@ -1,5 +1,6 @@
 //! A view: what may be read of a device, or of what is planned for one.
-ghost use Rattle.std.specs.Prelude.{◌≡◌, ◌<◌};
+ghost use Rattle.std.specs.Prelude.{◌≡◌, ◌<◌, ◌≤◌, ◌+◌, length};
+ghost use Rattle.worm_device.specs.ReadRows.{ViewReadsRow};
 ghost use Rattle.worm_device.specs.Views.{ViewState, ViewReads, IsView};
 
 use crate::Failed;
@@ -22,6 +23,18 @@ pub trait View {
     fn read(&mut self, at: u32) -> Result<Option<Cell>, Failed>
         requires { at < (seen self.old).cells }
         ensures { ViewReads at (seen self.old) (seen self.new) result };
+
+    /// What the view shows in neighbouring cells, as many as there is room for. It is the same as a read of each, in
+    /// rising order; a view may do it in fewer steps.
+    fn read_row(&mut self, at: u32, cells: &mut [Option<Cell>]) -> Result<(), Failed>
+        requires { at + length cells.old ≤ (seen self.old).cells }
+        ensures { ViewReadsRow at cells.old cells.new (seen self.old) (seen self.new) result }
+    {
+        for place in 0..cells.len() {
+            cells[place] = self.read(at + place as u32)?;
+        }
+        Ok(())
+    }
 
     /// What holds of every view.
     ghost proper: { (view : Self) → IsView (seen view) };

@@ -33,7 +33,7 @@ pub record Comes (old new : DeviceState) (failed : Bool) : Type 0 where
   pub faults : FaultsAre failed old.faults new.faults
   pub reads : new.reads ≡ old.reads
 
-comes_self : (s : DeviceState) → Comes s s false
+pub comes_self : (s : DeviceState) → Comes s s false
 comes_self s = record {
   called = called_self s;
   sure = extends_self s.sure;
@@ -128,14 +128,14 @@ come_into None m now at value ongoing come =
     either_way (HasCome m) (now.room == 0) _ _ (λ full. come_fails m now ongoing come)
     (λ room. come_written m now at _ value ongoing come)
 
-come_timed : (is_step : Bool) (timed : Timed) (m : Memory) (now : Outcome) → now.failed ≡ false → HasCome m now
+pub come_timed : (is_step : Bool) (timed : Timed) (m : Memory) (now : Outcome) → now.failed ≡ false → HasCome m now
     → HasCome m (after_timed is_step timed now.memory now.room)
 come_timed is_step timed m now ongoing come =
     either_way (HasCome m) (names timed.before is_step now.memory.steps now.memory.calls) _ _
     (λ named. come_into ((world now.memory.changes).image timed.at) m now timed.at timed.value ongoing come)
     (λ other. come_on m now ongoing come)
 
-come_others : (is_step : Bool) (planned : List Timed) (m : Memory) (now : Outcome) → HasCome m now
+pub come_others : (is_step : Bool) (planned : List Timed) (m : Memory) (now : Outcome) → HasCome m now
     → HasCome m (after_others is_step planned now)
 come_others is_step [] m now come = come
 come_others is_step (timed ∷ rest) m now come =

@@ -2,21 +2,21 @@
 use Rattle.std.proofs.Common.{◌≡◌, ◌≤◌, ◌<◌, ◌^◌, ⊎_elim, inl, inr, ℕ, List, [], ◌∷◌, ◌++◌, length, Some, None, Ok, Err, refl, ap, sym, subst, ◌∙◌, arith}
 use Rattle.std.proofs.lemmas.Bool.Decides.{eqb_tells}
 use Rattle.cell_types.specs.Image.{Extends, ChangesOnly}
-use Rattle.worm_device.specs.State.{Instant}
+use Rattle.worm_device.specs.State.{DeviceState, Instant}
 use Rattle.worm_device.specs.Calls.{Called, Writes, Syncs}
 use Rattle.worm_device.specs.Counts.{next_count}
 use Rattle.worm_device.specs.declared.device.Failed.{Failed}
 use Rattle.worm_device.specs.declared.device.Written.TheVariants.{Done, Taken}
 use Rattle.worm_device.proofs.Images.{extends_self}
-use Rattle.worm_device.proofs.Elapsing.{elapsed_since, called_self, called_then, leaves_all}
+use Rattle.worm_device.proofs.Elapsing.{elapsed_since, remembered_since, called_self, called_then, leaves_all, leaves_of}
 use Rattle.worm_memory.specs.declared.change.Change.{Change}
 use Rattle.worm_memory.specs.declared.change.Change.TheVariants.{Wrote, Foreign, Synced}
 use Rattle.worm_memory.specs.Device.{ForeignWrites}
 use Rattle.worm_memory.proofs.Worlds.{Adds}
 use Rattle.worm_memory.specs.Worlds.{blank, world, IsAllSure}
-use Rattle.worm_memory.specs.Memory.{Memory, device_of, with_change, with_foreign, with_fault}
+use Rattle.worm_memory.specs.Memory.{Memory, device_of, with_change, with_foreign, with_fault, with_hand}
 use Rattle.worm_memory.proofs.Worlds.{after_append, image_is, written_here, written_elsewhere}
-use Rattle.worm_memory.proofs.Crashes.{left_still, elapses_counted, elapses_changed, image_after, sure_after}
+use Rattle.worm_memory.proofs.Crashes.{left_still, elapses_counted, elapses_changed, image_after, remembers_changed, remembers_counted, sure_after}
 
 -- what every call keeps, where only counts rise
 pub called_counted : (m : Memory) (faults reads : ℕ) → m.faults ≤ faults → m.reads ≤ reads
@@ -31,6 +31,7 @@ called_counted m faults reads more_faults more_reads = record {
   foreign_writes = omega arith;
   reads = more_reads;
   crashes = elapsed_since (elapses_counted m faults reads m.foreign_writes);
+  remembers = remembered_since (remembers_counted m faults reads m.foreign_writes);
 }
 
 -- and where something changes
@@ -46,6 +47,7 @@ called_changed m change adds = record {
   foreign_writes = omega arith;
   reads = omega arith;
   crashes = elapsed_since (elapses_changed m change adds);
+  remembers = remembered_since (remembers_changed m change);
 }
 
 -- what stands in the cells after a blank one is written
@@ -162,6 +164,8 @@ foreign_done m at value fits = record {
     reads = omega arith;
     crashes = elapsed_since (elapses_counted (with_change m (Foreign at value)) m.faults m.reads
         (next_count m.foreign_writes));
+    remembers = remembered_since (remembers_counted (with_change m (Foreign at value)) m.faults m.reads
+        (next_count m.foreign_writes));
   });
   leaves = leaves_all _ _ (λ image between. inl (record {
     above = subst (λ (now : Instant). Extends now.sure image)
@@ -185,4 +189,13 @@ foreign_failed m fits = record {
       (omega arith);
   leaves = leaves_all _ _ (λ image between. inl between);
   quiet = λ still cell. refl;
+}
+
+-- and whether the command went by its plan does not matter to it
+pub foreign_by_hand : (m : Memory) (new : DeviceState) → ForeignWrites (device_of (with_hand m)) new
+    → ForeignWrites (device_of m) new
+foreign_by_hand m new writes = record {
+  called = writes.called;
+  leaves = leaves_all (device_of m) new (leaves_of (device_of (with_hand m)) new writes.leaves);
+  quiet = writes.quiet;
 }

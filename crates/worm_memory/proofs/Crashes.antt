@@ -5,7 +5,7 @@ use Rattle.std.proofs.lemmas.Bool.{cases_lt}
 use Rattle.std.proofs.lemmas.List.{take-append-le, length-append}
 use Rattle.cell_types.specs.Image.{Image, Extends, Between}
 use Rattle.worm_device.specs.State.{Instant, LeftSince}
-use Rattle.worm_device.specs.Calls.{Elapses}
+use Rattle.worm_device.specs.Calls.{Elapses, Remembers}
 use Rattle.worm_device.proofs.Images.{extends_self, between_wider}
 use Rattle.worm_memory.specs.declared.change.Change.{Change}
 use Rattle.worm_memory.specs.Worlds.{blank, world}
@@ -102,4 +102,24 @@ elapses_changed m change adds =
           (λ now. inr (between_wider (sure_after m change) (extends_self (world (m.changes ++ change ∷ [])).image) now))
           (λ before. inl (left_before m change since image before.0 before.1 before.2 before.3))
           left;
+    }
+
+-- what is told of the past stays told
+pub remembers_counted : (m : Memory) (faults reads foreign_writes : ℕ)
+    → Remembers (device_of m) (device_of (record m { faults = faults; reads = reads; foreign_writes = foreign_writes }))
+remembers_counted m faults reads foreign_writes = record {
+  later = omega arith;
+  past = λ moment before. refl;
+  last = λ later. absurd (omega (arith, later));
+  still = λ same. refl;
+}
+
+pub remembers_changed : (m : Memory) (change : Change) → Remembers (device_of m) (device_of (with_change m change))
+remembers_changed m change =
+    let longer : length (m.changes ++ change ∷ []) ≡ length m.changes + 1 = one_longer m.changes change in
+    record {
+      later = omega arith;
+      past = λ moment before. past_stays m.changes change moment (omega (arith, before));
+      last = λ later. past_now m.changes change (length m.changes) refl;
+      still = λ same. absurd (omega (arith, longer, same));
     }

@@ -1,9 +1,15 @@
+pub mod Apart
 pub mod Arriving
 pub mod Calls
 pub mod Cells
+pub mod Following
 pub mod Keeping
 pub mod Losing
 pub mod Crashes
 pub mod Others
+pub mod Planning
 pub mod Unsure
 pub mod Worlds
+pub mod Accounts
+pub mod Telling
+pub mod Blanks

@@ -51,7 +51,7 @@ past_others is_step planned place now here =
     (ap (λ n. drop n planned) (add-one place) ∙ nothing_next planned place here ∙ sym (nothing_left planned place here))
 
 -- what is planned lies inside the device, and so does one more
-inside_append : (cells : ℕ) (planned : List Timed) (timed : Timed) → AreInside cells planned → timed.at < cells
+pub inside_append : (cells : ℕ) (planned : List Timed) (timed : Timed) → AreInside cells planned → timed.at < cells
     → AreInside cells (planned ++ timed ∷ [])
 inside_append cells [] timed inside within zero found here =
     subst (λ (t : Timed). t.at < cells) (same_Some timed found here) within

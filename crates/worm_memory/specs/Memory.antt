@@ -1,9 +1,11 @@
 -- What a device in memory is for contracts, and what its calls do: its record of changes, from which each
 -- state and each image that a crash could have left follow, its counts, and the present command's numbers and plan.
-use Rattle.std.specs.Prelude.{ℕ, Bool, true, List, [], ◌∷◌, ◌++◌, length, take, Some}
-use Rattle.worm_device.specs.Counts.{next_count}
+use Rattle.std.specs.Prelude.{◌≡◌, ◌≤◌, ◌<◌, ◌+◌, ◌-◌, ◌*◌, ◌^◌, ◌==◌, ◌&&◌, nat_le, ℕ, Bool, false, true, List, [], ◌∷◌, ◌++◌, length, take, drop, Some}
+use Rattle.std.specs.List.{list_all}
+use Rattle.worm_device.specs.Counts.{Rose, next_count}
+use Rattle.worm_device.specs.Calls.{Remembers}
 use Rattle.worm_device.specs.State.{DeviceState}
-use Rattle.worm_memory.specs.Plans.{Plan, no_plan, next_step, begun_rows}
+use Rattle.worm_memory.specs.Plans.{Plan, no_plan, next_step, begun_rows, failures_reached, stands_if_reached, is_called_for, last_changes, last_faults, may_fail, may_stop, must_fail}
 use Rattle.worm_memory.specs.Worlds.{world}
 use Rattle.worm_memory.specs.declared.change.Change.{Change}
 use Rattle.worm_memory.specs.declared.change.Change.TheVariants.{Foreign}
@@ -31,6 +33,9 @@ pub record Memory : Type 0 where
   pub reads : ℕ
   -- how many cells somebody else has written
   pub foreign_writes : ℕ
+  -- whether the present command goes by its plan: it began with room for all that its calls can record, it was planned
+  -- before its first call, and nobody called `foreign` or `crash` since
+  pub by_plan : Bool
 
 -- As a device. The moment is the number of changes so far.
 abbrev pub device_of : Memory → DeviceState
@@ -42,7 +47,7 @@ device_of m = record {
   faults = m.faults;
   foreign_writes = m.foreign_writes;
   reads = m.reads;
-  begun = begun_rows m.marks m.plan;
+  begun = begun_rows m.marks m.plan m.by_plan;
   moment = length m.changes;
   past = λ moment. world (take moment m.changes);
 }
@@ -82,18 +87,66 @@ mark_of m = record {
   reads = m.reads;
 }
 
--- a command begins
-abbrev pub with_begin : Memory → Memory
-with_begin m = record m { marks = m.marks ++ mark_of m ∷ []; steps = 0; calls = 0; plan = no_plan }
+-- all that calls can record has room: two changes for each cell, one that writes it and one that makes it sure
+abbrev pub is_ample : ℕ → ℕ → Bool
+is_ample cells room = nat_le (2 * cells) room
+
+-- a command begins, with ample room or not
+abbrev pub with_begin : Bool → Memory → Memory
+with_begin ample m = record m {
+  marks = m.marks ++ mark_of m ∷ [];
+  steps = 0;
+  calls = 0;
+  plan = no_plan;
+  by_plan = ample;
+}
+
+-- the present command does not go by its plan any more
+abbrev pub with_hand : Memory → Memory
+with_hand m = record m { by_plan = false }
+
+-- it still does if it does so far, and no call has been made
+abbrev pub is_early : Memory → Bool
+is_early m = m.by_plan && (m.calls == 0)
+
+-- another plan for the present command
+abbrev pub with_plan : Memory → Plan → Memory
+with_plan m plan = record m { plan = plan; by_plan = is_early m }
 
 -- one more moment that fails
 abbrev pub with_failure : Memory → Moment → Memory
-with_failure m moment = record m { plan = record m.plan { fails = m.plan.fails ++ moment ∷ [] } }
+with_failure m moment = with_plan m (record m.plan { fails = m.plan.fails ++ moment ∷ [] })
 
 -- the moment after which each call fails
 abbrev pub with_stop : Memory → Moment → Memory
-with_stop m moment = record m { plan = record m.plan { stop = Some moment } }
+with_stop m moment = with_plan m (record m.plan { stop = Some moment })
 
 -- one more foreign write before a moment
 abbrev pub with_planned : Memory → Timed → Memory
-with_planned m timed = record m { plan = record m.plan { foreign = m.plan.foreign ++ timed ∷ [] } }
+with_planned m timed = with_plan m (record m.plan { foreign = m.plan.foreign ++ timed ∷ [] })
+
+-- Faults and foreign writes of the present command are those of its plan, as far as it has come.
+pub record KeepsPlan (m : Memory) : Type 0 where
+  -- no call failed where no moment that fails was reached, nor the stop
+  pub none : may_fail m.plan m.steps m.calls ≡ false → m.faults ≡ last_faults m.marks
+  -- up to the stop no more calls failed than moments that fail were reached
+  pub most : may_stop m.plan.stop m.steps m.calls ≡ false → m.calls < 2 ^ 64 - 1
+      → m.faults ≤ last_faults m.marks + failures_reached m.plan m.steps m.calls
+  -- one failed where such a moment was reached, or the stop was passed
+  pub some : must_fail m.plan m.steps m.calls ≡ true → Rose (last_faults m.marks) m.faults
+  -- each foreign write since the command began was planned, and its moment was reached
+  pub named : list_all (is_called_for m.steps m.calls m.plan.foreign) (drop (last_changes m.marks) m.changes) ≡ true
+  -- each that was planned, and whose moment was reached, was made if its cell was blank
+  pub made : list_all (stands_if_reached m.steps m.calls (world m.changes).image) m.plan.foreign ≡ true
+
+-- What stood in a device is told by its record from then on: it is what the changes up to then make of blank cells.
+abbrev pub TheRecordTells : Type 0
+TheRecordTells =
+    (old new : Memory) → Remembers (device_of old) (device_of new)
+    → world (take (length old.changes) new.changes) ≡ world old.changes
+
+-- What a device keeps from a command's beginning on are its marks, the command's plan, and whether it goes by that.
+abbrev pub BeginningsTell : Type 0
+BeginningsTell =
+    (old new : Memory) → (device_of new).begun ≡ (device_of old).begun
+    → (new.marks ≡ old.marks) × (new.plan ≡ old.plan) × (new.by_plan ≡ old.by_plan)

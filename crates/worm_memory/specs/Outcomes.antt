@@ -1,7 +1,7 @@
 -- What a call makes of a device in memory: what becomes of all that it tells, of its room, and whether the call fails.
 use Rattle.std.specs.Prelude.{◌==◌, ◌-◌, ◌++◌, if◌then◌else◌, ℕ, Bool, true, false, List, [], ◌∷◌, Option, Some, None}
 use Rattle.worm_memory.specs.Losses.{crash_changes}
-use Rattle.worm_memory.specs.Memory.{Memory, with_call, with_change, with_fault, with_foreign}
+use Rattle.worm_memory.specs.Memory.{Memory, with_call, with_change, with_fault, with_foreign, with_hand}
 use Rattle.worm_memory.specs.Plans.{names, is_refused}
 use Rattle.worm_memory.specs.Unsure.{unsure_of}
 use Rattle.worm_memory.specs.Worlds.{world}
@@ -50,12 +50,13 @@ after_others is_step (timed ∷ rest) now =
 abbrev pub after_plan : Bool → Outcome → Outcome
 after_plan refused now = if now.failed then now else if refused then fails now.memory now.room else now
 
--- A call has come, which is a step or not: it is counted, then others write what was planned before it, and then it
--- fails where the plan says so.
+-- A call has come, which is a step or not: it is counted, and then others write what was planned before it.
+abbrev pub others_done : Bool → Memory → ℕ → Outcome
+others_done is_step m room = after_others is_step m.plan.foreign (goes_on (with_call is_step m) room)
+
+-- and then it fails where the plan says so
 abbrev pub arrived : Bool → Memory → ℕ → Outcome
-arrived is_step m room =
-    after_plan (is_refused is_step m.plan m.steps m.calls) (after_others is_step m.plan.foreign
-    (goes_on (with_call is_step m) room))
+arrived is_step m room = after_plan (is_refused is_step m.plan m.steps m.calls) (others_done is_step m room)
 
 -- a cell in which this stands is written: a written one stays
 abbrev pub written_into : Option (List ℕ) → ℕ → List ℕ → Memory → ℕ → Outcome
@@ -77,4 +78,4 @@ after_sync now = if now.failed then now else synced_over (unsure_of now.memory.c
 
 -- all that a device tells after a crash that keeps these cells
 abbrev pub with_crash : Memory → List ℕ → Memory
-with_crash m keep = record m { changes = m.changes ++ crash_changes keep (unsure_of m.changes) }
+with_crash m keep = record (with_hand m) { changes = m.changes ++ crash_changes keep (unsure_of m.changes) }

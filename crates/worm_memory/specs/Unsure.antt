@@ -1,5 +1,5 @@
 -- Which cells a crash could take, read off the record.
-use Rattle.std.specs.Prelude.{◌==◌, ◌++◌, if◌then◌else◌, ℕ, Bool, true, false, List, [], ◌∷◌}
+use Rattle.std.specs.Prelude.{◌+◌, ◌==◌, ◌++◌, if◌then◌else◌, ℕ, Bool, true, false, List, [], ◌∷◌, Option, Some, None}
 use Rattle.worm_memory.specs.declared.change.Change.{Change}
 use Rattle.worm_memory.specs.declared.change.Change.TheVariants.{Wrote, Foreign, Synced, Lost, Crashed}
 
@@ -30,3 +30,9 @@ unsure_after unsure (change ∷ changes) = unsure_after (unsure_then unsure chan
 -- written. That they are just these, each once, the law `unsure_cells` says.
 abbrev pub unsure_of : List Change → List ℕ
 unsure_of changes = unsure_after [] changes
+
+-- how many of a device's cells are blank
+abbrev pub blanks : List (Option (List ℕ)) → ℕ
+blanks [] = 0
+blanks (None ∷ cells) = blanks cells + 1
+blanks (Some value ∷ cells) = blanks cells

@@ -1,5 +1,8 @@
-//! Laws of the record of changes: what a crash is in it, and which cells it could take.
+//! Laws of the record of changes: what a crash is in it, which cells it could take, what it tells of what was; and of
+//! commands: that they go by their plan, and find the room that they need.
+ghost use Rattle.worm_memory.specs.Device.{ACommandHasRoom, ACrashHasRoom, APlanIsKept};
 ghost use Rattle.worm_memory.specs.Losses.{ACrashKeeps, UnsureCells};
+ghost use Rattle.worm_memory.specs.Memory.{BeginningsTell, TheRecordTells};
 
 /// A crash, as a row of changes, leaves what is kept and what is sure, and all of that is sure then.
 pub fn a_crash_keeps()
@@ -9,4 +12,29 @@ pub fn a_crash_keeps()
 /// What a crash could take, as it is read off the record, are the cells that are written and not sure, each once.
 pub fn unsure_cells()
     ensures { UnsureCells }
+{}
+
+/// What stood once is told by the record.
+pub fn the_record_tells()
+    ensures { TheRecordTells }
+{}
+
+/// What is kept from a command's beginning on are the marks and the plan.
+pub fn beginnings_tell()
+    ensures { BeginningsTell }
+{}
+
+/// Once a command goes by its plan, faults and foreign writes are those of the plan, whatever calls are made.
+pub fn a_plan_is_kept()
+    ensures { APlanIsKept }
+{}
+
+/// Where a command goes by its plan, no call of it finds too little room.
+pub fn a_command_has_room()
+    ensures { ACommandHasRoom }
+{}
+
+/// Where the record has room for one change more than there are cells, a crash finds room.
+pub fn a_crash_has_room()
+    ensures { ACrashHasRoom }
 {}

@@ -14,10 +14,16 @@
 //! whose clauses begin "where nobody else wrote" can be tried on a device that tells its image while others write.
 //!
 //! The record's room is taken before, by `reserve`; a call that finds none for its change fails. Writes into a written
-//! cell, and syncs that make no further cell sure, are no change.
+//! cell, and syncs that make no further cell sure, are no change. So a cell takes two changes at most, one that writes
+//! it and one that makes it sure, and a command that begins with room for two of each cell never finds too little:
 //!
-//! A command can be **planned**. `begin` keeps a mark of how far things had come and forgets the plan of the command
-//! before. Then moments are named by the command's steps, its writes and syncs, or by all its calls, both from 1:
+//!     8 cells, 2 of them blank and none unsure     room 16     4 would do
+//!     write 4                                      room 15     1 blank, 1 unsure: 3 would do
+//!     sync                                         room 14     1 blank, 0 unsure: 2 would do
+//!
+//! A command can be **planned**. `begin` keeps a mark of how far things had come, for which `reserve` takes room beside
+//! that of changes, and forgets the plan of the command before. Then moments are named by the command's steps, its
+//! writes and syncs, or by all its calls, both from 1:
 //!
 //!     begin; fail_at(Step(2)); foreign_before(Call(3), 9, ..); stop_after(Call(4))
 //!
@@ -30,12 +36,19 @@
 //! A call that fails changes nothing itself and counts one fault. There are no other faults than these: planned ones,
 //! and calls that found no room.
 //!
+//! A command that begins with room for two changes of each cell **goes by its plan**: after each row of its calls the
+//! faults and the foreign writes since its mark are just those of the moments that it has reached. No call changes what
+//! a device keeps from a beginning on, which is its marks, the plan, and whether the command goes by it; so this holds
+//! behind any engine that calls the device, and `a_plan_is_kept` says it. The command does not go by its plan any more
+//! once something is planned after its first call, or `foreign` or `crash` is called by hand.
+//!
 //! A **`crash`** takes each cell that is not sure and that it is not told to keep; all that stands then is sure. It
 //! goes into the record cell by cell (`Lost`, then `Crashed`). `a_crash_keeps` says what this row of changes leaves,
 //! and `unsure_cells` which cells a crash could take.
 //!
 //! Stands on `worm_device`. Begin with `memory_device.rt` and `device.rt`; `specs/Worlds.antt` says what a record
-//! stands for, and `specs/Outcomes.antt` what a call makes of the device.
+//! stands for, `specs/Outcomes.antt` what a call makes of the device, and `specs/Memory.antt` (`KeepsPlan`) what it is
+//! to go by a plan.
 #![tactic(auto)]
 
 mod arrival;
@@ -54,7 +67,10 @@ mod schedule;
 mod tests;
 
 pub use change::Change;
-pub use laws::{a_crash_keeps, unsure_cells};
+pub use laws::{
+    a_command_has_room, a_crash_has_room, a_crash_keeps, a_plan_is_kept, beginnings_tell,
+    the_record_tells, unsure_cells,
+};
 pub use losses::Crash;
 pub use mark::Mark;
 pub use memory_device::MemoryDevice;

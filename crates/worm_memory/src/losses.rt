@@ -20,7 +20,8 @@ pub struct Crash {
 
 impl MemoryDevice {
     /// A crash: of the cells that are not sure those in `keep` stay, and all that stands then is sure. Numbers in
-    /// `keep` of other cells, or of none, have no effect. The present command goes on with its plan.
+    /// `keep` of other cells, or of none, have no effect. What is planned for the present command stays planned, but
+    /// the command does not go by its plan any more.
     ///
     /// It uses the room of one change, and of one more for each cell that was not sure. Where the record has not that
     /// room, the crash fails: one fault is counted, and nothing else changes.
@@ -33,6 +34,7 @@ impl MemoryDevice {
     {
         let unsure = self.unsure.len();
         if unsure >= self.spare as usize {
+            self.by_plan = false;
             return Err(self.fail());
         }
         let (kept, unsure) = (count_kept(&self.unsure, keep) as u32, unsure as u32);
@@ -47,6 +49,9 @@ impl MemoryDevice {
         ensures taken { memory_of self.new ≡ with_crash (memory_of self.old) keep.now }
         ensures room { room_of self.new + unsure + 1 ≡ room_of self.old }
     {
+        // A crash is no call: it takes what the plan may have put, and may use more room than calls do.
+        self.by_plan = false;
+        self.ample = false;
         lose(&mut self.cells, &mut self.changes, &self.unsure, keep);
         self.unsure.clear();
         self.spare = self.spare - unsure - 1;

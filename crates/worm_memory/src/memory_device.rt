@@ -2,8 +2,11 @@
 ghost use Rattle.std.specs.Prelude.{◌≡◌, ◌≤◌, ◌<◌, ◌+◌, ℕ, slice_get, Some, vec_capacity, vec_len};
 ghost use Rattle.cell_types.specs.declared.geometry.TheConstants.{MAX_CELLS};
 ghost use Rattle.std.proofs.Props.{props};
-ghost use Rattle.worm_memory.specs.Plans.{AreInside};
-ghost use Rattle.worm_memory.specs.Unsure.{unsure_of};
+ghost use Rattle.std.specs.Prelude.{◌*◌, ◌^◌, ◌-◌, drop, true, false};
+ghost use Rattle.std.specs.List.{list_all};
+ghost use Rattle.worm_device.specs.Counts.{Rose};
+ghost use Rattle.worm_memory.specs.Plans.{AreInside, failures_reached, stands_if_reached, is_called_for, last_changes, last_faults, may_fail, may_stop, must_fail, plan_of};
+ghost use Rattle.worm_memory.specs.Unsure.{blanks, unsure_of};
 ghost use Rattle.worm_memory.specs.Worlds.{blank, world, AreChanges, AreChanges-prop, Holds, IsAllSure, IsPut};
 
 use crate::schedule::Schedule;
@@ -21,12 +24,17 @@ pub struct MemoryDevice {
     /// The cells that are written and not sure, in the order in which they were written.
     pub(crate) unsure: Vec<u32>,
     pub(crate) marks: Vec<Mark>,
-    /// How many further changes and marks there is room for.
+    /// How many further changes there is room for.
     pub(crate) spare: u32,
     pub(crate) schedule: Schedule,
     pub(crate) faults: u64,
     pub(crate) reads: u64,
     pub(crate) foreign_writes: u64,
+    /// Whether the present command goes by its plan.
+    pub(crate) by_plan: bool,
+    /// Whether the record has room for all that calls can record: two changes for each blank cell, and one for each
+    /// that is not sure.
+    pub(crate) ample: bool,
     ghost some_cells: { 1 ≤ vec_len cells },
     ghost most_cells: { vec_len cells ≤ MAX_CELLS },
     ghost are_changes: { AreChanges (vec_len cells) blank changes.items } by { AreChanges-prop (vec_len cells) blank changes.items },
@@ -34,16 +42,34 @@ pub struct MemoryDevice {
     ghost are_unsure: { unsure.items ≡ unsure_of changes.items } by { Prim.hlevel props },
     ghost changes_fit: { vec_len changes + spare ≤ vec_capacity changes },
     ghost unsure_fit: { vec_len unsure + spare ≤ vec_capacity unsure },
-    ghost marks_fit: { vec_len marks + spare ≤ vec_capacity marks },
     ghost planned_inside: { AreInside (vec_len cells) schedule.foreign.items } by { Prim.hlevel props },
+    ghost few: { blanks cells.items + vec_len unsure ≤ vec_len cells },
+    ghost roomy: { ample ≡ true → 2 * blanks cells.items + vec_len unsure ≤ spare } by { Prim.hlevel props },
+    ghost steps_fit: { schedule.steps ≤ schedule.calls },
+    ghost later: { last_faults marks.items ≤ faults },
+    ghost longer: { last_changes marks.items ≤ vec_len changes },
+    ghost backed: { by_plan ≡ true → ample ≡ true } by { Prim.hlevel props },
+    ghost none_failed: { by_plan ≡ true → may_fail (plan_of schedule) schedule.steps schedule.calls ≡ false
+        → faults ≡ last_faults marks.items } by { Prim.hlevel props },
+    ghost most_failed: { by_plan ≡ true → may_stop schedule.stop schedule.steps schedule.calls ≡ false
+        → schedule.calls < 2 ^ 64 - 1
+        → faults ≤ last_faults marks.items + failures_reached (plan_of schedule) schedule.steps schedule.calls } by { Prim.hlevel props },
+    ghost some_failed: { by_plan ≡ true → must_fail (plan_of schedule) schedule.steps schedule.calls ≡ true
+        → Rose (last_faults marks.items) faults } by { Prim.hlevel props },
+    ghost named: { by_plan ≡ true
+        → list_all (is_called_for schedule.steps schedule.calls schedule.foreign.items)
+        (drop (last_changes marks.items) changes.items) ≡ true } by { Prim.hlevel props },
+    ghost made: { by_plan ≡ true
+        → list_all (stands_if_reached schedule.steps schedule.calls (world changes.items).image) schedule.foreign.items ≡ true } by { Prim.hlevel props },
 }
 
 impl MemoryDevice {
-    ghost use Rattle.std.specs.Prelude.{◌≡◌, ◌≤◌, ◌<◌, ◌^◌, ◌-◌, ◌+◌, min, [], None, IsOk, IfOk, OnOk, OnErr};
-    ghost use Rattle.worm_memory.specs.Memory.{Memory, with_foreign_write, with_read};
+    ghost use Rattle.std.specs.Prelude.{◌≡◌, ◌≤◌, ◌<◌, ◌^◌, ◌-◌, ◌+◌, ◌↔◌, is_err, min, [], None, IsErr, IsOk, IsTrue, IfOk, OnOk, OnErr};
+    ghost use Rattle.worm_memory.specs.Memory.{KeepsPlan, Memory, with_foreign, with_foreign_write, with_read};
     ghost use Rattle.worm_memory.specs.Plans.{no_plan};
-    ghost use Rattle.worm_memory.specs.declared.change.Change.TheVariants.{Synced};
-    ghost use Rattle.worm_memory.specs.Device.{memory_of, room_of, state_of, Records, CountsFault};
+    ghost use Rattle.worm_memory.specs.Outcomes.{recorded};
+    ghost use Rattle.worm_memory.specs.declared.change.Change.TheVariants.{Synced, Wrote};
+    ghost use Rattle.worm_memory.specs.Device.{memory_of, outcome, room_of, state_of, IsReady, Records, CountsFault};
     ghost use Rattle.worm_memory.specs.Device.{ForeignEnds, ForeignWrites};
 
     /// A device of so many blank cells, 1 to 2,147,483,648. Its record has no room yet, and nothing is planned.
@@ -60,6 +86,7 @@ impl MemoryDevice {
           faults = 0;
           reads = 0;
           foreign_writes = 0;
+          by_plan = false;
         }) }
         ensures room { IfOk result (λ device. room_of device ≡ 0) }
     {
@@ -76,27 +103,41 @@ impl MemoryDevice {
             faults: 0,
             reads: 0,
             foreign_writes: 0,
+            by_plan: false,
+            ample: false,
         })
     }
 
-    /// Takes memory until so many further changes can be recorded, of which each mark that `begin` puts is one. Nothing
-    /// else changes, and nothing at all where there is no memory.
+    /// Takes memory until so many further changes can be recorded, and the mark of one more command. Two changes for each
+    /// cell are enough for the calls of a command, and one for each cell and one more for a crash. Nothing else changes;
+    /// where there is no memory, the mark alone may have got its room.
     pub fn reserve(&mut self, changes: u32) -> Result<(), NoMemory>
         ensures room { OnOk result (changes ≤ room_of self.new) }
+        ensures ready { OnOk result (IsReady self.new) }
         ensures same { memory_of self.new ≡ memory_of self.old }
         ensures keeps { room_of self.old ≤ room_of self.new }
-        ensures enough { changes ≤ room_of self.old → IsOk result }
+        ensures enough { changes ≤ room_of self.old → IsReady self.old → IsOk result }
         ensures err { OnErr result (room_of self.new ≡ room_of self.old) }
     {
+        self.reserve_mark()?;
         if changes <= self.spare {
             return Ok(());
         }
         let more = changes as usize;
         self.changes.reserve(more).map_err(|_| NoMemory)?;
         self.unsure.reserve(more).map_err(|_| NoMemory)?;
-        self.marks.reserve(more).map_err(|_| NoMemory)?;
         self.spare = changes;
         Ok(())
+    }
+
+    /// Takes memory for the mark of one more command.
+    fn reserve_mark(&mut self) -> Result<(), NoMemory>
+        ensures ready { OnOk result (IsReady self.new) }
+        ensures same { memory_of self.new ≡ memory_of self.old }
+        ensures room { room_of self.new ≡ room_of self.old }
+        ensures enough { IsReady self.old → IsOk result }
+    {
+        self.marks.reserve(1).map_err(|_| NoMemory)
     }
 
     /// How many further changes can be recorded, where that is below 2^32, and else 2^32 - 1.
@@ -112,6 +153,22 @@ impl MemoryDevice {
         ensures are_changes { AreChanges (memory_of self.now).cells blank result.now }
     {
         &self.changes
+    }
+
+    /// Whether there is room for the mark of one more command.
+    pub fn can_begin(&self) -> bool
+        ensures { IsTrue result ↔ IsReady self.now }
+    {
+        self.marks.len() < self.marks.capacity()
+    }
+
+    /// Whether the present command goes by its plan: it began with room for two changes of each cell, it was planned
+    /// before its first call, and neither `foreign` nor `crash` was called since.
+    pub fn kept_plan(&self) -> bool
+        ensures told { result ≡ (memory_of self.now).by_plan }
+        ensures kept { (memory_of self.now).by_plan ≡ true → KeepsPlan (memory_of self.now) }
+    {
+        self.by_plan
     }
 
     /// What it kept when each command began, in order. The changes up to a mark's number of them stood then.
@@ -145,10 +202,12 @@ impl MemoryDevice {
         self.reads = self.reads.saturating_add(1);
     }
 
-    /// Counts a fault.
+    /// Counts a fault. Where the present command goes by its plan, its faults are counted as each call comes.
     pub(crate) fn fail(&mut self) -> Failed
+        requires apart { self.old.by_plan ≡ false }
         ensures counted { CountsFault self.old self.new }
         ensures fits { (memory_of self.old).faults < 2 ^ 64 }
+        ensures ample { self.new.ample ≡ self.old.ample }
     {
         self.faults = self.faults.saturating_add(1);
         Failed
@@ -160,7 +219,9 @@ impl MemoryDevice {
         requires inside { at < (memory_of self.old).cells }
         requires free { (state_of self.old).image at ≡ None }
         requires room { 1 ≤ room_of self.old }
-        ensures { Records change self.old self.new }
+        requires ours { self.old.by_plan ≡ true → change ≡ Wrote at value }
+        ensures records { Records change self.old self.new }
+        ensures ample { self.new.ample ≡ self.old.ample }
     {
         // That the value is one of a written cell is known to those who ask for its bytes.
         let _bytes = value.bytes();
@@ -175,6 +236,7 @@ impl MemoryDevice {
         ensures counted { memory_of self.new ≡ with_foreign_write (memory_of self.old) }
         ensures room { room_of self.new ≡ room_of self.old }
         ensures fits { (memory_of self.old).foreign_writes < 2 ^ 64 }
+        ensures ample { self.new.ample ≡ self.old.ample }
     {
         self.foreign_writes = self.foreign_writes.saturating_add(1);
     }
@@ -182,6 +244,7 @@ impl MemoryDevice {
     /// Makes sure all that stands, where something was not sure and the record has room.
     pub(crate) fn record_sync(&mut self)
         requires unsure { IsAllSure (world (memory_of self.old).changes) → ⊥ }
+        requires some { 1 ≤ vec_len self.old.unsure }
         requires room { 1 ≤ room_of self.old }
         ensures { Records Synced self.old self.new }
     {
@@ -190,7 +253,8 @@ impl MemoryDevice {
         self.spare -= 1;
     }
 
-    /// Somebody else writes a cell. A written one stays as it is, and is not counted as a foreign write.
+    /// Somebody else writes a cell. A written one stays as it is, and is not counted as a foreign write. After a blank
+    /// one the present command does not go by its plan any more.
     pub fn foreign(&mut self, at: u32, value: Cell) -> Result<Written, Failed>
         requires { at < (memory_of self.old).cells }
         ensures writes { ForeignWrites (state_of self.old) (state_of self.new) }
@@ -199,11 +263,27 @@ impl MemoryDevice {
         if let Some(found) = self.found(at) {
             return Ok(Written::Taken(found));
         }
+        self.by_plan = false;
+        self.put_foreign(at, value)?;
+        Ok(Written::Done)
+    }
+
+    /// Somebody else writes a blank cell.
+    pub(crate) fn put_foreign(&mut self, at: u32, value: Cell) -> Result<(), Failed>
+        requires inside { at < (memory_of self.old).cells }
+        requires free { (state_of self.old).image at ≡ None }
+        requires apart { self.old.by_plan ≡ false }
+        ensures writes { outcome self.new (is_err result)
+            ≡ recorded (memory_of self.old) (room_of self.old) (with_foreign (memory_of self.old) at value) }
+        ensures called { ForeignWrites (state_of self.old) (state_of self.new) }
+        ensures ample { self.new.ample ≡ self.old.ample }
+        ensures room { IsErr result → self.old.ample ≡ false }
+    {
         if self.room() == 0 {
             return Err(self.fail());
         }
         self.put(at, value, Change::Foreign { at, value });
         self.count_foreign_write();
-        Ok(Written::Done)
+        Ok(())
     }
 }

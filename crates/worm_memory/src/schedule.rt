@@ -1,5 +1,5 @@
 //! What is planned for the present command of a device in memory, and how far the command has come.
-ghost use Rattle.std.specs.Prelude.{◌≡◌, ◌++◌, ◌∷◌, [], if◌then◌else◌, slice_get, is_ok, Some, IfOk};
+ghost use Rattle.std.specs.Prelude.{◌≡◌, ◌<◌, ◌^◌, ◌++◌, ◌∷◌, [], if◌then◌else◌, slice_get, is_ok, Some, IfOk};
 ghost use Rattle.std.specs.List.{list_any};
 ghost use Rattle.worm_device.specs.Counts.{next_count};
 ghost use Rattle.worm_memory.specs.Plans.{no_plan, plan_of, names, next_step, is_stopped, is_refused};
@@ -58,6 +58,7 @@ impl Schedule {
         ensures plan { plan_of self.new ≡ plan_of self.old }
         ensures steps { self.new.steps ≡ next_step is_step self.old.steps }
         ensures calls { self.new.calls ≡ next_count self.old.calls }
+        ensures fits { self.old.calls < 2 ^ 64 }
     {
         // The stop is looked at before the call is counted: the call of its number is still made.
         let is_stopped = self.is_stopped();

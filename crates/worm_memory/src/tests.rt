@@ -1,13 +1,13 @@
 //! A device of eight cells, called as its callers do, as a device where it is one. What is expected was written by hand.
 use crate::tests::Action::{
-    Begin, FailAt, Foreign, ForeignBefore, Read, Reserve, StopAfter, Sync, Write,
+    Begin, FailAt, Foreign, ForeignBefore, Lose, Read, Reserve, StopAfter, Sync, Write,
 };
 use crate::{Change, Crash, Mark, MemoryDevice, Moment};
 use cell_types::{Cell, NoMemory};
 use std::alloc::Global;
 use std::process::Abort;
 use std::test::Fail;
-use worm_device::{Device, Direct, Failed, View, Written};
+use worm_device::{Device, Direct, Failed, RowWritten, View, Written};
 
 /// What is done to a device.
 #[derive(Clone, Copy)]
@@ -17,6 +17,7 @@ enum Action {
     Write(u32, Cell),
     Sync,
     Foreign(u32, Cell),
+    Lose,
     Begin,
     FailAt(Moment),
     StopAfter(Moment),
@@ -72,6 +73,30 @@ fn write(rt: &impl Abort, device: &mut impl Device, at: u32, value: Cell) -> Ans
     stood(device.write(at, value))
 }
 
+/// Writes neighbouring cells that the device has.
+fn write_row(
+    rt: &impl Abort,
+    device: &mut impl Device,
+    at: u32,
+    values: &[Cell],
+) -> Result<RowWritten, Failed> {
+    assert!(rt; at <= device.cells());
+    assert!(rt; values.len() <= (device.cells() - at) as usize);
+    device.write_row(at, values)
+}
+
+/// Reads neighbouring cells that the device has.
+fn read_row(
+    rt: &impl Abort,
+    device: &mut impl Device,
+    at: u32,
+    cells: &mut [Option<Cell>],
+) -> Result<(), Failed> {
+    assert!(rt; at <= device.cells());
+    assert!(rt; cells.len() <= (device.cells() - at) as usize);
+    device.read_row(at, cells)
+}
+
 /// Makes all sure.
 fn sync(device: &mut impl Device) -> Answer {
     device.sync()?;
@@ -84,9 +109,15 @@ fn foreign(rt: &impl Abort, device: &mut MemoryDevice, at: u32, value: Cell) -> 
     stood(device.foreign(at, value))
 }
 
+/// A crash that keeps no cell.
+fn lose(device: &mut MemoryDevice) -> Answer {
+    let _ = device.crash(&[])?;
+    Ok(None)
+}
+
 /// Begins a command, for whose mark there is room.
 fn begin(rt: &impl Abort, device: &mut MemoryDevice) -> Answer {
-    assert!(rt; device.room() > 0);
+    assert!(rt; device.can_begin());
     device.begin();
     Ok(None)
 }
@@ -111,6 +142,7 @@ fn act(rt: &impl Abort, device: &mut MemoryDevice, action: &Action) -> Answer {
         Write(at, value) => write(rt, device, at, value),
         Sync => sync(device),
         Foreign(at, value) => foreign(rt, device, at, value),
+        Lose => lose(device),
         Begin => begin(rt, device),
         FailAt(moment) => taken(device.fail_at(moment)),
         StopAfter(moment) => {
@@ -276,6 +308,7 @@ fn a_step_fails_as_planned(rt: HostRuntime) -> Result<(), Fail> {
         (Write(4, nine), Err(Failed)), // step 2, call 3
         (Read(3), Err(Failed)), // call 4
         (Write(4, nine), Ok(None)), // step 3, call 5
+        (Reserve(0), Ok(None)), // a mark has room of its own
         (Begin, Ok(None)),
     ];
     let changes = [
@@ -285,7 +318,7 @@ fn a_step_fails_as_planned(rt: HostRuntime) -> Result<(), Fail> {
         },
         Change::Wrote { at: 4, value: nine },
     ];
-    let device = expect(&rt, 4, &actions, &changes)?;
+    let device = expect(&rt, 2, &actions, &changes)?;
     let marks = [
         Mark {
             steps: 0,
@@ -319,9 +352,11 @@ fn a_command_stops_after_a_step(rt: HostRuntime) -> Result<(), Fail> {
         (Write(3, seven), Ok(None)),
         (Read(3), Err(Failed)),
         (Sync, Err(Failed)),
+        (Reserve(0), Ok(None)),
         (Begin, Ok(None)),
         (StopAfter(Moment::Step(0)), Ok(None)),
         (Read(3), Err(Failed)), // no call is made at all
+        (Reserve(0), Ok(None)),
         (Begin, Ok(None)),
         (Sync, Ok(None)), // nothing is planned any more
         (Write(4, nine), Ok(None)),
@@ -334,7 +369,7 @@ fn a_command_stops_after_a_step(rt: HostRuntime) -> Result<(), Fail> {
         Change::Synced,
         Change::Wrote { at: 4, value: nine },
     ];
-    let _ = expect(&rt, 6, &actions, &changes)?;
+    let _ = expect(&rt, 3, &actions, &changes)?;
     Ok(())
 }
 
@@ -363,7 +398,133 @@ fn others_write_before_a_call(rt: HostRuntime) -> Result<(), Fail> {
             value: seven,
         },
     ];
-    let _ = expect(&rt, 4, &actions, &changes)?;
+    let device = expect(&rt, 3, &actions, &changes)?;
+    assert!(rt; !device.kept_plan()); // its record had too little room
+    Ok(())
+}
+
+/// Whether the command goes by its plan after each of these.
+fn expect_plan(rt: &impl Abort, device: &mut MemoryDevice, actions: &[(Action, Answer, bool)]) {
+    for (number, (action, answer, kept)) in actions.iter().enumerate() {
+        assert_eq!(rt; act(rt, device, action), *answer, "action {number}");
+        assert_eq!(rt; device.kept_plan(), *kept, "after action {number}");
+    }
+}
+
+#[test]
+fn a_command_goes_by_its_plan(rt: HostRuntime) -> Result<(), Fail> {
+    let (seven, nine) = (cell(&rt, 7), cell(&rt, 9));
+    let mut device = blank(rt.alloc(), 16)?;
+    let actions = [
+        (Begin, Ok(None), true),
+        (FailAt(Moment::Call(3)), Ok(None), true),
+        (ForeignBefore(Moment::Step(2), 3, nine), Ok(None), true),
+        (ForeignBefore(Moment::Step(9), 4, nine), Ok(None), true), // never reached
+        (StopAfter(Moment::Call(4)), Ok(None), true),
+        (Read(3), Ok(None), true),
+        (Write(2, seven), Ok(None), true),
+        (Write(3, seven), Err(Failed), true), // step 2, call 3
+        (Read(3), Ok(Some(nine)), true),
+        (Sync, Err(Failed), true),
+        (Foreign(3, seven), Ok(Some(nine)), true), // nothing is done
+        (Foreign(4, seven), Ok(None), false),
+        (Sync, Err(Failed), false),
+    ];
+    expect_plan(&rt, &mut device, &actions);
+    let changes = [
+        Change::Wrote {
+            at: 2,
+            value: seven,
+        },
+        Change::Foreign { at: 3, value: nine },
+        Change::Foreign {
+            at: 4,
+            value: seven,
+        },
+    ];
+    assert_eq!(rt; device.changes(), changes.as_slice());
+    Ok(())
+}
+
+#[test]
+fn what_is_planned_late_is_no_plan(rt: HostRuntime) -> Result<(), Fail> {
+    let nine = cell(&rt, 9);
+    let mut device = blank(rt.alloc(), 16)?;
+    let actions = [
+        (Sync, Ok(None), false), // no command has begun
+        (Begin, Ok(None), true),
+        (Read(3), Ok(None), true),
+        (FailAt(Moment::Call(1)), Ok(None), false),
+        (Reserve(16), Ok(None), false),
+        (Begin, Ok(None), true),
+        (Read(3), Ok(None), true),
+        (StopAfter(Moment::Call(1)), Ok(None), false),
+        (Reserve(16), Ok(None), false),
+        (Begin, Ok(None), true),
+        (Read(3), Ok(None), true),
+        (ForeignBefore(Moment::Call(1), 3, nine), Ok(None), false),
+        (Reserve(16), Ok(None), false),
+        (Begin, Ok(None), true),
+        (Lose, Ok(None), false),
+    ];
+    expect_plan(&rt, &mut device, &actions);
+    Ok(())
+}
+
+#[test]
+fn twice_its_cells_is_room_for_a_command(rt: HostRuntime) -> Result<(), Fail> {
+    let seven = cell(&rt, 7);
+    let mut device = blank(rt.alloc(), 15)?;
+    let too_little = [
+        (Begin, Ok(None), false),
+        (Reserve(16), Ok(None), false),
+        (Begin, Ok(None), true),
+    ];
+    expect_plan(&rt, &mut device, &too_little);
+    for at in 0..8 {
+        let both = [(Write(at, seven), Ok(None), true), (Sync, Ok(None), true)];
+        expect_plan(&rt, &mut device, &both);
+    }
+    assert_eq!(rt; device.room(), 0);
+    let full = [
+        (Write(7, seven), Ok(Some(seven)), true),
+        (Sync, Ok(None), true),
+    ];
+    expect_plan(&rt, &mut device, &full);
+    Ok(())
+}
+
+#[test]
+fn a_mark_has_room_of_its_own(rt: HostRuntime) -> Result<(), Fail> {
+    let mut device = MemoryDevice::new(rt.alloc(), 8)?;
+    assert!(rt; !device.can_begin());
+    perform(
+        &rt,
+        &mut device,
+        &[(Reserve(0), Ok(None)), (Begin, Ok(None))],
+    );
+    assert_eq!(rt; device.room(), 0);
+    assert_eq!(rt; device.marks().len(), 1);
+    Ok(())
+}
+
+#[test]
+fn each_cell_of_a_row_is_a_step(rt: HostRuntime) -> Result<(), Fail> {
+    let (seven, nine) = (cell(&rt, 7), cell(&rt, 9));
+    let mut device = blank(rt.alloc(), 3)?;
+    let planned = [
+        (Begin, Ok(None)),
+        (FailAt(Moment::Step(2)), Ok(None)),
+        (FailAt(Moment::Call(4)), Ok(None)),
+    ];
+    perform(&rt, &mut device, &planned);
+    let (row, whole) = ([seven, nine, seven], Ok(RowWritten::Whole));
+    assert_eq!(rt; write_row(&rt, &mut device, 3, &row), Err(Failed));
+    let mut cells = [None; 3];
+    assert_eq!(rt; read_row(&rt, &mut device, 2, &mut cells), Err(Failed)); // calls 3 and 4
+    assert_eq!(rt; write_row(&rt, &mut device, 3, &row[..2]), whole);
+    assert_eq!(rt; read_row(&rt, &mut device, 2, &mut cells), Ok(()));
+    assert_eq!(rt; cells, [None, Some(seven), Some(nine)]);
     Ok(())
 }
 

@@ -3,7 +3,7 @@ use Rattle.std.specs.Prelude.{◌≡◌, ◌<◌, ◌≤◌, ℕ, Bool, List, Op
 use Rattle.cell_types.specs.declared.geometry.TheConstants.{MAX_SLOTS}
 use Rattle.cell_types.specs.declared.refusal.Evidence.{Evidence}
 use Rattle.cell_types.specs.declared.refusal.Fault.{Fault}
-use Rattle.cell_types.specs.declared.refusal.Fault.TheVariants.{Tampered, ReadFault}
+use Rattle.cell_types.specs.declared.refusal.Fault.TheVariants.{Tampered, Failed}
 use Rattle.worm_device.specs.Counts.{Rose, IsStill}
 use Rattle.worm_device.specs.Views.{ViewState, Viewed}
 
@@ -38,7 +38,7 @@ pub record Keeps (old new : ListsState) : Type 0 where
 -- Why there is no answer: a call below failed, or this is evidence that the lists may name, and that they show
 -- where nobody else wrote.
 abbrev pub FaultEnds : ListsState → ListsState → Fault → Type 0
-FaultEnds old new ReadFault = Rose old.view.base.faults new.view.base.faults
+FaultEnds old new Failed = Rose old.view.base.faults new.view.base.faults
 FaultEnds old new (Tampered e) =
     new.may_name e × (IsStill old.view.base.foreign_writes new.view.base.foreign_writes → new.shows e)
 

@@ -21,19 +21,14 @@ pub fn next_common<Q: Lists>(lists: &mut Q, from: u32) -> Result<Option<u32>, Fa
     let mut agreed = 0;
     let mut slot = from;
     while slot < MAX_SLOTS {
-        let next = match lists.next(which, slot) {
-            Ok(Some(next)) => next,
-            Ok(None) => return Ok(None),
-            Err(fault) => return Err(fault),
+        let Some(next) = lists.next(which, slot)? else {
+            return Ok(None);
         };
         if next > slot {
             slot = next;
             agreed = 0;
         }
-        let there = match lists.has(which, slot) {
-            Ok(there) => there,
-            Err(fault) => return Err(fault),
-        };
+        let there = lists.has(which, slot)?;
         which = if which + 1 == count { 0 } else { which + 1 };
         if there {
             agreed += 1;

@@ -1,9 +1,7 @@
 -- A byte that is held, the first of the next cell, and a cell that is broken.
-use Rattle.std.proofs.Common.{◌≡◌, ◌<◌, ◌≤◌, ◌*◌, ℕ, Err, refl, arith, subst}
-use Rattle.append_file.specs.Pieces.{PieceEnds}
-use Rattle.append_file.specs.declared.piece.ContentFault.{ContentFault}
+use Rattle.std.proofs.Common.{◌≡◌, ◌<◌, ◌≤◌, ◌*◌, ℕ, refl, arith}
 use Rattle.stored_documents.specs.Slots.{cells_for}
-use Rattle.append_file.proofs.GoingOn.{give_on, first_on}
+use Rattle.append_file.proofs.GoingOn.{byte_fails, give_on, first_on}
 use Rattle.append_file.proofs.position.next_byte.Goals as goal
 
 -- a cell is left to be read
@@ -32,13 +30,10 @@ returns-in-Ok-clause-ends g c = (
       c.give_first.ensures.one,
 )
 
-pub returns-in-Err-Broken-clause-ends : goal.returns-in-Err-Broken-clause-ends
-returns-in-Err-Broken-clause-ends g c =
+pub returns-in-Err-clause-ends : goal.returns-in-Err-clause-ends
+returns-in-Err-clause-ends g c =
     let p = c.args.position.now in
-    let old = g.V.View.seen c.args.view.now in
-    let new = g.V.View.seen c.read_piece.new.view in
-    let ends = subst (λ (f : ContentFault). PieceEnds p.start p.bytes p.read old new (Err f)) c.in-Err-Broken.field-0-is
-    c.in-Err-Broken.ensures.ends in
     let left = cells_left p.read p.bytes p.bytes _ c.cells_for.ensures c.if-position-cells_for.false c.requires.is.read
     refl in
-    (ends.0, λ tells. (p.read, left.1, ends.1 tells))
+    byte_fails (g.V.View.seen c.args.view.now) (g.V.View.seen c.read_piece.new.view) p c.end.new.self left.1
+    c.in-Err.fault c.in-Err.ensures.ends

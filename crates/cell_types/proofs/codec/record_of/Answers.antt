@@ -21,4 +21,8 @@ returns-in_err-target-in-7-clause-none c = rw c.from_residual-in_err-target-in-7
 
 -- a child cell without its seven zeros
 pub returns-in_err-target-in-9-clause-none : goal.returns-in_err-target-in-9-clause-none
-returns-in_err-target-in-9-clause-none c = rw c.from_residual-in_err-target-in-9.ensures (no_number c.args.body.now 9 c.in-9.is (inr (inr refl)) c.in_err-target-in-9.ensures.none)
+returns-in_err-target-in-9-clause-none c = rw c.from_residual-in_err-target-in-9.ensures (no_number c.args.body.now 9 c.in-9.is (inr (inr (inl refl))) c.in_err-target-in-9.ensures.none)
+
+-- a stamp cell without its seven zeros
+pub returns-in_err-seconds-in-10-clause-none : goal.returns-in_err-seconds-in-10-clause-none
+returns-in_err-seconds-in-10-clause-none c = rw c.from_residual-in_err-seconds-in-10.ensures (no_number c.args.body.now 10 c.in-10.is (inr (inr (inr refl))) c.in_err-seconds-in-10.ensures.none)

@@ -6,10 +6,10 @@ use Rattle.commit_record.proofs.CellsMake.{IsLateDone, outcome_stray, outcome_wr
 use Rattle.commit_record.proofs.CellsSeen.{handed}
 use Rattle.commit_record.proofs.slot_cells.state_reserved.Goals as goal
 use Rattle.commit_record.proofs.slot_cells.state_reserved.Goals.{in_default-via-in-Commit+else-fits_into, in_default-via-in_default}
-use Rattle.commit_record.specs.declared.looks.Found.TheVariants.{Blank}
+use Rattle.worm_device.specs.declared.looks.Found.TheVariants.{Blank}
 
-pub returns-in_err-no_done_cell-in-Blank : goal.returns-in_err-no_done_cell-in-Blank
-returns-in_err-no_done_cell-in-Blank c =
+pub returns-in_err-no_done_cell-in-Blank-clause-ends : goal.returns-in_err-no_done_cell-in-Blank-clause-ends
+returns-in_err-no_done_cell-in-Blank-clause-ends c =
     let e = c.in_err-no_done_cell-in-Blank.field-0.0 in
     let w = c.in_err-no_done_cell-in-Blank.ensures.written in
     let late : IsLateDone c.args.slot c.args.done e = record { rule = w.0; cell = w.1; found = w.2 } in
@@ -17,13 +17,13 @@ returns-in_err-no_done_cell-in-Blank c =
     (done_without_outcome _ c.args.slot c.requires.slot Blank c.args.outcome c.args.done c.args.start c.args.length e
     c.in-Blank.is late)
 
-pub returns-in-Stray : goal.returns-in-Stray
-returns-in-Stray c =
+pub returns-in-Stray-clause-ends : goal.returns-in-Stray-clause-ends
+returns-in-Stray-clause-ends c =
     outcome_stray _ c.args.slot c.requires.slot Blank c.args.outcome c.args.done c.args.start c.args.length
     c.outcome_at.result c.in-Stray.found c.outcome_at.ensures.at c.in-Stray.is
 
-pub returns-in_err-no_done_cell-in-Abandon : goal.returns-in_err-no_done_cell-in-Abandon
-returns-in_err-no_done_cell-in-Abandon c =
+pub returns-in_err-no_done_cell-in-Abandon-clause-ends : goal.returns-in_err-no_done_cell-in-Abandon-clause-ends
+returns-in_err-no_done_cell-in-Abandon-clause-ends c =
     let e = c.in_err-no_done_cell-in-Abandon.field-0.0 in
     let w = c.in_err-no_done_cell-in-Abandon.ensures.written in
     let late : IsLateDone c.args.slot c.args.done e = record { rule = w.0; cell = w.1; found = w.2 } in
@@ -32,12 +32,12 @@ returns-in_err-no_done_cell-in-Abandon c =
     (done_behind_abandon _ c.args.slot c.requires.slot Blank c.args.outcome c.args.done c.args.start c.args.length e
     c.in-Record.found c.in-Record.held c.in-Record.is c.in-Abandon.is late)
 
-pub returns-in-Commit : goal.returns-in-Commit
-returns-in-Commit c =
+pub returns-in-Commit-clause-ends : goal.returns-in-Commit-clause-ends
+returns-in-Commit-clause-ends c =
     committed _ c.args.slot c.requires.slot Blank c.args.outcome c.args.done c.args.start c.args.length
     c.in-Commit.bytes c.in-Commit.journal
     c.state_committed.result c.in-Record.found c.in-Record.held c.in-Record.is c.in-Commit.is
-    (c.if-fits_into.ensures.0 refl) c.state_committed.ensures
+    (c.if-fits_into.ensures.0 refl) (λ e. omega (arith, e, c.version-version.ensures.exists.version)) c.state_committed.ensures.ends
 
 commits_are : (a b c d : ℕ) → Commit a b ≡ Commit c d → (a ≡ c) × (b ≡ d)
 commits_are a b c d e = (cc, cc)
@@ -48,8 +48,8 @@ no_abandon a b e = cc
 unfit : (fits : Bool) → fits ≡ false → IsTrue fits → ⊥
 unfit fits is_false is_true = let clash : false ≡ true = sym is_false ∙ is_true in cc
 
-pub returns-in_default : goal.returns-in_default
-returns-in_default c =
+pub returns-in_default-clause-ends : goal.returns-in_default-clause-ends
+returns-in_default-clause-ends c =
     outcome_wrong _ c.args.slot c.requires.slot Blank c.args.outcome c.args.done c.args.start c.args.length
     c.outcome_at-in_default.result c.in-Record.found c.in-Record.held c.outcome_at-in_default.ensures.at
     c.in-Record.is

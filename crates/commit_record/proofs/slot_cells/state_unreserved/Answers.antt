@@ -3,7 +3,7 @@ use Rattle.std.proofs.Common.{sym, ◌∙◌}
 use Rattle.commit_record.proofs.CellsMake.{IsLateDone, outcome_unreserved, done_without_reserve}
 use Rattle.commit_record.proofs.CellsSeen.{handed}
 use Rattle.commit_record.proofs.slot_cells.state_unreserved.Goals as goal
-use Rattle.commit_record.specs.declared.looks.Found.TheVariants.{Blank}
+use Rattle.worm_device.specs.declared.looks.Found.TheVariants.{Blank}
 
 -- the outcome cell is written
 pub returns-in-Some : goal.returns-in-Some

@@ -1,11 +1,10 @@
 -- The look for the part, the whole document, and its body once more.
 use Rattle.std.proofs.Common.{◌∙◌, subst, arith}
-use Rattle.std.specs.Prelude.{IsTrue}
 use Rattle.cell_types.proofs.Passed.{handed}
 use Rattle.worm_device.proofs.Resting.{viewed_then}
 use Rattle.document_store.specs.Putting.{PutFails, body_fault_of}
 use Rattle.document_store.specs.declared.putting.PutFault.{PutFault}
-use Rattle.document_store.proofs.Bodies.{got_body, nothing_put, part_named, second_breaks, second_fails, sink_fails}
+use Rattle.document_store.proofs.Bodies.{got_body, nothing_put, second_breaks, second_fails, sink_fails}
 use Rattle.document_store.proofs.Checking.{read_fails, reads_twice}
 use Rattle.document_store.proofs.body.body_into.Goals as goal
 
@@ -41,47 +40,6 @@ returns-in_err-_checked-clause-ends g c =
     (read_fails layout n old mid read part before second found c.in_err-_checked.field-0.0
     c.in_err-_checked.ensures.ends))
 
--- it was found broken in the second pass
-pub name_commit-requires-clause-part : goal.name_commit-requires-clause-part
-name_commit-requires-clause-part g c =
-    let layout = c.args.volume.now.geometry in
-    let n = c.args.slot in
-    let old = g.V.View.seen c.args.view.now in
-    let mid = g.V.View.seen c.done_part.new.view in
-    let read = g.V.View.seen c.read_part.new.view in
-    let part = c.in_ok-part.part in
-    let before = c.done_part.ensures.viewed in
-    let second = c.read_part.ensures.viewed in
-    let found = c.in_ok-part.ensures.ends in
-    let new = g.V.View.seen c.put_document.new.view in
-    let h = c.in_ok-_checked._checked in
-    let from = g.K.Sink.state c.args.sink.now in
-    let to = g.K.Sink.state c.put_document.new.sink in
-    let after = c.put_document.ensures.viewed in
-    let checked = c.in_ok-_checked.ensures.ends in
-    part_named layout n old mid read new part h from to before second after found checked.0 checked.1
-
-pub name_commit-requires-clause-none : goal.name_commit-requires-clause-none
-name_commit-requires-clause-none g c = λ tells.
-    let layout = c.args.volume.now.geometry in
-    let n = c.args.slot in
-    let old = g.V.View.seen c.args.view.now in
-    let mid = g.V.View.seen c.done_part.new.view in
-    let read = g.V.View.seen c.read_part.new.view in
-    let part = c.in_ok-part.part in
-    let before = c.done_part.ensures.viewed in
-    let second = c.read_part.ensures.viewed in
-    let found = c.in_ok-part.ensures.ends in
-    let new = g.V.View.seen c.put_document.new.view in
-    let h = c.in_ok-_checked._checked in
-    let from = g.K.Sink.state c.args.sink.now in
-    let to = g.K.Sink.state c.put_document.new.sink in
-    let after = c.put_document.ensures.viewed in
-    let checked = c.in_ok-_checked.ensures.ends in
-    let fails = subst (λ (f : PutFault). PutFails part.start part.bytes read new from to f) c.in-Err-Broken.field-0-is
-    c.in-Err-Broken.ensures.ends in
-    fails.3 (subst IsTrue after.called.tells tells)
-
 -- the body was put
 pub returns-in-Ok-clause-reads : goal.returns-in-Ok-clause-reads
 returns-in-Ok-clause-reads g c =
@@ -101,7 +59,7 @@ returns-in-Ok-clause-reads g c =
     let after = c.put_document.ensures.viewed in
     let checked = c.in_ok-_checked.ensures.ends in
     reads_twice layout n old mid new part before (viewed_then second after) found
-    (omega (arith, c.done_part.ensures.reads, c.in_ok-_checked.ensures.once, c.put_document.ensures.reads))
+    (omega (arith, c.done_part.ensures.reads, c.read_part.ensures.reads, c.put_document.ensures.reads))
 
 pub returns-in-Ok-clause-ends : goal.returns-in-Ok-clause-ends
 returns-in-Ok-clause-ends g c =
@@ -130,8 +88,7 @@ returns-in-Ok-clause-ends g c =
 -- a view that does not tell showed another document the second time
 pub returns-in-Err-Broken-clause-viewed : goal.returns-in-Err-Broken-clause-viewed
 returns-in-Err-Broken-clause-viewed g c =
-    viewed_then c.done_part.ensures.viewed (viewed_then c.read_part.ensures.viewed
-    (viewed_then c.put_document.ensures.viewed c.name_commit.ensures.viewed))
+    viewed_then c.done_part.ensures.viewed (viewed_then c.read_part.ensures.viewed c.put_document.ensures.viewed)
 
 pub returns-in-Err-Broken-clause-reads : goal.returns-in-Err-Broken-clause-reads
 returns-in-Err-Broken-clause-reads g c =
@@ -150,16 +107,8 @@ returns-in-Err-Broken-clause-reads g c =
     let to = g.K.Sink.state c.put_document.new.sink in
     let after = c.put_document.ensures.viewed in
     let checked = c.in_ok-_checked.ensures.ends in
-    let end = g.V.View.seen c.name_commit.new.view in
-    reads_twice layout n old mid end part before (viewed_then second (viewed_then after c.name_commit.ensures.viewed))
-    found
-    (omega (
-      arith,
-      c.done_part.ensures.reads,
-      c.in_ok-_checked.ensures.once,
-      c.put_document.ensures.reads,
-      c.name_commit.ensures.reads,
-    ))
+    reads_twice layout n old mid new part before (viewed_then second after) found
+    (omega (arith, c.done_part.ensures.reads, c.read_part.ensures.reads, c.put_document.ensures.reads))
 
 pub returns-in-Err-Broken-clause-ends : goal.returns-in-Err-Broken-clause-ends
 returns-in-Err-Broken-clause-ends g c =
@@ -178,12 +127,12 @@ returns-in-Err-Broken-clause-ends g c =
     let to = g.K.Sink.state c.put_document.new.sink in
     let after = c.put_document.ensures.viewed in
     let checked = c.in_ok-_checked.ensures.ends in
-    let end = g.V.View.seen c.name_commit.new.view in
     let fails = subst (λ (f : PutFault). PutFails part.start part.bytes read new from to f) c.in-Err-Broken.field-0-is
     c.in-Err-Broken.ensures.ends in
     rw c.from.ensures
+    (rw c.name_commit.ensures
     (second_breaks layout n old mid read new part h from to before second after found checked.0 checked.1
-    end c.name_commit.ensures.viewed fails c.name_commit.result c.name_commit.ensures.ends)
+    c.requires.slot fails))
 
 -- a read failed in the second pass
 pub returns-in-Err-ReadFault-clause-reads : goal.returns-in-Err-ReadFault-clause-reads
@@ -204,7 +153,7 @@ returns-in-Err-ReadFault-clause-reads g c =
     let after = c.put_document.ensures.viewed in
     let checked = c.in_ok-_checked.ensures.ends in
     reads_twice layout n old mid new part before (viewed_then second after) found
-    (omega (arith, c.done_part.ensures.reads, c.in_ok-_checked.ensures.once, c.put_document.ensures.reads))
+    (omega (arith, c.done_part.ensures.reads, c.read_part.ensures.reads, c.put_document.ensures.reads))
 
 pub returns-in-Err-ReadFault-clause-ends : goal.returns-in-Err-ReadFault-clause-ends
 returns-in-Err-ReadFault-clause-ends g c =
@@ -247,7 +196,7 @@ returns-in-Err-SinkFault-clause-reads g c =
     let after = c.put_document.ensures.viewed in
     let checked = c.in_ok-_checked.ensures.ends in
     reads_twice layout n old mid new part before (viewed_then second after) found
-    (omega (arith, c.done_part.ensures.reads, c.in_ok-_checked.ensures.once, c.put_document.ensures.reads))
+    (omega (arith, c.done_part.ensures.reads, c.read_part.ensures.reads, c.put_document.ensures.reads))
 
 pub returns-in-Err-SinkFault-clause-ends : goal.returns-in-Err-SinkFault-clause-ends
 returns-in-Err-SinkFault-clause-ends g c =

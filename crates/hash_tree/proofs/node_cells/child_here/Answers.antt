@@ -1,8 +1,9 @@
 -- A cell that is no record is no child cell.
-use Rattle.hash_tree.proofs.CellReads.{no_child}
+use Rattle.cell_types.proofs.Passed.{handed}
+use Rattle.hash_tree.proofs.CellReads.{unread_child}
 use Rattle.hash_tree.proofs.node_cells.child_here.Goals as goal
 
-pub returns-in_default-decode : goal.returns-in_default-decode
-returns-in_default-decode g c =
-    no_child c.args.at c.args.pool c.args.edge c.in-Some.found _ _ (rw c.in-Some.is at c.in-Ok.ensures)
-    c.in_default-decode.ensures.none
+pub returns-in_err-found : goal.returns-in_err-found
+returns-in_err-found g c =
+    rw (handed c.from_residual.result c.in_err-found.field-0.0 c.from_residual.ensures.1)
+    (unread_child c.args.at c.args.pool c.args.edge _ _ c.in_err-found.field-0.0 c.in_err-found.ensures)

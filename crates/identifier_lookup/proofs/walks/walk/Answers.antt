@@ -1,5 +1,6 @@
 -- Each turn, by the lemma of its kind.
 use Rattle.std.proofs.Common.{◌∙◌, ap}
+use Rattle.cell_types.proofs.Passed.{handed}
 use Rattle.hash_tree.specs.Levels.{first_level}
 use Rattle.identifier_lookup.proofs.Finding.{compare_fails, walk_begins, walk_ends, walk_fails, walk_finds, walk_full, walk_on}
 use Rattle.identifier_lookup.proofs.walks.walk.Goals as goal
@@ -11,43 +12,45 @@ loop-step-init g c =
     c.requires.bounds (c.start-level.ensures ∙ ap first_level c.digest-digest.ensures)
 
 -- the step gives no answer
-pub returns-in-Err : goal.returns-in-Err
-returns-in-Err g c =
-    walk_fails c.args.volume.now.geometry c.args.horizon c.args.edge c.args.id.now _ _ _ c.loop-step.level _
-    c.requires.bounds c.loop-step.invariant c.in-Err.fault c.in-Err.ensures
+pub returns-in_err-step : goal.returns-in_err-step
+returns-in_err-step g c =
+    rw (handed c.from_residual.result c.in_err-step.field-0.0 c.from_residual.ensures.1)
+    (walk_fails c.args.volume.now.geometry c.args.horizon c.args.edge c.args.id.now _ _ _ c.loop-step.level _
+    c.requires.bounds c.loop-step.invariant c.in_err-step.field-0.0 c.in_err-step.ensures)
 
 -- the path ends
 pub returns-in-End : goal.returns-in-End
 returns-in-End g c =
     walk_ends c.args.volume.now.geometry c.args.horizon c.args.edge c.args.id.now _ _ _ c.loop-step.level _
-    c.requires.bounds c.loop-step.invariant c.in-End.place (rw c.in-End.is at c.in-Ok.ensures)
+    c.requires.bounds c.loop-step.invariant c.in-End.place (rw c.in-End.is at c.in_ok-step.ensures)
 
 -- it is full
 pub returns-in-PathFull : goal.returns-in-PathFull
 returns-in-PathFull g c =
     walk_full c.args.volume.now.geometry c.args.horizon c.args.edge c.args.id.now _ _ _ c.loop-step.level _
-    c.requires.bounds c.loop-step.invariant (rw c.in-PathFull.is at c.in-Ok.ensures)
+    c.requires.bounds c.loop-step.invariant (rw c.in-PathFull.is at c.in_ok-step.ensures)
 
 -- the candidate's slot, or its document, is evidence
-pub returns-in-Err-has_identifier : goal.returns-in-Err-has_identifier
-returns-in-Err-has_identifier g c =
-    compare_fails c.args.volume.now.geometry c.args.horizon c.args.edge c.args.id.now _ _ _ c.loop-step.level _
+pub returns-in_err-same : goal.returns-in_err-same
+returns-in_err-same g c =
+    rw (handed c.from_residual-in_err-same.result c.in_err-same.field-0.0 c.from_residual-in_err-same.ensures.1)
+    (compare_fails c.args.volume.now.geometry c.args.horizon c.args.edge c.args.id.now _ _ _ c.loop-step.level _
     c.requires.bounds c.loop-step.invariant _ c.in-Candidate.slot c.in-Candidate.bucket
-    (rw c.in-Candidate.is at c.in-Ok.ensures) c.in-Err-has_identifier.fault
-    (rw c.digest-digest.ensures at c.in-Err-has_identifier.ensures)
+    (rw c.in-Candidate.is at c.in_ok-step.ensures) c.in_err-same.field-0.0
+    (rw c.digest-digest.ensures at c.in_err-same.ensures))
 
 -- it has the identifier
 pub returns-then-same : goal.returns-then-same
 returns-then-same g c =
     walk_finds c.args.volume.now.geometry c.args.horizon c.args.edge c.args.id.now _ _ _ c.loop-step.level _
     c.requires.bounds c.loop-step.invariant _ c.in-Candidate.slot c.in-Candidate.bucket
-    (rw c.in-Candidate.is at c.in-Ok.ensures)
-    (rw c.digest-digest.ensures at (rw c.if-same.true at c.in-Ok-has_identifier.ensures))
+    (rw c.in-Candidate.is at c.in_ok-step.ensures)
+    (rw c.digest-digest.ensures at (rw c.if-same.true at c.in_ok-same.ensures))
 
 -- or another one
 pub loop-step-preserved : goal.loop-step-preserved
 loop-step-preserved g c =
     walk_on c.args.volume.now.geometry c.args.horizon c.args.edge c.args.id.now _ _ _ c.loop-step.level
     c.next_candidate.new.level c.requires.bounds c.loop-step.invariant _ c.in-Candidate.slot c.in-Candidate.bucket
-    (rw c.in-Candidate.is at c.in-Ok.ensures)
-    (rw c.digest-digest.ensures at (rw c.if-same.false at c.in-Ok-has_identifier.ensures))
+    (rw c.in-Candidate.is at c.in_ok-step.ensures)
+    (rw c.digest-digest.ensures at (rw c.if-same.false at c.in_ok-same.ensures))

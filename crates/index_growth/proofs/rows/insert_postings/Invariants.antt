@@ -5,5 +5,5 @@ use Rattle.index_growth.proofs.rows.insert_postings.Given as goal
 
 abbrev pub invariant-loop-row : goal.invariant-loop-row
 invariant-loop-row g l =
-    RowSoFar l.geometry l.slot l.rows l.row-index l.fn.pool l.pool (of_overlay g.V.View.seen l.fn.overlay)
+    RowSoFar l.geometry l.rows l.row-index l.fn.pool l.pool (of_overlay g.V.View.seen l.fn.overlay)
     (of_overlay g.V.View.seen l.overlay)

@@ -1,5 +1,5 @@
 -- The postings of the body, planned over the device.
-use Rattle.std.proofs.Common.{refl, ap, ◌∙◌, arith}
+use Rattle.std.proofs.Common.{None, refl, ap, ◌∙◌, arith}
 use Rattle.std.proofs.lemmas.Grind.{common_steps}
 use Rattle.worm_device.specs.Directly.{device_is_view}
 use Rattle.worm_device.specs.Overlaying.{overlay_shows}
@@ -10,25 +10,28 @@ use Rattle.ingest_plan.proofs.plan.plan_index.Goals as goal
 
 pub plan_over-requires-clause-order : goal.plan_over-requires-clause-order
 plan_over-requires-clause-order g c =
-    in_order c.args.volume.now.geometry.lists c.args.body.now c.args.slot c.deref-2.result.now
-    (given c.args.volume.now.geometry.lists c.args.body.now c.args.slot c.in-Ok.terms.items c.deref.result.now
-    c.in-Ok-postings.rows.items c.deref-2.result.now (rw c.in-Ok.is at c.words.ensures) c.deref.ensures.value
-    (rw (c.in-Ok-postings.is, c.lists.ensures.lists) at c.postings.ensures.ok) c.deref-2.ensures.value)
+    in_order c.args.volume.now.geometry None c.args.body.now c.args.slot c.deref-2.result.now
+    (given c.args.volume.now.geometry c.args.body.now c.args.slot c.in_ok-terms.terms.items c.deref.result.now
+    c.in_ok-rows.rows.items c.deref-2.result.now (rw (c.rule_of.ensures, c.version.ensures.version) at c.in_ok-terms.ensures) c.deref.ensures.value
+    (rw c.lists.ensures.lists at c.in_ok-rows.ensures.ok) c.deref-2.ensures.value)
 
 pub plan_over-requires-clause-few : goal.plan_over-requires-clause-few
 plan_over-requires-clause-few g c =
-    few c.args.volume.now.geometry.lists c.args.body.now c.args.slot c.deref-2.result.now
-    (given c.args.volume.now.geometry.lists c.args.body.now c.args.slot c.in-Ok.terms.items c.deref.result.now
-    c.in-Ok-postings.rows.items c.deref-2.result.now (rw c.in-Ok.is at c.words.ensures) c.deref.ensures.value
-    (rw (c.in-Ok-postings.is, c.lists.ensures.lists) at c.postings.ensures.ok) c.deref-2.ensures.value)
+    omega (
+      arith,
+      few c.args.volume.now.geometry c.args.body.now c.args.slot c.deref-2.result.now
+          (given c.args.volume.now.geometry c.args.body.now c.args.slot c.in_ok-terms.terms.items c.deref.result.now
+          c.in_ok-rows.rows.items c.deref-2.result.now (rw (c.rule_of.ensures, c.version.ensures.version) at c.in_ok-terms.ensures) c.deref.ensures.value
+          (rw c.lists.ensures.lists at c.in_ok-rows.ensures.ok) c.deref-2.ensures.value),
+    )
 
 pub returns : goal.returns
 returns g c =
     plans_index c.args.volume.now.geometry c.args.slot c.args.edge c.args.body.now c.deref-2.result.now c.args.level.now c.args.place
-    _ _ _ _ _
-    (given c.args.volume.now.geometry.lists c.args.body.now c.args.slot c.in-Ok.terms.items c.deref.result.now
-    c.in-Ok-postings.rows.items c.deref-2.result.now (rw c.in-Ok.is at c.words.ensures) c.deref.ensures.value
-    (rw (c.in-Ok-postings.is, c.lists.ensures.lists) at c.postings.ensures.ok) c.deref-2.ensures.value)
+    _ _ _ _ _ c.version.ensures.exists
+    (given c.args.volume.now.geometry c.args.body.now c.args.slot c.in_ok-terms.terms.items c.deref.result.now
+    c.in_ok-rows.rows.items c.deref-2.result.now (rw (c.rule_of.ensures, c.version.ensures.version) at c.in_ok-terms.ensures) c.deref.ensures.value
+    (rw c.lists.ensures.lists at c.in_ok-rows.ensures.ok) c.deref-2.ensures.value)
     c.requires.to c.plan_over.ensures (ap (λ view. g.D.Device.state view.device.now) c.new-overlay.ensures.view ∙ ap (λ d. g.D.Device.state d) c.new.ensures.same)
     (ap (λ d. g.D.Device.state d) (grind (arith, common_steps))) refl
     (overlay_shows (λ view. seen_directly (g.D.Device.state view.device.now) view.device.ghost_name)

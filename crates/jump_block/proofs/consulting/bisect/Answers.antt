@@ -1,5 +1,6 @@
 -- Each turn.
 use Rattle.std.proofs.Common.{◌<◌, ◌+◌, ◌-◌, ◌/◌, ℕ, sym, subst, arith}
+use Rattle.cell_types.proofs.Passed.{handed}
 use Rattle.worm_device.proofs.Resting.{viewed_self, viewed_then}
 use Rattle.jump_block.specs.Fronts.{AreBelow}
 use Rattle.jump_block.specs.Known.{IsPast}
@@ -19,15 +20,16 @@ loop-halving-init g c = record {
   below = λ tells. record { last = λ before is. absurd (omega arith) };
 }
 
-pub returns-in-Err : goal.returns-in-Err
-returns-in-Err g c =
+pub returns-in_err-found : goal.returns-in_err-found
+returns-in_err-found g c =
     let inv = c.loop-halving.invariant in
+    rw (handed c.from_residual.result c.in_err-found.field-0.0 c.from_residual.ensures.1)
     record {
       viewed = viewed_then inv.viewed c.entry.ensures.viewed;
       reads = omega (arith, inv.reads, c.entry.ensures.reads, c.loop-halving-test.true);
       ends = fault_at c.args.front.now c.args.x _ _ _ inv.viewed c.requires.known c.requires.places
           (c.loop-halving.low + (c.loop-halving.high - c.loop-halving.low) / 2)
-          (omega (arith, inv.order, inv.within)) c.in-Err.fault c.in-Err.ensures;
+          (omega (arith, inv.order, inv.within)) c.in_err-found.field-0.0 c.in_err-found.ensures;
     }
 
 pub loop-halving-preserved : goal.loop-halving-preserved
@@ -51,7 +53,7 @@ loop-halving-preserved g c =
             c.args.x in
             subst P (sym w.low-is) (next_below c.args.front.now c.args.x _ _ _ inv.viewed c.requires.known
             c.requires.places middle less w.in-Some.next w.if-next-x.true
-            (rw w.in-Some.is at c.in-Ok.ensures) tells);
+            (rw w.in-Some.is at c.in_ok-found.ensures) tells);
       }
       | in_default-2 w ↦ record {
         viewed = viewed_then inv.viewed c.entry.ensures.viewed;
@@ -63,7 +65,7 @@ loop-halving-preserved g c =
             let P : ℕ → Type 0 = λ n. IsPast (g.V.View.seen c.entry.new.view).image c.args.front.now.block n c.args.x in
             subst P (sym w.high-is) (past_at c.args.front.now c.args.x _ _ _ inv.viewed c.requires.known
             c.requires.places middle less w.in-Some.next w.if-next-x.false
-            (rw w.in-Some.is at c.in-Ok.ensures) tells);
+            (rw w.in-Some.is at c.in_ok-found.ensures) tells);
         below = λ tells.
             let P : ℕ → Type 0 = λ n. AreBelow (g.V.View.seen c.entry.new.view).image c.args.front.now.block n
             c.args.x in
@@ -77,7 +79,7 @@ loop-halving-preserved g c =
         narrow = omega (arith, w.low-is, w.high-is, inv.narrow, half);
         past = λ tells.
             absurd (not_blank c.args.front.now c.args.x _ _ _ inv.viewed c.requires.known c.requires.places middle
-            less (rw w.in_default.is at c.in-Ok.ensures) tells);
+            less (rw w.in_default.is at c.in_ok-found.ensures) tells);
         below = λ tells.
             let P : ℕ → Type 0 = λ n. AreBelow (g.V.View.seen c.entry.new.view).image c.args.front.now.block n
             c.args.x in

@@ -1,11 +1,11 @@
--- A cell that decodes to nothing is no posting.
+-- A cell that is no record is no posting.
 use Rattle.std.proofs.Common.{ap, ◌+◌}
-use Rattle.jump_block.proofs.EntryReads.{no_posting}
-use Rattle.index_paths.specs.Blocks.{posting_record}
+use Rattle.cell_types.proofs.Passed.{handed}
+use Rattle.jump_block.proofs.EntryReads.{unread_entry}
 use Rattle.jump_block.proofs.entries.entry.Goals as goal
 
-pub returns-in_default-decode : goal.returns-in_default-decode
-returns-in_default-decode g c =
-    no_posting c.args.block c.args.place (c.args.block + c.from.result) c.in-Some.found _ _
-    (ap (λ n. c.args.block + n) c.from.ensures) (rw c.in-Some.is at c.in-Ok.ensures)
-    (λ p h. c.in_default-decode.ensures.none (posting_record p) h)
+pub returns-in_err-found : goal.returns-in_err-found
+returns-in_err-found g c =
+    rw (handed c.from_residual.result c.in_err-found.field-0.0 c.from_residual.ensures.1)
+    (unread_entry c.args.block c.args.place (c.args.block + c.from.result) _ _ c.in_err-found.field-0.0
+    (ap (λ n. c.args.block + n) c.from.ensures) c.in_err-found.ensures)

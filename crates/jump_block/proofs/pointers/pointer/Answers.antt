@@ -1,9 +1,10 @@
--- A cell that decodes to nothing is no jump cell.
-use Rattle.cell_types.specs.declared.record_cell.RecordCell.TheVariants.{Jump}
-use Rattle.jump_block.proofs.EntryReads.{no_jump}
+-- A cell that is no record is no jump cell.
+use Rattle.cell_types.proofs.Passed.{handed}
+use Rattle.jump_block.proofs.EntryReads.{unread_pointer}
 use Rattle.jump_block.proofs.pointers.pointer.Goals as goal
 
-pub returns-in_default-decode : goal.returns-in_default-decode
-returns-in_default-decode g c =
-    no_jump _ c.pointer_cell-at.result c.in-Some.found _ _ c.pointer_cell-at.ensures
-    (rw c.in-Some.is at c.in-Ok.ensures) (λ t h. c.in_default-decode.ensures.none (Jump t) h)
+pub returns-in_err-found : goal.returns-in_err-found
+returns-in_err-found g c =
+    rw (handed c.from_residual.result c.in_err-found.field-0.0 c.from_residual.ensures.1)
+    (unread_pointer _ c.pointer_cell-at.result _ _ c.in_err-found.field-0.0 c.pointer_cell-at.ensures
+    c.in_err-found.ensures)

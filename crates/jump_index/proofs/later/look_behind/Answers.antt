@@ -1,5 +1,6 @@
 -- Each ending, by the lemma of its kind.
 use Rattle.std.proofs.Common.{sym, arith, inl, inr, ◌∙◌}
+use Rattle.cell_types.proofs.Passed.{handed}
 use Rattle.worm_device.proofs.Resting.{viewed_self}
 use Rattle.jump_index.proofs.Behind.{target_outside, target_fault, target_entry, at_key, target_first, target_without_key}
 use Rattle.jump_index.proofs.later.look_behind.Goals as goal
@@ -18,20 +19,21 @@ returns-then-target-bounds-clause-looks g c = record {
       c.leads_nowhere.ensures;
 }
 
-pub returns-in-Err-clause-looks : goal.returns-in-Err-clause-looks
-returns-in-Err-clause-looks g c =
-    let f = c.in-Err.ensures.finds in
+pub returns-in_err-first-clause-looks : goal.returns-in_err-first-clause-looks
+returns-in_err-first-clause-looks g c =
+    rw (handed c.from_residual.result c.in_err-first.field-0.0 c.from_residual.ensures.1)
+    (let f = c.in_err-first.ensures.finds in
     record {
       viewed = f.viewed;
       reads = f.reads;
       ends = target_fault c.args.bounds c.args.block c.args.l c.args.span c.args.target _ _ f.viewed
           c.requires.span c.requires.full c.requires.jump
-          (omega arith) (omega arith) c.in-Err.fault f.ends;
-    }
+          (omega arith) (omega arith) c.in_err-first.field-0.0 f.ends;
+    })
 
 pub returns-then-from-span-clause-looks : goal.returns-then-from-span-clause-looks
 returns-then-from-span-clause-looks g c =
-    let f = rw c.in-At.is at c.in-Ok.ensures.finds in
+    let f = rw c.in-At.is at c.in_ok-first.ensures.finds in
     record {
       viewed = f.viewed;
       reads = f.reads;
@@ -49,13 +51,13 @@ returns-then-from-span-clause-looks g c =
 
 pub returns-clause-looks : goal.returns-clause-looks
 returns-clause-looks g c =
-    let f = c.in-Ok.ensures.finds in
+    let f = c.in_ok-first.ensures.finds in
     record {
       viewed = f.viewed;
       reads = f.reads;
       ends = target_without_key c.args.bounds c.args.block c.args.l c.args.span c.args.target _ _ f.viewed
           c.requires.span c.requires.full c.requires.jump
-          (omega arith) (omega arith) c.in-Ok.first f.ends
+          (omega arith) (omega arith) c.in_ok-first.first f.ends
           (λ e same. elim c.match-first.branch [
             | in-At+else-from-span w ↦ omega
                 (arith, at_key e w.in-At.entry (sym same ∙ w.in-At.is))

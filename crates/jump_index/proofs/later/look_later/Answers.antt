@@ -1,5 +1,6 @@
 -- Each turn, by the lemma of its kind.
 use Rattle.std.proofs.Common.{arith}
+use Rattle.cell_types.proofs.Passed.{handed}
 use Rattle.jump_block.proofs.Knowing.{kept_on, key_on}
 use Rattle.jump_index.proofs.LookingLater.{span_is_wide, pointer_fault, blank_pointer, written_pointer}
 use Rattle.jump_index.proofs.Telling.{told, told_before}
@@ -14,16 +15,18 @@ pointer-requires-clause-some g c = (c.next-span.ensures.is c.args.l c.loop-span.
 pub pointer-requires-clause-digit : goal.pointer-requires-clause-digit
 pointer-requires-clause-digit g c = (c.next-span.ensures.is c.args.l c.loop-span.invariant.so_far.is).digits
 
-pub returns-in-Err-clause-kept : goal.returns-in-Err-clause-kept
-returns-in-Err-clause-kept g c = λ tells. kept_on c.pointer.ensures.viewed.image (c.loop-span.invariant.kept tells)
+pub returns-in_err-read-clause-kept : goal.returns-in_err-read-clause-kept
+returns-in_err-read-clause-kept g c =
+    λ tells. kept_on c.pointer.ensures.viewed.image (c.loop-span.invariant.kept tells)
 
-pub returns-in-Err-clause-looks : goal.returns-in-Err-clause-looks
-returns-in-Err-clause-looks g c =
-    let so_far = c.loop-span.invariant.so_far in
+pub returns-in_err-read-clause-looks : goal.returns-in_err-read-clause-looks
+returns-in_err-read-clause-looks g c =
+    rw (handed c.from_residual.result c.in_err-read.field-0.0 c.from_residual.ensures.1)
+    (let so_far = c.loop-span.invariant.so_far in
     pointer_fault c.args.bounds c.args.block c.args.l c.args.after.high _ _ _ c.loop-span.span c.next-span.result
     c.requires.full so_far
     (c.next-span.ensures.is c.args.l so_far.is) c.next-span.ensures.follows c.next-span.ensures.place c.args.bound
-    c.in-Err.fault c.in-Err.ensures
+    c.in_err-read.field-0.0 c.in_err-read.ensures)
 
 pub look_behind-requires-clause-kept : goal.look_behind-requires-clause-kept
 look_behind-requires-clause-kept g c = λ tells.
@@ -49,7 +52,7 @@ returns-in-Some-clause-looks g c =
     c.next-span.result c.requires.full so_far
     (c.next-span.ensures.is c.args.l so_far.is) c.next-span.ensures.follows c.next-span.ensures.place
     c.in-Some.target c.args.bound _ c.look_behind.result
-    (rw c.in-Some.is at c.in-Ok.ensures) c.look_behind.ensures.looks
+    (rw c.in-Some.is at c.in_ok-read.ensures) c.look_behind.ensures.looks
 
 pub loop-span-smaller : goal.loop-span-smaller
 loop-span-smaller g c =
@@ -68,6 +71,6 @@ loop-span-preserved g c =
       so_far = blank_pointer c.args.bounds c.args.block c.args.l c.args.after.high _ _ _ c.loop-span.span
           c.next-span.result c.requires.full so_far
           (c.next-span.ensures.is c.args.l so_far.is) c.next-span.ensures.follows c.next-span.ensures.place
-          (rw c.in_default.is at c.in-Ok.ensures);
+          (rw c.in_default.is at c.in_ok-read.ensures);
       kept = λ tells. kept_on c.pointer.ensures.viewed.image (c.loop-span.invariant.kept tells);
     }

@@ -1,50 +1,55 @@
 -- Each ending, by the lemma of its kind.
 use Rattle.std.proofs.Common.{◌≤◌, arith}
+use Rattle.cell_types.proofs.Passed.{handed}
 use Rattle.worm_device.proofs.Resting.{viewed_then}
 use Rattle.jump_block.proofs.Knowing.{kept_on, key_on}
-use Rattle.jump_index.proofs.Descending.{level_falls, passed_blank, passed_nothing, found_behind, fault_behind, no_key_behind, then_on}
+use Rattle.jump_index.proofs.Descending.{passed_blank, passed_nothing, found_behind, fault_behind, no_key_behind, then_on}
+use Rattle.jump_block.proofs.OneBlock.{level_falls}
 use Rattle.jump_index.proofs.LookingLater.{fault_then}
 use Rattle.jump_index.proofs.Telling.{told_before}
 use Rattle.jump_index.proofs.search.+search.Goals as goal
 
-pub returns-in-Err-clause-looks : goal.returns-in-Err-clause-looks
-returns-in-Err-clause-looks g t c =
-    let h = c.in-Err.ensures.looks in
+pub returns-in_err-here-clause-looks : goal.returns-in_err-here-clause-looks
+returns-in_err-here-clause-looks g t c =
+    rw (handed c.from_residual.result c.in_err-here.field-0.0 c.from_residual.ensures.1)
+    (let h = c.in_err-here.ensures.looks in
     record {
       viewed = h.viewed;
       reads = omega (arith, h.reads);
       ends = h.ends c.args.bounds;
-    }
+    })
 
 pub returns-in-Ends-clause-looks : goal.returns-in-Ends-clause-looks
 returns-in-Ends-clause-looks g t c =
-    let h = rw c.in-Ends.is at c.in-Ok.ensures.looks in
+    let h = rw c.in-Ends.is at c.in_ok-here.ensures.looks in
     record {
       viewed = h.viewed;
       reads = omega (arith, h.reads);
       ends = h.ends c.args.bounds;
     }
 
-pub returns-in-Err-first_pointer-clause-looks : goal.returns-in-Err-first_pointer-clause-looks
-returns-in-Err-first_pointer-clause-looks g t c =
-    let here = c.look_here.ensures.looks in
-    let first = c.in-Err-first_pointer.ensures in
+pub returns-in_err-to-clause-looks : goal.returns-in_err-to-clause-looks
+returns-in_err-to-clause-looks g t c =
+    rw (handed c.from_residual-in_err-to.result c.in_err-to.field-0.0 c.from_residual-in_err-to.ensures.1)
+    (let here = c.look_here.ensures.looks in
+    let first = c.in_err-to.ensures in
     record {
       viewed = viewed_then here.viewed first.viewed;
       reads = omega (arith, here.reads, first.reads);
       ends = fault_then c.args.bounds c.args.block (g.V.View.seen c.args.view.now)
           (g.V.View.seen c.look_here.new.view) (g.V.View.seen c.first_pointer.new.view) here.viewed
-          c.in-Err-first_pointer.fault first.ends;
-    }
+          c.in_err-to.field-0.0 first.ends;
+    })
 
-pub returns-in-Err-first_pointer-clause-kept : goal.returns-in-Err-first_pointer-clause-kept
-returns-in-Err-first_pointer-clause-kept g t c = λ tells. kept_on c.first_pointer.ensures.viewed.image
+pub returns-in_err-to-clause-kept : goal.returns-in_err-to-clause-kept
+returns-in_err-to-clause-kept g t c =
+    λ tells. kept_on c.first_pointer.ensures.viewed.image
     (c.look_here.ensures.kept tells)
 
 pub search-requires : goal.search-requires
 search-requires g t c = λ κs lives.
-    let h = rw c.in-Beyond.is at c.in-Ok.ensures.looks in
-    let f = rw c.in-Some.is at c.in-Ok-first_pointer.ensures in
+    let h = rw c.in-Beyond.is at c.in_ok-here.ensures.looks in
+    let f = rw c.in-Some.is at c.in_ok-to.ensures in
     let s = c.span-first.ensures in
     let falls = level_falls c.in-Beyond.l c.args.x c.args.low c.args.bound c.args.level c.span-first.result s.is
     s.low c.requires.below c.requires.narrow h.ends.0 in
@@ -75,14 +80,14 @@ look_on-requires-clause-kept g t c = λ tells.
 
 pub look_on-requires-clause-full : goal.look_on-requires-clause-full
 look_on-requires-clause-full g t c = λ tells.
-    let h = rw c.in-Beyond.is at c.in-Ok.ensures.looks in
+    let h = rw c.in-Beyond.is at c.in_ok-here.ensures.looks in
     let f = c.first_pointer.ensures in
     key_on f.viewed.image (h.ends.2 (told_before h.viewed (told_before f.viewed tells)))
 
 pub returns-in_default-clause-looks : goal.returns-in_default-clause-looks
 returns-in_default-clause-looks g t c =
-    let h = rw c.in-Beyond.is at c.in-Ok.ensures.looks in
-    let f = rw c.in_default.is at c.in-Ok-first_pointer.ensures in
+    let h = rw c.in-Beyond.is at c.in_ok-here.ensures.looks in
+    let f = rw c.in_default.is at c.in_ok-to.ensures in
     let s = c.span-first.ensures in
     then_on c.args.bounds c.args.block c.args.x c.args.low c.args.bound c.args.level c.in-Beyond.l _ _ _
     c.span-first.result s.high
@@ -93,7 +98,7 @@ returns-in_default-clause-looks g t c =
 
 pub look_on-requires-in-Ok-Nothing-clause-full : goal.look_on-requires-in-Ok-Nothing-clause-full
 look_on-requires-in-Ok-Nothing-clause-full g t c = λ tells.
-    let h = rw c.in-Beyond.is at c.in-Ok.ensures.looks in
+    let h = rw c.in-Beyond.is at c.in_ok-here.ensures.looks in
     let f = c.first_pointer.ensures in
     let s = c.search.ensures.looks in
     key_on s.viewed.image (key_on f.viewed.image (h.ends.2 (told_before h.viewed
@@ -101,20 +106,20 @@ look_on-requires-in-Ok-Nothing-clause-full g t c = λ tells.
 
 pub returns-in-Ok-Found-clause-looks : goal.returns-in-Ok-Found-clause-looks
 returns-in-Ok-Found-clause-looks g t c =
-    let h = rw c.in-Beyond.is at c.in-Ok.ensures.looks in
+    let h = rw c.in-Beyond.is at c.in_ok-here.ensures.looks in
     let s = c.span-first.ensures in
     found_behind c.args.bounds c.args.block c.args.x c.args.level _ _ _ _ c.in-Beyond.l c.in-Some.target
     c.span-first.result s.is s.low s.high
     (level_falls c.in-Beyond.l c.args.x c.args.low c.args.bound c.args.level c.span-first.result s.is s.low
     c.requires.below c.requires.narrow h.ends.0)
-    c.requires.edge h.viewed h.reads h.ends.2 (rw c.in-Some.is at c.in-Ok-first_pointer.ensures)
+    c.requires.edge h.viewed h.reads h.ends.2 (rw c.in-Some.is at c.in_ok-to.ensures)
     c.in-Ok-Found.entry c.args.low c.args.bound c.within.result h.ends.0 h.ends.1 c.requires.below
     (rw c.in-Ok-Found.field-0-is at c.in-Ok-Found.ensures.looks) c.within.ensures
 
 pub returns-in-Ok-Nothing-clause-looks : goal.returns-in-Ok-Nothing-clause-looks
 returns-in-Ok-Nothing-clause-looks g t c =
-    let h = rw c.in-Beyond.is at c.in-Ok.ensures.looks in
-    let f = rw c.in-Some.is at c.in-Ok-first_pointer.ensures in
+    let h = rw c.in-Beyond.is at c.in_ok-here.ensures.looks in
+    let f = rw c.in-Some.is at c.in_ok-to.ensures in
     let s = c.span-first.ensures in
     let behind = rw c.in-Ok-Nothing.field-0-is at c.in-Ok-Nothing.ensures.looks in
     then_on c.args.bounds c.args.block c.args.x c.args.low c.args.bound c.args.level c.in-Beyond.l _ _ _
@@ -129,23 +134,23 @@ returns-in-Ok-Nothing-clause-looks g t c =
 
 pub returns-in-Ok-NoKey-clause-looks : goal.returns-in-Ok-NoKey-clause-looks
 returns-in-Ok-NoKey-clause-looks g t c =
-    let h = rw c.in-Beyond.is at c.in-Ok.ensures.looks in
+    let h = rw c.in-Beyond.is at c.in_ok-here.ensures.looks in
     let s = c.span-first.ensures in
     no_key_behind c.args.bounds c.args.block c.args.x c.args.level _ _ _ _ c.in-Beyond.l c.in-Some.target
     c.span-first.result s.is s.low s.high
     (level_falls c.in-Beyond.l c.args.x c.args.low c.args.bound c.args.level c.span-first.result s.is s.low
     c.requires.below c.requires.narrow h.ends.0)
-    c.requires.edge h.viewed h.reads h.ends.2 (rw c.in-Some.is at c.in-Ok-first_pointer.ensures)
+    c.requires.edge h.viewed h.reads h.ends.2 (rw c.in-Some.is at c.in_ok-to.ensures)
     c.leads_nowhere.result c.args.low c.args.bound (rw c.in-Ok-NoKey.field-0-is at c.in-Ok-NoKey.ensures.looks)
     c.leads_nowhere.ensures
 
-pub returns-in-Err-search-clause-looks : goal.returns-in-Err-search-clause-looks
-returns-in-Err-search-clause-looks g t c =
-    let h = rw c.in-Beyond.is at c.in-Ok.ensures.looks in
+pub returns-in-Err-clause-looks : goal.returns-in-Err-clause-looks
+returns-in-Err-clause-looks g t c =
+    let h = rw c.in-Beyond.is at c.in_ok-here.ensures.looks in
     let s = c.span-first.ensures in
     fault_behind c.args.bounds c.args.block c.args.x c.args.level _ _ _ _ c.in-Beyond.l c.in-Some.target
     c.span-first.result s.is s.low s.high
     (level_falls c.in-Beyond.l c.args.x c.args.low c.args.bound c.args.level c.span-first.result s.is s.low
     c.requires.below c.requires.narrow h.ends.0)
-    c.requires.edge h.viewed h.reads h.ends.2 (rw c.in-Some.is at c.in-Ok-first_pointer.ensures)
-    c.in-Err-search.fault c.args.low c.args.bound c.in-Err-search.ensures.looks
+    c.requires.edge h.viewed h.reads h.ends.2 (rw c.in-Some.is at c.in_ok-to.ensures)
+    c.in-Err.fault c.args.low c.args.bound c.in-Err.ensures.looks

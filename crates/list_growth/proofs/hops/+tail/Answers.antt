@@ -1,12 +1,13 @@
 -- Each ending, by the lemma of its kind.
 use Rattle.std.proofs.Common.{inl, inr, arith, sym, subst}
 use Rattle.std.specs.Prelude.{IsTrue}
+use Rattle.cell_types.proofs.Passed.{handed}
 use Rattle.cell_types.specs.Image.{Image}
 use Rattle.stored_documents.proofs.Extending.{holds_on, blank_before}
 use Rattle.worm_device.specs.Overlays.{of_overlay}
 use Rattle.worm_device.proofs.Resting.{viewed_then}
 use Rattle.jump_block.proofs.Knowing.{key_on}
-use Rattle.jump_index.specs.Evidence.{HasPointer}
+use Rattle.jump_block.specs.Pointing.{HasPointer}
 use Rattle.list_growth.proofs.Lasting.{ends_behind, none_last, passes, open_last, tail_last_then}
 use Rattle.list_growth.proofs.Naming.{greatest_fault, check_refused, named_fault, meets_home, no_key_there, front_fault, late_fault, fault_then, full_at_most, check_on}
 use Rattle.list_growth.proofs.Readying.{at_viewed, at_target, own_block_viewed, reached_viewed}
@@ -16,17 +17,18 @@ use Rattle.list_growth.proofs.hops.+tail.Goals as goal
 use Rattle.list_growth.proofs.hops.+tail.Goals.{else-target-home-via-then-target-home+then-from+else-from-2, else-target-home-via-then-target-home+else-from, else-target-home-via-else-target-home}
 
 -- a fault of the search for the greatest pointer
-pub returns-in-Err-clause-finds : goal.returns-in-Err-clause-finds
-returns-in-Err-clause-finds g t c =
-    let viewed = c.greatest_pointer.ensures.viewed in
+pub returns-in_err-found-clause-finds : goal.returns-in_err-found-clause-finds
+returns-in_err-found-clause-finds g t c =
+    rw (handed c.from_residual.result c.in_err-found.field-0.0 c.from_residual.ensures.1)
+    (let viewed = c.greatest_pointer.ensures.viewed in
     record {
       viewed = viewed;
       ends = greatest_fault (of_overlay g.V.View.seen c.args.overlay.now)
           (of_overlay g.V.View.seen c.greatest_pointer.new.view)
           (is_view g.V.View.seen g.met.V.View.proper c.greatest_pointer.new.view)
           c.args.head c.args.floor c.args.next c.args.key c.args.block (λ tells. at_viewed viewed (c.requires.at tells))
-          c.args.l c.args.bound c.in-Err.fault c.in-Err.ensures.ends;
-    }
+          c.args.l c.args.bound c.in_err-found.field-0.0 c.in_err-found.ensures.ends;
+    })
 
 pub check_target-requires-clause-at : goal.check_target-requires-clause-at
 check_target-requires-clause-at g t c = λ tells.
@@ -34,20 +36,22 @@ check_target-requires-clause-at g t c = λ tells.
     at_viewed viewed (c.requires.at (subst IsTrue viewed.called.tells tells))
 
 -- the pointer leads nowhere
-pub returns-in-Err-check_target-clause-finds : goal.returns-in-Err-check_target-clause-finds
-returns-in-Err-check_target-clause-finds g t c = record {
-  viewed = c.greatest_pointer.ensures.viewed;
-  ends = check_refused c.args.head c.args.floor c.args.next c.args.key c.args.block c.in-Some.target c.in-Some.span
-      (of_overlay g.V.View.seen c.args.overlay.now)
-      (of_overlay g.V.View.seen c.greatest_pointer.new.view) c.greatest_pointer.ensures.viewed
-      c.in-Err-check_target.fault c.in-Err-check_target.ensures;
-}
+pub returns-in_err-check_target-clause-finds : goal.returns-in_err-check_target-clause-finds
+returns-in_err-check_target-clause-finds g t c =
+    rw (handed c.from_residual-in_err-check_target.result c.in_err-check_target.field-0.0 c.from_residual-in_err-check_target.ensures.1)
+    (record {
+      viewed = c.greatest_pointer.ensures.viewed;
+      ends = check_refused c.args.head c.args.floor c.args.next c.args.key c.args.block c.in-Some.target c.in-Some.span
+          (of_overlay g.V.View.seen c.args.overlay.now)
+          (of_overlay g.V.View.seen c.greatest_pointer.new.view) c.greatest_pointer.ensures.viewed
+          c.in_err-check_target.field-0.0 c.in_err-check_target.ensures;
+    })
 
 -- the target meets the home
 pub returns-then-from-2-clause-finds : goal.returns-then-from-2-clause-finds
 returns-then-from-2-clause-finds g t c =
     let viewed = c.greatest_pointer.ensures.viewed in
-    let found = (rw c.in-Some.is at c.in-Ok.ensures).ends in
+    let found = (rw c.in-Some.is at c.in_ok-found.ensures).ends in
     record {
       viewed = viewed;
       ends = named_fault c.args.head c.args.floor c.args.key c.args.block c.in-Some.span.level c.in-Some.span.digit
@@ -58,7 +62,7 @@ returns-then-from-2-clause-finds g t c =
           (is_view g.V.View.seen g.met.V.View.proper c.greatest_pointer.new.view)
           c.args.head c.args.floor c.args.next c.args.key c.args.block (at_viewed viewed (c.requires.at tells))
           c.in-Some.span c.args.l c.in-Some.target found.is (found.led tells)
-          (rw c.in_default-check_target.is at c.check_target.ensures) (subst IsTrue (sym viewed.called.tells) tells)
+          (c.in_ok-check_target.ensures) (subst IsTrue (sym viewed.called.tells) tells)
           c.args.home (own_block_viewed viewed c.args.head c.args.home (c.requires.home_own tells))
           (reached_viewed viewed c.args.head c.args.floor c.args.home (c.requires.home_reached tells))
           c.if-target-home.true (omega (arith, c.if-from.true, c.from.ensures, c.from-then-target-home.ensures))
@@ -66,29 +70,30 @@ returns-then-from-2-clause-finds g t c =
     }
 
 -- a fault of the look into the target
-pub returns-in-Err-first_at_least-clause-finds : goal.returns-in-Err-first_at_least-clause-finds
-returns-in-Err-first_at_least-clause-finds g t c =
-    let viewed = c.greatest_pointer.ensures.viewed in
-    let checked = rw c.in_default-check_target.is at c.check_target.ensures in
+pub returns-in_err-first-clause-finds : goal.returns-in_err-first-clause-finds
+returns-in_err-first-clause-finds g t c =
+    rw (handed c.from_residual-in_err-first.result c.in_err-first.field-0.0 c.from_residual-in_err-first.ensures.1)
+    (let viewed = c.greatest_pointer.ensures.viewed in
+    let checked = c.in_ok-check_target.ensures in
     record {
       viewed = viewed_then viewed c.first_at_least.ensures.viewed;
       ends = fault_then c.args.head c.args.floor c.args.key (of_overlay g.V.View.seen c.args.overlay.now)
           (of_overlay g.V.View.seen c.greatest_pointer.new.view)
-          (of_overlay g.V.View.seen c.first_at_least.new.view) viewed c.in-Err-first_at_least.fault
+          (of_overlay g.V.View.seen c.first_at_least.new.view) viewed c.in_err-first.field-0.0
           (front_fault (of_overlay g.V.View.seen c.greatest_pointer.new.view)
           (of_overlay g.V.View.seen c.first_at_least.new.view)
           (is_view g.V.View.seen g.met.V.View.proper c.first_at_least.new.view)
           c.args.head c.args.floor c.args.next c.args.key c.in-Some.target
           (λ tells. at_viewed c.first_at_least.ensures.viewed
           (at_target (at_viewed viewed (c.requires.at (subst IsTrue viewed.called.tells tells))) (checked.2 tells)))
-          c.in-Err-first_at_least.fault c.in-Err-first_at_least.ensures.ends);
-    }
+          c.in_err-first.field-0.0 c.in_err-first.ensures.ends);
+    })
 
 -- a late posting
 pub returns-in-At-clause-finds : goal.returns-in-At-clause-finds
 returns-in-At-clause-finds g t c =
     let viewed = c.greatest_pointer.ensures.viewed in
-    let checked = rw c.in_default-check_target.is at c.check_target.ensures in
+    let checked = c.in_ok-check_target.ensures in
     record {
       viewed = viewed_then viewed c.first_at_least.ensures.viewed;
       ends = fault_then c.args.head c.args.floor c.args.key (of_overlay g.V.View.seen c.args.overlay.now)
@@ -100,7 +105,7 @@ returns-in-At-clause-finds g t c =
           c.args.head c.args.floor c.args.next c.args.key c.in-Some.target
           (λ tells. at_viewed c.first_at_least.ensures.viewed
           (at_target (at_viewed viewed (c.requires.at (subst IsTrue viewed.called.tells tells))) (checked.2 tells)))
-          c.in-At.late (rw c.in-At.is at c.in-Ok-first_at_least.ensures).ends c.late_posting.result
+          c.in-At.late (rw c.in-At.is at c.in_ok-first.ensures).ends c.late_posting.result
           c.late_posting.ensures);
     }
 
@@ -109,8 +114,8 @@ pub returns-in-Open-clause-finds : goal.returns-in-Open-clause-finds
 returns-in-Open-clause-finds g t c =
     let viewed = c.greatest_pointer.ensures.viewed in
     let looked = c.first_at_least.ensures.viewed in
-    let checked = rw c.in_default-check_target.is at c.check_target.ensures in
-    let read = (rw c.in-Open.is at c.in-Ok-first_at_least.ensures).ends in
+    let checked = c.in_ok-check_target.ensures in
+    let read = (rw c.in-Open.is at c.in_ok-first.ensures).ends in
     record {
       viewed = viewed_then viewed looked;
       ends = (
@@ -141,9 +146,9 @@ pub returns-then-from-span-clause-finds : goal.returns-then-from-span-clause-fin
 returns-then-from-span-clause-finds g t c =
     let viewed = c.greatest_pointer.ensures.viewed in
     let looked = c.first_at_least.ensures.viewed in
-    let found = (rw c.in-Some.is at c.in-Ok.ensures).ends in
-    let checked = rw c.in_default-check_target.is at c.check_target.ensures in
-    let read = (rw c.in-Full.is at c.in-Ok-first_at_least.ensures).ends in
+    let found = (rw c.in-Some.is at c.in_ok-found.ensures).ends in
+    let checked = c.in_ok-check_target.ensures in
+    let read = (rw c.in-Full.is at c.in_ok-first.ensures).ends in
     record {
       viewed = viewed_then viewed looked;
       ends = named_fault c.args.head c.args.floor c.args.key c.args.block c.in-Some.span.level c.in-Some.span.digit
@@ -173,9 +178,9 @@ tail-requires g t c κs within =
     let viewed = c.greatest_pointer.ensures.viewed in
     let looked = c.first_at_least.ensures.viewed in
     let both = viewed_then viewed looked in
-    let found = (rw c.in-Some.is at c.in-Ok.ensures).ends in
-    let checked = rw c.in_default-check_target.is at c.check_target.ensures in
-    let read = (rw c.in-Full.is at c.in-Ok-first_at_least.ensures).ends in
+    let found = (rw c.in-Some.is at c.in_ok-found.ensures).ends in
+    let checked = c.in_ok-check_target.ensures in
+    let read = (rw c.in-Full.is at c.in_ok-first.ensures).ends in
     let falls = tail_level_falls c.args.l c.args.bound c.args.level c.in-Some.span found.is found.below
     c.requires.narrow in (
       omega (arith, falls, c.decreases),
@@ -224,15 +229,15 @@ returns-clause-finds g t c =
 
 pub returns-in-Open-clause-leads : goal.returns-in-Open-clause-leads
 returns-in-Open-clause-leads g t c = λ tells.
-    let found = (rw c.in-Some.is at c.in-Ok.ensures).ends in
-    let checked = rw c.in_default-check_target.is at c.check_target.ensures in
+    let found = (rw c.in-Some.is at c.in_ok-found.ensures).ends in
+    let checked = c.in_ok-check_target.ensures in
     leads_to (of_overlay g.V.View.seen c.first_at_least.new.view) found.is checked.0 checked.1
     (holds_on c.first_at_least.ensures.viewed.image (found.led tells))
 
 pub returns-clause-leads : goal.returns-clause-leads
 returns-clause-leads g t c =
-    let found = (rw c.in-Some.is at c.in-Ok.ensures).ends in
-    let checked = rw c.in_default-check_target.is at c.check_target.ensures in
+    let found = (rw c.in-Some.is at c.in_ok-found.ensures).ends in
+    let checked = c.in_ok-check_target.ensures in
     let looked = c.first_at_least.ensures.viewed in
     tail_leads c.args.head c.args.floor c.args.next c.args.key c.args.home c.args.block c.in-Some.target c.args.l
     c.in-Some.span (of_overlay g.V.View.seen c.args.overlay.now)
@@ -244,15 +249,15 @@ returns-clause-leads g t c =
 -- no pointer is written: the block is the last
 pub returns-in_default-clause-last : goal.returns-in_default-clause-last
 returns-in_default-clause-last g t c = λ tells still head at q top there less trail.
-    none_last (c.requires.full tells) ((rw c.in_default.is at c.in-Ok.ensures).ends tells) top there less trail
+    none_last (c.requires.full tells) ((rw c.in_default.is at c.in_ok-found.ensures).ends tells) top there less trail
 
 -- the target is the last
 pub returns-in-Open-clause-last : goal.returns-in-Open-clause-last
 returns-in-Open-clause-last g t c = λ tells still head at q top there less trail.
     let viewed = c.greatest_pointer.ensures.viewed in
     let looked = c.first_at_least.ensures.viewed in
-    let found = (rw c.in-Some.is at c.in-Ok.ensures).ends in
-    let read = (rw c.in-Open.is at c.in-Ok-first_at_least.ensures).ends in
+    let found = (rw c.in-Some.is at c.in_ok-found.ensures).ends in
+    let read = (rw c.in-Open.is at c.in_ok-first.ensures).ends in
     let same = quiet_image viewed _ looked.called.foreign_writes still in
     let led = subst (λ (i : Image). HasPointer i c.args.block c.in-Some.span.level c.in-Some.span.digit
     c.in-Some.target)
@@ -263,7 +268,7 @@ returns-in-Open-clause-last g t c = λ tells still head at q top there less trai
 
 pub returns-clause-last : goal.returns-clause-last
 returns-clause-last g t c =
-    let found = (rw c.in-Some.is at c.in-Ok.ensures).ends in
+    let found = (rw c.in-Some.is at c.in_ok-found.ensures).ends in
     let looked = c.first_at_least.ensures.viewed in
     tail_last_then c.args.floor c.args.next c.args.block c.in-Some.target c.args.bound c.min-below.result c.args.l
     c.in-Some.span (of_overlay g.V.View.seen c.args.overlay.now)

@@ -1,6 +1,8 @@
 -- Each ending, by the lemma of its kind.
 use Rattle.std.proofs.Common.{◌+◌, arith, inl, inr, refl, sym, ap, ◌∙◌, subst}
 use Rattle.std.specs.Prelude.{IsTrue}
+use Rattle.cell_types.proofs.Passed.{handed}
+use Rattle.planned_cells.specs.declared.fault.GrowthFault.TheVariants as growth
 use Rattle.cell_types.specs.Image.{Image}
 use Rattle.stored_documents.proofs.Extending.{blank_before}
 use Rattle.worm_device.specs.Overlays.{of_overlay}
@@ -16,12 +18,13 @@ use Rattle.list_growth.proofs.Showing.{is_view}
 use Rattle.list_growth.proofs.insertion.insert_behind.Goals as goal
 
 -- a fault of the search for the tail
-pub returns-in-Err-clause-places : goal.returns-in-Err-clause-places
-returns-in-Err-clause-places g c =
-    read_fault c.args.head c.args.floor c.args.pool.now.next c.args.block
+pub returns-in_err-found-clause-places : goal.returns-in_err-found-clause-places
+returns-in_err-found-clause-places g c =
+    rw (handed c.from_residual.result (growth.Fault c.in_err-found.field-0.0) c.from_residual.ensures.1)
+    (read_fault c.args.head c.args.floor c.args.pool.now.next c.args.block
     (fields_of c.args.entry) c.args.within.low c.args.within.high (of_overlay g.V.View.seen c.args.overlay.now)
-    (of_overlay g.V.View.seen c.tail.new.overlay) c.in-Err.fault c.in-Err.ensures.finds.viewed
-    c.in-Err.ensures.finds.ends
+    (of_overlay g.V.View.seen c.tail.new.overlay) c.in_err-found.field-0.0 c.in_err-found.ensures.finds.viewed
+    c.in_err-found.ensures.finds.ends)
 
 -- a new block
 pub returns-in_default-clause-places : goal.returns-in_default-clause-places
@@ -70,7 +73,7 @@ returns-in_default-clause-places g c =
     c.args.within.low c.args.within.high (of_overlay g.V.View.seen c.args.overlay.now)
     (of_overlay g.V.View.seen c.tail.new.overlay)
     (of_overlay g.V.View.seen c.put_both.new.overlay) spot home here viewed
-    c.put_both.result c.put_both.ensures
+    c.put_both.result c.put_both.ensures.puts
 
 -- the tail
 pub returns-clause-places : goal.returns-clause-places
@@ -93,7 +96,7 @@ returns-clause-places g c =
       blank = c.requires.blank;
     } in
     let viewed = c.tail.ensures.finds.viewed in
-    let found = (rw c.in-Some.is at c.in-Ok.ensures.finds).ends in
+    let found = (rw c.in-Some.is at c.in_ok-found.ensures.finds).ends in
     let here : IsTarget (of_overlay g.V.View.seen c.tail.new.overlay) c.args.head c.args.floor c.args.pool.now.next
     c.args.pool.now.next c.args.entry.key c.args.block c.in-Some.spot =
     record {
@@ -109,7 +112,7 @@ returns-clause-places g c =
     c.args.within.low c.args.within.high (of_overlay g.V.View.seen c.args.overlay.now)
     (of_overlay g.V.View.seen c.tail.new.overlay)
     (of_overlay g.V.View.seen c.put_both-2.new.overlay) c.in-Some.spot home here viewed
-    c.put_both-2.result c.put_both-2.ensures
+    c.put_both-2.result c.put_both-2.ensures.puts
 
 pub returns-in_default-clause-grows : goal.returns-in_default-clause-grows
 returns-in_default-clause-grows g c =
@@ -167,8 +170,8 @@ returns-in_default-clause-grows g c =
     (is_last_full c.args.floor c.args.pool.now.next c.args.block c.args.l c.args.entry.key c.args.to
     (of_overlay g.V.View.seen c.args.overlay.now) (of_overlay g.V.View.seen c.tail.new.overlay)
     c.requires.span c.requires.below (c.requires.full tells) (c.requires.blank tells) tells still same
-    (rw c.in_default.is at c.in-Ok.ensures.last)) puts)
-    c.put_both.result c.put_both.ensures
+    (rw c.in_default.is at c.in_ok-found.ensures.last)) puts)
+    c.put_both.result c.put_both.ensures.puts
 
 pub returns-clause-grows : goal.returns-clause-grows
 returns-clause-grows g c =
@@ -190,7 +193,7 @@ returns-clause-grows g c =
       blank = c.requires.blank;
     } in
     let viewed = c.tail.ensures.finds.viewed in
-    let found = (rw c.in-Some.is at c.in-Ok.ensures.finds).ends in
+    let found = (rw c.in-Some.is at c.in_ok-found.ensures.finds).ends in
     let here : IsTarget (of_overlay g.V.View.seen c.tail.new.overlay) c.args.head c.args.floor c.args.pool.now.next
     c.args.pool.now.next c.args.entry.key c.args.block c.in-Some.spot =
     record {
@@ -201,7 +204,7 @@ returns-clause-grows g c =
       view = is_view g.V.View.seen g.met.V.View.proper c.tail.new.overlay;
       told = λ tells. found.3 (subst IsTrue viewed.called.tells tells);
     } in
-    let led = rw c.in-Some.is at c.in-Ok.ensures.leads in
+    let led = rw c.in-Some.is at c.in_ok-found.ensures.leads in
     grows_both c.args.head c.args.floor c.args.pool.now.next c.args.pool.now.next c.args.block c.args.l 2
     (fields_of c.args.entry) c.args.to
     c.args.within.low c.args.within.high (of_overlay g.V.View.seen c.args.overlay.now)
@@ -214,8 +217,8 @@ returns-clause-grows g c =
     (is_last c.args.floor c.args.pool.now.next c.args.block c.args.l c.args.entry.key c.args.to c.in-Some.spot
     (of_overlay g.V.View.seen c.args.overlay.now) (of_overlay g.V.View.seen c.tail.new.overlay)
     c.requires.span c.requires.below (c.requires.full tells) (c.requires.blank tells) tells still same
-    (rw c.in-Some.is at c.in-Ok.ensures.last)) puts)
-    c.put_both-2.result c.put_both-2.ensures
+    (rw c.in-Some.is at c.in_ok-found.ensures.last)) puts)
+    c.put_both-2.result c.put_both-2.ensures.puts
 
 pub returns-in_default-clause-planned : goal.returns-in_default-clause-planned
 returns-in_default-clause-planned g c =
@@ -235,12 +238,12 @@ returns-in_default-clause-planned g c =
     ∙ c.requires.free (c.in-Some-grant.target + 0) (omega (arith, granted.first)))
     (omega (arith, granted.first, c.requires.fresh, viewed.fresh))))
     c.requires.blank (λ x past. c.requires.free x (omega (arith, past, granted.next)))
-    c.put_both.result c.put_both.ensures
+    c.put_both.result c.put_both.ensures.puts
 
 pub returns-clause-planned : goal.returns-clause-planned
 returns-clause-planned g c =
     let viewed = c.tail.ensures.finds.viewed in
-    let found = (rw c.in-Some.is at c.in-Ok.ensures.finds).ends in
+    let found = (rw c.in-Some.is at c.in_ok-found.ensures.finds).ends in
     planned_both c.args.head c.args.floor c.args.pool.now.next c.args.pool.now.next c.args.block c.args.to.level
     c.args.to.digit
     (fields_of c.args.entry)
@@ -248,4 +251,4 @@ returns-clause-planned g c =
     (of_overlay g.V.View.seen c.put_both-2.new.overlay) c.in-Some.spot viewed
     (inl refl) found.0 found.2 c.requires.before c.requires.span.levels c.requires.span.digits found.1 c.requires.lies
     (λ tells. blank_before viewed.image (found.3 tells).blank)
-    c.requires.blank c.requires.free c.put_both-2.result c.put_both-2.ensures
+    c.requires.blank c.requires.free c.put_both-2.result c.put_both-2.ensures.puts

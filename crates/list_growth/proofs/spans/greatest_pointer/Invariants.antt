@@ -3,8 +3,8 @@ use Rattle.std.proofs.Common.{◌+◌, ◌*◌}
 use Rattle.list_growth.proofs.Searching.{GreatestSoFar}
 use Rattle.list_growth.proofs.spans.greatest_pointer.Given as goal
 
-abbrev pub invariant-loop-fault : goal.invariant-loop-fault
-invariant-loop-fault g l = GreatestSoFar l.block l.l l.bound (g.V.View.seen l.fn.view) (g.V.View.seen l.view) l.now
+abbrev pub invariant-loop-target : goal.invariant-loop-target
+invariant-loop-target g l = GreatestSoFar l.block l.l l.bound (g.V.View.seen l.fn.view) (g.V.View.seen l.view) l.now
 
-abbrev pub decreases-loop-fault : goal.decreases-loop-fault
-decreases-loop-fault g l = 15 * l.now.level + l.now.digit
+abbrev pub decreases-loop-target : goal.decreases-loop-target
+decreases-loop-target g l = 15 * l.now.level + l.now.digit

@@ -3,4 +3,4 @@ use Rattle.phase_writer.proofs.Phasing.{phase_synced}
 use Rattle.phase_writer.proofs.row.put_one.Goals as goal
 
 pub returns : goal.returns
-returns g c = phase_synced tt tt tt c.in_ok-put_cell.ensures c.in-Ok.ensures
+returns g c = phase_synced tt tt tt c.in_ok-put_cell.ensures c.in_ok-sync.ensures

@@ -1,6 +1,7 @@
 -- The document, the journal, and the sync behind them.
 use Rattle.std.proofs.Common.{inl, inr}
 use Rattle.cell_types.proofs.Passed.{handed}
+use Rattle.cell_types.specs.declared.refusal.Fault.TheVariants as faults
 use Rattle.phase_writer.proofs.Phasing.{phase_ended, phase_synced, phase_unsynced, puts_ended, puts_ended_wider, puts_more}
 use Rattle.plan_writer.proofs.steps.store.Goals as goal
 
@@ -20,12 +21,14 @@ returns-in_err-put_row-2 g c =
     c.in_err-put_row-2.ensures))
 
 -- both were, and are not sure
-pub returns-in_default : goal.returns-in_default
-returns-in_default g c = phase_unsynced tt _
+pub returns-in_err-sync : goal.returns-in_err-sync
+returns-in_err-sync g c =
+    rw (handed c.from_residual-in_err-sync.result faults.Failed c.from_residual-in_err-sync.ensures.1)
+    (phase_unsynced tt _
     (puts_more (λ put h. inl h) (λ put h. inr h) tt c.in_ok-put_row.ensures (λ put h. h) tt tt
-    c.in_ok-put_row-2.ensures) c.in_default.ensures
+    c.in_ok-put_row-2.ensures) c.in_err-sync.ensures)
 
 pub returns : goal.returns
 returns g c = phase_synced tt tt tt
     (puts_more (λ put h. inl h) (λ put h. inr h) tt c.in_ok-put_row.ensures (λ put h. h) tt tt
-    c.in_ok-put_row-2.ensures) c.in-Ok.ensures
+    c.in_ok-put_row-2.ensures) c.in_ok-sync.ensures

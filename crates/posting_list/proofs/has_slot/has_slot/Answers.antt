@@ -1,5 +1,6 @@
 -- Each ending, by what the probe of its ordinal found.
 use Rattle.std.proofs.Common.{rules, ◌+◌, sym, subst, arith, ◌∙◌}
+use Rattle.cell_types.proofs.Passed.{handed}
 use Rattle.posting_list.proofs.Evidence.{false_never}
 use Rattle.posting_list.proofs.Bisecting.{HasSoFar, first_missing, go_down, go_up, has_fault, has_first, middle_found, middle_missing, none_left}
 use Rattle.posting_list.proofs.has_slot.has_slot.Goals as goal
@@ -7,7 +8,7 @@ use Rattle.posting_list.proofs.has_slot.has_slot.Goals as goal
 -- there is no posting with ordinal 0
 pub returns-in_default-clause-has : goal.returns-in_default-clause-has
 returns-in_default-clause-has g c =
-    first_missing c.args.reach.now c.args.term.now c.args.slot _ _ (rw c.in_default.is at c.in-Ok.ensures.probes)
+    first_missing c.args.reach.now c.args.term.now c.args.slot _ _ (rw c.in_default.is at c.in_ok-first.ensures.probes)
 
 -- it tells the last ordinal
 pub loop-low-init : goal.loop-low-init
@@ -17,15 +18,16 @@ loop-low-init g c = record {
       (λ n. HasSoFar c.args.reach.now c.args.term.now c.args.slot (g.V.View.seen c.args.view.now)
       (g.V.View.seen c.probe.new.view) 0 (n + 1)) (sym c.from-high.ensures)
       (has_first c.args.reach.now c.args.term.now c.args.slot (g.V.View.seen c.args.view.now)
-      (g.V.View.seen c.probe.new.view) c.in-Some.first (search rules) (rw c.in-Some.is at c.in-Ok.ensures.probes));
+      (g.V.View.seen c.probe.new.view) c.in-Some.first (search rules) (rw c.in-Some.is at c.in_ok-first.ensures.probes));
 }
 
 -- a probe gives no answer
-pub returns-in-Err-probe-clause-has : goal.returns-in-Err-probe-clause-has
-returns-in-Err-probe-clause-has g c =
-    has_fault c.args.reach.now c.args.term.now c.args.slot (g.V.View.seen c.args.view.now)
+pub returns-in_err-found-clause-has : goal.returns-in_err-found-clause-has
+returns-in_err-found-clause-has g c =
+    rw (handed c.from_residual-in_err-found.result c.in_err-found.field-0.0 c.from_residual-in_err-found.ensures.1)
+    (has_fault c.args.reach.now c.args.term.now c.args.slot (g.V.View.seen c.args.view.now)
     (g.V.View.seen c.loop-low.view) (g.V.View.seen c.probe-in-loop-low.new.view) c.loop-low.invariant.so_far.viewed _
-    c.in-Err-probe.fault c.in-Err-probe.ensures.probes
+    c.in_err-found.field-0.0 c.in_err-found.ensures.probes)
 
 -- the middle ordinal has no posting
 pub returns-in_default-found-clause-has : goal.returns-in_default-found-clause-has
@@ -33,7 +35,7 @@ returns-in_default-found-clause-has g c =
     middle_missing c.args.reach.now c.args.term.now c.args.slot (g.V.View.seen c.args.view.now)
     (g.V.View.seen c.loop-low.view) (g.V.View.seen c.probe-in-loop-low.new.view) c.loop-low.low c.loop-low.high _
     c.loop-low.invariant.so_far (omega arith) (omega (arith, c.loop-low-test.true))
-    (rw c.in_default-found.is at c.in-Ok-probe.ensures.probes)
+    (rw c.in_default-found.is at c.in_ok-found.ensures.probes)
 
 -- it has the tag
 pub returns-then-is_same-clause-has : goal.returns-then-is_same-clause-has
@@ -41,7 +43,7 @@ returns-then-is_same-clause-has g c =
     middle_found c.args.reach.now c.args.term.now c.args.slot (g.V.View.seen c.args.view.now)
     (g.V.View.seen c.loop-low.view) (g.V.View.seen c.probe-in-loop-low.new.view) c.loop-low.low c.loop-low.high _
     c.loop-low.invariant.so_far (omega arith) (omega (arith, c.loop-low-test.true)) c.in-Some-found.entry
-    (rw c.in-Some-found.is at c.in-Ok-probe.ensures.probes) (c.is_same.ensures.0 c.if-is_same.true)
+    (rw c.in-Some-found.is at c.in_ok-found.ensures.probes) (c.is_same.ensures.0 c.if-is_same.true)
 
 -- it has a smaller one
 pub loop-low-preserved-then-number_of-sought : goal.loop-low-preserved-then-number_of-sought
@@ -50,7 +52,7 @@ loop-low-preserved-then-number_of-sought g c = record {
   so_far = go_up c.args.reach.now c.args.term.now c.args.slot (g.V.View.seen c.args.view.now)
       (g.V.View.seen c.loop-low.view) (g.V.View.seen c.probe-in-loop-low.new.view) c.loop-low.low c.loop-low.high _
       c.loop-low.invariant.so_far (omega arith) (omega (arith, c.loop-low-test.true)) c.in-Some-found.entry
-      (rw c.in-Some-found.is at c.in-Ok-probe.ensures.probes)
+      (rw c.in-Some-found.is at c.in_ok-found.ensures.probes)
       (λ same. false_never (sym c.if-is_same.false ∙ c.is_same.ensures.1 same))
       (omega (arith, c.if-number_of-sought.true, c.number_of.ensures, c.number_of-sought.ensures));
 }
@@ -62,7 +64,7 @@ loop-low-preserved g c = record {
   so_far = go_down c.args.reach.now c.args.term.now c.args.slot (g.V.View.seen c.args.view.now)
       (g.V.View.seen c.loop-low.view) (g.V.View.seen c.probe-in-loop-low.new.view) c.loop-low.low c.loop-low.high _
       c.loop-low.invariant.so_far (omega arith) (omega (arith, c.loop-low-test.true)) c.in-Some-found.entry
-      (rw c.in-Some-found.is at c.in-Ok-probe.ensures.probes)
+      (rw c.in-Some-found.is at c.in_ok-found.ensures.probes)
       (λ same. false_never (sym c.if-is_same.false ∙ c.is_same.ensures.1 same))
       (omega (arith, c.if-number_of-sought.false, c.number_of.ensures, c.number_of-sought.ensures));
 }

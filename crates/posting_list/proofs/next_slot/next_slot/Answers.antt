@@ -1,20 +1,22 @@
 -- By what the search finds, and by the state of its slot.
 use Rattle.std.proofs.Common.{rules}
+use Rattle.cell_types.proofs.Passed.{handed}
 use Rattle.posting_list.proofs.Landing.{keeps_on, next_false, next_fault, next_live_fault, next_none, next_some}
 use Rattle.posting_list.proofs.next_slot.next_slot.Goals as goal
 
 -- the search gives no answer
-pub returns-in-Err-clause-next : goal.returns-in-Err-clause-next
-returns-in-Err-clause-next g c =
-    let s = g.V.View.seen c.find.new.view in
-    next_fault c.args.reach.now c.args.term.now c.args.from _ s s c.requires.list c.in-Err.fault c.in-Err.ensures.finds
+pub returns-in_err-found-clause-next : goal.returns-in_err-found-clause-next
+returns-in_err-found-clause-next g c =
+    rw (handed c.from_residual.result c.in_err-found.field-0.0 c.from_residual.ensures.1)
+    (let s = g.V.View.seen c.find.new.view in
+    next_fault c.args.reach.now c.args.term.now c.args.from _ s s c.requires.list c.in_err-found.field-0.0 c.in_err-found.ensures.finds)
 
 -- it finds no posting
 pub returns-in_default-clause-next : goal.returns-in_default-clause-next
 returns-in_default-clause-next g c =
     let s = g.V.View.seen c.find.new.view in
     next_none c.args.reach.now c.args.term.now c.args.from _ s s c.requires.list
-    (rw c.in_default.is at c.in-Ok.ensures.finds)
+    (rw c.in_default.is at c.in_ok-found.ensures.finds)
 
 -- the posting's slot is live
 pub returns-in-Ok-true-clause-kept : goal.returns-in-Ok-true-clause-kept
@@ -24,7 +26,7 @@ pub returns-in-Ok-true-clause-next : goal.returns-in-Ok-true-clause-next
 returns-in-Ok-true-clause-next g c =
     next_some c.args.reach.now c.args.term.now c.args.from (g.V.View.seen c.args.view.now)
     (g.V.View.seen c.find.new.view) (g.V.View.seen c.is_live.new.view) c.requires.list c.in-Some.entry
-    (rw c.in-Some.is at c.in-Ok.ensures.finds) (search rules) (rw c.in-Ok-true.field-0-test at c.in-Ok-true.ensures)
+    (rw c.in-Some.is at c.in_ok-found.ensures.finds) (search rules) (rw c.in-Ok-true.field-0-test at c.in-Ok-true.ensures)
 
 -- it is not
 pub returns-in-Ok-false-clause-kept : goal.returns-in-Ok-false-clause-kept
@@ -34,15 +36,15 @@ pub returns-in-Ok-false-clause-next : goal.returns-in-Ok-false-clause-next
 returns-in-Ok-false-clause-next g c =
     next_false c.args.reach.now c.args.term.now c.args.from (g.V.View.seen c.args.view.now)
     (g.V.View.seen c.find.new.view) (g.V.View.seen c.is_live.new.view) c.requires.list c.in-Some.entry
-    (rw c.in-Some.is at c.in-Ok.ensures.finds) c.not_live.result
+    (rw c.in-Some.is at c.in_ok-found.ensures.finds) c.not_live.result
     (rw c.in-Ok-false.field-0-test at c.in-Ok-false.ensures) c.not_live.ensures
 
 -- the slot's cells give no answer
-pub returns-in-Err-is_live-clause-kept : goal.returns-in-Err-is_live-clause-kept
-returns-in-Err-is_live-clause-kept g c = keeps_on c.find.new.fronts _ _ c.is_live.ensures.viewed c.find.ensures.kept
+pub returns-in-Err-clause-kept : goal.returns-in-Err-clause-kept
+returns-in-Err-clause-kept g c = keeps_on c.find.new.fronts _ _ c.is_live.ensures.viewed c.find.ensures.kept
 
-pub returns-in-Err-is_live-clause-next : goal.returns-in-Err-is_live-clause-next
-returns-in-Err-is_live-clause-next g c =
+pub returns-in-Err-clause-next : goal.returns-in-Err-clause-next
+returns-in-Err-clause-next g c =
     next_live_fault c.args.reach.now c.args.term.now c.args.from (g.V.View.seen c.args.view.now)
     (g.V.View.seen c.find.new.view) (g.V.View.seen c.is_live.new.view) c.requires.list c.in-Some.entry
-    (rw c.in-Some.is at c.in-Ok.ensures.finds) c.in-Err-is_live.fault c.in-Err-is_live.ensures
+    (rw c.in-Some.is at c.in_ok-found.ensures.finds) c.in-Err.fault c.in-Err.ensures

@@ -25,4 +25,7 @@ returns g c =
     c.in_ok-ready.ready (g.D.Device.state c.args.device.now) (g.D.Device.state c.settle.new.device)
     (g.D.Device.state c.find_below.new.device) (walked c.in_ok-ready.ensures c.find_below.ensures.viewed)
     c.find_below.result
-    (c.find_below.ensures.ends c.args.terms.now (record { bytes = []; pushed = c.in_ok-matcher.ensures }))
+    (c.find_below.ensures.ends c.args.terms.now (record {
+      bytes = [];
+      pushed = rw (c.rule_of-rule.ensures, c.version.ensures.version) at c.in_ok-matcher.ensures;
+    }))

@@ -2,7 +2,8 @@
 use Rattle.std.proofs.Common.{◌≡◌, ℕ, arith, subst}
 use Rattle.cell_types.proofs.Passed.{handed}
 use Rattle.worm_device.proofs.Resting.{viewed_self}
-use Rattle.record_query.proofs.Bodies.{MatchSoFar, match_none, match_more, match_whole}
+use Rattle.record_query.specs.Matching.{seek_fault_of}
+use Rattle.record_query.proofs.Bodies.{MatchSoFar, match_none, match_more, match_whole, unread}
 use Rattle.document_store.proofs.SoFar.{body_left, fault_on}
 use Rattle.record_query.proofs.matching.match_body.Goals as goal
 
@@ -13,27 +14,28 @@ loop-count-init g c =
     c.args.matcher.now c.requires.head (viewed_self _)
 
 -- a byte was not read
-pub returns-in_err-read_byte-clause-ends : goal.returns-in_err-read_byte-clause-ends
-returns-in_err-read_byte-clause-ends g c =
-    let fault = c.in_err-read_byte.field-0.0 in
+pub returns-in_err-byte-clause-ends : goal.returns-in_err-byte-clause-ends
+returns-in_err-byte-clause-ends g c =
+    let fault = c.in_err-byte.field-0.0 in
     let so_far = c.loop-count.invariant.read in
-    rw (handed c.from_residual.result fault c.from_residual.ensures.1)
+    rw (handed c.from_residual.result (seek_fault_of fault) c.from_residual.ensures.1)
+    (unread c.args.start c.args.bytes (g.V.View.seen c.args.view.now) (g.V.View.seen c.read_byte.new.view) fault
     (fault_on c.args.start c.args.bytes (g.V.View.seen c.args.view.now) (g.V.View.seen c.loop-count.view)
     (g.V.View.seen c.read_byte.new.view) c.loop-count.position c.read_byte.new.position _ fault so_far.viewed
     so_far.faults so_far.read
     (body_left (g.V.View.seen c.args.view.now) (g.V.View.seen c.loop-count.view) c.args.start c.args.bytes
     c.args.position.now c.loop-count.position c.args.head.now c.loop-count._count c.requires.head so_far
     c.loop-count-test.true)
-    c.in_err-read_byte.ensures.ends)
+    c.in_err-byte.ensures.ends))
 
 -- one byte more
 pub loop-count-preserved : goal.loop-count-preserved
 loop-count-preserved g c =
-    let read = c.in_ok-read_byte.ensures in
+    let read = c.in_ok-byte.ensures in
     match_more (g.V.View.seen c.args.view.now) (g.V.View.seen c.loop-count.view) (g.V.View.seen c.read_byte.new.view)
     c.args.start c.args.bytes c.args.position.now c.loop-count.position c.read_byte.new.position c.args.head.now
-    c.args.matcher.now c.loop-count.matcher c.push.new.self c.loop-count._count c.in_ok-read_byte.field-0
-    c.loop-count.invariant read.viewed read.is read.reads read.ends c.push.ensures
+    c.args.matcher.now c.loop-count.matcher c.push.new.self c.loop-count._count c.in_ok-byte.byte
+    c.loop-count.invariant read.viewed read.is read.reads read.ends c.in_ok-push.ensures
 
 -- the whole body
 pub returns-clause-ends : goal.returns-clause-ends
@@ -46,5 +48,5 @@ returns-clause-ends g c =
       so_far.read.faults,
       match_whole (g.V.View.seen c.args.view.now) (g.V.View.seen c.loop-count.view) c.args.start
           c.args.bytes c.args.position.now c.loop-count.position c.args.head.now c.args.matcher.now c.loop-count.matcher
-          c.finish.result c.requires.head so_far c.finish.ensures.matches,
+          c.in_ok-matched.matched c.requires.head so_far c.in_ok-matched.ensures.ends,
     )

@@ -1,47 +1,41 @@
 -- What was read of a part.
-use Rattle.std.proofs.Common.{Err, Option, Ok, arith, refl, subst, sym}
+use Rattle.std.proofs.Common.{Option, Ok, arith, refl, subst}
 use Rattle.std.proofs.lemmas.List.{length-take}
-use Rattle.std.specs.Prelude.{IsTrue}
 use Rattle.cell_types.proofs.Passed.{handed}
-use Rattle.cell_types.specs.Refusals.{refusal_of_fault}
-use Rattle.cell_types.specs.declared.refusal.Refusal.{Refusal}
 use Rattle.cell_types.specs.declared.refusal.Refusal.TheVariants.{NoMemory}
-use Rattle.document_store.specs.Heads.{FaultEnds}
+use Rattle.document_store.specs.Looks.{commit_breach}
 use Rattle.document_store.specs.declared.head.Head.{Head}
-use Rattle.record_query.specs.Matching.{SeekEnds, SlotEnds}
-use Rattle.document_store.proofs.Holding.{part_on}
-use Rattle.record_query.proofs.Matched.{ends_from, found_match, no_match, refused}
+use Rattle.record_query.specs.Matching.{SeekEnds, SeekFails}
+use Rattle.document_store.proofs.Naming.{names_commit}
+use Rattle.record_query.proofs.Matched.{found_match, no_match, refused}
 use Rattle.record_query.proofs.matching.match_part.Goals as goal
 
 -- a read failed
 pub returns-in-Err-ReadFault-clause-ends : goal.returns-in-Err-ReadFault-clause-ends
 returns-in-Err-ReadFault-clause-ends g c = λ terms was.
-    subst (FaultEnds c.args.part.now.start c.args.part.now.bytes (g.V.View.seen c.args.view.now)
+    subst (SeekFails c.args.part.now.start c.args.part.now.bytes (g.V.View.seen c.args.view.now)
     (g.V.View.seen c.seek.new.view))
     c.in-Err-ReadFault.field-0-is c.in-Err-ReadFault.ensures.ends
 
--- the document is broken
-pub name_commit-requires-clause-part : goal.name_commit-requires-clause-part
-name_commit-requires-clause-part g c = λ tells.
-    part_on c.in-Err-Broken.ensures.viewed.image
-    (c.requires.part (subst IsTrue c.in-Err-Broken.ensures.viewed.called.tells tells))
-
-pub name_commit-requires-clause-none : goal.name_commit-requires-clause-none
-name_commit-requires-clause-none g c = λ tells.
-    (subst (FaultEnds c.args.part.now.start c.args.part.now.bytes (g.V.View.seen c.args.view.now)
+-- there was no memory
+pub returns-in-Err-NoMemory-clause-ends : goal.returns-in-Err-NoMemory-clause-ends
+returns-in-Err-NoMemory-clause-ends g c = λ terms was.
+    subst (SeekFails c.args.part.now.start c.args.part.now.bytes (g.V.View.seen c.args.view.now)
     (g.V.View.seen c.seek.new.view))
-    c.in-Err-Broken.field-0-is c.in-Err-Broken.ensures.ends).1
-    (subst IsTrue c.in-Err-Broken.ensures.viewed.called.tells tells)
+    c.in-Err-NoMemory.field-0-is c.in-Err-NoMemory.ensures.ends
 
+-- the document is broken
 pub returns-in-Err-Broken-clause-ends : goal.returns-in-Err-Broken-clause-ends
 returns-in-Err-Broken-clause-ends g c = λ terms was.
-    let broken = subst (FaultEnds c.args.part.now.start c.args.part.now.bytes (g.V.View.seen c.args.view.now)
-    (g.V.View.seen c.seek.new.view)) c.in-Err-Broken.field-0-is c.in-Err-Broken.ensures.ends in
-    subst (λ (r : Refusal). SlotEnds c.args.geometry.now c.args.part.now.slot terms (g.V.View.seen c.args.view.now)
-    (g.V.View.seen c.name_commit.new.view) (Err r)) (sym c.from.ensures)
-    (ends_from c.args.geometry.now c.args.part.now.slot terms c.in-Err-Broken.ensures.viewed
-    c.name_commit.ensures.viewed broken.0 (Err (refusal_of_fault c.name_commit.result))
-    (refused c.args.geometry.now c.args.part.now.slot terms _ _ c.name_commit.result c.name_commit.ensures.ends))
+    let layout = c.args.geometry.now in
+    let part = c.args.part.now in
+    let old = g.V.View.seen c.args.view.now in
+    let new = g.V.View.seen c.seek.new.view in
+    let broken = subst (SeekFails part.start part.bytes old new) c.in-Err-Broken.field-0-is c.in-Err-Broken.ensures.ends in
+    rw c.from.ensures
+    (rw c.name_commit.ensures
+    (refused layout part.slot terms old new (commit_breach part)
+    (names_commit layout old new part c.in-Err-Broken.ensures.viewed c.requires.slot broken.0 c.requires.part broken.1)))
 
 -- a document without the terms
 pub returns-in_default-clause-ends : goal.returns-in_default-clause-ends

@@ -4,6 +4,10 @@ use Rattle.worm_device.proofs.Resting.{viewed_then}
 use Rattle.document_store.specs.Heads.{id_of}
 use Rattle.record_query.proofs.matching.seek.Goals as goal
 
+-- the body was not read
+pub returns-in_err-matched-clause-viewed : goal.returns-in_err-matched-clause-viewed
+returns-in_err-matched-clause-viewed g c = viewed_then c.in_ok-head.ensures.viewed c.in_err-matched.ensures.viewed
+
 -- a document with the terms
 pub returns-then-matched-clause-viewed : goal.returns-then-matched-clause-viewed
 returns-then-matched-clause-viewed g c =
@@ -15,7 +19,8 @@ returns-then-matched-clause-ends g c =
       ends.0 ∙ c.in_ok-head.ensures.ends.0,
       record {
         has = ends.1.has;
-        matches = λ terms was. (ends.1.says terms (c.forget_document.ensures terms was)).0 c.if-matched.true;
+        matches = λ rule terms was.
+            (ends.1.says rule terms (c.forget_document.ensures rule terms was)).0 c.if-matched.true;
       },
     )
 
@@ -27,8 +32,9 @@ pub returns-clause-viewed : goal.returns-clause-viewed
 returns-clause-viewed g c = viewed_then c.in_ok-head.ensures.viewed c.in_ok-matched.ensures.viewed
 
 pub returns-clause-matcher : goal.returns-clause-matcher
-returns-clause-matcher g c = λ terms was.
-    c.in_ok-matched.ensures.matcher terms (record { bytes = []; pushed = c.forget_document.ensures terms was })
+returns-clause-matcher g c = λ rule terms was.
+    c.in_ok-matched.ensures.matcher rule terms
+    (record { bytes = []; pushed = c.forget_document.ensures rule terms was })
 
 pub returns-clause-ends : goal.returns-clause-ends
 returns-clause-ends g c =
@@ -38,7 +44,7 @@ returns-clause-ends g c =
         id = id_of c.in_ok-head.head;
         body = ends.1.has.body;
         whole = ends.1.has.whole;
-        differs = λ terms was matches. true_or (sym c.if-matched.false
-            ∙ (ends.1.says terms (c.forget_document.ensures terms was)).1 matches);
+        differs = λ rule terms was matches. true_or (sym c.if-matched.false
+            ∙ (ends.1.says rule terms (c.forget_document.ensures rule terms was)).1 matches);
       },
     )

@@ -6,6 +6,7 @@ use Rattle.std.proofs.lemmas.List.Elements.{Contains-from_at}
 use Rattle.std.specs.Bool.{MatchBool, ⊤}
 use Rattle.std.specs.List.{AllWithin, HoldsAt}
 use Rattle.std.specs.String.{string_bytes}
+use Rattle.stored_documents.specs.declared.word_rules.WordRule.TheVariants.{Ascii}
 use Rattle.word_reader.specs.Single.{SingleEnds}
 use Rattle.word_reader.specs.declared.reader.WordFault.{WordFault}
 use Rattle.record_top.specs.Finding.{IsFirstBadWord, IsOneTerm}
@@ -25,9 +26,9 @@ returns-in-Err-BadWord c =
     let asked = map string_bytes c.args.words.now in
     let word = c.word-item.result in
     let at = word_at c.args.words.now c.loop-word.word-index word (omega arith) c.word-item.is in
-    let ends = subst (λ (w : List ℕ). SingleEnds w (Err c.in-Err-BadWord.field-0)) c.as_bytes.ensures.value
+    let ends = subst (λ (w : List ℕ). SingleEnds Ascii w (Err c.in-Err-BadWord.field-0)) c.as_bytes.ensures.value
     c.in-Err-BadWord.ensures in
-    let bad = subst (λ (fault : WordFault). SingleEnds (string_bytes word) (Err fault))
+    let bad = subst (λ (fault : WordFault). SingleEnds Ascii (string_bytes word) (Err fault))
     c.in-Err-BadWord.field-0-is ends in
     subst (λ (i : ℕ). IsFirstBadWord asked (i + 1)) (sym c.loop-word.invariant.0)
     (first_bad c.loop-word.invariant.1 (string_bytes word) at bad)

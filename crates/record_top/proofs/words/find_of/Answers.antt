@@ -8,7 +8,7 @@ use Rattle.std.specs.Global.{Global}
 use Rattle.std.specs.List.{AllWithin, HoldsAt}
 use Rattle.std.specs.Prelude.{codes}
 use Rattle.std.specs.String.{string_bytes}
-use Rattle.phase_writer.proofs.Compared.{alike}
+use Rattle.worm_device.proofs.Compared.{alike}
 use Rattle.record_top.specs.Words.{IsNoOption}
 use Rattle.record_top.proofs.Options.{no_option, no_search}
 use Rattle.record_top.proofs.words.find_of.Goals as goal

@@ -3,7 +3,7 @@ use Rattle.std.proofs.Common.{◌≡◌, ℕ, List, [], ◌∷◌, map, sym, ap,
 use Rattle.std.specs.Prelude.{codes}
 use Rattle.std.specs.String.{string_bytes}
 use Rattle.cell_types.specs.declared.geometry.TheConstants.{MAX_LISTS, MAX_SLOTS}
-use Rattle.phase_writer.proofs.Compared.{alike}
+use Rattle.worm_device.proofs.Compared.{alike}
 use Rattle.record_top.specs.Words.{IsNumberUpTo}
 use Rattle.record_top.proofs.Listed.{if_none, second_is, third_is, three}
 use Rattle.record_top.proofs.words.format_of.Goals as goal

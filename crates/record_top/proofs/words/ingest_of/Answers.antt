@@ -3,7 +3,7 @@ use Rattle.std.proofs.Common.{◌≡◌, ℕ, List, [], ◌∷◌, map, sym, ap,
 use Rattle.std.specs.Prelude.{codes}
 use Rattle.std.specs.String.{string_bytes}
 use Rattle.std.proofs.lemmas.Bool.{false≢true}
-use Rattle.phase_writer.proofs.Compared.{alike}
+use Rattle.worm_device.proofs.Compared.{alike}
 use Rattle.record_top.proofs.Listed.{two}
 use Rattle.record_top.proofs.Options.{no_option}
 use Rattle.record_top.proofs.words.ingest_of.Goals as goal

@@ -2,7 +2,7 @@
 use Rattle.std.proofs.Common.{◌≡◌, ℕ, List, [], ◌∷◌, map, sym, ap, ◌∙◌, arith}
 use Rattle.std.specs.Prelude.{codes}
 use Rattle.std.specs.String.{string_bytes}
-use Rattle.phase_writer.proofs.Compared.{alike}
+use Rattle.worm_device.proofs.Compared.{alike}
 use Rattle.record_top.proofs.Listed.{one}
 use Rattle.record_top.proofs.words.recover_of.Goals as goal
 

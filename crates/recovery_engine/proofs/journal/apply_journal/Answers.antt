@@ -40,4 +40,4 @@ returns g c =
     let mid = g.D.Device.state c.loop-k.device in
     let all : c.loop-k.k ≡ c.args.journal.now.count = omega arith in
     phase_synced tt tt tt (subst (λ (n : ℕ). Puts (IsEntryPut old.image c.args.journal.now.place n) old mid (Ok tt)) all
-    c.loop-k.invariant.puts) c.in-Ok.ensures
+    c.loop-k.invariant.puts) c.in_ok-sync.ensures

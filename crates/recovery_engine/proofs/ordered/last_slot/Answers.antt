@@ -9,7 +9,7 @@ use Rattle.recovery_engine.proofs.ordered.last_slot.Goals as goal
 pub returns-then-cells-pool_at-clause-ends : goal.returns-then-cells-pool_at-clause-ends
 returns-then-cells-pool_at-clause-ends g c =
     first_elsewhere c.args.volume.now.geometry c.args.last (g.V.View.seen c.args.view.now)
-    (g.V.View.seen c.slot_state.new.view) c.in_ok-state.state c.in-Some.cells c.out_of_order.result
+    (g.V.View.seen c.slot_state_of.new.view) c.in_ok-state.state c.in-Some.cells c.out_of_order.result
     c.if-last-eq0.true c.requires.slot (sym c.reservation.ensures ∙ c.in-Some.is)
     (λ same. c.if-cells-pool_at.true (same ∙ sym c.pool_at.ensures.at)) c.out_of_order.ensures
     c.in_ok-state.ensures.ends
@@ -21,8 +21,8 @@ returns-then-not-is_followed-clause-viewed g c = viewed_then c.in_ok-state.ensur
 pub returns-then-not-is_followed-clause-ends : goal.returns-then-not-is_followed-clause-ends
 returns-then-not-is_followed-clause-ends g c =
     let v0 = g.V.View.seen c.args.view.now in
-    let v1 = g.V.View.seen c.slot_state.new.view in
-    let v2 = g.V.View.seen c.slot_state-2.new.view in
+    let v1 = g.V.View.seen c.slot_state_of.new.view in
+    let v2 = g.V.View.seen c.slot_state.new.view in
     let next : c.args.last ≡ (c.args.last - 1) + 1 = omega (arith, c.if-last-eq0.false) in
     elsewhere c.args.volume.now.geometry c.args.last (c.args.last - 1) next c.requires.slot v0 v1 v2
     c.in_ok-state.ensures.viewed c.in_ok-before.ensures.viewed c.in_ok-state.state c.in_ok-before.before c.in-Some.cells
@@ -34,8 +34,8 @@ returns-then-not-is_followed-clause-ends g c =
 pub returns-clause-ends : goal.returns-clause-ends
 returns-clause-ends g c =
     let v0 = g.V.View.seen c.args.view.now in
-    let v1 = g.V.View.seen c.slot_state.new.view in
-    let v2 = g.V.View.seen c.slot_state-2.new.view in
+    let v1 = g.V.View.seen c.slot_state_of.new.view in
+    let v2 = g.V.View.seen c.slot_state.new.view in
     let next : c.args.last ≡ (c.args.last - 1) + 1 = omega (arith, c.if-last-eq0.false) in
     follows_on c.args.volume.now.geometry c.args.last (c.args.last - 1) next c.requires.slot v0 v1 v2
     c.in_ok-state.ensures.viewed c.in_ok-before.ensures.viewed c.in_ok-state.state c.in_ok-before.before c.in-Some.cells

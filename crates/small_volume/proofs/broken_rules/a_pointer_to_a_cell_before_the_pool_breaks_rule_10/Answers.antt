@@ -62,6 +62,7 @@ slot_1 = record {
     reserves = reserves_1;
     outcome = record { cell = commit_cell_1; stands = refl; is = commit_is };
     fits = omega arith;
+    stamped = λ is. absurd (omega (arith, is));
   };
   done = record { cell = done_cell_1; stands = refl; is = done_is };
 }

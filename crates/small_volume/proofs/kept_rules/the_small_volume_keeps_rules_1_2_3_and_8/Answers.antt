@@ -13,7 +13,7 @@ returns-clause-reserve_cell c = λ n inside at.
 pub returns-clause-outcome_cell : goal.returns-clause-outcome_cell
 returns-clause-outcome_cell c = λ n inside at.
     let first : n ≡ 0 = omega (arith, at) in
-    subst (λ (k : ℕ). OutcomeRule small_image k) (sym first) outcome_rule
+    subst (λ (k : ℕ). OutcomeRule small_layout small_image k) (sym first) outcome_rule
 
 pub returns-clause-done_cell : goal.returns-clause-done_cell
 returns-clause-done_cell c = λ n inside at.

@@ -1,7 +1,7 @@
 -- The rows of the distinct keys are the postings, where each list's count fits.
-use Rattle.std.proofs.Common.{◌∙◌, ℕ, List, map, sym, ap, subst}
+use Rattle.std.proofs.Common.{◌∙◌, ℕ, List, None, map, sym, ap, subst, arith}
 use Rattle.index_paths.specs.Postings.{ArePostings}
-use Rattle.term_tags.specs.Keys.{AreInLists}
+use Rattle.term_tags.specs.Keys.{AreInLists, AreKeys}
 use Rattle.term_tags.specs.Listing.{AllFit, AreCounts, IsFirstOver, listed, rows_of}
 use Rattle.term_tags.specs.declared.rows.Posting.{Posting}
 use Rattle.term_tags.proofs.Bodies.{few_tags, in_lists, too_many}
@@ -19,21 +19,27 @@ rows-requires-clause-below c =
     (in_lists c.args.lists c.args.terms.now c.in-Ok.keys.items c.requires c.in-Ok.ensures)
 
 pub returns-in-Some-clause-err : goal.returns-in-Some-clause-err
-returns-in-Some-clause-err c = λ body words.
+returns-in-Some-clause-err c = λ g body same words.
+    let terms = c.args.terms.now in
     let keys = c.in-Ok.keys.items in
     let counts = c.in-Ok-count_each.counts.items in
-    let counted = subst (λ (ks : List ℕ). AreCounts c.args.lists ks counts) c.deref.ensures.value c.in-Ok-count_each.ensures in
+    let keyed = subst (λ (n : ℕ). AreKeys n terms keys) (sym same) c.in-Ok.ensures in
+    let counted = subst (λ (n : ℕ). AreCounts n keys counts) (sym same)
+    (subst (λ (ks : List ℕ). AreCounts c.args.lists ks counts) c.deref.ensures.value c.in-Ok-count_each.ensures) in
     let over = subst (λ (cs : List ℕ). IsFirstOver cs c.in-Some.list c.in-Some.count) c.deref-2.ensures.value c.in-Some.ensures.over in
-    too_many c.args.lists body c.args.terms.now keys words c.in-Ok.ensures counts c.in-Some.list c.in-Some.count counted over
+    too_many g body terms keys words keyed counts c.in-Some.list c.in-Some.count counted over
 
 pub returns-in-Ok-rows-clause-ok : goal.returns-in-Ok-rows-clause-ok
-returns-in-Ok-rows-clause-ok c = λ body words n.
-    let lists = c.args.lists in
+returns-in-Ok-rows-clause-ok c = λ g body same words n.
+    let terms = c.args.terms.now in
     let keys = c.in-Ok.keys.items in
     let counts = c.in-Ok-count_each.counts.items in
-    let counted = subst (λ (ks : List ℕ). AreCounts lists ks counts) c.deref.ensures.value c.in-Ok-count_each.ensures in
-    let fit = subst (λ (cs : List ℕ). AllFit cs lists) c.deref-2.ensures.value c.in_default-first_over.ensures.fit in
+    let keyed = subst (λ (n : ℕ). AreKeys n terms keys) (sym same) c.in-Ok.ensures in
+    let counted = subst (λ (n : ℕ). AreCounts n keys counts) (sym same)
+    (subst (λ (ks : List ℕ). AreCounts c.args.lists ks counts) c.deref.ensures.value c.in-Ok-count_each.ensures) in
+    let fit = subst (λ (n : ℕ). AllFit counts n) (sym same)
+    (subst (λ (cs : List ℕ). AllFit cs c.args.lists) c.deref-2.ensures.value c.in_default-first_over.ensures.fit) in
     let is = c.in-Ok-rows.ensures ∙ ap rows_of c.deref-3.ensures.value in
-    subst (λ (rows : List Posting). ArePostings lists body n (map (listed n) rows)) (sym is)
-    (are_postings lists body c.args.terms.now keys words c.in-Ok.ensures
-    (in_lists lists c.args.terms.now keys c.requires c.in-Ok.ensures) (few_tags lists keys counts counted fit) n)
+    subst (λ (rows : List Posting). ArePostings g None body n (map (listed n) rows)) (sym is)
+    (are_postings g body terms keys words keyed
+    (in_lists g.lists terms keys (omega (arith, same, c.requires)) keyed) (few_tags g.lists keys counts counted fit) n)

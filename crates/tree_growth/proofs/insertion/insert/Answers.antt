@@ -44,8 +44,8 @@ pub plan_record-requires-3-clause-inside : goal.plan_record-requires-3-clause-in
 plan_record-requires-3-clause-inside g c =
     omega (arith, c.next-node.ensures, c.from.ensures, c.nibble_of.ensures.below, c.requires.room)
 
-pub returns-in-Some-grant : goal.returns-in-Some-grant
-returns-in-Some-grant g c =
+pub returns : goal.returns
+returns g c =
     let o = c.args.overlay.now in
     let view = overlay_shows g.V.View.seen g.met.V.View.proper o in
     inserts_with_node c.args.volume.now.geometry c.args.level.now c.args.place c.args.slot c.args.pool.now

@@ -49,7 +49,7 @@ ready_beside {g} {edge} {next} {level} {place} {seen} {old} {new} {value} {owner
 
 pub insert-done-requires-clause-ready : goal.insert-done-requires-clause-ready
 insert-done-requires-clause-ready g c =
-    let geometry : c.in_ok-geometry.geometry ≡ record { slots = 8; lists = 2; cells = 1000 } = search rules in
+    let geometry : c.in_ok-geometry.geometry ≡ record { slots = 8; lists = 2; cells = 1000; version = 1 } = search rules in
     let at : IsOpenOf c.in_ok-geometry.geometry c.next_candidate-step.new.level c.in-End.place =
     (rw c.in-End.is at c.in-Ok.ensures).ends.0 in
     let from : pool_at c.in_ok-geometry.geometry ≤ 836 = rw geometry (omega arith) in
@@ -64,5 +64,5 @@ insert-done-requires-clause-ready g c =
     nothing
     (λ cell. c.new-overlay.result.own.now.owned.unowned cell (nothing cell))
     (rw c.in_ok-plan.was at c.plan.ensures) c.if-place-ge836.false c.in-Some.is
-    (λ same. let other : 292 ≡ root_at (record { slots = 8; lists = 2; cells = 1000 }) = same ∙ ap root_at geometry in
+    (λ same. let other : 292 ≡ root_at (record { slots = 8; lists = 2; cells = 1000; version = 1 }) = same ∙ ap root_at geometry in
     omega (arith, other))

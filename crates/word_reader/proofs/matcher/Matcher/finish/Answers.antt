@@ -1,12 +1,7 @@
--- All are found where all match.
-use Rattle.std.proofs.Common.{◌∙◌, List, sym, subst}
-use Rattle.word_reader.specs.Matching.{SeekAll}
-use Rattle.word_reader.specs.declared.matcher.Sought.{Sought}
-use Rattle.word_reader.proofs.Seeking.{all_found}
+-- What a matcher that reads characters answers is the answer.
+use Rattle.word_reader.proofs.Ways.{finished}
 use Rattle.word_reader.proofs.matcher.Matcher.finish.Goals as goal
 
-pub returns-clause-matches : goal.returns-clause-matches
-returns-clause-matches c = λ terms bytes h.
-    let all = all_found bytes c.deref.result.now terms
-    (subst (λ (ss : List Sought). SeekAll ss terms bytes) (sym c.deref.ensures.value) h) in
-    (λ e. all.0 (sym c.are_found.ensures ∙ e), λ m. c.are_found.ensures ∙ all.1 m)
+pub returns-in-ByCharacters-clause-ends : goal.returns-in-ByCharacters-clause-ends
+returns-in-ByCharacters-clause-ends c =
+    finished c.args.self.now c.in-ByCharacters.matcher c.in-ByCharacters.is c.finish-in-ByCharacters.result c.finish-in-ByCharacters.ensures

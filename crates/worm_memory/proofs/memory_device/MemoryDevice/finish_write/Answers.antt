@@ -1,11 +1,13 @@
 -- A write into a cell that was blank, done or failed.
-use Rattle.std.proofs.Common.{◌≡◌, Some, None, Ok, Err, sym, subst, rules}
+use Rattle.std.proofs.Common.{◌≡◌, Some, None, Ok, Err, sym, subst, rules, ◌∙◌, arith}
 use Rattle.worm_device.specs.Calls.{Writes}
 use Rattle.worm_device.specs.declared.device.Written.TheVariants.{Done}
 use Rattle.worm_memory.specs.Worlds.{world, ours}
 use Rattle.worm_memory.specs.Memory.{device_of}
 use Rattle.worm_memory.specs.Device.{memory_of}
 use Rattle.worm_memory.proofs.Calls.{writes_done, writes_taken, writes_failed}
+use Rattle.worm_memory.proofs.Blanks.{some_blank}
+use Rattle.std.proofs.lemmas.Bool.{false_from_ne_true}
 use Rattle.worm_memory.proofs.memory_device.MemoryDevice.finish_write.Goals as goal
 
 pub returns-then-room-eq0-clause-writes : goal.returns-then-room-eq0-clause-writes
@@ -19,7 +21,7 @@ pub returns-clause-writes : goal.returns-clause-writes
 returns-clause-writes c =
     let old = memory_of c.args.self.now in
     let free : (world old.changes).image c.args.at ≡ None = search rules in
-    subst (λ m. Writes c.args.at c.args.value (device_of old) (device_of m) (Ok Done)) (sym c.put.ensures.0)
+    subst (λ m. Writes c.args.at c.args.value (device_of old) (device_of m) (Ok Done)) (sym c.put.ensures.records.0)
     (writes_done old c.args.at c.args.value free)
 
 pub returns-in-Some-clause-writes : goal.returns-in-Some-clause-writes
@@ -31,3 +33,14 @@ returns-in-Some-clause-writes c =
 -- our own write is a put
 pub put-requires-clause-is : goal.put-requires-clause-is
 put-requires-clause-is c = ours
+
+-- where the command goes by its plan there is room
+pub fail-requires : goal.fail-requires
+fail-requires c =
+    let device = c.args.self.now in
+    record {
+      apart = false_from_ne_true device.by_plan (λ is.
+          let one = some_blank device.cells.items c.args.at (omega (arith, c.requires))
+          (device.holds c.args.at ∙ sym c.found.ensures ∙ c.in_default.is) in
+          omega (arith, one, device.roomy (device.backed is), c.if-room-eq0.true, c.room.ensures));
+    }

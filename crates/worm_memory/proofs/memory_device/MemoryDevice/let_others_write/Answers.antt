@@ -41,6 +41,9 @@ loop-place-preserved c = elim c.match-planned.branch [
             ∙ c.loop-place.invariant.plan;
         cells = ap (λ (device : MemoryDevice). (memory_of device).cells) w.self-is ∙ w.write_planned.ensures.cells
             ∙ c.loop-place.invariant.cells;
+        ample = ap (λ (device : MemoryDevice). device.ample) w.self-is ∙ w.write_planned.ensures.ample
+            ∙ c.loop-place.invariant.ample;
+        apart = ap (λ (device : MemoryDevice). device.by_plan) w.self-is ∙ w.write_planned.ensures.apart;
       }
   | in_default w ↦
       let planned = c.args.self.now.schedule.foreign.items in
@@ -53,5 +56,7 @@ loop-place-preserved c = elim c.match-planned.branch [
             ∙ past_others c.args.is_step planned c.loop-place.place _ here ∙ c.loop-place.invariant.others;
         plan = ap (λ (device : MemoryDevice). (memory_of device).plan) w.self-is ∙ c.loop-place.invariant.plan;
         cells = ap (λ (device : MemoryDevice). (memory_of device).cells) w.self-is ∙ c.loop-place.invariant.cells;
+        ample = ap (λ (device : MemoryDevice). device.ample) w.self-is ∙ c.loop-place.invariant.ample;
+        apart = ap (λ (device : MemoryDevice). device.by_plan) w.self-is ∙ c.loop-place.invariant.apart;
       }
 ]

@@ -1,10 +1,16 @@
 -- A put is a change, its cell holds the value, and is not sure.
-use Rattle.std.proofs.Common.{sym, subst, ap, ◌∙◌, ◌++◌, ◌∷◌, [], ℕ, List, vec_len, set, Some, arith}
+use Rattle.std.proofs.Common.{sym, subst, ap, ◌∙◌, ◌++◌, ◌∷◌, [], ℕ, List, drop, vec_len, set, Some, arith, ◌≡◌, ◌+◌}
+use Rattle.std.specs.List.{list_all}
+use Rattle.worm_memory.proofs.Blanks.{blanks_set}
+use Rattle.worm_memory.specs.Unsure.{blanks}
 use Rattle.cell_types.specs.Bytes.{IsCell}
 use Rattle.worm_memory.specs.Unsure.{unsure_of}
 use Rattle.worm_memory.specs.Worlds.{blank, world, AreChanges, Holds}
 use Rattle.worm_memory.proofs.Worlds.{changes_append, put_is_change}
 use Rattle.worm_memory.proofs.Cells.{holds_put, unsure_put}
+use Rattle.worm_memory.specs.Plans.{stands_if_reached, is_called_for, last_changes}
+use Rattle.worm_memory.proofs.Worlds.{Adds}
+use Rattle.worm_memory.proofs.Following.{called_append, made_append}
 use Rattle.worm_memory.proofs.memory_device.MemoryDevice.put.Goals as goal
 
 pub invariant_of-self-clause-are_changes : goal.invariant_of-self-clause-are_changes
@@ -29,3 +35,37 @@ invariant_of-self-clause-are_unsure c =
     c.push_reserved-2.ensures.items
     ∙ ap (λ (unsure : List ℕ). unsure ++ c.args.at ∷ []) device.are_unsure
     ∙ sym (ap unsure_of c.push_reserved.ensures.items ∙ unsure_put c.requires.is device.changes.items)
+
+pub invariant_of-self-clause-few : goal.invariant_of-self-clause-few
+invariant_of-self-clause-few c =
+    let device = c.args.self.now in
+    let one : blanks (set device.cells.items c.args.at (Some c.args.value)) + 1 ≡ blanks device.cells.items =
+    blanks_set device.cells.items c.args.at c.args.value (omega (arith, c.requires.inside))
+    (device.holds c.args.at ∙ c.requires.free) in
+    omega (arith, one, device.few, c.push_reserved-2.ensures.len)
+
+pub invariant_of-self-clause-roomy : goal.invariant_of-self-clause-roomy
+invariant_of-self-clause-roomy c = λ is.
+    let device = c.args.self.now in
+    let one : blanks (set device.cells.items c.args.at (Some c.args.value)) + 1 ≡ blanks device.cells.items =
+    blanks_set device.cells.items c.args.at c.args.value (omega (arith, c.requires.inside))
+    (device.holds c.args.at ∙ c.requires.free) in
+    omega (arith, one, device.roomy is, c.requires.room, c.push_reserved-2.ensures.len)
+
+-- where the command goes by its plan, the write is its own, and not somebody else's
+pub invariant_of-self-clause-named : goal.invariant_of-self-clause-named
+invariant_of-self-clause-named c = λ is.
+    let d = c.args.self.now in
+    let called = is_called_for d.schedule.steps d.schedule.calls d.schedule.foreign.items in
+    ap (λ l. list_all called (drop (last_changes d.marks.items) l)) c.push_reserved.ensures.items
+    ∙ called_append called (last_changes d.marks.items) d.changes.items c.args.change (omega (arith, d.longer))
+    (d.named is)
+    (ap called (c.requires.ours is))
+
+pub invariant_of-self-clause-made : goal.invariant_of-self-clause-made
+invariant_of-self-clause-made c = λ is.
+    let d = c.args.self.now in
+    ap (λ l. list_all (stands_if_reached d.schedule.steps d.schedule.calls (world l).image) d.schedule.foreign.items)
+    c.push_reserved.ensures.items
+    ∙ made_append d.schedule.steps d.schedule.calls d.schedule.foreign.items d.changes.items c.args.change
+    (subst Adds (sym (c.requires.ours is)) tt) (d.made is)

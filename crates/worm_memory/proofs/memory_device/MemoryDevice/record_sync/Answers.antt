@@ -1,10 +1,13 @@
 -- A sync is a change, the cells hold what they held, and each is sure.
-use Rattle.std.proofs.Common.{sym, subst, ap, ◌∙◌, ◌∷◌, [], vec_len}
+use Rattle.std.proofs.Common.{sym, subst, ap, ◌∙◌, ◌∷◌, [], drop, refl, vec_len, arith}
+use Rattle.std.specs.List.{list_all}
 use Rattle.worm_memory.specs.Unsure.{unsure_of}
 use Rattle.worm_memory.specs.Worlds.{blank, world, AreChanges, Holds}
 use Rattle.worm_memory.specs.declared.change.Change.TheVariants.{Synced}
 use Rattle.worm_memory.proofs.Worlds.{changes_append}
 use Rattle.worm_memory.proofs.Cells.{holds_synced, unsure_synced}
+use Rattle.worm_memory.specs.Plans.{stands_if_reached, is_called_for, last_changes}
+use Rattle.worm_memory.proofs.Following.{called_append, made_append}
 use Rattle.worm_memory.proofs.memory_device.MemoryDevice.record_sync.Goals as goal
 
 pub invariant_of-self-clause-are_changes : goal.invariant_of-self-clause-are_changes
@@ -24,3 +27,19 @@ pub invariant_of-self-clause-are_unsure : goal.invariant_of-self-clause-are_unsu
 invariant_of-self-clause-are_unsure c =
     let device = c.args.self.now in
     c.clear.ensures.items ∙ sym (ap unsure_of c.push_reserved.ensures.items ∙ unsure_synced device.changes.items)
+
+-- a sync is nobody else's, and what stands stays
+pub invariant_of-self-clause-named : goal.invariant_of-self-clause-named
+invariant_of-self-clause-named c = λ is.
+    let d = c.args.self.now in
+    let called = is_called_for d.schedule.steps d.schedule.calls d.schedule.foreign.items in
+    ap (λ l. list_all called (drop (last_changes d.marks.items) l)) c.push_reserved.ensures.items
+    ∙ called_append called (last_changes d.marks.items) d.changes.items Synced (omega (arith, d.longer))
+    (d.named is) refl
+
+pub invariant_of-self-clause-made : goal.invariant_of-self-clause-made
+invariant_of-self-clause-made c = λ is.
+    let d = c.args.self.now in
+    ap (λ l. list_all (stands_if_reached d.schedule.steps d.schedule.calls (world l).image) d.schedule.foreign.items)
+    c.push_reserved.ensures.items
+    ∙ made_append d.schedule.steps d.schedule.calls d.schedule.foreign.items d.changes.items Synced tt (d.made is)

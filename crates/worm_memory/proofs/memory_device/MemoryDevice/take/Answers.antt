@@ -5,7 +5,9 @@ use Rattle.std.proofs.lemmas.List.{take-append-le}
 use Rattle.worm_memory.specs.Device.{memory_of}
 use Rattle.worm_memory.specs.Losses.{crash_cells, crash_changes}
 use Rattle.worm_memory.specs.Proper.{is_device}
-use Rattle.worm_memory.specs.Unsure.{unsure_of}
+use Rattle.worm_memory.specs.Unsure.{blanks, unsure_of}
+use Rattle.worm_memory.proofs.Blanks.{blanks_most}
+use Rattle.std.proofs.Common.{◌+◌, ◌≤◌}
 use Rattle.worm_memory.specs.Worlds.{blank, world, AreChanges, Holds}
 use Rattle.worm_memory.proofs.Losing.{crash_follows, crash_leaves, each_inside, unsure_inside, unsure_crashed}
 use Rattle.worm_memory.proofs.Unsure.{right_world}
@@ -64,3 +66,14 @@ invariant_of-self-clause-are_unsure c =
     c.clear.ensures.items
     ∙ sym (ap unsure_of c.lose.ensures.changes ∙ unsure_crashed c.args.keep.now c.deref.result.now
     c.args.self.now.changes.items)
+
+pub invariant_of-self-clause-few : goal.invariant_of-self-clause-few
+invariant_of-self-clause-few c =
+    let device = c.args.self.now in
+    let same : length c.lose.new.cells ≡ vec_len device.cells = omega arith in
+    let kept = drop (length c.lose.new.cells) device.cells.items in
+    let cut : take (vec_len device.cells) (c.lose.new.cells ++ kept) ≡ c.lose.new.cells =
+    take-append-le (vec_len device.cells) c.lose.new.cells kept (omega arith)
+    ∙ ap (λ n. take n c.lose.new.cells) (sym same) ∙ take-length c.lose.new.cells in
+    subst (λ cells. blanks cells + vec_len c.clear.new.self ≤ vec_len device.cells) (sym cut)
+    (omega (arith, blanks_most c.lose.new.cells, same, c.clear.ensures.len))

@@ -1,0 +1,59 @@
+-- The stamped volume is settled, and has one document.
+use Rattle.std.proofs.Common.{◌≡◌, ◌≤◌, inr, ℕ, [], ◌∷◌, sym, subst, arith}
+use Rattle.cell_types.specs.declared.geometry.TheConstants.{NEWEST_VERSION, STAMPED_VERSION}
+use Rattle.stored_documents.specs.Documents.{AreDocuments, document_at}
+use Rattle.stored_documents.specs.Volumes.{IsWritten}
+use Rattle.tamper_rules.specs.Rules
+use Rattle.tamper_rules.specs.Rules.{Rule, IsMet, ReserveRule, OutcomeRule, DoneRule, HasDocument, TrailRule, PathRule, TilingRule}
+use Rattle.tamper_rules.specs.Settling.{Settled}
+use Rattle.small_volume.specs.StampedVolume.{stamped_document, stamped_image, stamped_layout}
+use Rattle.small_volume.proofs.OneSlot.{documents_alone, ended_alone, of_one, stands_alone}
+use Rattle.small_volume.proofs.Stamped.{volume, stands_0}
+use Rattle.small_volume.proofs.StampedRules.{numbers, alone, reserve_rule, outcome_rule, done_rule, has_document, journal_rule, redone_rule, blank_rule, entry_rule, posting_rule, pointer_rule, bucket_rule, child_rule, trail_rule, path_rule, tiling_rule}
+
+-- each rule, at each written cell
+met : STAMPED_VERSION ≤ NEWEST_VERSION → (rule : Rule) (cell : ℕ) → IsWritten stamped_image cell
+    → IsMet stamped_layout stamped_image rule cell
+met reached Rules.ReserveCells cell w = λ n inside at.
+    let first : n ≡ 0 = omega (arith, numbers cell w, at) in
+    subst (ReserveRule stamped_layout stamped_image) (sym first) reserve_rule
+met reached Rules.OutcomeCells cell w = λ n inside at.
+    let first : n ≡ 0 = omega (arith, numbers cell w, at) in
+    subst (OutcomeRule stamped_layout stamped_image) (sym first) outcome_rule
+met reached Rules.DoneCells cell w = λ n inside at.
+    let first : n ≡ 0 = omega (arith, numbers cell w, at) in
+    subst (DoneRule stamped_image) (sym first) done_rule
+met reached Rules.Documents cell w = λ n inside at start reserved bytes journal s. of_one alone
+    (λ n start reserved bytes journal. HasDocument stamped_image (document_at start reserved bytes journal) bytes)
+    has_document s
+met reached Rules.Journals cell w = journal_rule cell
+met reached Rules.Targets cell w = redone_rule cell
+met reached Rules.StrayCells cell w = blank_rule cell w
+met reached Rules.Entries cell w = entry_rule cell w
+met reached Rules.Postings cell w = posting_rule reached cell w
+met reached Rules.Pointers cell w = pointer_rule cell w
+met reached Rules.Buckets cell w = bucket_rule reached cell w
+met reached Rules.Children cell w = child_rule cell w
+met reached Rules.Trails cell w = λ n id body at t.
+    let is = stands_alone alone (volume reached) (stands_0 reached) t in
+    subst (λ (k : ℕ). TrailRule stamped_layout stamped_image k body) (sym is.0)
+    (subst (TrailRule stamped_layout stamped_image 0) (sym is.2) trail_rule)
+met reached Rules.Paths cell w = λ n id body at t.
+    let is = stands_alone alone (volume reached) (stands_0 reached) t in
+    subst (λ (k : ℕ). PathRule stamped_layout stamped_image k id) (sym is.0)
+    (subst (PathRule stamped_layout stamped_image 0) (sym is.1) path_rule)
+met reached Rules.Tilings cell w = λ n start reserved bytes journal at d. of_one alone
+    (λ n start reserved bytes journal. TilingRule stamped_image start reserved bytes journal) tiling_rule
+    (record { commits = d.commits; done = inr d.done })
+
+-- the stamped volume is settled
+pub is_settled : STAMPED_VERSION ≤ NEWEST_VERSION → Settled 1200 stamped_image
+is_settled reached = record {
+  layout = stamped_layout;
+  volume = volume reached;
+  settled = record { met = met reached; ended = λ u m h less. inr (ended_alone alone u m h less) };
+}
+
+-- and has one document
+pub are_documents : STAMPED_VERSION ≤ NEWEST_VERSION → AreDocuments 1200 stamped_image (stamped_document ∷ [])
+are_documents reached = documents_alone alone (volume reached) (stands_0 reached)

@@ -1,0 +1,131 @@
+//! The postings of a slot's document as an index holds them: each with its list and its key, and behind those of the words
+//! that of the document's stamp.
+ghost use Rattle.std.specs.Prelude.{◌≡◌, ◌<◌, ◌≤◌, ◌++◌, IfErr, IfOk, map};
+ghost use Rattle.cell_types.specs.declared.geometry.TheConstants.{MAX_SLOTS};
+ghost use Rattle.index_paths.specs.Postings.{time_posting};
+ghost use Rattle.term_tags.specs.Listing.{GivesNone, GivesListed, listed, time_entries};
+
+use crate::rows::{Posting, postings};
+use cell_types::Refusal;
+use std::alloc::{AllocError, Global};
+use std::marker::Model;
+use word_reader::Term;
+
+/// A posting and its list. Contracts see the definition of one.
+#[derive(Clone, Copy, Debug, PartialEq, Eq)]
+pub struct ListedPosting {
+    list: u16,
+    key: u32,
+    last: u8,
+    tag: [u8; 6],
+}
+
+impl Model for ListedPosting {
+    ghost use Rattle.index_paths.specs.Postings as paths;
+
+    ghost Value = { paths.ListedPosting };
+
+    ghost view = { λ p. record { list = p.list; posting = record { key = p.key; last = p.last; tag = p.tag } } };
+
+    ghost inverse = { λ v. record { list = v.list; key = v.posting.key; last = v.posting.last; tag = v.posting.tag } };
+}
+
+impl ListedPosting {
+    ghost use Rattle.std.specs.Prelude.{◌≡◌};
+
+    /// The number of the list; that of the time list is the number of the lists of words.
+    pub fn list(&self) -> u16
+        ensures { result ≡ self.now.list }
+    {
+        self.list
+    }
+
+    /// 256 times the slot, plus the ordinal; in the time list the stamp, in seconds.
+    pub fn key(&self) -> u32
+        ensures { result ≡ self.now.posting.key }
+    {
+        self.key
+    }
+
+    /// The greatest ordinal of the document in the list; in the time list 255.
+    pub fn last(&self) -> u8
+        ensures { result ≡ self.now.posting.last }
+    {
+        self.last
+    }
+
+    /// The first six bytes of the term's digest; in the time list the four bytes of the slot, and two zeros.
+    pub fn tag(&self) -> [u8; 6]
+        ensures { result ≡ self.now.posting.tag }
+    {
+        self.tag
+    }
+}
+
+/// The postings of the document with these words in a slot, by list and key, the last of them that of its stamp; or the
+/// lowest list that would get more than 256 tags, with the number of them.
+pub fn document_postings(
+    alloc: Global,
+    terms: &[Term],
+    lists: u16,
+    slot: u32,
+    stamp: Option<u32>,
+) -> Result<Vec<ListedPosting>, Refusal>
+    requires lists { 1 ≤ lists }
+    requires slot { slot < MAX_SLOTS }
+    ensures ok { IfOk result (λ rows. GivesListed lists slot stamp terms.now rows.items) }
+    ensures err { IfErr result (GivesNone lists terms.now) }
+{
+    let of_words = postings(alloc, terms, lists)?;
+    match list_all(alloc, &of_words, lists, slot, stamp) {
+        Ok(rows) => Ok(rows),
+        Err(_) => Err(Refusal::NoMemory),
+    }
+}
+
+/// The postings of the words, and that of the stamp.
+fn list_all(
+    alloc: Global,
+    of_words: &[Posting],
+    lists: u16,
+    slot: u32,
+    stamp: Option<u32>,
+) -> Result<Vec<ListedPosting>, AllocError>
+    requires { slot < MAX_SLOTS }
+    ensures { IfOk result (λ rows. rows.items ≡ map (listed slot) of_words.now ++ time_entries lists slot stamp) }
+{
+    let mut rows = Vec::with_capacity(alloc, of_words.len())?;
+    for posting in of_words {
+        rows.push(list_one(posting, slot))?;
+    }
+    if let Some(seconds) = stamp {
+        rows.push(time_entry(lists, slot, seconds))?;
+    }
+    Ok(rows)
+}
+
+/// The posting of a word, in a slot's document.
+fn list_one(posting: &Posting, slot: u32) -> ListedPosting
+    requires { slot < MAX_SLOTS }
+    ensures { result ≡ listed slot posting.now }
+{
+    ListedPosting {
+        list: posting.list,
+        key: 256 * slot + u32::from(posting.ordinal),
+        last: posting.last,
+        tag: posting.tag,
+    }
+}
+
+/// The posting of a slot's stamp, which names the slot in its tag. The time list is behind those of words.
+fn time_entry(lists: u16, slot: u32, seconds: u32) -> ListedPosting
+    ensures { result ≡ record { list = lists; posting = time_posting slot seconds } }
+{
+    let bytes = slot.to_be_bytes();
+    ListedPosting {
+        list: lists,
+        key: seconds,
+        last: u8::MAX,
+        tag: [bytes[0], bytes[1], bytes[2], bytes[3], 0, 0],
+    }
+}

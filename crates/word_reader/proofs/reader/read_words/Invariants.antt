@@ -1,7 +1,0 @@
--- The terms so far, and those of the run and of what is left, are all.
-use Rattle.std.proofs.Common.{◌≡◌, ◌++◌, drop}
-use Rattle.stored_documents.specs.Words.{words_from, words_of}
-use Rattle.word_reader.proofs.reader.read_words.Given as goal
-
-abbrev pub invariant-loop-byte : goal.invariant-loop-byte
-invariant-loop-byte l = l.terms.items ++ words_from l.run.items (drop l.byte-index l.bytes) ≡ words_of l.bytes
