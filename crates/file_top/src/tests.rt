@@ -28,12 +28,26 @@ const DOCUMENT: [(usize, u128); 10] = [
     (6, 0x05_00000000_00000000000000_00000006),
 ];
 
-/// The calls that write them. Settling's sync and a page are read for cell 0, and a page for cell 560. Then each cell
-/// is asked for and written, and each of the five phases ends with a sync.
-const WRITES: [u32; 10] = [5, 8, 10, 12, 14, 17, 20, 22, 24, 27];
+/// Of each of these cells the call whose fault breaks it, and the first whose fault comes too late for it. Settling's
+/// sync and a page are read for cell 0, and a page for cell 560. Then each row of cells is asked for and written, and
+/// each of the five phases ends with a sync; behind the commit the journal's page is read again. The journal is one
+/// row, from cell 581 to 583: where its write fails, the first is whole, the second breaks, and the third was not
+/// reached.
+const WRITES: [(Option<u32>, u32); 10] = [
+    (Some(5), 6),
+    (Some(8), 9),
+    (None, 10),
+    (Some(10), 11),
+    (None, 11),
+    (Some(13), 14),
+    (Some(17), 18),
+    (Some(19), 20),
+    (Some(21), 22),
+    (Some(24), 25),
+];
 
 /// The last of the calls, a sync.
-const CALLS: u32 = 28;
+const CALLS: u32 = 25;
 
 /// The cells of the document `b` with the same body: in slot 0, in slot 1 where slot 0 was given up, and in slot 1
 /// behind the document `a`.
@@ -213,10 +227,10 @@ fn left_by_ingest(
 ) -> Result<(Vec<(usize, u128)>, Option<Evidence>), Fail> {
     let mut cells = vec![in alloc; (0usize, VOLUME); 1]?;
     let mut torn = None;
-    for ((at, cell), call) in DOCUMENT.iter().zip(&WRITES) {
-        if *call < fails {
+    for ((at, cell), (breaks, whole)) in DOCUMENT.iter().zip(&WRITES) {
+        if *whole <= fails {
             cells.push((*at, *cell))?;
-        } else if *call == fails && leaving != Leaving::Nothing {
+        } else if *breaks == Some(fails) && leaving != Leaving::Nothing {
             let left = left_of(*cell, leaving);
             cells.push((*at, left))?;
             if left != *cell {
