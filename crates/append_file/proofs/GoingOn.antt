@@ -1,5 +1,5 @@
 -- How a position goes on, byte by byte and cell by cell.
-use Rattle.std.proofs.Common.{◌≡◌, ◌<◌, ◌≤◌, ◌+◌, ◌-◌, ◌*◌, ◌⊎◌, min, ℕ, List, [], ◌∷◌, ◌++◌, length, take, drop, Some, sym, ap, ◌∙◌, inl, inr, subst, ⊎_elim, arith, slice_index, suc}
+use Rattle.std.proofs.Common.{false, ◌≡◌, ◌<◌, ◌≤◌, ◌+◌, ◌-◌, ◌*◌, ◌⊎◌, min, ℕ, List, [], ◌∷◌, ◌++◌, length, take, drop, Some, sym, ap, ◌∙◌, inl, inr, subst, ⊎_elim, arith, slice_index, suc}
 use Rattle.std.proofs.Math.ListN.{get_or, get_or-append}
 use Rattle.std.proofs.Math.Seq.{drop-append_seam, drop-cons, get_or-append_right}
 use Rattle.std.proofs.lemmas.List.{append_assoc, append-nil, get_or-take, length-take, length-take-le, length-drop, length-append, take_all, take-append-le, drop-append-le, drop_all}
@@ -13,7 +13,7 @@ use Rattle.stored_documents.specs.Documents.{content_at}
 use Rattle.stored_documents.specs.Slots.{cells_for}
 use Rattle.worm_device.specs.Views.{ViewState, Viewed}
 use Rattle.append_file.specs.Pieces.{IsBrokenAt, IsPiece, PieceEnds, held_bytes}
-use Rattle.append_file.specs.Reading.{ByteEnds, CellEnds, HasBroken, IsFront, IsPosition, HasRead, NextEnds, left_over, all_given, one_given, first_given}
+use Rattle.append_file.specs.Reading.{ByteEnds, CellEnds, HasBroken, IsFront, IsPosition, HasRead, NextEnds, ended, left_over, all_given, one_given, first_given}
 use Rattle.append_file.specs.declared.piece.ContentFault.{ContentFault}
 use Rattle.append_file.specs.declared.piece.ContentFault.TheVariants.{Broken, ReadFault}
 use Rattle.append_file.specs.declared.position.Position.{Position}
@@ -141,23 +141,28 @@ module _ (v w : ViewState) (old new : Position) where
   )
 
   -- a cell that was not read
-  pub byte_fails : old.read < cells_for old.bytes → (fault : ContentFault)
+  pub byte_fails : old.over ≡ false → new ≡ ended old → old.read < cells_for old.bytes → (fault : ContentFault)
       → PieceEnds old.start old.bytes old.read v w (Err fault) → NextEnds v w old new (Some (Err fault))
-  byte_fails less Broken ends = (ends.0, λ tells. (old.read, less, ends.1 tells))
-  byte_fails less ReadFault ends = ends
+  byte_fails going over less Broken ends = (going, over, ends.0, λ tells. (less, ends.1 tells))
+  byte_fails going over less ReadFault ends = (going, over, ends)
 
   -- for whoever asks for all its bytes
-  pub cell_fails : (fault : ContentFault) → NextEnds v w old new (Some (Err fault)) → CellEnds v w old new (Err fault)
-  cell_fails Broken ends =
-      (ends.0, λ start bytes given h less tells. broken_of start bytes given h (ends.1 tells))
-  cell_fails ReadFault ends = ends
+  pub cell_fails : old.read < cells_for old.bytes → (fault : ContentFault)
+      → PieceEnds old.start old.bytes old.read v w (Err fault) → CellEnds v w old new (Err fault)
+  cell_fails less Broken ends =
+      (ends.0, λ start bytes given h some tells. broken_of start bytes given h (old.read, less, ends.1 tells))
+  cell_fails less ReadFault ends = ends
 
   -- where one more byte is asked for, there is one or a cell is broken
   pub byte_ends : (asked : Option (Result ℕ ContentFault)) → NextEnds v w old new asked
       → ByteEnds v w old new (unwrap_or asked (Err Broken))
-  byte_ends (Some (Ok byte)) ends = ends
-  byte_ends (Some (Err Broken)) ends =
-      (ends.0, λ start bytes given h less tells. broken_of start bytes given h (ends.1 tells))
-  byte_ends (Some (Err ReadFault)) ends = ends
+  byte_ends (Some (Ok byte)) ends = (ends.1, ends.2)
+  byte_ends (Some (Err Broken)) ends = (
+    ends.2,
+    λ start bytes given h less tells.
+        let here = ends.3 tells in
+        broken_of start bytes given h (old.read, here.0, here.1),
+  )
+  byte_ends (Some (Err ReadFault)) ends = ends.2
   byte_ends None ends =
       (ends.0, λ start bytes given h less tells. absurd (omega (arith, less, (ends.1 start bytes given h).0)))

@@ -91,16 +91,18 @@ pub record HasRead (v : ViewState) (start bytes : ℕ) (p : Position) (given : L
   pub count : length given + length (left_over p) ≡ min (15 * p.read) bytes
   pub front : IsTrue v.base.tells → IsFront v.image start p.read (given ++ left_over p)
 
--- how asking for a byte may end, and why: no fault is counted but where a read failed
+-- How asking for a byte may end, and why: no fault is counted but where a read failed. A fault is told of the cell whose
+-- turn it was, and behind it there is no byte more.
 abbrev pub NextEnds : ViewState → ViewState → Position → Position → Option (Result ℕ ContentFault) → Type 0
 NextEnds v w old new (Some (Ok byte)) =
-    (w.base.faults ≡ v.base.faults)
+    (old.over ≡ false) × (w.base.faults ≡ v.base.faults)
     × ((start bytes : ℕ) (given : List ℕ) → HasRead v start bytes old given
     → HasRead w start bytes new (given ++ byte ∷ []))
 NextEnds v w old new (Some (Err Broken)) =
-    (w.base.faults ≡ v.base.faults)
-    × (IsTrue v.base.tells → (k : ℕ) × (k < cells_for old.bytes) × IsBrokenAt w.image old.start old.bytes k)
-NextEnds v w old new (Some (Err ReadFault)) = Rose v.base.faults w.base.faults
+    (old.over ≡ false) × (new ≡ ended old) × (w.base.faults ≡ v.base.faults)
+    × (IsTrue v.base.tells → (old.read < cells_for old.bytes) × IsBrokenAt w.image old.start old.bytes old.read)
+NextEnds v w old new (Some (Err ReadFault)) =
+    (old.over ≡ false) × (new ≡ ended old) × Rose v.base.faults w.base.faults
 NextEnds v w old new None =
     (w.base.faults ≡ v.base.faults)
     × ((start bytes : ℕ) (given : List ℕ) → HasRead v start bytes old given

@@ -1,5 +1,5 @@
 //! How far a document part was read.
-ghost use Rattle.std.specs.Prelude.{◌≡◌, ◌<◌, ◌≤◌, ◌+◌, [], slice_index};
+ghost use Rattle.std.specs.Prelude.{◌≡◌, ◌<◌, ◌≤◌, ◌+◌, ◌↔◌, [], IsTrue, slice_index};
 ghost use Rattle.append_file.specs.Reading.{ByteEnds, CellEnds, HasRead, IsPosition, NextEnds, all_given, at_start, ended, first_given, one_given};
 ghost use Rattle.stored_documents.specs.Slots as slots;
 ghost use Rattle.worm_device.specs.Views.{ViewState, Viewed};
@@ -44,6 +44,13 @@ impl Position {
             given: 0,
             over: false,
         }
+    }
+
+    /// Whether all bytes of the cell that was read last were given.
+    pub fn is_spent(&self) -> bool
+        ensures { IsTrue result ↔ (self.now.held.length ≤ self.now.given) }
+    {
+        self.given >= self.held.length
     }
 
     /// Gives a byte that is held.

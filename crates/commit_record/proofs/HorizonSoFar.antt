@@ -1,87 +1,127 @@
--- What a walk over the slots has seen.
-use Rattle.std.proofs.Common.{true, false, ◌≡◌, ◌<◌, ◌≤◌, ◌+◌, ◌⊎◌, ◌↔◌, ℕ, List, Option, Some, None, refl, sym, ◌∙◌, subst, ⊎_elim, arith}
+-- What a bisection of the slots has seen.
+use Rattle.std.proofs.Common.{true, false, ◌≡◌, ◌<◌, ◌≤◌, ◌+◌, ◌*◌, ◌-◌, ◌/◌, ◌^◌, ◌↔◌, ℕ, suc, List, Option, Some, None, refl, sym, ap, ◌∙◌, subst, arith}
+use Rattle.std.proofs.Math.Nat.{pow-succ'}
+use Rattle.std.proofs.lemmas.Option.{none-some}
 use Rattle.std.specs.Prelude.{IsNone, IsTrue, Ok}
 use Rattle.cell_types.specs.Image.{Image, Extends}
 use Rattle.cell_types.specs.Layout.{Layout, reserve_at}
-use Rattle.stored_documents.specs.Slots.{AreTaken}
-use Rattle.stored_documents.proofs.Extending.{taken_on, written_on, blank_before}
+use Rattle.stored_documents.specs.Volumes.{IsWritten}
+use Rattle.stored_documents.proofs.Extending.{blank_before}
 use Rattle.worm_device.specs.Views.{ViewState, Viewed, ViewReads}
 use Rattle.worm_device.proofs.Resting.{viewed_then}
-use Rattle.commit_record.specs.LogEnds.{IsLastReserve, IsLeastHorizon}
+use Rattle.commit_record.specs.LogEnds.{IsLastReserve, IsLogEnd}
 
--- the first n slots are taken, the last reserve cell of theirs is this, each was one read at most, and no read failed
-pub record HorizonSoFar (n : ℕ) (last : Option (List ℕ)) (old now : ViewState) : Type 0 where
+-- The slot before low is taken, and its reserve cell is this one; the slot high was free, and so was the last. Few
+-- slots are left after so many halvings.
+pub record HorizonSoFar (g : Layout) (low high halving : ℕ) (last : Option (List ℕ)) (old now : ViewState)
+    : Type 0 where
   pub viewed : Viewed old now
-  pub taken : IsTrue old.base.tells → AreTaken now.image n
-  pub none : IsNone last ↔ (n ≡ 0)
-  pub stands : IsTrue old.base.tells → IsLastReserve now.image n last
-  pub reads : now.base.reads ≤ old.base.reads + n
+  pub reads : now.base.reads ≤ old.base.reads + 1 + halving
   pub faults : now.base.faults ≡ old.base.faults
+  pub order : low ≤ high
+  pub inside : high < g.slots
+  pub narrow : high < low + 2 ^ (24 - halving)
+  pub none : IsNone last ↔ (low ≡ 0)
+  pub stands : IsTrue old.base.tells → IsLastReserve now.image low last
+  pub free : IsTrue old.base.tells → old.image (reserve_at high) ≡ None
+  pub not_full : IsTrue old.base.tells → old.image (reserve_at (g.slots - 1)) ≡ None
 
 true_false : true ≡ false → ⊥
 true_false e = cc
 
-below_or_at : (k n : ℕ) → k < n + 1 → (k < n) ⊎ (k ≡ n)
-below_or_at k n h = grind arith
+halved : (h : ℕ) → h < 24 → 2 ^ (24 - h) ≡ 2 * 2 ^ (24 - (h + 1))
+halved h less = let e : 24 - h ≡ suc (24 - (h + 1)) = omega arith in
+    ap (λ (n : ℕ). 2 ^ n) e ∙ pow-succ' 2 (24 - (h + 1))
 
--- one slot more is taken
-pub one_more : (n at : ℕ) (cell : List ℕ) (found last : Option (List ℕ)) (old mid new : ViewState)
-    → HorizonSoFar n last old mid
-    → ViewReads at mid new (Ok found) → found ≡ Some cell → at ≡ reserve_at n
-    → HorizonSoFar (n + 1) (Some cell) old new
-one_more n at cell found last old mid new so_far read is e = record {
-  viewed = viewed_then so_far.viewed read.viewed;
-  taken = λ tells m below.
-      ⊎_elim
-      (λ (earlier : m < n). written_on read.viewed.image (so_far.taken tells m earlier))
-      (λ (here : m ≡ n). record { found = cell; stands = there tells m here })
-      (below_or_at m n below);
-  none = (λ never. absurd (true_false never), λ zero_is. absurd (omega (arith, zero_is)));
-  stands = λ tells m next. there tells m (omega (arith, next));
-  reads = omega (arith, so_far.reads, read.count);
-  faults = read.cause ∙ so_far.faults;
-}
-  where
-    there : IsTrue old.base.tells → (m : ℕ) → m ≡ n → new.image (reserve_at m) ≡ Some cell
-    there tells m here = subst (λ (a : ℕ). new.image a ≡ Some cell) (omega (arith, e, here))
-        (sym (read.answer (subst IsTrue (sym so_far.viewed.called.tells) tells)) ∙ is)
+told : {old mid : ViewState} → Viewed old mid → IsTrue old.base.tells → IsTrue mid.base.tells
+told before tells = subst IsTrue (sym before.called.tells) tells
+
+-- what a read of a slot's reserve cell has answered stands there
+answered : (at n : ℕ) (found seen : Option (List ℕ)) (old new : ViewState) → ViewReads at old new (Ok found)
+    → found ≡ seen → at ≡ reserve_at n → IsTrue old.base.tells → new.image (reserve_at n) ≡ seen
+answered at n found seen old new read is e tells =
+    subst (λ (a : ℕ). new.image a ≡ seen) e (sym (read.answer tells) ∙ is)
 
 -- what stood in the last reserve cell stands there still
-pub still_last : (n : ℕ) (last : Option (List ℕ)) (old now : ViewState) → HorizonSoFar n last old now
-    → (new : Image) → Extends now.image new → IsTrue old.base.tells → IsLastReserve new n last
-still_last n None old now so_far new on tells m next =
-    let zero_is : n ≡ 0 = so_far.none.0 refl in absurd (omega (arith, next, zero_is))
-still_last n (Some cell) old now so_far new on tells m next = on.keeps (reserve_at m) cell (so_far.stands tells m next)
+still_last : (u : ℕ) (last : Option (List ℕ)) (old new : Image) → (IsNone last ↔ (u ≡ 0)) → Extends old new
+    → IsLastReserve old u last → IsLastReserve new u last
+still_last u None old new none on stands m next =
+    let zero_is : u ≡ 0 = none.0 refl in absurd (omega (arith, next, zero_is))
+still_last u (Some cell) old new none on stands m next = on.keeps (reserve_at m) cell (stands m next)
 
--- the walk has come to a slot that is free
-pub ends_at : (g : Layout) (n at : ℕ) (found last : Option (List ℕ)) (old mid new : ViewState)
-    → HorizonSoFar n last old mid
-    → ViewReads at mid new (Ok found) → found ≡ None → at ≡ reserve_at n → n < g.slots
-    → IsTrue old.base.tells → IsLeastHorizon g old.image new.image n
-ends_at g n at found last old mid new so_far read is e less tells =
-    let taken = taken_on n read.viewed.image (so_far.taken tells) in
-    let here : new.image at ≡ None = sym (read.answer (subst IsTrue (sym so_far.viewed.called.tells) tells)) ∙ is in
-    let free : new.image (reserve_at n) ≡ None = subst (λ (a : ℕ). new.image a ≡ None) e here in
-    record {
-      horizon = record {
-        most = omega (arith, less);
-        below = λ m is. taken m (omega (arith, is));
-        free = λ _. blank_before so_far.viewed.image (blank_before read.viewed.image free);
-      };
-      taken = taken;
-    }
+-- a slot whose reserve cell stands is taken
+last_taken : (u : ℕ) (last : Option (List ℕ)) (image : Image) → (IsNone last ↔ (u ≡ 0)) → IsLastReserve image u last
+    → (m : ℕ) → u ≡ m + 1 → IsWritten image (reserve_at m)
+last_taken u None image none stands m next =
+    let zero_is : u ≡ 0 = none.0 refl in absurd (omega (arith, next, zero_is))
+last_taken u (Some cell) image none stands m next = record { found = cell; stands = stands m next }
 
--- or no slot is free
-pub ends_full : (g : Layout) (n : ℕ) (last : Option (List ℕ)) (old new : ViewState) → HorizonSoFar n last old new
-    → n ≡ g.slots
-    → IsTrue old.base.tells → IsLeastHorizon g old.image new.image n
-ends_full g n last old new so_far all tells =
-    let taken = so_far.taken tells in
-    record {
-      horizon = record {
-        most = omega (arith, all);
-        below = λ m is. taken m (omega (arith, is));
-        free = λ less. absurd (omega (arith, less, all));
-      };
-      taken = taken;
-    }
+-- the slot in the middle is taken: on behind it
+pub taken_more : (g : Layout) (low high halving middle at : ℕ) (cell : List ℕ) (found last : Option (List ℕ))
+    (old mid new : ViewState) → HorizonSoFar g low high halving last old mid
+    → ViewReads at mid new (Ok found) → found ≡ Some cell → at ≡ reserve_at middle → halving < 24
+    → middle ≡ low + (high - low) / 2 → low < high
+    → HorizonSoFar g (middle + 1) high (halving + 1) (Some cell) old new
+taken_more g low high halving middle at cell found last old mid new s read seen e less is some = record {
+  viewed = viewed_then s.viewed read.viewed;
+  reads = omega (arith, s.reads, read.count);
+  faults = read.cause ∙ s.faults;
+  order = omega (arith, is, some);
+  inside = s.inside;
+  narrow = omega (arith, is, s.narrow, halved halving less);
+  none = (λ never. absurd (true_false never), λ zero_is. absurd (omega (arith, zero_is)));
+  stands = λ tells m next. subst (λ (n : ℕ). new.image (reserve_at n) ≡ Some cell) (omega (arith, next))
+      (answered at middle found (Some cell) mid new read seen e (told s.viewed tells));
+  free = s.free;
+  not_full = s.not_full;
+}
+
+-- it is free: on before it
+pub free_more : (g : Layout) (low high halving middle at : ℕ) (found last : Option (List ℕ))
+    (old mid new : ViewState) → HorizonSoFar g low high halving last old mid
+    → ViewReads at mid new (Ok found) → found ≡ None → at ≡ reserve_at middle → halving < 24
+    → middle ≡ low + (high - low) / 2 → low < high
+    → HorizonSoFar g low middle (halving + 1) last old new
+free_more g low high halving middle at found last old mid new s read seen e less is some = record {
+  viewed = viewed_then s.viewed read.viewed;
+  reads = omega (arith, s.reads, read.count);
+  faults = read.cause ∙ s.faults;
+  order = omega (arith, is, some);
+  inside = omega (arith, is, some, s.inside);
+  narrow = omega (arith, is, s.narrow, halved halving less);
+  none = s.none;
+  stands = λ tells. still_last low last mid.image new.image s.none read.viewed.image (s.stands tells);
+  free = λ tells. blank_before s.viewed.image
+      (blank_before read.viewed.image (answered at middle found None mid new read seen e (told s.viewed tells)));
+  not_full = s.not_full;
+}
+
+-- so many halvings leave one slot
+pub last_halving : (low high halving : ℕ) → 24 ≤ halving → high < low + 2 ^ (24 - halving) → high ≤ low
+last_halving low high halving all narrow =
+    let e : 24 - halving ≡ 0 = omega (arith, all) in
+    let one : 2 ^ (24 - halving) ≡ 1 = ap (λ (n : ℕ). 2 ^ n) e in
+    omega (arith, narrow, one)
+
+-- one slot is left
+pub one_left : (g : Layout) (low high halving : ℕ) (last : Option (List ℕ)) (old now : ViewState)
+    → HorizonSoFar g low high halving last old now → high ≤ low
+    → (high ≤ g.slots) × (now.base.faults ≡ old.base.faults) × (IsNone last ↔ (high ≡ 0))
+    × (IsTrue old.base.tells → IsLogEnd g old.image now.image high × IsLastReserve now.image high last)
+one_left g low high halving last old now s one =
+    let same : low ≡ high = omega (arith, one, s.order) in (
+      omega (arith, s.inside),
+      s.faults,
+      subst (λ (u : ℕ). IsNone last ↔ (u ≡ 0)) same s.none,
+      λ tells. (
+        record {
+          horizon = record {
+            most = omega (arith, s.inside);
+            below = λ m next. last_taken low last now.image s.none (s.stands tells) m (omega (arith, same, next));
+            free = λ less. s.free tells;
+          };
+          full = λ w. absurd (none-some w.found (sym (s.not_full tells) ∙ w.stands));
+        },
+        subst (λ (u : ℕ). IsLastReserve now.image u last) same (s.stands tells),
+      ),
+    )

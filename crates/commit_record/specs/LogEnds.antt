@@ -1,23 +1,24 @@
 -- What it means that the log ends at a slot.
-use Rattle.std.specs.Prelude.{◌≡◌, ◌≤◌, ◌+◌, ◌↔◌, ℕ, List, Option, Result, Ok, Err, IsNone, IsTrue}
+use Rattle.std.specs.Prelude.{◌≡◌, ◌≤◌, ◌+◌, ◌-◌, ◌↔◌, ℕ, List, Option, Result, Ok, Err, IsNone, IsTrue}
 use Rattle.cell_types.specs.Image.{Image}
 use Rattle.cell_types.specs.Layout.{Layout, reserve_at}
-use Rattle.stored_documents.specs.Slots.{AreTaken, IsHorizon}
+use Rattle.stored_documents.specs.Slots.{IsHorizon}
+use Rattle.stored_documents.specs.Volumes.{IsWritten}
 use Rattle.worm_device.specs.Counts.{Rose}
 use Rattle.worm_device.specs.Views.{ViewState}
 use Rattle.worm_device.specs.declared.device.Failed.{Failed}
 use Rattle.commit_record.specs.declared.log_end.LogEnd.{LogEnd}
 
--- u is the least horizon, as seen between two images: each slot below it is taken in the later one
-pub record IsLeastHorizon (g : Layout) (before after : Image) (u : ℕ) : Type 0 where
+-- u is a horizon, as seen between two images; and where the last slot was taken it is the number of slots
+pub record IsLogEnd (g : Layout) (before after : Image) (u : ℕ) : Type 0 where
   pub horizon : IsHorizon g before after u
-  pub taken : AreTaken after u
+  pub full : IsWritten before (reserve_at (g.slots - 1)) → u ≡ g.slots
 
 -- how a look for the horizon may end, and why
 abbrev pub HorizonEnds : Layout → ViewState → ViewState → Result ℕ Failed → Type 0
 HorizonEnds g old new (Ok u) =
     (u ≤ g.slots) × (new.base.faults ≡ old.base.faults)
-    × (IsTrue old.base.tells → IsLeastHorizon g old.image new.image u)
+    × (IsTrue old.base.tells → IsLogEnd g old.image new.image u)
 HorizonEnds g old new (Err failed) = Rose old.base.faults new.base.faults
 
 -- the last reserve cell below the horizon u stands in the image
@@ -30,5 +31,5 @@ abbrev pub LogEndEnds : Layout → ViewState → ViewState → Result LogEnd Fai
 LogEndEnds g old new (Ok log) =
     (log.horizon ≤ g.slots) × (new.base.faults ≡ old.base.faults) × (IsNone log.last ↔ (log.horizon ≡ 0))
     × (IsTrue old.base.tells
-    → IsLeastHorizon g old.image new.image log.horizon × IsLastReserve new.image log.horizon log.last)
+    → IsLogEnd g old.image new.image log.horizon × IsLastReserve new.image log.horizon log.last)
 LogEndEnds g old new (Err failed) = Rose old.base.faults new.base.faults

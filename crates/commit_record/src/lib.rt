@@ -22,7 +22,18 @@
 //! needs written stands at the call's exit, and what it needs blank was blank at its entry. What an answer says of its
 //! own numbers, as that a state's cells lie in the pool, holds over every view, also over one that does not tell.
 //!
-//! `open` makes one read, `slot_state` at most three, `horizon` and `end_of_log` at most one a slot, and `parts` none.
+//! The log is not walked: a horizon is a slot that is free, behind one that is taken, and one of these is found by
+//! bisection. The last slot is asked first, so that a full log is told from it alone. With slots 0 to 4 taken:
+//!
+//!     slot 7   free      the horizon is one of 0 to 7
+//!          3   taken     one of 4 to 7
+//!          5   free      one of 4 to 5
+//!          4   taken     5
+//!
+//! Where nobody else ever wrote, slots are taken in a row, and it is the only horizon. On any other image a free slot
+//! may stand before it, and taken ones behind.
+//!
+//! `open` makes one read, `slot_state` at most three, `horizon` and `end_of_log` at most 26, and `parts` none.
 //! `end_of_log` hands over the last reserve cell as well, and `slot_state_of` goes on from there: it makes two reads,
 //! and never finds the slot unused, whatever the device answers. Nothing takes memory.
 //!

@@ -6,7 +6,7 @@ ghost use Rattle.cell_types.specs.declared.refusal.Refusal.TheVariants as refusa
 ghost use Rattle.worm_device.specs.Counts.{Rose};
 ghost use Rattle.worm_device.specs.Views.{Viewed};
 
-use crate::{OpenRefusal, Parts, SlotState, horizon, open, parts, slot_state};
+use crate::{LogEnd, OpenRefusal, Parts, SlotState, end_of_log, horizon, open, parts, slot_state};
 use cell_types::{Cell, Evidence, Fault, Refusal};
 use std::alloc::Global;
 use std::test::Fail;
@@ -80,13 +80,17 @@ fn read_slot<V: View>(view: &mut V, slot: u32) -> Result<(SlotState, Option<Part
     }
 }
 
-/// The horizon of the volume on the device.
-fn horizon_of(device: &mut MemoryDevice) -> Result<u32, Fail> {
+/// The end of the log of the volume on the device.
+fn log_end_of(device: &mut MemoryDevice) -> Result<LogEnd, Fail> {
     let mut view = Direct::new(device);
     let Ok(volume) = open(&mut view) else {
         return Err("no volume".into());
     };
-    Ok(horizon(&mut view, &volume)?)
+    let log = end_of_log(&mut view, &volume)?;
+    if horizon(&mut view, &volume)? != log.horizon {
+        return Err("two horizons".into());
+    }
+    Ok(log)
 }
 
 #[test]
@@ -228,31 +232,37 @@ fn a_slot_behind_a_free_one_has_a_state(rt: HostRuntime) -> Result<(), Fail> {
         read_slot(&mut Direct::new(&mut device), 2),
         Ok((SlotState::Reserved { start, length }, None))
     );
-    assert_eq!(rt; horizon_of(&mut device)?, 1, "the least one");
     Ok(())
 }
 
+/// Each row is which slots are taken, and the horizon. In the last four it is one of several, or there is a free slot
+/// before it: slots 7, 3, 1 and 0 or 2 are asked, slots 7, 3 and 5, or slot 7 alone.
 #[test]
-fn the_horizon_is_the_first_slot_that_is_free(rt: HostRuntime) -> Result<(), Fail> {
-    let stray = [0xff; 16];
-    let all = [
-        (4, stray),
-        (8, stray),
-        (12, stray),
-        (16, stray),
-        (20, stray),
-        (24, stray),
-        (28, stray),
-        (32, stray),
-    ];
-    for (cells, want) in [
+fn a_horizon_is_free_behind_a_slot_that_is_taken(rt: HostRuntime) -> Result<(), Fail> {
+    for (taken, horizon) in [
         ([].as_slice(), 0),
-        ([RESERVE_0].as_slice(), 1),
-        ([RESERVE_0, RESERVE_1].as_slice(), 2),
-        (all.as_slice(), 8),
+        ([0_u8].as_slice(), 1),
+        ([0, 1].as_slice(), 2),
+        ([0, 1, 2, 3, 4].as_slice(), 5),
+        ([0, 1, 2, 3, 4, 5, 6].as_slice(), 7),
+        ([0, 1, 2, 3, 4, 5, 6, 7].as_slice(), 8),
+        ([0, 2].as_slice(), 1),
+        ([1, 4].as_slice(), 2),
+        ([3, 5, 6].as_slice(), 7),
+        ([7].as_slice(), 8),
     ] {
-        let mut device = volume_with(rt.alloc(), cells)?;
-        assert_eq!(rt; horizon_of(&mut device)?, want);
+        let mut cells = Vec::new(rt.alloc());
+        let mut last = None;
+        for slot in taken {
+            let behind = slot.saturating_add(1);
+            let bytes = [behind; 16];
+            cells.push((4 * u32::from(behind), bytes))?;
+            if u32::from(behind) == horizon {
+                last = Cell::from_bytes(bytes);
+            }
+        }
+        let mut device = volume_with(rt.alloc(), &cells)?;
+        assert_eq!(rt; log_end_of(&mut device)?, LogEnd { horizon, last });
     }
     Ok(())
 }

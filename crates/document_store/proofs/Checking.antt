@@ -1,5 +1,5 @@
 -- A document that was read in a slot that is done, from the look for its part on.
-use Rattle.std.proofs.Common.{◌≡◌, ◌≤◌, ◌+◌, ◌*◌, ◌↔◌, ℕ, List, length, Some, Ok, Err, refl, sym, ap, subst, arith}
+use Rattle.std.proofs.Common.{◌≡◌, ◌≤◌, ◌+◌, ◌*◌, ◌↔◌, ℕ, List, length, Some, Result, Ok, Err, refl, ◌∙◌, sym, ap, subst, arith}
 use Rattle.std.specs.Prelude.{IsTrue, Bool}
 use Rattle.cell_types.specs.Image.{Image}
 use Rattle.cell_types.specs.Layout.{Layout}
@@ -8,8 +8,9 @@ use Rattle.cell_types.specs.declared.refusal.Fault.{Fault}
 use Rattle.cell_types.specs.declared.refusal.Fault.TheVariants.{Tampered, Failed}
 use Rattle.stored_documents.specs.Slots.{cells_for}
 use Rattle.worm_device.specs.Views.{ViewState, Viewed}
+use Rattle.worm_device.proofs.Resting.{viewed_self}
 use Rattle.document_store.specs.Heads.{HasBody, id_of}
-use Rattle.document_store.specs.Looks.{HasStored, HoldsHead, HoldsIdentifier, IdentifierEnds, IsPartOf, IsSame, LookFails, PartEnds, ReadsOnce, ReadsTwice}
+use Rattle.document_store.specs.Looks.{HasStored, HoldsHead, HoldsIdentifier, IdentifierEnds, IsPartOf, IsSame, IsStated, LookFails, PartEnds, ReadsOnce, ReadsTwice, SameEnds}
 use Rattle.document_store.specs.Standing.{HoldsDocument}
 use Rattle.document_store.specs.declared.head.Head.{Head}
 use Rattle.document_store.specs.declared.part.Part.{Part}
@@ -54,6 +55,15 @@ module _ (g : Layout) (n : ℕ) (old mid new : ViewState) (part : Part) (before 
   read_fails fault fails =
       fails_from g before after n found.2 fault (subst (λ (m : ℕ). LookFails g m mid new fault) found.0 fails)
 
+  -- whether it has an identifier
+  pub same_then : (id : List ℕ) (result : Result Bool Fault) → SameEnds g part.slot id mid new result
+      → SameEnds g n id old new result
+  same_then id (Ok same) ends = (
+    ends.0 ∙ found.2,
+    λ tells. subst (λ (m : ℕ). IsSame g new.image m id same) found.0 (ends.1 (told before tells)),
+  )
+  same_then id (Err fault) ends = read_fails fault ends
+
   module _ (h : Head) (has : HasBody new part.start part.bytes h) where
     -- the slot holds the document that was read
     pub read_holds : IsTrue old.base.tells → HoldsDocument g new.image n (id_of h) has.body
@@ -62,6 +72,14 @@ module _ (g : Layout) (n : ℕ) (old mid new : ViewState) (part : Part) (before 
 
     pub holds_head : IsTrue old.base.tells → HoldsHead g new.image n h
     holds_head tells = record { body = has.body; holds = read_holds tells; body_length = sym has.is_length }
+
+-- the document of a part that was found before
+pub part_head : (g : Layout) (old new : ViewState) (part : Part) (after : Viewed old new)
+    → part.start + cells_for part.bytes ≤ g.cells → (IsTrue old.base.tells → IsPartOf g old.image part.slot part)
+    → IsStated part → (h : Head) → HasBody new part.start part.bytes h → IsTrue old.base.tells
+    → HoldsHead g new.image part.slot h
+part_head g old new part after inside is stated h has tells =
+    holds_head g part.slot old old new part (viewed_self old) after (refl, inside, refl, is, stated) h has tells
 
 module _ (g : Layout) (n : ℕ) (image : Image) (h : Head) (head : HoldsHead g image n h) where
   pub has_stored : h.id_length ≡ length (id_of h)

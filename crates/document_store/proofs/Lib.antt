@@ -5,4 +5,3 @@ pub mod Naming
 pub mod Parsing
 pub mod PutSoFar
 pub mod SoFar
-pub mod Walking

@@ -1,5 +1,5 @@
 -- Looks at documents, seen from an earlier state on.
-use Rattle.std.proofs.Common.{◌≡◌, ◌<◌, ◌+◌, ◌⊎◌, ℕ, List, Option, Some, None, Result, Ok, Err, refl, sym, ap, ◌∙◌, subst, ⊎_elim, arith}
+use Rattle.std.proofs.Common.{◌≡◌, ◌<◌, ℕ, Option, Some, None, Result, Ok, Err, refl, sym, ap, ◌∙◌, subst, arith}
 use Rattle.std.specs.Prelude.{IsTrue}
 use Rattle.cell_types.specs.Image.{Image, Extends}
 use Rattle.cell_types.specs.Layout.{Layout, reserve_at, outcome_at, done_at}
@@ -18,8 +18,7 @@ use Rattle.commit_record.specs.States.{AsksBelow, IsNoState, IsState, Shows, don
 use Rattle.commit_record.specs.declared.slot.SlotState.{SlotState}
 use Rattle.commit_record.specs.declared.slot.SlotState.TheVariants.{Unused, Reserved, Abandoned, Committed, Done}
 use Rattle.document_store.specs.Heads.{SpellsNone}
-use Rattle.document_store.specs.Looks.{AreRead, IsPartOf, IsRead, IsUndone, LookFails, Names, NoneBelow, PartEnds, commit_breach, held, of_document, of_state, undone}
-use Rattle.document_store.specs.Standing.{HoldsDocument}
+use Rattle.document_store.specs.Looks.{IsPartOf, IsUndone, LookFails, Names, PartEnds, commit_breach, of_document, of_state}
 use Rattle.document_store.specs.declared.part.Part.{Part}
 use Rattle.document_store.proofs.Holding.{held_on, none_is_held, part_is_done, part_on}
 
@@ -40,12 +39,6 @@ undone_further {g} {before} {before'} {after} {after'} {n} e f u = record {
   is = state_further g n e f u.state u.is;
   undone = λ d. u.undone (done_slot_on (extends_self before') e d);
 }
-
--- and a slot that was read
-pub read_further : (g : Layout) (before before' after after' : Image) (n : ℕ) → Extends before' before
-    → Extends after after' → IsRead g before after n → IsRead g before' after' n
-read_further g before before' after after' n e f (undone u) = undone (undone_further e f u)
-read_further g before before' after after' n e f (held id body h) = held id body (held_on f h)
 
 -- cells that were no state were none from an earlier image on
 no_state_from : {g : Layout} {before before' after : Image} {n rule cell : ℕ} → Extends before' before
@@ -134,34 +127,6 @@ names_commit g old new part viewed less same is none = (
         none = λ id body h. none_is_held g new.image part.slot part on (none tells) id body (held_on viewed.image h);
       }),
 )
-
--- a slot more
-pub are_read_more : (g : Layout) (before after : Image) (u : ℕ) → AreRead g before after u → IsRead g before after u
-    → AreRead g before after (u + 1)
-are_read_more g before after u are is n less = ⊎_elim
-    (λ (below : n < u). are n below)
-    (λ (here : n ≡ u). subst (λ (m : ℕ). IsRead g before after m) (sym here) is)
-    (below_or_at n u less)
-  where
-    below_or_at : (k n : ℕ) → k < n + 1 → (k < n) ⊎ (k ≡ n)
-    below_or_at k n h = grind arith
-
--- slots that were read stay so
-pub are_read_further : (g : Layout) (before before' after after' : Image) (u : ℕ) → Extends before' before
-    → Extends after after' → AreRead g before after u → AreRead g before' after' u
-are_read_further g before before' after after' u e f are n less =
-    read_further g before before' after after' n e f (are n less)
-
--- a slot more that holds no document with the identifier
-pub none_more : (g : Layout) (image : Image) (u : ℕ) (id : List ℕ) → NoneBelow g image u id
-    → ((body : List ℕ) → HoldsDocument g image u id body → ⊥) → NoneBelow g image (u + 1) id
-none_more g image u id none here n body less h = ⊎_elim
-    (λ (below : n < u). none n body below h)
-    (λ (at : n ≡ u). here body (subst (λ (m : ℕ). HoldsDocument g image m id body) at h))
-    (below_or_at n u less)
-  where
-    below_or_at : (k n : ℕ) → k < n + 1 → (k < n) ⊎ (k ≡ n)
-    below_or_at k n h = grind arith
 
 -- a slot that was done is not seen undone
 pub not_undone : (g : Layout) (n : ℕ) (old new : ViewState) (e : Evidence) → n < g.slots

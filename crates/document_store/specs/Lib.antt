@@ -1,5 +1,4 @@
 pub mod Heads
-pub mod Laws
 pub mod Looks
 pub mod Putting
 pub mod Standing

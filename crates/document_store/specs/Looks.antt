@@ -1,7 +1,7 @@
 -- How looks at the documents of slots may end, and why. Slot n's cells are read one after another while somebody else
 -- may write: what a look found written stands in the later of two images, and what it found missing was so in the
 -- earlier one.
-use Rattle.std.specs.Prelude.{◌≡◌, ◌<◌, ◌≤◌, ◌+◌, ◌*◌, ◌⊎◌, ◌↔◌, ℕ, Bool, List, length, take, Option, Some, None, Result, Ok, Err, IsTrue}
+use Rattle.std.specs.Prelude.{◌≡◌, ◌≤◌, ◌+◌, ◌*◌, ◌⊎◌, ◌↔◌, ℕ, Bool, List, length, take, Option, Some, None, Result, Ok, Err, IsTrue}
 use Rattle.std.specs.Global.{Vec}
 use Rattle.cell_types.specs.Image.{Image}
 use Rattle.cell_types.specs.Layout.{Layout, outcome_at}
@@ -196,42 +196,3 @@ abbrev pub ReadsTwice : Layout → ℕ → ViewState → ViewState → Type 0
 ReadsTwice g n old new =
     IsTrue old.base.tells → (start reserved bytes journal : ℕ) → IsDone g new.image n start reserved bytes journal
     → new.base.reads ≤ old.base.reads + 2 * cells_for bytes + 3
-
--- slot n was read between two images: it is in a state and not done, or it is done and holds a document
-pub data IsRead (g : Layout) (before after : Image) (n : ℕ) : Type 0 where
-  undone : IsUndone g before after n → IsRead g before after n
-  held : (id body : List ℕ) → HoldsDocument g after n id body → IsRead g before after n
-
--- so was each slot below u
-abbrev pub AreRead : Layout → Image → Image → ℕ → Type 0
-AreRead g before after u = (n : ℕ) → n < u → IsRead g before after n
-
--- no slot below u holds a document with this identifier
-abbrev pub NoneBelow : Layout → Image → ℕ → List ℕ → Type 0
-NoneBelow g image u id = (n : ℕ) (body : List ℕ) → n < u → HoldsDocument g image n id body → ⊥
-
--- slot n is the first that holds a document with this identifier, and each slot before it was read
-pub record IsFirst (g : Layout) (before after : Image) (id : List ℕ) (n : ℕ) : Type 0 where
-  pub holds : HoldsIdentifier g after n id
-  pub none : NoneBelow g before n id
-  pub read : AreRead g before after n
-
--- no slot below u holds such a document, and each was read
-pub record IsNoneBelow (g : Layout) (before after : Image) (u : ℕ) (id : List ℕ) : Type 0 where
-  pub none : NoneBelow g before u id
-  pub read : AreRead g before after u
-
--- a look at one of the slots below u gives no answer
-pub record WalkFails (g : Layout) (u : ℕ) (old new : ViewState) (fault : Fault) : Type 0 where
-  pub n : ℕ
-  pub below : n < u
-  pub fails : LookFails g n old new fault
-
--- How a walk along the slots below u, for the first document with an identifier, may end, and why.
-abbrev pub FirstEnds : Layout → ℕ → List ℕ → ViewState → ViewState → Result (Option ℕ) Fault → Type 0
-FirstEnds g u id old new (Ok (Some n)) =
-    (n < u) × (new.base.faults ≡ old.base.faults)
-    × (IsTrue old.base.tells → IsFirst g old.image new.image id n)
-FirstEnds g u id old new (Ok None) =
-    (new.base.faults ≡ old.base.faults) × (IsTrue old.base.tells → IsNoneBelow g old.image new.image u id)
-FirstEnds g u id old new (Err fault) = WalkFails g u old new fault

@@ -1,12 +1,12 @@
 //! Identifiers, and which one the document of a slot has.
-ghost use Rattle.std.specs.Prelude.{◌<◌, ◌≤◌, ◌↔◌, IsTrue};
+ghost use Rattle.std.specs.Prelude.{◌<◌, ◌≤◌, ◌+◌, ◌↔◌, IsTrue};
 ghost use Rattle.stored_documents.specs.Documents.{IsIdentifier};
-ghost use Rattle.stored_documents.specs.Slots.{IsDoneSlot};
+ghost use Rattle.stored_documents.specs.Slots.{IsDoneSlot, cells_for};
 ghost use Rattle.worm_device.specs.Views.{Viewed};
-ghost use Rattle.document_store.specs.Looks.{IdentifierEnds, ReadsOnce, SameEnds};
+ghost use Rattle.document_store.specs.Looks.{IdentifierEnds, IsPartOf, IsStated, ReadsOnce, SameEnds};
 
-use crate::part::done_head;
-use cell_types::{Fault, Refusal, Volume};
+use crate::part::{Part, done_head, done_part, read_part};
+use cell_types::{Fault, Geometry, Refusal, Volume};
 use std::alloc::Global;
 use stored_documents::MAX_IDENTIFIER_BYTES;
 use worm_device::View;
@@ -58,6 +58,27 @@ pub fn same_identifier<V: View>(
     ensures reads { ReadsOnce volume.now.geometry slot (V.seen view.old) (V.seen view.new) }
     ensures ends { SameEnds volume.now.geometry slot id.now (V.seen view.old) (V.seen view.new) result }
 {
-    let head = done_head(view, volume, slot)?;
+    let part = done_part(view, volume, slot)?;
+    part_has_identifier(view, &volume.geometry, &part, id)
+}
+
+/// Whether the document of a part has this identifier. Reads each of its cells once.
+pub fn part_has_identifier<V: View>(
+    view: &mut V,
+    geometry: &Geometry,
+    part: &Part,
+    id: &[u8],
+) -> Result<bool, Fault>
+    requires slot { part.now.slot < geometry.now.slots }
+    requires size { geometry.now.cells ≤ (V.seen view.old).cells }
+    requires inside { part.now.start + cells_for part.now.bytes ≤ geometry.now.cells }
+    requires stated { IsStated part.now }
+    requires part { IsTrue (V.seen view.old).base.tells
+        → IsPartOf geometry.now (V.seen view.old).image part.now.slot part.now }
+    ensures viewed { Viewed (V.seen view.old) (V.seen view.new) }
+    ensures reads { (V.seen view.new).base.reads ≤ (V.seen view.old).base.reads + cells_for part.now.bytes }
+    ensures ends { SameEnds geometry.now part.now.slot id.now (V.seen view.old) (V.seen view.new) result }
+{
+    let head = read_part(view, geometry, part)?;
     Ok(&head.id[..usize::from(head.id_length)] == id)
 }

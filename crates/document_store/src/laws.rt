@@ -1,5 +1,4 @@
 //! Laws: what the words of the contracts mean together, over all images.
-ghost use Rattle.document_store.specs.Laws.{ReadStays};
 ghost use Rattle.document_store.specs.Standing.{HeldIsOne, HeldIsStanding, HeldStays};
 
 /// A document that a slot holds stands, where cell 0 states the layout; and one that stands is held.
@@ -15,9 +14,4 @@ pub fn held_stays()
 /// A slot holds one document.
 pub fn held_is_one()
     ensures { HeldIsOne }
-{}
-
-/// A slot that was read between two images was read between any that lie further apart.
-pub fn read_stays()
-    ensures { ReadStays }
 {}

@@ -13,8 +13,8 @@
 //! is said of the image at its exit, and what it found missing was so at its entry.
 //!
 //! The calls on a slot ask that it is done. Whoever walks along slots asks `slot_part` first, which says where the
-//! document of a done slot lies, and then reads it by `read_head` and `read_byte`; `name_commit` names the commit cell
-//! of one that is broken. `first_with_identifier` is such a walk.
+//! document of a done slot lies, and then asks `part_has_identifier`, or reads it by `read_head`, `read_byte` and
+//! `next_cell`; `name_commit` names the commit cell of one that is broken.
 //!
 //! Stands on `append_file` (bytes of cells), `commit_record` (states of slots) and `host_ports` (a sink for a body).
 //! Begin with `part.rt`; specs/Standing.antt says what it means to hold a document, and specs/Looks.antt how each call
@@ -23,7 +23,6 @@
 
 mod body;
 mod checked;
-mod first;
 mod head;
 mod identifier;
 mod laws;
@@ -32,11 +31,10 @@ mod putting;
 #[cfg(test)]
 mod tests;
 
-pub use append_file::{ContentFault, Position, read_byte};
+pub use append_file::{ContentFault, Position, next_cell, read_byte};
 pub use body::{BodyFault, body_into};
 pub use checked::{Stored, check};
-pub use first::first_with_identifier;
 pub use head::{Head, read_document, read_head};
-pub use identifier::{identifier_of, is_identifier, same_identifier};
-pub use laws::{held_is_one, held_is_standing, held_stays, read_stays};
+pub use identifier::{identifier_of, is_identifier, part_has_identifier, same_identifier};
+pub use laws::{held_is_one, held_is_standing, held_stays};
 pub use part::{Part, name_commit, slot_part};

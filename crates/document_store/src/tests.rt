@@ -4,10 +4,7 @@ ghost use Rattle.std.specs.Prelude.{◌<◌, ◌≤◌, IfOk, IsTrue};
 ghost use Rattle.stored_documents.specs.Slots.{IsDoneSlot};
 ghost use Rattle.worm_device.specs.Views.{Viewed};
 
-use crate::{
-    Stored, body_into, check, first_with_identifier, identifier_of, is_identifier, same_identifier,
-    slot_part,
-};
+use crate::{Stored, body_into, check, identifier_of, is_identifier, same_identifier, slot_part};
 use cell_types::{Cell, Evidence, Fault, Refusal, Volume, content};
 use commit_record::open;
 use host_ports::MemorySink;
@@ -112,18 +109,13 @@ fn a_document_is_read_in_each_way(rt: HostRuntime) -> Result<(), Fail> {
         identifier_of(rt.alloc(), &mut view, &volume, 0)?.as_slice(),
         b"a".as_slice()
     );
-    for (id, same, first) in [
-        (b"a".as_slice(), true, Some(0)),
-        (b"aa".as_slice(), false, None),
-        (b"b".as_slice(), false, None),
+    for (id, same) in [
+        (b"a".as_slice(), true),
+        (b"aa".as_slice(), false),
+        (b"b".as_slice(), false),
     ] {
         let volume = volume_with_done(&mut view, 0)?;
         assert_eq!(rt; same_identifier(&mut view, &volume, 0, id), Ok(same));
-        let end = volume.geometry.slots();
-        assert_eq!(rt;
-            first_with_identifier(&mut view, &volume, end, id),
-            Ok(first)
-        );
     }
     let mut sink = MemorySink::new(rt.alloc());
     sink.reserve(11)?;

@@ -17,10 +17,10 @@ use Rattle.record_top.specs.Taking.{refusal_of_body_fault}
 use Rattle.record_top.specs.declared.body.BodyFault.{BodyFault}
 use Rattle.record_top.specs.declared.body.BodyFault.TheVariants as faults
 use Rattle.record_top.proofs.Pieces.{gives_nothing}
-use Rattle.stored_documents.specs.Documents.{Document, IsDocument}
+use Rattle.stored_documents.specs.Documents.{Document, Stands}
 use Rattle.index_paths.specs.Keeping.{Kept}
 use Rattle.index_paths.proofs.KeepingLaws.{kept_on}
-use Rattle.stored_documents.proofs.Extending.{document_on}
+use Rattle.stored_documents.proofs.Extending.{stands_on}
 use Rattle.worm_device.specs.Calls.{Called}
 use Rattle.worm_device.specs.State.{DeviceState, LeftSince}
 use Rattle.file_top.specs.Files.{Acknowledges, IsKeptIn, IsLedToIn, IsStored, KeepsAll, KeepsIn, WhereTold, file_ports}
@@ -32,14 +32,14 @@ left_now s image left = ⊎_elim (λ now. now) (λ past. absurd (omega (arith, p
 -- a document of the sure image is kept
 kept_told : (cells reads faults parts : ℕ) (told : Told)
     → CrashesAreSeen (device_at cells reads faults parts (Some told)) (Some told)
-    → (n : ℕ) (id body : List ℕ) → IsDocument cells (image_of cells told.now.sure) n id body
+    → (n : ℕ) (id body : List ℕ) → Stands cells (image_of cells told.now.sure) n id body
     → IsKeptIn cells told n id body
 kept_told cells reads faults parts told seen n id body stands = record {
   sure = stands;
   left = λ bytes leaves.
       let now = left_now (device_at cells reads faults parts (Some told)) (image_of cells bytes)
       (seen told told.moment bytes refl (inl leaves)) in
-      document_on now.above stands;
+      stands_on now.above stands;
 }
 
 -- what the index leads to in the sure image it goes on leading to
@@ -60,7 +60,7 @@ keeps_all : (before cells reads faults parts : ℕ) (bytes : List ℕ) (told : T
     → Extends (image_of before bytes) (image_of cells told.now.sure) → KeepsAll cells bytes told
 keeps_all before cells reads faults parts bytes told same seen extends n id body stands =
     kept_told cells reads faults parts told seen n id body
-    (document_on (subst (λ (k : ℕ). Extends (image_of k bytes) (image_of cells told.now.sure)) same extends) stands)
+    (stands_on (subst (λ (k : ℕ). Extends (image_of k bytes) (image_of cells told.now.sure)) same extends) stands)
 
 -- a device that tells goes on telling
 one_tells : true ≡ false → ⊥

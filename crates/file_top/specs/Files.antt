@@ -7,7 +7,7 @@ use Rattle.host_files.specs.File.{Told}
 use Rattle.host_ports.specs.Sinks.{SinkState, Gets}
 use Rattle.host_ports.specs.Sources.{SourceState, Gives}
 use Rattle.record_top.specs.Ingesting.{HasStored, acknowledgement}
-use Rattle.stored_documents.specs.Documents.{Document, IsDocument}
+use Rattle.stored_documents.specs.Documents.{Document, Stands}
 use Rattle.index_paths.specs.Keeping.{Kept}
 use Rattle.ingest_engine.specs.Ingesting.{document_in}
 
@@ -32,13 +32,13 @@ WhereTold (Some old) (Some new) P = P old new
 -- The document is one of the volume's, in slot n, in the bytes that no crash takes, as the first so many cells of the
 -- file, and in each file that a crash leaves from now on.
 pub record IsKeptIn (cells : ℕ) (told : Told) (n : ℕ) (id body : List ℕ) : Type 0 where
-  pub sure : IsDocument cells (image_of cells told.now.sure) n id body
-  pub left : (bytes : List ℕ) → CrashLeaves told.now bytes → IsDocument cells (image_of cells bytes) n id body
+  pub sure : Stands cells (image_of cells told.now.sure) n id body
+  pub left : (bytes : List ℕ) → CrashLeaves told.now bytes → Stands cells (image_of cells bytes) n id body
 
 -- each document of the volume that these bytes are is kept
 abbrev pub KeepsAll : ℕ → List ℕ → Told → Type 0
 KeepsAll cells bytes told =
-    (n : ℕ) (id body : List ℕ) → IsDocument cells (image_of cells bytes) n id body → IsKeptIn cells told n id body
+    (n : ℕ) (id body : List ℕ) → Stands cells (image_of cells bytes) n id body → IsKeptIn cells told n id body
 
 -- at Ok this slot was acknowledged
 abbrev pub Acknowledges : Result Unit Refusal → ℕ → SinkState → SinkState → Type 0

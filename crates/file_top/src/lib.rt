@@ -9,19 +9,28 @@
 //! whatever a crash leaves of the file from then on, they are there. So is each document that stood before, and the
 //! index still leads to each that it led to.
 //!
+//! Besides, each clause of `run` is said again over the device that shows the file, so that the program's own call has
+//! them, too: what each command does and puts out, when it refuses, and what a crash leaves.
+//!
 //! Stands on `record_top` and `host_files`. Begin with `run_over_file`; `specs/Files.antt` says what is kept.
 #![tactic(auto)]
 
-ghost use Rattle.std.specs.Prelude.{ℕ, List, map};
+ghost use Rattle.std.specs.Prelude.{◌≡◌, ◌↔◌, ℕ, List, map};
 ghost use Rattle.std.specs.String.{string_bytes};
 ghost use Rattle.file_top.specs.Files.{KeepsAll, KeepsIn, WhereTold, file_ports};
 ghost use Rattle.host_files.specs.Crashes.{CrashesAreSeen};
 ghost use Rattle.host_files.specs.Over.{file_below, state_over};
+ghost use Rattle.record_top.specs.Begins.{BeginsSteady};
+ghost use Rattle.record_top.specs.Commands.{Asks, AsksNothing, Does, IsAnswered, IsUnhindered, Request};
 ghost use Rattle.record_top.specs.Ingesting.{AsksToIngest};
+ghost use Rattle.record_top.specs.Ports.{ports_of};
+ghost use Rattle.record_top.specs.Steadiness.{LeavesWhole};
+ghost use Rattle.worm_device.specs.Calls.{Called};
 
 #[cfg(test)]
 mod tests;
 
+use cell_types::Refusal;
 use host_files::{FileDevice, HostFile, crashes_are_seen};
 use host_ports::{Sink, Source};
 use record_top::{Outcome, run};
@@ -35,6 +44,22 @@ pub fn run_over_file<F: HostFile, S: Source, K: Sink>(
     source: &mut S,
     sink: &mut K,
 ) -> Outcome
+    // All that `run` says, over the device that shows the file.
+    ensures called { Called (state_over device.old) (state_over device.new) }
+    ensures usage { (result ≡ Err Refusal.Usage) ↔ AsksNothing (map string_bytes words.now) }
+    ensures unused { result ≡ Err Refusal.Usage → (state_over device.new ≡ state_over device.old)
+        × (S.state source.new ≡ S.state source.old) × (K.state sink.new ≡ K.state sink.old) }
+    ensures does { (request : Request) → Asks (map string_bytes words.now) request → Does request
+        (ports_of (state_over device.old) (S.state source.old) (K.state sink.old))
+        (ports_of (state_over device.new) (S.state source.new) (K.state sink.new)) result }
+    ensures complete { (request : Request) → Asks (map string_bytes words.now) request → IsUnhindered request
+        (ports_of (state_over device.old) (S.state source.old) (K.state sink.old))
+        (ports_of (state_over device.new) (S.state source.new) (K.state sink.new)) → IsAnswered request result }
+    ensures steady { (request : Request) → Asks (map string_bytes words.now) request
+        → BeginsSteady (state_over device.old) (state_over device.new) → LeavesWhole request
+        (ports_of (state_over device.old) (S.state source.old) (K.state sink.old))
+        (ports_of (state_over device.new) (S.state source.new) (K.state sink.new)) result }
+
     // Where `ingest` has stored its document, which it has at Ok, the file keeps it, and each that stood at entry.
     ensures keeps { (id : List ℕ) → AsksToIngest (map string_bytes words.now) id →
         KeepsIn (state_over device.new).cells id

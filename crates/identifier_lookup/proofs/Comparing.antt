@@ -1,31 +1,32 @@
 -- Comparing the document of a candidate's slot, over plain values.
-use Rattle.std.proofs.Common.{◌<◌, ◌∙◌, inr, ℕ, List, Bool, Some, Result, Ok, Err, sym, subst}
+use Rattle.std.proofs.Common.{◌<◌, inr, ℕ, List, Bool, Some, Result, Ok, Err}
 use Rattle.std.specs.Prelude.{IsTrue}
 use Rattle.cell_types.specs.Layout.{Layout}
 use Rattle.cell_types.specs.declared.refusal.Fault.{Fault}
 use Rattle.cell_types.specs.declared.refusal.Fault.TheVariants.{Tampered, Failed}
 use Rattle.worm_device.specs.Views.{ViewState, Viewed}
-use Rattle.worm_device.proofs.Resting.{viewed_then}
-use Rattle.document_store.specs.Looks.{PartEnds, SameEnds}
+use Rattle.worm_device.proofs.Resting.{viewed_self, viewed_then}
+use Rattle.document_store.specs.Looks.{IsPartOf, PartEnds, SameEnds}
 use Rattle.document_store.specs.declared.part.Part.{Part}
-use Rattle.document_store.proofs.Naming.{fails_from}
-use Rattle.identifier_lookup.specs.Candidates.{Compares}
+use Rattle.document_store.proofs.Checking.{part_of_own, same_then}
+use Rattle.identifier_lookup.specs.Candidates.{CompareEnds, Compares}
 use Rattle.identifier_lookup.specs.declared.candidates.Named.{Named}
 
 module _ (g : Layout) (horizon : ℕ) (named : Named) (id : List ℕ) (old mid : ViewState) (looked : Viewed old mid)
     (part : Part) (found : PartEnds g named.slot old mid (Ok (Some part))) where
+  -- the part that was found is that of the slot that it names
+  pub part_there : IsTrue mid.base.tells → IsPartOf g mid.image part.slot part
+  part_there tells = part_of_own g named.slot old mid mid part looked (viewed_self mid) found tells
+
   -- the slot is done, and its document was compared
   pub compared : (new : ViewState) → named.slot < horizon → Viewed mid new → (result : Result Bool Fault)
-      → SameEnds g named.slot id mid new result → Compares g horizon named id old new result
-  compared new less after (Ok same) ends = record {
+      → SameEnds g part.slot id mid new result → Compares g horizon named id old new result
+  compared new less after result ends = record {
     viewed = viewed_then looked after;
-    ends = (less, ends.0 ∙ found.2, λ tells. ends.1 (subst IsTrue (sym looked.called.tells) tells));
-  }
-  compared new less after (Err Failed) ends = record {
-    viewed = viewed_then looked after;
-    ends = fails_from g looked after named.slot found.2 Failed ends;
-  }
-  compared new less after (Err (Tampered e)) ends = record {
-    viewed = viewed_then looked after;
-    ends = inr (fails_from g looked after named.slot found.2 (Tampered e) ends);
-  }
+    ends = compare result (same_then g named.slot old mid new part looked after found id result ends);
+  } where
+    compare : (result : Result Bool Fault) → SameEnds g named.slot id old new result
+        → CompareEnds g horizon named id old new result
+    compare (Ok same) ends = (less, ends.0, ends.1)
+    compare (Err Failed) ends = ends
+    compare (Err (Tampered e)) ends = inr ends

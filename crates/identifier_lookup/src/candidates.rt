@@ -4,7 +4,7 @@ ghost use Rattle.tamper_rules.specs.declared.numbers.TheConstants.{FAKE_BUCKET};
 ghost use Rattle.identifier_lookup.specs.Candidates.{Compares, HoldsNamed, IsNamedCell};
 
 use cell_types::{Evidence, Fault, MAX_SLOTS, RecordCell, Volume, encode};
-use document_store::{same_identifier, slot_part};
+use document_store::{part_has_identifier, slot_part};
 use tamper_rules::FAKE_BUCKET;
 use worm_device::View;
 
@@ -35,10 +35,10 @@ pub fn has_identifier<V: View>(
         return Err(Fault::Tampered(fake_bucket(named)));
     }
     let found = slot_part(view, volume, named.slot)?;
-    let Some(_part) = found else {
+    let Some(part) = found else {
         return Err(Fault::Tampered(fake_bucket(named)));
     };
-    same_identifier(view, volume, named.slot, id)
+    part_has_identifier(view, &volume.geometry, &part, id)
 }
 
 /// The bucket, as evidence that it is no true one.

@@ -22,6 +22,7 @@ use Rattle.ingest_plan.specs.declared.plan.PlannedIndex.{PlannedIndex}
 use Rattle.ingest_engine.specs.Indexing.{PlanForEnds, PlansFor}
 use Rattle.ingest_engine.specs.Ingesting.{ComesTo, IngestEnds, Ingests, IsPlanFor, RoomEnds, SlotsEnd, by_settling, need_with}
 use Rattle.ingest_engine.proofs.CrashedIngests.{crashed}
+use Rattle.ingest_engine.proofs.FullLogs.{has_no_slot, has_slot, last_free}
 use Rattle.ingest_engine.proofs.KeptNow.{has_trail_on, is_ingested, none_before}
 use Rattle.ingest_engine.proofs.Named.{named_by_plan, named_on_way}
 
@@ -51,7 +52,7 @@ module _ (id body : List ℕ) (old new : DeviceState) where
 
   no_slot : (r : Ready) (refusal : Refusal) → HasSettled old new r → SlotsEnd r (Err refusal)
       → IngestEnds id body old new (Err refusal)
-  no_slot r SlotsFull h ends = record { ready = r; settled = h; taken = ends }
+  no_slot r SlotsFull h ends = has_no_slot r h ends
   no_slot r refusal h ends = absurd ends
 
   module _ (settled : DeviceState) (r : Ready) (s : Settles old settled (Ok r))
@@ -66,22 +67,22 @@ module _ (id body : List ℕ) (old new : DeviceState) where
         → PlanForEnds r id body settled new (Err refusal) → IngestEnds id body old new (Err refusal)
     unplanned_ends (Duplicate n) plans ends = record {
       ready = r;
-      settled = record { settled = planned_behind s plans; slot = slot };
+      settled = has_slot r (planned_behind s plans) slot;
       holds = λ tells. (ends.2 (told tells)).holds;
       first = λ tells. (ends.2 (told tells)).first (volume tells);
       alone = λ tells m trail. (ends.2 (told tells)).alone (volume tells) m (has_trail_on s.called trail);
     }
     unplanned_ends PathFull plans ends = record {
       ready = r;
-      settled = record { settled = planned_behind s plans; slot = slot };
+      settled = has_slot r (planned_behind s plans) slot;
       passed = λ tells. (ends.1 (told tells)).passed (volume tells);
       fresh = λ tells. none_before s.called ((ends.1 (told tells)).none (volume tells));
     }
     unplanned_ends (TooManyTerms list count) plans ends = record {
       ready = r;
-      settled = record { settled = planned_behind s plans; slot = slot };
+      settled = has_slot r (planned_behind s plans) slot;
       fresh = λ tells. none_before s.called ((ends.path.4 (told tells)).none (volume tells));
-      many = ends.many;
+      ends = ends;
     }
     unplanned_ends DeviceFault plans ends = rose_sooner old.faults settled.faults new.faults s.called.faults ends
     unplanned_ends (Tampered e) plans ends = λ tells.
@@ -93,7 +94,7 @@ module _ (id body : List ℕ) (old new : DeviceState) where
         → RoomEnds r (need_with id body index) (Err refusal) → IngestEnds id body old new (Err refusal)
     no_room index (Full need free) plans ends = record {
       ready = r;
-      settled = record { settled = planned_behind s plans; slot = slot };
+      settled = has_slot r (planned_behind s plans) slot;
       fresh = λ tells. none_before s.called ((plans.ends.ends.path.4 (told tells)).none (volume tells));
       index = index;
       has = plans.ends;
@@ -175,4 +176,4 @@ module _ (id body : List ℕ) (old new : DeviceState) where
         → Ingests id body old new (Ok n)
     put n ends = far law (Ok n) called_all comes_to_put (λ tells.
         is_ingested n layout has.settles.called tells (has.settles.ends.1 tells).volume puts.called plan (ends.1 tells)
-        ends.0 (volume_at tells))
+        ends.0 (volume_at tells) (last_free r has slot tells))

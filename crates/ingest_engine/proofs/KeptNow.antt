@@ -23,10 +23,11 @@ use Rattle.hash_tree.specs.declared.level.Level.{Level}
 use Rattle.tree_growth.specs.Readiness.{PassedDown}
 use Rattle.recovery_engine.specs.declared.settling.Ready.{Ready}
 use Rattle.identifier_lookup.specs.Walks.{EndsThere, HasTrail, IsPassedAbove, IsPassedUpToPlace, NoneHasTrail}
+use Rattle.plan_writer.specs.Planned.{reserved_by}
 use Rattle.plan_writer.specs.PuttingPlans.{IsCarriedOut}
 use Rattle.plan_writer.specs.declared.plan.Plan.{Plan}
 use Rattle.ingest_engine.specs.Indexing.{HasWalked}
-use Rattle.ingest_engine.specs.Ingesting.{IsIngested, IsPlanFor, document_in}
+use Rattle.ingest_engine.specs.Ingesting.{IsIngested, IsLastFree, IsPlanFor, document_in}
 use Rattle.ingest_engine.proofs.Suited.{copies_of}
 
 -- what had a hash trail has it still
@@ -112,7 +113,7 @@ module _ {id body : List ℕ} {old settled looked new : DeviceState} {r : Ready}
   }
 
   stands : Stands new.cells new.sure r.horizon id body
-  stands = (carried.document id body plan.document).stands
+  stands = carried.document id body plan.document
 
   -- the document is kept
   kept : IsKept new.cells new.sure g (document_in r.horizon id body)
@@ -142,13 +143,22 @@ module _ {id body : List ℕ} {old settled looked new : DeviceState} {r : Ready}
             (Contains-append_cases documents (last ∷ []) d among);
       }
 
-  pub is_ingested : n ≡ r.horizon → IsVolume new.cells new.image g → IsIngested id body n old new
-  is_ingested slot volume_image =
+  pub is_ingested : n ≡ r.horizon → IsVolume new.cells new.image g → IsLastFree g old.image
+      → IsIngested id body n old new
+  is_ingested slot volume_image free =
       subst (λ (m : ℕ). IsIngested id body m old new) (sym slot)
       (record {
         layout = g;
         volume = volume_image;
         unused = carried.unused;
+        blank = record {
+          spare = carried.spare;
+          start = p.start;
+          count = (reserved_by p).length;
+          reserves = carried.done.commits.reserves;
+          blank = λ cell from below. carried.blank cell (record { from = from; below = below });
+        };
+        last_free = free;
         document = carried.document id body plan.document;
         kept = kept;
         keeps = keeps;

@@ -1,5 +1,6 @@
 pub mod CrashedIngests
 pub mod Endings
+pub mod FullLogs
 pub mod JoinedCells
 pub mod KeptNow
 pub mod Named

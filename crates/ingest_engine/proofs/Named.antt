@@ -1,12 +1,12 @@
 -- What an ingest names, once the volume is settled.
-use Rattle.std.proofs.Common.{◌≡◌, ◌<◌, ◌≤◌, ◌+◌, ◌^◌, ◌∙◌, ⊎_elim, ℕ, Bool, List, Option, Some, None, sym, ap, subst, inl, inr, arith}
-use Rattle.std.specs.Prelude.{slice_get, if◌then◌else◌, IsTrue}
+use Rattle.std.proofs.Common.{◌≡◌, ◌<◌, ◌≤◌, ◌+◌, ◌-◌, ◌^◌, ◌∙◌, ⊎_elim, ℕ, Bool, List, Option, Some, None, sym, ap, subst, inl, inr, arith}
+use Rattle.std.specs.Prelude.{slice_get, length, if◌then◌else◌, IsTrue}
 use Rattle.std.proofs.lemmas.Bool.{cases_lt, le-ltb, lt-ltb}
 use Rattle.std.proofs.lemmas.Option.{slice_get_within}
 use Rattle.cell_types.specs.Image.{Image}
 use Rattle.cell_types.specs.Layout.{IsLayout}
 use Rattle.cell_types.specs.declared.refusal.Evidence.{Evidence}
-use Rattle.stored_documents.specs.Slots.{IsEdge, IsHorizon}
+use Rattle.stored_documents.specs.Slots.{IsEdge, IsHorizon, cells_for}
 use Rattle.stored_documents.proofs.Extending.{written_on}
 use Rattle.stored_documents.proofs.Holding.{some_is}
 use Rattle.worm_device.specs.Calls.{Called}
@@ -24,7 +24,8 @@ use Rattle.plan_writer.specs.declared.plan.Plan.{Plan}
 use Rattle.plan_writer.proofs.PutFrom.{called, ends_2, free_2, volume_2}
 use Rattle.ingest_plan.specs.Planning.{cut_at}
 use Rattle.ingest_engine.specs.Indexing.{IsFoundOnWay}
-use Rattle.ingest_engine.specs.Ingesting.{HasSlot, IsInTheWay, IsLogRule, IsNamed, IsPlanFor, by_plan, in_index}
+use Rattle.ingest_engine.specs.Ingesting.{HasSlot, IsInTheWay, IsLogRule, IsNamed, IsPlanFor, by_plan, in_index, need_with}
+use Rattle.ingest_engine.proofs.FullLogs.{has_slot}
 use Rattle.ingest_engine.proofs.Suited.{copies_of, entry}
 
 module _ {old new : DeviceState} (r : Ready) (slot : r.horizon < r.volume.geometry.slots) (has : HasSettled old new r)
@@ -49,9 +50,10 @@ module _ {old new : DeviceState} (r : Ready) (slot : r.horizon < r.volume.geomet
     }
 
     -- what was found on the way is named
-    pub named_on_way : (e : Evidence) → IsFoundOnWay r has.settled new e → IsNamed old new e
+    pub named_on_way : {id body : List ℕ} (e : Evidence) → IsFoundOnWay r id has.settled new e
+        → IsNamed id body old new e
     named_on_way e found =
-        in_index r (record { settled = has; slot = slot }) found.rule (record {
+        in_index r (has_slot r has slot) found.rule (record {
           stands = found.stands;
           layout = r.volume.geometry;
           volume = volume_2 r has tells;
@@ -118,9 +120,21 @@ module _ {id body : List ℕ} {old looked : DeviceState} {r : Ready} {p : Plan} 
         let after = still_second plan.has.ends.called.foreign_writes plan.has.ends.looked.foreign_writes since in
         ap looked.image at ∙ plan.has.ends.quiet after e.0 ∙ sym asked ∙ cut
 
+    -- there is room for the document and its index
+    room : need_with id body plan.index ≤ r.volume.geometry.cells - r.edge
+    room = omega (
+      arith,
+      plan.suits.to,
+      plan.starts,
+      plan.blocks,
+      ap length plan.journal,
+      plan.suits.document,
+      ap cells_for plan.document.bytes,
+    )
+
     -- what was found while the plan was put is named
     pub named_by_plan : {new : DeviceState} → Called looked new → (e : Evidence) → IsFoundByPlan p old looked new e
-        → IsNamed old new e
+        → IsNamed id body old new e
     named_by_plan {new} later e found =
         let asks = λ (still : IsStill old.foreign_writes new.foreign_writes).
         asks_for_blank (still_first (called r has).foreign_writes later.foreign_writes still) in
@@ -132,13 +146,16 @@ module _ {id body : List ℕ} {old looked : DeviceState} {r : Ready} {p : Plan} 
           };
           ready = r;
           looked = looked;
-          slot = record { settled = has; slot = slot };
+          slot = has_slot r has slot;
+          index = plan.index;
+          has = plan.has;
+          room = room;
           since = later;
           unput = λ still. found.unput still (asks still);
         })
 
 -- where nobody else wrote, all was only looked at since the volume was settled
-pub slot_still : {old new : DeviceState} {e : Evidence} (way : IsInTheWay old new e)
+pub slot_still : {id body : List ℕ} {old new : DeviceState} {e : Evidence} (way : IsInTheWay id body old new e)
     → IsStill old.foreign_writes new.foreign_writes → HasSlot old new way.ready
 slot_still way still =
     let has = way.slot.settled in
@@ -151,4 +168,5 @@ slot_still way still =
             ∙ has.quiet (still_first has.looked.foreign_writes way.since.foreign_writes later) cell;
       };
       slot = way.slot.slot;
+      last_free = way.slot.last_free;
     }

@@ -126,7 +126,15 @@ module _ (r : Ready) (id body : List ℕ) (entry walked new : DeviceState) (end 
           let led : IsLedWithin r.volume.geometry new.image end.level.led_by =
           led_within_on r.volume.geometry end.level.led_by plans.called.image (path.ends.4 tells).led_within in
           record {
-            rule = inr named.rule;
+            rule = inr (
+              named.rule,
+              record {
+                walked = walked;
+                place = end.place;
+                level = end.level;
+                ends = record { called = path.called; path = path.ends; looked = plans.called; quiet = plans.quiet };
+              },
+            );
             stands = named.stands;
             place = named.place led;
             broken = λ still volume horizon edge. named.broken led

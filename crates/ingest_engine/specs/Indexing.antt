@@ -24,24 +24,39 @@ use Rattle.ingest_plan.specs.Planning.{IsGrowthRule, IsPlanned}
 use Rattle.ingest_plan.specs.declared.plan.PlannedIndex.{PlannedIndex}
 use Rattle.ingest_engine.specs.declared.indexing.PathEnd.{PathEnd}
 
--- the rules that are named on the way: those of a walk along a path, and those of planning
-abbrev pub IsPathRule : ℕ → Type 0
-IsPathRule number = IsWalkRule number ⊎ IsGrowthRule number
+-- a walk along the identifier's path on the device answers so
+abbrev pub WalksOn : Ready → List ℕ → DeviceState → DeviceState → Walk → Type 0
+WalksOn r id entry new answer =
+    WalkEnds r.volume.geometry r.horizon r.edge id (seen_directly entry 0) (seen_directly new 0) (Ok answer)
+
+-- The identifier's path was walked to its end, which is this place of this level's node, and then the device was only
+-- read.
+pub record HasWalked (r : Ready) (id : List ℕ) (place : Open) (level : Level) (entry walked new : DeviceState) : Type 0 where
+  pub called : Called entry walked
+  pub path : WalksOn r id entry walked (walks.End place level)
+  pub looked : Called walked new
+  pub quiet : IsStill walked.foreign_writes new.foreign_writes → IsUnchanged walked.image new.image
+
+-- the identifier's path was walked to an end, and no document with the identifier is on it
+pub record HasPathEnd (r : Ready) (id : List ℕ) (entry new : DeviceState) : Type 0 where
+  pub walked : DeviceState
+  pub place : Open
+  pub level : Level
+  pub ends : HasWalked r id place level entry walked new
+
+-- the rules that are named on the way: those of a walk along the path, and behind its end those of planning
+abbrev pub IsPathRule : Ready → List ℕ → DeviceState → DeviceState → ℕ → Type 0
+IsPathRule r id entry new number = IsWalkRule number ⊎ (IsGrowthRule number × HasPathEnd r id entry new)
 
 -- Evidence that was found on the way. It stands in a place of its rule. Where nobody else wrote, cell 0 states the volume
 -- that was found ready, and its horizon and its edge are such, the rule is broken there.
-pub record IsFoundOnWay (r : Ready) (entry new : DeviceState) (e : Evidence) : Type 0 where
-  pub rule : IsPathRule e.rule
+pub record IsFoundOnWay (r : Ready) (id : List ℕ) (entry new : DeviceState) (e : Evidence) : Type 0 where
+  pub rule : IsPathRule r id entry new e.rule
   pub stands : new.image e.cell ≡ Some e.found
   pub place : IsPlaceOf r.volume.geometry e.rule e.cell
   pub broken : IsStill entry.foreign_writes new.foreign_writes → IsVolume new.cells new.image r.volume.geometry
       → IsHorizon r.volume.geometry new.image new.image r.horizon
       → IsEdge r.volume.geometry new.image new.image r.edge → IsBroken new.cells new.image e.rule e.cell
-
--- a walk along the identifier's path on the device answers so
-abbrev pub WalksOn : Ready → List ℕ → DeviceState → DeviceState → Walk → Type 0
-WalksOn r id entry new answer =
-    WalkEnds r.volume.geometry r.horizon r.edge id (seen_directly entry 0) (seen_directly new 0) (Ok answer)
 
 -- what a walk along the identifier's path on the device does: it changes nothing
 pub record WalksDevice (r : Ready) (id : List ℕ) (entry new : DeviceState) (result : Result Walk Fault) : Type 0 where
@@ -55,7 +70,7 @@ PathEnds r id entry new (Ok end) = WalksOn r id entry new (walks.End end.place e
 PathEnds r id entry new (Err (Duplicate n)) = WalksOn r id entry new (walks.Found n)
 PathEnds r id entry new (Err PathFull) = WalksOn r id entry new walks.PathFull
 PathEnds r id entry new (Err DeviceFault) = Rose entry.faults new.faults
-PathEnds r id entry new (Err (Tampered e)) = IsTrue entry.tells → IsFoundOnWay r entry new e
+PathEnds r id entry new (Err (Tampered e)) = IsTrue entry.tells → IsFoundOnWay r id entry new e
 PathEnds r id entry new (Err refusal) = ⊥
 
 -- such a look changes nothing
@@ -63,14 +78,6 @@ pub record EndsPath (r : Ready) (id : List ℕ) (entry new : DeviceState) (resul
   pub called : Called entry new
   pub quiet : IsStill entry.foreign_writes new.foreign_writes → IsUnchanged entry.image new.image
   pub ends : PathEnds r id entry new result
-
--- The identifier's path was walked to its end, which is this place of this level's node, and then the device was only
--- read.
-pub record HasWalked (r : Ready) (id : List ℕ) (place : Open) (level : Level) (entry walked new : DeviceState) : Type 0 where
-  pub called : Called entry walked
-  pub path : WalksOn r id entry walked (walks.End place level)
-  pub looked : Called walked new
-  pub quiet : IsStill walked.foreign_writes new.foreign_writes → IsUnchanged walked.image new.image
 
 -- The index of the document is planned, with its bucket at the end of its identifier's path.
 pub record HasIndex (r : Ready) (id body : List ℕ) (index : PlannedIndex) (entry new : DeviceState) : Type 0 where
@@ -94,7 +101,7 @@ PlanForEnds r id body entry new (Err (Duplicate n)) = WalksOn r id entry new (wa
 PlanForEnds r id body entry new (Err PathFull) = WalksOn r id entry new walks.PathFull
 PlanForEnds r id body entry new (Err (TooManyTerms list count)) = HasTooMany r id body list count entry new
 PlanForEnds r id body entry new (Err DeviceFault) = Rose entry.faults new.faults
-PlanForEnds r id body entry new (Err (Tampered e)) = IsTrue entry.tells → IsFoundOnWay r entry new e
+PlanForEnds r id body entry new (Err (Tampered e)) = IsTrue entry.tells → IsFoundOnWay r id entry new e
 PlanForEnds r id body entry new (Err NoMemory) = ⊤
 PlanForEnds r id body entry new (Err refusal) = ⊥
 

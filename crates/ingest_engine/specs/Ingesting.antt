@@ -1,16 +1,15 @@
 -- What it means that a document is ingested, or that this was ended.
-use Rattle.std.specs.Prelude.{◌≡◌, ◌<◌, ◌≤◌, ◌+◌, ◌-◌, ◌⊎◌, ℕ, List, [], ◌∷◌, ◌++◌, length, Result, Ok, Err, IsTrue}
+use Rattle.std.specs.Prelude.{◌≡◌, ◌<◌, ◌≤◌, ◌+◌, ◌-◌, ◌⊎◌, ℕ, List, [], ◌∷◌, ◌++◌, length, None, Result, Ok, Err, IsTrue}
 use Rattle.cell_types.specs.Image.{Image, Extends, IsUnchanged}
-use Rattle.cell_types.specs.Layout.{Layout}
+use Rattle.cell_types.specs.Layout.{Layout, reserve_at, spare_at}
 use Rattle.cell_types.specs.declared.refusal.Evidence.{Evidence}
 use Rattle.cell_types.specs.declared.refusal.Refusal.{Refusal}
 use Rattle.cell_types.specs.declared.refusal.Refusal.TheVariants.{DeviceFault, Duplicate, Full, NoMemory, NotAVolume, NotFormatted, PathFull, SlotsFull, Tampered, TooManyTerms, WrongSize}
-use Rattle.stored_documents.specs.Documents.{Document, IsDocument, stored_bytes}
-use Rattle.stored_documents.specs.Slots.{IsUnused, cells_for}
-use Rattle.stored_documents.specs.Volumes.{IsVolume}
+use Rattle.stored_documents.specs.Documents.{Document, Stands, stored_bytes}
+use Rattle.stored_documents.specs.Slots.{IsUnused, Reserves, cells_for}
+use Rattle.stored_documents.specs.Volumes.{IsVolume, IsWritten}
 use Rattle.index_paths.specs.Keeping.{IsKept, Kept}
 use Rattle.tamper_rules.specs.declared.numbers.TheConstants.{STRAY_CELL}
-use Rattle.term_tags.specs.Listing.{GetsTooMany}
 use Rattle.worm_device.specs.Calls.{Called}
 use Rattle.worm_device.specs.Counts.{Rose, IsStill}
 use Rattle.worm_device.specs.State.{DeviceState, IsDevice, LeftSince}
@@ -24,7 +23,7 @@ use Rattle.plan_writer.specs.Planned.{PlansDocument, Suits}
 use Rattle.plan_writer.specs.PuttingPlans.{PutsPlan}
 use Rattle.plan_writer.specs.declared.plan.Plan.{Plan}
 use Rattle.ingest_plan.specs.declared.plan.PlannedIndex.{PlannedIndex}
-use Rattle.ingest_engine.specs.Indexing.{HasIndex, IsPathRule}
+use Rattle.ingest_engine.specs.Indexing.{HasIndex, HasTooMany, IsPathRule}
 
 -- The plan is of this document, and of its index, which was planned after settling: it has the index's blocks, and copies of
 -- its cells are the journal.
@@ -54,14 +53,29 @@ pub data ComesTo (id body : List ℕ) (old new : DeviceState) : Type 0 where
 abbrev pub document_in : ℕ → List ℕ → List ℕ → Document
 document_in n id body = record { slot = n; id = id; body = body }
 
--- The document is one of the volume's now, in slot n, which was unused, and is sure. It is kept: its index leads to it,
--- and so it does in each image that extends this one. Whatever documents were kept are kept still, with this one behind
--- them, and all that stood is sure. No document to which an index led had its identifier.
+-- the reserve cell of the volume's last slot is blank: a log whose last slot is taken is full, whatever stands before
+abbrev pub IsLastFree : Layout → Image → Type 0
+IsLastFree g image = image (reserve_at (g.slots - 1)) ≡ None
+
+-- slot n reserves these cells now, for sure, and each of them was blank, as was the slot's spare cell
+pub record TakesBlank (g : Layout) (n : ℕ) (old sure : Image) : Type 0 where
+  pub spare : old (spare_at n) ≡ None
+  pub start : ℕ
+  pub count : ℕ
+  pub reserves : Reserves g sure n start count
+  pub blank : (cell : ℕ) → start ≤ cell → cell < start + count → old cell ≡ None
+
+-- The document stands now in slot n, which was unused, and is sure; each cell that the slot takes was blank. It is
+-- kept: its index leads to it, and so it does in each image that extends this one. Whatever documents were kept are
+-- kept still, with this one behind them, and all that stood is sure. The volume's last slot was free, and no document
+-- to which an index led had the identifier.
 pub record IsIngested (id body : List ℕ) (n : ℕ) (old new : DeviceState) : Type 0 where
   pub layout : Layout
   pub volume : IsVolume new.cells new.image layout
   pub unused : IsUnused layout old.image n
-  pub document : IsDocument new.cells new.sure n id body
+  pub blank : TakesBlank layout n old.image new.sure
+  pub last_free : IsLastFree layout old.image
+  pub document : Stands new.cells new.sure n id body
   pub kept : IsKept new.cells new.sure layout (document_in n id body)
   pub keeps : (documents : List Document) → Kept old.cells old.image documents
       → Kept new.cells new.sure (documents ++ document_in n id body ∷ [])
@@ -81,16 +95,18 @@ RoomEnds r need (Err (Full needed free)) =
     (needed ≡ need) × (free ≡ r.volume.geometry.cells - r.edge) × (free < need)
 RoomEnds r need (Err refusal) = ⊥
 
--- the volume was settled, and then only looked at; and it had a free slot
+-- The volume was settled, and then only looked at; and it had a free slot. So its last slot was free before.
 pub record HasSlot (old new : DeviceState) (r : Ready) : Type 0 where
   pub settled : HasSettled old new r
   pub slot : r.horizon < r.volume.geometry.slots
+  pub last_free : IsTrue old.tells → IsLastFree r.volume.geometry old.image
 
--- the volume was settled, and then each of its slots was taken
+-- The volume was settled, and then its last slot was taken.
 pub record HasNoSlot (old new : DeviceState) : Type 0 where
   pub ready : Ready
   pub settled : HasSettled old new ready
   pub taken : ready.horizon ≡ ready.volume.geometry.slots
+  pub full : IsTrue old.tells → IsWritten new.image (reserve_at (ready.volume.geometry.slots - 1))
 
 -- The volume was settled and had a free slot, and slot n has a document with this identifier: the path leads to it, past
 -- none with the identifier. It is the only slot of such a document to which the index led before.
@@ -109,13 +125,13 @@ pub record HasFullPath (id : List ℕ) (old new : DeviceState) : Type 0 where
   pub passed : IsTrue old.tells → IsPassedWhole ready.volume.geometry new.cells new.image id
   pub fresh : IsTrue old.tells → NoneHasTrail ready.volume.geometry old.cells old.image id
 
--- The volume was settled and had a free slot, and no document with this identifier to which its index led; and a list of
--- it, the lowest such, gets too many tags of the body.
+-- The volume was settled and had a free slot, and no document with this identifier to which its index led; and the
+-- identifier's path ends, and a list, the lowest such, gets too many tags of the body.
 pub record IsTooMany (id body : List ℕ) (list count : ℕ) (old new : DeviceState) : Type 0 where
   pub ready : Ready
   pub settled : HasSlot old new ready
   pub fresh : IsTrue old.tells → NoneHasTrail ready.volume.geometry old.cells old.image id
-  pub many : GetsTooMany ready.volume.geometry body list count
+  pub ends : HasTooMany ready id body list count settled.settled.settled new
 
 -- how many cells a document takes with this index of it: its own, those of its journal, and the index's new blocks
 abbrev pub need_with : List ℕ → List ℕ → PlannedIndex → ℕ
@@ -142,28 +158,33 @@ IsUnput old new = (new ≡ old) ⊎ ((r : Ready) × HasSettled old new r)
 abbrev pub IsLogRule : ℕ → Type 0
 IsLogRule number = IsSettlingRule number ⊎ (number ≡ STRAY_CELL)
 
--- Evidence in the way of the plan, found once the volume was settled and had a free slot: where nobody else wrote, the
--- volume was only looked at since, so nothing of the document was put, and the rule was broken there before the command.
-pub record IsInTheWay (old new : DeviceState) (e : Evidence) : Type 0 where
+-- Evidence in the way of the plan, found once the volume was settled and had a free slot, and the document's index was
+-- planned, and there was room for both: where nobody else wrote, the volume was only looked at since, so nothing of the
+-- document was put, and the rule was broken there before the command.
+pub record IsInTheWay (id body : List ℕ) (old new : DeviceState) (e : Evidence) : Type 0 where
   pub found : IsFound IsLogRule old new e
   pub ready : Ready
   pub looked : DeviceState
   pub slot : HasSlot old looked ready
+  pub index : PlannedIndex
+  pub has : HasIndex ready id body index slot.settled.settled looked
+  pub room : need_with id body index ≤ ready.volume.geometry.cells - ready.edge
   pub since : Called looked new
   pub unput : IsStill old.foreign_writes new.foreign_writes → IsUnchanged looked.image new.image
 
 -- How tampering is named: while the volume was settled; in the way of the plan; or on the way through the index, where
 -- the volume was settled and had a free slot, and was only looked at.
-pub data IsNamed (old new : DeviceState) (e : Evidence) : Type 0 where
-  by_settling : Settles old new (Err (Tampered e)) → IsFound IsSettlingRule old new e → IsNamed old new e
-  by_plan : IsInTheWay old new e → IsNamed old new e
-  in_index : (ready : Ready) → HasSlot old new ready → IsPathRule e.rule → IsLicensed old new e → IsNamed old new e
+pub data IsNamed (id body : List ℕ) (old new : DeviceState) (e : Evidence) : Type 0 where
+  by_settling : Settles old new (Err (Tampered e)) → IsFound IsSettlingRule old new e → IsNamed id body old new e
+  by_plan : IsInTheWay id body old new e → IsNamed id body old new e
+  in_index : (ready : Ready) (slot : HasSlot old new ready) → IsPathRule ready id slot.settled.settled new e.rule
+      → IsLicensed old new e → IsNamed id body old new e
 
 -- how an ingest may end, and why
 abbrev pub IngestEnds : List ℕ → List ℕ → DeviceState → DeviceState → Result ℕ Refusal → Type 0
 IngestEnds id body old new (Ok n) = IsTrue old.tells → IsIngested id body n old new
 IngestEnds id body old new (Err DeviceFault) = Rose old.faults new.faults
-IngestEnds id body old new (Err (Tampered e)) = IsTrue old.tells → IsNamed old new e
+IngestEnds id body old new (Err (Tampered e)) = IsTrue old.tells → IsNamed id body old new e
 IngestEnds id body old new (Err SlotsFull) = HasNoSlot old new
 IngestEnds id body old new (Err (Duplicate n)) = IsTaken id n old new
 IngestEnds id body old new (Err PathFull) = HasFullPath id old new

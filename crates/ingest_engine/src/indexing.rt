@@ -18,7 +18,7 @@ pub struct PathEnd {
     pub level: Level,
 }
 
-/// Plans the index of a document for the first free slot of a volume that was settled. The device is only read.
+/// Plans the index of a document for the slot at the horizon of a volume that was settled. The device is only read.
 ///
 /// # Errors
 ///

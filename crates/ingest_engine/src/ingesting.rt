@@ -1,4 +1,4 @@
-//! A document, stored in the first free slot with its index.
+//! A document, stored in a free slot with its index.
 ghost use Rattle.std.specs.Prelude.{◌≡◌, ◌≤◌};
 ghost use Rattle.stored_documents.specs.Documents.{IsBody, IsIdentifier};
 ghost use Rattle.ingest_engine.specs.Ingesting.{Ingests, RoomEnds, SlotsEnd};
@@ -11,17 +11,17 @@ use recovery_engine::{Ready, settle};
 use std::alloc::Global;
 use worm_device::Device;
 
-/// Settles the volume, and stores the document in its first free slot, with an index that leads to it, unless the index
-/// leads to a document with the identifier already. Answers the slot, in which it is sure then, and which no later write
-/// of anybody can hide. All memory is taken before the first cell is written.
+/// Settles the volume, and stores the document in the slot at its horizon, with an index that leads to it, unless the
+/// index leads to a document with the identifier already. Answers the slot, in which it is sure then, and which no
+/// later write of anybody can hide. All memory is taken before the first cell is written.
 ///
 /// # Errors
 ///
-/// `NoMemory`; `NotFormatted`, `NotAVolume` and `WrongSize` by cell 0; `SlotsFull` where each slot is taken; `Duplicate`
-/// with the slot that the identifier's path leads to; `PathFull` where each of the path's 64 buckets is another's;
-/// `TooManyTerms` where the body gives a list more than 256 postings; `Full` where the document and its index need more
-/// cells than are free; `Tampered` where a cell on the way breaks a rule, or one that is to be written is taken;
-/// `DeviceFault`.
+/// `NoMemory`; `NotFormatted`, `NotAVolume` and `WrongSize` by cell 0; `SlotsFull` where the last slot is taken,
+/// whatever stands before it; `Duplicate` with the slot that the identifier's path leads to; `PathFull` where each of
+/// the path's 64 buckets is another's; `TooManyTerms` where the body gives a list more than 256 postings; `Full` where
+/// the document and its index need more cells than are free; `Tampered` where a cell on the way breaks a rule, or one
+/// that is to be written is taken; `DeviceFault`.
 pub fn ingest<D: Device>(
     alloc: Global,
     device: &mut D,

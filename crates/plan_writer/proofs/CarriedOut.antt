@@ -9,12 +9,13 @@ use Rattle.phase_writer.specs.Putting.{PutsPhases}
 use Rattle.recovery_engine.specs.Ending.{done_put}
 use Rattle.recovery_engine.specs.Entries.{target_of}
 use Rattle.stored_documents.specs.Documents.{Spells, Stands, content_at, document_at, stored_bytes}
-use Rattle.stored_documents.specs.Slots.{AreTaken, IsDone, IsUnused, cells_for}
+use Rattle.stored_documents.specs.Slots.{IsDone, IsUnused, cells_for}
 use Rattle.stored_documents.specs.Volumes.{IsVolume}
-use Rattle.stored_documents.proofs.Extending.{taken_on, volume_on}
+use Rattle.stored_documents.proofs.Extending.{volume_on}
 use Rattle.tamper_rules.specs.declared.numbers.TheConstants.{STRAY_CELL}
 use Rattle.worm_device.specs.State.{DeviceState}
 use Rattle.worm_device.proofs.Images.{extends_then}
+use Rattle.plan_writer.specs.Blank.{IsFree}
 use Rattle.plan_writer.specs.Planned.{INGEST_PHASES, PlansDocument, Suits, commit_put, document_from, ingest_phases, journal_from, reserve_put, reserved_by}
 use Rattle.plan_writer.specs.PuttingPlans.{IsCarriedOut}
 use Rattle.plan_writer.specs.declared.plan.Plan.{Plan}
@@ -22,8 +23,8 @@ use Rattle.plan_writer.proofs.Stated.{commits_by, done_by}
 
 module _ (g : Layout) (n : ℕ) (p : Plan) (old : Image) {s2 s4 : DeviceState} (layout : IsLayout g) (less : n < g.slots)
     (suits : Suits g p) (u : Unit {0}) (phases : PutsPhases (ingest_phases n p) INGEST_PHASES s2 s4 (Ok u))
-    (tells : IsTrue s2.tells) (volume : IsVolume s2.cells s2.image g) (taken : AreTaken s2.image n)
-    (unused : IsUnused g old n) (synced : Extends old s2.sure) where
+    (tells : IsTrue s2.tells) (volume : IsVolume s2.cells s2.image g)
+    (unused : IsUnused g old n) (free : IsFree old n (reserved_by p)) (synced : Extends old s2.sure) where
   put_sure : (j : ℕ) (put : Put) → j < 5 → ingest_phases n p j put → s4.sure put.at ≡ Some put.value
   put_sure j put below h = (phases.sure tells).0 put (j, below, h)
 
@@ -65,8 +66,10 @@ module _ (g : Layout) (n : ℕ) (p : Plan) (old : Image) {s2 s4 : DeviceState} (
   pub carried_out : IsCarriedOut g p n s4.cells old s2.image s4.sure
   carried_out = record {
     unused = unused;
+    spare = free.spare;
+    blank = free.reserved;
     done = is_done;
-    document = λ id body d. record { stands = stands id body d; taken = taken_on n up taken };
+    document = stands;
     journal = λ k value is. put_sure 3
         (record { at = target_of value; value = value; blame = Journal (journal_from p + k) })
         (omega arith) (record { k = k; value = is; at = refl; blame = refl });

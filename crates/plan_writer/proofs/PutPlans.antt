@@ -9,7 +9,7 @@ use Rattle.phase_writer.specs.Putting.{PutsPhases}
 use Rattle.recovery_engine.specs.Settling.{HasSettled}
 use Rattle.recovery_engine.specs.declared.settling.Ready.{Ready}
 use Rattle.stored_documents.specs.Slots.{IsUnused}
-use Rattle.stored_documents.proofs.Extending.{blank_before, taken_on}
+use Rattle.stored_documents.proofs.Extending.{blank_before}
 use Rattle.worm_device.specs.State.{DeviceState}
 use Rattle.worm_device.proofs.Images.{extends_then}
 use Rattle.plan_writer.specs.Blank.{IsFree}
@@ -23,15 +23,22 @@ use Rattle.plan_writer.proofs.TakenCells.{taken_found}
 module _ (p : Plan) {s0 s2 : DeviceState} (r : Ready) (has : HasSettled s0 s2 r) (layout : IsLayout r.volume.geometry)
     (less : r.horizon < r.volume.geometry.slots) (suits : Suits r.volume.geometry p)
     (free : IsTrue s2.tells → IsFree s2.image r.horizon (reserved_by p)) where
+  -- what was blank at entry was blank before the volume was settled
+  free_before : IsTrue s0.tells → IsFree s0.image r.horizon (reserved_by p)
+  free_before tells =
+      let f = free (tells_2 r has tells) in
+      let on = (called r has).image in
+      record {
+        outcome = blank_before on f.outcome;
+        done = blank_before on f.done;
+        spare = blank_before on f.spare;
+        reserved = λ cell is. blank_before on (f.reserved cell is);
+      }
+
   unused : IsTrue s0.tells → IsUnused r.volume.geometry s0.image r.horizon
   unused tells =
-      let f = free (tells_2 r has tells) in
-      record {
-        slot = less;
-        reserve = free_0 r has tells less;
-        outcome = blank_before (called r has).image f.outcome;
-        done = blank_before (called r has).image f.done;
-      }
+      let f = free_before tells in
+      record { slot = less; reserve = free_0 r has tells less; outcome = f.outcome; done = f.done }
 
   -- the plan is carried out
   pub plan_done : {s4 : DeviceState} (u : Unit {0}) → PutsPhases (ingest_phases r.horizon p) INGEST_PHASES s2 s4 (Ok u)
@@ -41,8 +48,7 @@ module _ (p : Plan) {s0 s2 : DeviceState} (r : Ready) (has : HasSettled s0 s2 r)
     λ tells.
         let ready = has.settles.ends.1 tells in
         carried_out r.volume.geometry r.horizon p s0.image layout less suits u phases (tells_2 r has tells)
-        (volume_2 r has tells) (taken_on r.horizon has.looked.image ready.taken) (unused tells)
-        (extends_then ready.synced has.looked.sure),
+        (volume_2 r has tells) (unused tells) (free_before tells) (extends_then ready.synced has.looked.sure),
   )
 
   -- or a cell was taken, or a call failed

@@ -1,6 +1,5 @@
 -- Which cells settling puts: those that end the last slot, and none that is ahead of the log.
 use Rattle.std.proofs.Common.{◌≡◌, ◌≤◌, ◌<◌, ◌+◌, ◌⊎◌, ℕ, List, Some, Ok, sym, ap, ◌∙◌, inl, inr, ⊎_elim, subst, arith}
-use Rattle.std.proofs.lemmas.Option.{none-some}
 use Rattle.cell_types.specs.Image.{Image}
 use Rattle.cell_types.specs.Layout.{Layout, reserve_at, outcome_at, done_at, lists_at}
 use Rattle.commit_record.specs.States.{IsState}
@@ -111,21 +110,13 @@ module _ {s0 s1 : DeviceState} (r : Ready) (ready : IsReady s0 s1 r) (bounds : L
     ends = subst (λ (k : Layout). IsEndCell k writes.between writes.slot put.at) layout_is
         (end_cell e.layout s0.image writes.between writes.slot writes.state e.is e.journal h.0 put h.2)
 
-    -- which lies below the horizon
-    slot_below : writes.slot < r.horizon
-    slot_below = by_order (before_or writes.slot r.horizon)
-      where
-        before_or : (a b : ℕ) → (a < b) ⊎ (b ≤ a)
-        before_or a b = grind arith
+    -- the slot is the one below the horizon
+    slot_is : writes.slot + 1 ≡ r.horizon
+    slot_is = sym (writes.below
+        (some_phases r.volume.geometry s0.image writes.between writes.slot writes.state h.0 put h.2))
 
-        by_order : (writes.slot < r.horizon) ⊎ (r.horizon ≤ writes.slot) → writes.slot < r.horizon
-        by_order order = ⊎_elim
-            (λ (yes : writes.slot < r.horizon). yes)
-            (λ (above : r.horizon ≤ writes.slot).
-            let w = e.taken r.horizon (omega (arith, above)) in
-            absurd (none-some w.found (sym (ready.free still less)
-            ∙ writes.stands.keeps (reserve_at r.horizon) w.found w.stands)))
-            order
+    slot_below : writes.slot < r.horizon
+    slot_below = omega (arith, slot_is)
 
     -- so no reserve cell is put
     pub not_reserve : (m : ℕ) → m < r.volume.geometry.slots → put.at ≡ reserve_at m → ⊥
@@ -150,32 +141,13 @@ module _ {s0 s1 : DeviceState} (r : Ready) (ready : IsReady s0 s1 r) (bounds : L
         ends
 
   module _ (put : Put) (h : IsInFirst (settle_plan writes.between writes.slot writes.state) 3 put) where
-    -- the slot is the one below the horizon
-    slot_last : writes.slot + 1 ≡ r.horizon
-    slot_last = by_order (at_or (writes.slot + 1) r.horizon (omega (arith, slot_below put h)))
-      where
-        at_or : (a b : ℕ) → a ≤ b → (a ≡ b) ⊎ (a < b)
-        at_or a b le = grind arith
-
-        by_order : (writes.slot + 1 ≡ r.horizon) ⊎ (writes.slot + 1 < r.horizon) → writes.slot + 1 ≡ r.horizon
-        by_order order = ⊎_elim
-            (λ (yes : writes.slot + 1 ≡ r.horizon). yes)
-            (λ (more : writes.slot + 1 < r.horizon).
-            let w = ready.taken (writes.slot + 1) more in
-            let inside : writes.slot + 1 < r.volume.geometry.slots = omega (arith, more, bounds.horizon) in
-            let inside' = subst (λ (k : Layout). writes.slot + 1 < k.slots) (sym (layout_is put h)) inside in
-            absurd (none-some w.found (sym ((e put h).horizon.free inside')
-            ∙ stood (reserve_at (writes.slot + 1)) w.found
-            (λ other q here. not_reserve other q (writes.slot + 1) inside here) w.stands)))
-            order
-
-    -- and its cells end at the edge
+    -- the slot's cells end at the edge
     index_below : IsIndexBelow r.volume.geometry writes.between writes.slot put.at → put.at < r.edge
     index_below c = ⊎_elim
         (λ (a : (r.horizon ≡ 0) × (r.edge ≡ _)). absurd (omega (arith, a.0, slot_below put h)))
         (λ (b : (m : ℕ) × (start : ℕ) × (length : ℕ) × (r.horizon ≡ m + 1)
         × Reserves r.volume.geometry s1.image m start length × (r.edge ≡ start + length)).
-        let same : b.0 ≡ writes.slot = omega (arith, b.3, slot_last) in
+        let same : b.0 ≡ writes.slot = omega (arith, b.3, slot_is put h) in
         let last = subst (λ (m : ℕ). Reserves r.volume.geometry s1.image m b.1 b.2) same b.4 in
         let mine = reserves_on writes.stands c.reserves in
         let one = one_record_holds s1.image (reserve_at writes.slot) _ _ last.reserve mine.reserve in

@@ -1,11 +1,11 @@
 -- What it means that a plan is put onto a volume that was settled, or that this was ended.
 use Rattle.std.specs.Prelude.{◌≡◌, ◌<◌, ◌⊎◌, ℕ, List, length, slice_get, Some, None, Result, Ok, Err, IsTrue}
 use Rattle.cell_types.specs.Image.{Image, Extends, IsUnchanged}
-use Rattle.cell_types.specs.Layout.{Layout}
+use Rattle.cell_types.specs.Layout.{Layout, spare_at}
 use Rattle.cell_types.specs.declared.refusal.Evidence.{Evidence}
 use Rattle.cell_types.specs.declared.refusal.Fault.{Fault}
 use Rattle.cell_types.specs.declared.refusal.Fault.TheVariants.{Tampered, Failed}
-use Rattle.stored_documents.specs.Documents.{IsDocument}
+use Rattle.stored_documents.specs.Documents.{Stands}
 use Rattle.stored_documents.specs.Slots.{IsDone, IsUnused}
 use Rattle.tamper_rules.specs.Rules.{IsBroken}
 use Rattle.tamper_rules.specs.declared.numbers.TheConstants.{DONE_CELL, OTHER_TARGET, OUTCOME_CELL, RESERVE_CELL, STRAY_CELL}
@@ -15,6 +15,7 @@ use Rattle.worm_device.specs.State.{DeviceState}
 use Rattle.phase_writer.specs.Putting.{ChangesBy, CrashesLeavePhases, IsInFirst}
 use Rattle.commit_record.specs.Licences.{IsLicensed}
 use Rattle.recovery_engine.specs.Entries.{target_of}
+use Rattle.plan_writer.specs.Blank.{AreBlank}
 use Rattle.plan_writer.specs.Planned.{INGEST_PHASES, PlansDocument, ingest_phases, reserved_by}
 use Rattle.plan_writer.specs.declared.plan.Plan.{Plan}
 
@@ -26,13 +27,15 @@ pub record PutsPlan (n : ℕ) (p : Plan) (old new : DeviceState) : Type 0 where
       → ChangesBy (IsInFirst (ingest_phases n p) INGEST_PHASES) old.image new.image
   pub crashes : CrashesLeavePhases (ingest_phases n p) INGEST_PHASES old new
 
--- A plan is carried out: slot n, which was unused, is done with the plan's cells; its document is one of the volume's;
--- each cell of its journal stands at its target; and all that stood is sure, before the volume was settled and at the
--- call's entry, which saw what settling and others had written by then.
+-- A plan is carried out: slot n, which was unused, is done with the plan's cells, which were blank, as was the slot's
+-- spare cell; its document stands; each cell of its journal stands at its target; and all that stood is sure, before
+-- the volume was settled and at the call's entry, which saw what settling and others had written by then.
 pub record IsCarriedOut (g : Layout) (p : Plan) (n cells : ℕ) (old entry sure : Image) : Type 0 where
   pub unused : IsUnused g old n
+  pub spare : old (spare_at n) ≡ None
+  pub blank : AreBlank old (reserved_by p)
   pub done : IsDone g sure n p.start (reserved_by p).length p.bytes (length p.journal.now)
-  pub document : (id body : List ℕ) → PlansDocument p id body → IsDocument cells sure n id body
+  pub document : (id body : List ℕ) → PlansDocument p id body → Stands cells sure n id body
   pub journal : (k : ℕ) (value : List ℕ) → slice_get p.journal.now k ≡ Some value
       → sure (target_of value) ≡ Some value
   pub synced : Extends old sure

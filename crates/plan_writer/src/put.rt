@@ -1,4 +1,4 @@
-//! A plan, put into the first free slot of a settled volume.
+//! A plan, put into the free slot at the horizon of a settled volume.
 ghost use Rattle.std.specs.Prelude.{◌≡◌, ◌<◌};
 ghost use Rattle.worm_device.specs.State.{DeviceState};
 ghost use Rattle.recovery_engine.specs.Settling.{HasSettled, LiesInBounds};
@@ -11,7 +11,7 @@ use cell_types::Fault;
 use recovery_engine::Ready;
 use worm_device::Device;
 
-/// Puts what is planned into the first free slot of a volume that was settled, and has only been looked at since.
+/// Puts what is planned into the slot at the horizon of a volume that was settled, and has only been looked at since.
 /// Answers the slot. Takes no memory.
 ///
 /// # Errors

@@ -99,18 +99,38 @@ module _ (r : Reach) (term : SoughtTerm) (slot : ℕ) (old mid new : ViewState) 
       );
     }
 
--- the posting of ordinal 0 tells the last one
+-- what stands at an ordinal has another tag: the term's ordinal is not this one
+not_here : (term : SoughtTerm) (e : Entry) (middle : ℕ) → e.tag ≢ term.tag → (tags : List (List ℕ)) (i : ℕ)
+    → slice_get tags i ≡ Some term.tag → slice_get tags middle ≡ Some e.tag → i ≡ middle → ⊥
+not_here term e middle differ tags i there here same =
+    differ (some_one e.tag term.tag (sym here ∙ ap (λ n. slice_get tags n) (sym same) ∙ there))
+
+-- the posting of ordinal 0 tells the last one, and where it has another tag, the term's ordinal is one behind it
 pub has_first : (r : Reach) (term : SoughtTerm) (slot : ℕ) (old new : ViewState) (e : Entry) → e.last < 256
-    → Probes r term.list (256 * slot) old new (Ok (Some e)) → HasSoFar r term slot old new 0 (e.last + 1)
-has_first r term slot old new e small probed = record {
+    → Probes r term.list (256 * slot) old new (Ok (Some e)) → e.tag ≢ term.tag
+    → HasSoFar r term slot old new 1 (e.last + 1)
+has_first r term slot old new e small probed differ = record {
   viewed = probed.viewed;
   most = omega (arith, small);
   left = λ o.
       let t = owed_tags r term old slot o in
       let one = one_there r term slot old old new (viewed_self old) (256 * slot) 0 (omega arith) e probed o t
-      (omega (arith, t.within)) in
-      (t, omega arith, omega (arith, t.within, one.0), omega (arith, t.within, one.0));
+      (omega (arith, t.within)) in (
+        t,
+        ⊎_elim
+            (λ (same : t.i ≡ 0). absurd (not_here term e 0 differ t.tags t.i t.there one.1 same))
+            (λ other. omega (arith, other))
+            (cases_eq t.i 0),
+        omega (arith, t.within, one.0),
+        omega (arith, t.within, one.0),
+      );
 }
+
+-- the posting of ordinal 0 has the tag
+pub first_found : (r : Reach) (term : SoughtTerm) (slot : ℕ) (old new : ViewState) (e : Entry)
+    → Probes r term.list (256 * slot) old new (Ok (Some e)) → e.tag ≡ term.tag → HasSlot r term slot old new (Ok true)
+first_found r term slot old new e probed same =
+    found_there r term slot old old new (viewed_self old) (256 * slot) 0 (omega arith) e (omega arith) probed same
 
 pub first_missing : (r : Reach) (term : SoughtTerm) (slot : ℕ) (old new : ViewState)
     → Probes r term.list (256 * slot) old new (Ok None) → HasSlot r term slot old new (Ok false)
@@ -132,12 +152,6 @@ module _ (r : Reach) (term : SoughtTerm) (slot : ℕ) (old mid new : ViewState) 
 
   module _ (e : Entry) (probed : Probes r term.list (256 * slot + middle) mid new (Ok (Some e)))
       (differ : e.tag ≢ term.tag) where
-    -- the term's ordinal is not this one
-    not_here : (tags : List (List ℕ)) (i : ℕ) → slice_get tags i ≡ Some term.tag → slice_get tags middle ≡ Some e.tag
-        → i ≡ middle → ⊥
-    not_here tags i there here same =
-        differ (some_one e.tag term.tag (sym here ∙ ap (λ n. slice_get tags n) (sym same) ∙ there))
-
     -- a smaller tag: the term's is behind it
     pub go_up : big_number 6 e.tag < big_number 6 term.tag → HasSoFar r term slot old new (middle + 1) high
     go_up less = record {
@@ -154,7 +168,7 @@ module _ (r : Reach) (term : SoughtTerm) (slot : ℕ) (old mid new : ViewState) 
                 t.0.there one.1 in
                 absurd (omega (arith, h, less)))
                 (λ (le : middle ≤ t.0.i). ⊎_elim
-                (λ (same : t.0.i ≡ middle). absurd (not_here t.0.tags t.0.i t.0.there one.1 same))
+                (λ (same : t.0.i ≡ middle). absurd (not_here term e middle differ t.0.tags t.0.i t.0.there one.1 same))
                 (λ other. omega (arith, le, other))
                 (cases_eq t.0.i middle))
                 (cases_lt t.0.i middle),
@@ -177,7 +191,7 @@ module _ (r : Reach) (term : SoughtTerm) (slot : ℕ) (old mid new : ViewState) 
             ⊎_elim
                 (λ (below : t.0.i < middle). below)
                 (λ (le : middle ≤ t.0.i). ⊎_elim
-                (λ (same : t.0.i ≡ middle). absurd (not_here t.0.tags t.0.i t.0.there one.1 same))
+                (λ (same : t.0.i ≡ middle). absurd (not_here term e middle differ t.0.tags t.0.i t.0.there one.1 same))
                 (λ other.
                 let h : big_number 6 e.tag < big_number 6 term.tag = t.0.are.rise middle t.0.i e.tag term.tag
                 (omega (arith, le, other)) one.1 t.0.there in

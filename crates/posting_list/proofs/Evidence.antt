@@ -1,5 +1,5 @@
 -- What a search names: it stands, in a place of its rule, and the rule is broken there.
-use Rattle.std.proofs.Common.{◌≡◌, ◌<◌, ◌≤◌, ◌+◌, ◌/◌, ⊎_elim, min, ℕ, Bool, true, false, List, Some, None, Ok, Err, refl, ap, sym, subst, arith, ◌∙◌}
+use Rattle.std.proofs.Common.{◌≡◌, ◌<◌, ◌≤◌, ◌+◌, ◌/◌, ⊎_elim, inl, inr, min, ℕ, Bool, true, false, List, Some, None, Ok, Err, refl, ap, sym, subst, arith, ◌∙◌}
 use Rattle.std.specs.Prelude.{IsTrue}
 use Rattle.std.proofs.lemmas.Bool.{cases_lt}
 use Rattle.std.proofs.lemmas.Option.{none-some}
@@ -20,7 +20,7 @@ use Rattle.worm_device.specs.Counts.{IsStill}
 use Rattle.worm_device.specs.Views.{ViewState, Viewed}
 use Rattle.worm_device.proofs.Counting.{still_second}
 use Rattle.worm_device.proofs.Resting.{rests_of, viewed_self}
-use Rattle.commit_record.specs.States.{IsState, StateEnds}
+use Rattle.commit_record.specs.States.{IsNoState, IsState, StateEnds, done_abandoned, done_unended, done_unreserved, done_wrongly, ends_unreserved, ends_wrongly, reserves_none}
 use Rattle.commit_record.specs.declared.slot.SlotState.{SlotState}
 use Rattle.commit_record.specs.declared.slot.SlotState.TheVariants.{Unused, Reserved, Abandoned, Committed, Done}
 use Rattle.jump_block.specs.Entries.{cell_of, posting_of}
@@ -30,7 +30,7 @@ use Rattle.jump_index.specs.Searches.{FindsGeq, IsEntryBehind}
 use Rattle.jump_index.specs.declared.bounds.Bounds.{Bounds}
 use Rattle.jump_block.proofs.OneBlock.{in_place, leads_wider}
 use Rattle.jump_index.proofs.Telling.{told_before}
-use Rattle.posting_list.specs.Naming.{FaultSays, IsReachOf}
+use Rattle.posting_list.specs.Naming.{FaultSays, IsListRule, IsReachOf}
 use Rattle.posting_list.specs.Searches.{IsFalsePosting, LooksLive, head_of, says_done, within}
 use Rattle.posting_list.specs.declared.reach.Reach.{Reach}
 use Rattle.posting_list.proofs.Owed.{leads_on}
@@ -72,6 +72,7 @@ find_fault r list x old new (Tampered e) less found = (
   λ tells.
       let licence = found.ends.1 (told_before found.viewed tells) in
       record {
+        rule = inr (inr (inr (inr found.ends.0)));
         stands = licence.stands;
         place = λ pool. licence.place r.volume.geometry list (omega (arith, less)) refl pool (omega arith);
       },
@@ -169,6 +170,17 @@ live_state r slot old new state false before viewed ends is = record {
       live.done;
 }
 
+-- cells that are no state break a rule of such cells
+pub state_rule : {g : Layout} {before after : Image} {n rule cell : ℕ} → IsNoState g before after n rule cell
+    → IsListRule rule
+state_rule (reserves_none r c none) = inl r
+state_rule (ends_unreserved r c none) = inr (inl r)
+state_rule (ends_wrongly start length r c reserves no_abandon no_commit) = inr (inl r)
+state_rule (done_unreserved r c none blank) = inr (inr (inl r))
+state_rule (done_unended start length r c reserves none) = inr (inr (inl r))
+state_rule (done_abandoned start length r c abandons) = inr (inr (inl r))
+state_rule (done_wrongly start length bytes journal r c commits no_done) = inr (inr (inl r))
+
 -- a fault of the look at its cells
 pub live_fault : (r : Reach) (slot : ℕ) (old new : ViewState) (fault : Fault) → Viewed old new
     → StateEnds r.volume.geometry slot old new (Err fault) → LooksLive r slot old new (Err fault)
@@ -177,6 +189,7 @@ live_fault r slot old new (Tampered e) viewed ends = record {
   viewed = viewed;
   ends = (
     λ tells. record {
+      rule = state_rule (ends.2 (told_before viewed tells)).seen;
       stands = (ends.2 (told_before viewed tells)).shown.stands;
       place = λ pool. ends.0;
     },
@@ -220,7 +233,11 @@ pub false_posting : (r : Reach) (list : ℕ) (e : Entry) (old mid new : ViewStat
     → LooksLive r (e.key / 256) mid new (Ok false) → IsFalsePosting e fault → FaultSays r old new fault
 false_posting r list e old mid new Failed less viewed behind dead names = absurd names
 false_posting r list e old mid new (Tampered f) less viewed behind dead names = (
-  λ tells. record { stands = stands tells; place = λ pool. (Postings, names.0, place tells pool) },
+  λ tells. record {
+    rule = inr (inr (inr (inl names.0)));
+    stands = stands tells;
+    place = λ pool. (Postings, names.0, place tells pool);
+  },
   λ still tells. record { stands = stands tells; broken = broken still tells },
 ) where
   early : IsTrue new.base.tells → IsTrue old.base.tells
@@ -237,8 +254,8 @@ false_posting r list e old mid new (Tampered f) less viewed behind dead names = 
   place : (tells : IsTrue new.base.tells) → (pool : r.bounds.pool ≡ pool_at r.volume.geometry)
       → IsPlace r.volume.geometry Postings f.cell
   place tells pool = in_place r.volume.geometry new.image list r.bounds.pool (within r).edge (head_of r list) e.block
-      e.place
-      f.cell (omega (arith, less)) refl pool (omega arith) (there tells).leads (omega (arith, (there tells).place)) names.1
+      e.place f.cell (omega (arith, less)) refl pool (omega arith) (there tells).leads
+      (omega (arith, (there tells).place)) names.1
 
   broken : IsStill old.base.foreign_writes new.base.foreign_writes → IsTrue new.base.tells
       → IsVolume new.cells new.image r.volume.geometry → IsReachOf r new.image

@@ -5,11 +5,14 @@ use Rattle.cell_types.specs.declared.refusal.Fault.{Fault}
 use Rattle.cell_types.specs.declared.refusal.Fault.TheVariants.{Tampered, Failed}
 use Rattle.worm_device.specs.Views.{ViewState, Viewed}
 use Rattle.zigzag_join.specs.Lists.{FaultEnds, HasEnds, Keeps, NextEnds}
-use Rattle.jump_index.proofs.Telling.{told_before}
+use Rattle.jump_index.proofs.Telling.{told, told_before}
+use Rattle.cell_types.specs.Image.{Image}
+use Rattle.tamper_rules.proofs.Images.{same_image}
+use Rattle.worm_device.proofs.Resting.{rests_of}
 use Rattle.posting_list.specs.Naming.{FaultSays}
-use Rattle.posting_list.specs.Owing.{IsOwed, Owes}
+use Rattle.posting_list.specs.Owing.{HasPosting, IsOwed, Owes}
 use Rattle.posting_list.specs.Searches.{HasSlot, NextSlot}
-use Rattle.posting_list.specs.States.{lists_over, row_of, term_row}
+use Rattle.posting_list.specs.States.{counted_lists, row_of, term_row}
 use Rattle.posting_list.specs.Terms.{TermEnds}
 use Rattle.posting_list.specs.declared.reach.Reach.{Reach}
 use Rattle.posting_list.specs.declared.sought_term.SoughtTerm.{SoughtTerm}
@@ -27,9 +30,9 @@ pub none_owed : (r : Reach) (terms : List SoughtTerm) (which : ℕ) (s : ViewSta
 none_owed r terms which s never slot o =
     never o.term (record { size = o.owed.volume.size; there = o.there; list = o.owed.list })
 
-module _ (r : Reach) (terms : List SoughtTerm) (loan : ℕ) (s t : ViewState) where
+module _ (r : Reach) (terms : List SoughtTerm) (loan : ℕ) (s t : ViewState) (n h i j : ℕ) where
   -- what every row of reads keeps
-  pub keeps_all : Viewed s t → Keeps (lists_over r terms loan s) (lists_over r terms loan t)
+  pub keeps_all : Viewed s t → Keeps (counted_lists r terms loan s n h) (counted_lists r terms loan t i j)
   keeps_all viewed = record {
     lists = refl;
     made_of = ap (λ (loans : List ℕ). (loan ∷ loans) ∷ row_of r ∷ map term_row terms) viewed.loans;
@@ -41,11 +44,18 @@ module _ (r : Reach) (terms : List SoughtTerm) (loan : ℕ) (s t : ViewState) wh
         (h.0, h.1, vouched_on r h.0 slot s.image t.image viewed.image h.2);
     naming = λ e may tells.
         let h = may (told_before viewed tells) in
-        record { stands = viewed.image.keeps e.cell e.found h.stands; place = h.place };
+        record { rule = h.rule; stands = viewed.image.keeps e.cell e.found h.stands; place = h.place };
+    landing = λ still which slot lands tells.
+        let there = lands (told viewed tells) in (
+          there.0,
+          there.1,
+          subst (λ (x : Image). HasPosting r there.0 x slot)
+              (same_image ((rests_of viewed).shown still)) there.2,
+        );
   }
 
   fault_ends : (fault : Fault) → FaultSays r s t fault
-      → FaultEnds (lists_over r terms loan s) (lists_over r terms loan t) fault
+      → FaultEnds (counted_lists r terms loan s n h) (counted_lists r terms loan t i j) fault
   fault_ends Failed says = says
   fault_ends (Tampered e) says = says
 
@@ -56,14 +66,18 @@ module _ (r : Reach) (terms : List SoughtTerm) (loan : ℕ) (s t : ViewState) wh
         subst (λ (x : SoughtTerm). IsOwed r x s slot) (one_term terms which o.term term o.there there) o.owed
 
     pub next_ends : (from : ℕ) (result : Result (Option ℕ) Fault) → NextSlot r term from s t result
-        → NextEnds which from (lists_over r terms loan s) (lists_over r terms loan t) result
-    next_ends from (Ok (Some n)) next =
-        (next.ends.0, next.ends.1, λ slot o past. next.ends.4 slot (owed_here slot o) past)
+        → NextEnds which from (counted_lists r terms loan s n h) (counted_lists r terms loan t i j) result
+    next_ends from (Ok (Some n)) next = (
+      next.ends.0,
+      next.ends.1,
+      λ tells. (term, there, next.ends.5 (told_before next.viewed tells)),
+      λ slot o past. next.ends.4 slot (owed_here slot o) past,
+    )
     next_ends from (Ok None) next = λ slot o past. next.ends slot (owed_here slot o) past
     next_ends from (Err fault) next = fault_ends fault next.ends
 
     pub has_ends : (slot : ℕ) (result : Result Bool Fault) → HasSlot r term slot s t result
-        → HasEnds which slot (lists_over r terms loan s) (lists_over r terms loan t) result
+        → HasEnds which slot (counted_lists r terms loan s n h) (counted_lists r terms loan t i j) result
     has_ends slot (Ok is) has = (
       λ o. has.ends.0 (owed_here slot o),
       λ yes tells. (term, there, has.ends.1 yes (told_before has.viewed tells)),

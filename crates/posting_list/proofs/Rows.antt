@@ -3,16 +3,24 @@ use Rattle.std.proofs.Common.{◌≡◌, ℕ, List, [], ◌∷◌, map, Option, 
 use Rattle.cell_types.specs.declared.refusal.Fault.{Fault}
 use Rattle.cell_types.specs.declared.refusal.Fault.TheVariants.{Tampered, Failed}
 use Rattle.worm_device.specs.Views.{ViewState}
+use Rattle.zigzag_join.specs.Counts.{GatherCosts, JoinCosts}
 use Rattle.zigzag_join.specs.Joins.{JoinEnds}
-use Rattle.posting_list.specs.Joins.{TermsJoin}
-use Rattle.posting_list.specs.States.{lists_over, row_of, term_row}
+use Rattle.std.specs.Global.{Vec}
+use Rattle.cell_types.specs.declared.refusal.Refusal.{Refusal}
+use Rattle.cell_types.specs.declared.refusal.Refusal.TheVariants as refusals
+use Rattle.zigzag_join.specs.Gathering.{GatherEnds}
+use Rattle.posting_list.specs.Joins.{TermsCost, TermsGather, TermsGatherCost, TermsJoin}
+use Rattle.posting_list.specs.States.{counted_lists, lists_over, row_of, term_row}
 use Rattle.posting_list.specs.declared.reach.Reach.{Reach}
 use Rattle.posting_list.specs.declared.sought_term.SoughtTerm.{SoughtTerm}
 
 -- what is read, by its row
 reach_of : List ℕ → Option Reach
 reach_of (version ∷ slots ∷ lists ∷ cells ∷ stated ∷ horizon ∷ pool ∷ edge ∷ []) = Some (record {
-  volume = record { version = version; geometry = record { slots = slots; lists = lists; cells = cells; version = stated } };
+  volume = record {
+    version = version;
+    geometry = record { slots = slots; lists = lists; cells = cells; version = stated };
+  };
   horizon = horizon;
   bounds = record { pool = pool; edge = edge };
 })
@@ -82,19 +90,58 @@ module _ (r q : Reach) (terms others : List SoughtTerm) (loan name : ℕ) (s t :
 
 -- What a join answers of lists is the same whatever the loan is called. So where the lists are made of the same at the
 -- end, it answers of the terms that it was asked for.
-pub joins_these : (r q : Reach) (terms others : List SoughtTerm) (loan name from : ℕ) (s t : ViewState)
+pub joins_these : (r q : Reach) (terms others : List SoughtTerm) (loan name from : ℕ) (s t : ViewState) (n h i j : ℕ)
     (result : Result (Option ℕ) Fault) → (lists_over q others name t).made_of ≡ (lists_over r terms loan s).made_of
-    → JoinEnds from (lists_over r terms loan s) (lists_over q others name t) result → TermsJoin r terms from s t result
-joins_these r q terms others loan name from s t result same ends =
+    → JoinEnds from (counted_lists r terms loan s n h) (counted_lists q others name t i j) result
+    → TermsJoin r terms from s t result
+joins_these r q terms others loan name from s t n h i j result same ends =
     unnamed result
-    (subst (λ (k : Reach). JoinEnds from (lists_over r terms loan s) (lists_over k terms name t) result)
+    (subst (λ (k : Reach). JoinEnds from (counted_lists r terms loan s n h) (counted_lists k terms name t i j) result)
     (same_reach r q terms others loan name s t same)
-    (subst (λ (ts : List SoughtTerm). JoinEnds from (lists_over r terms loan s) (lists_over q ts name t) result)
+    (subst
+    (λ (ts : List SoughtTerm). JoinEnds from (counted_lists r terms loan s n h) (counted_lists q ts name t i j) result)
     (same_terms r q terms others loan name s t same) ends)) where
       unnamed : (result : Result (Option ℕ) Fault)
-          → JoinEnds from (lists_over r terms loan s) (lists_over r terms name t) result
+          → JoinEnds from (counted_lists r terms loan s n h) (counted_lists r terms name t i j) result
           → TermsJoin r terms from s t result
       unnamed (Ok (Some n)) ends = record { ends = ends }
       unnamed (Ok None) ends = record { ends = ends }
       unnamed (Err Failed) ends = record { ends = ends }
       unnamed (Err (Tampered e)) ends = record { ends = ends }
+
+-- What it costs is told by the postings at entry, and by counts.
+pub costs_these : (r q : Reach) (terms others : List SoughtTerm) (loan name from : ℕ) (s t : ViewState) (n h i j : ℕ)
+    (result : Result (Option ℕ) Fault)
+    → JoinCosts from (counted_lists r terms loan s n h) (counted_lists q others name t i j) result
+    → TermsCost r terms from s t n h i j result
+costs_these r q terms others loan name from s t n h i j (Ok (Some slot)) costs = record { costs = costs }
+costs_these r q terms others loan name from s t n h i j (Ok None) costs = record { costs = costs }
+costs_these r q terms others loan name from s t n h i j (Err fault) costs = record { costs = costs }
+
+-- So it is of all that they have in common.
+pub gathers_these : (r q : Reach) (terms others : List SoughtTerm) (loan name : ℕ) (s t : ViewState) (n h i j : ℕ)
+    (result : Result (Vec ℕ) Refusal) → (lists_over q others name t).made_of ≡ (lists_over r terms loan s).made_of
+    → GatherEnds (counted_lists r terms loan s n h) (counted_lists q others name t i j) result
+    → TermsGather r terms s t result
+gathers_these r q terms others loan name s t n h i j result same ends =
+    unnamed result
+    (subst (λ (k : Reach). GatherEnds (counted_lists r terms loan s n h) (counted_lists k terms name t i j) result)
+    (same_reach r q terms others loan name s t same)
+    (subst
+    (λ (ts : List SoughtTerm). GatherEnds (counted_lists r terms loan s n h) (counted_lists q ts name t i j) result)
+    (same_terms r q terms others loan name s t same) ends)) where
+      unnamed : (result : Result (Vec ℕ) Refusal)
+          → GatherEnds (counted_lists r terms loan s n h) (counted_lists r terms name t i j) result
+          → TermsGather r terms s t result
+      unnamed (Ok slots) ends =
+          record { ends = record { all = ends.all; vouched = ends.vouched; rise = ends.rise } }
+      unnamed (Err refusals.DeviceFault) ends = record { ends = ends }
+      unnamed (Err (refusals.Tampered e)) ends = record { ends = ends }
+      unnamed (Err refusals.NoMemory) ends = record { ends = tt }
+      unnamed (Err refusal) ends = absurd ends
+
+-- So it is of what gathering costs.
+pub gather_costs_these : (r q : Reach) (terms others : List SoughtTerm) (loan name : ℕ) (s t : ViewState) (n h i j : ℕ)
+    → GatherCosts (counted_lists r terms loan s n h) (counted_lists q others name t i j)
+    → TermsGatherCost r terms s t n h i j
+gather_costs_these r q terms others loan name s t n h i j costs = record { costs = costs }

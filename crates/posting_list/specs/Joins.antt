@@ -1,9 +1,13 @@
 -- What the join of the lists of terms answers.
 use Rattle.std.specs.Prelude.{ℕ, List, Option, Result}
+use Rattle.std.specs.Global.{Vec}
 use Rattle.cell_types.specs.declared.refusal.Fault.{Fault}
+use Rattle.cell_types.specs.declared.refusal.Refusal.{Refusal}
 use Rattle.worm_device.specs.Views.{ViewState}
+use Rattle.zigzag_join.specs.Counts.{GatherCosts, JoinCosts}
+use Rattle.zigzag_join.specs.Gathering.{GatherEnds}
 use Rattle.zigzag_join.specs.Joins.{JoinEnds}
-use Rattle.posting_list.specs.States.{lists_over}
+use Rattle.posting_list.specs.States.{counted_lists, lists_over}
 use Rattle.posting_list.specs.declared.reach.Reach.{Reach}
 use Rattle.posting_list.specs.declared.sought_term.SoughtTerm.{SoughtTerm}
 
@@ -11,3 +15,21 @@ use Rattle.posting_list.specs.declared.sought_term.SoughtTerm.{SoughtTerm}
 pub record TermsJoin (r : Reach) (terms : List SoughtTerm) (from : ℕ) (old new : ViewState)
     (result : Result (Option ℕ) Fault) : Type 0 where
   pub ends : JoinEnds from (lists_over r terms 0 old) (lists_over r terms 0 new) result
+
+-- A join over the lists of these terms costs at most so much, where next slots and slots were asked for so often before
+-- it and so often after it: the postings of any one term bound it.
+pub record TermsCost (r : Reach) (terms : List SoughtTerm) (from : ℕ) (old new : ViewState)
+    (next_before has_before next_after has_after : ℕ) (result : Result (Option ℕ) Fault) : Type 0 where
+  pub costs : JoinCosts from (counted_lists r terms 0 old next_before has_before)
+      (counted_lists r terms 0 new next_after has_after) result
+
+-- gathering all that these terms have in common may end so
+pub record TermsGather (r : Reach) (terms : List SoughtTerm) (old new : ViewState) (result : Result (Vec ℕ) Refusal)
+    : Type 0 where
+  pub ends : GatherEnds (lists_over r terms 0 old) (lists_over r terms 0 new) result
+
+-- and costs at most so much
+pub record TermsGatherCost (r : Reach) (terms : List SoughtTerm) (old new : ViewState)
+    (next_before has_before next_after has_after : ℕ) : Type 0 where
+  pub costs : GatherCosts (counted_lists r terms 0 old next_before has_before)
+      (counted_lists r terms 0 new next_after has_after)

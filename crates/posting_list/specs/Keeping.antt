@@ -1,5 +1,5 @@
 -- What is kept of fronts from one search to the next, as a fact that a holder of a view carries.
-use Rattle.std.specs.Prelude.{◌≡◌, ◌<◌, ◌+◌, ℕ, List, Some, IsTrue}
+use Rattle.std.specs.Prelude.{◌≡◌, ◌<◌, ◌+◌, ℕ, List, Some, IsTrue, slice_get}
 use Rattle.std.proofs.Common.{ap, subst, sym, arith, ◌∙◌}
 use Rattle.std.proofs.Props.{props}
 use Rattle.cell_types.specs.Image.{Image}
@@ -120,3 +120,10 @@ are_kept_prop image fronts = Prim.hlevel (props, is_known_prop)
 
 pub keeps_fronts_prop : (s : ViewState) (fronts : KeptFronts) → IsProp (KeepsFronts s fronts)
 keeps_fronts_prop s fronts = Prim.hlevel (props, are_kept_prop)
+
+-- so each of some kept fronts is
+abbrev pub KeepEach : ViewState → List KeptFronts → Type 0
+KeepEach s all = (i : ℕ) (fronts : KeptFronts) → slice_get all i ≡ Some fronts → KeepsFronts s fronts
+
+pub keep_each_prop : (s : ViewState) (all : List KeptFronts) → IsProp (KeepEach s all)
+keep_each_prop s all = Prim.hlevel (props, keeps_fronts_prop)

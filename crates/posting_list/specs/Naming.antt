@@ -1,5 +1,5 @@
 -- What lists of terms may name as evidence, and what they show.
-use Rattle.std.specs.Prelude.{◌≡◌, Some, IsTrue}
+use Rattle.std.specs.Prelude.{◌≡◌, ◌⊎◌, ℕ, Some, IsTrue}
 use Rattle.cell_types.specs.Image.{Image}
 use Rattle.cell_types.specs.Layout.{pool_at}
 use Rattle.cell_types.specs.declared.refusal.Evidence.{Evidence}
@@ -8,9 +8,18 @@ use Rattle.cell_types.specs.declared.refusal.Fault.TheVariants.{Tampered, Failed
 use Rattle.stored_documents.specs.Slots.{EndsBelow, IsHorizon}
 use Rattle.stored_documents.specs.Volumes.{IsVolume}
 use Rattle.tamper_rules.specs.Rules.{IsBroken, IsPlaceOf}
+use Rattle.tamper_rules.specs.declared.numbers.TheConstants.{DONE_CELL, FAKE_POSTING, OUTCOME_CELL, RESERVE_CELL}
 use Rattle.worm_device.specs.Counts.{Rose, IsStill}
 use Rattle.worm_device.specs.Views.{ViewState}
+use Rattle.jump_index.specs.Evidence.{IsSearchRule}
 use Rattle.posting_list.specs.declared.reach.Reach.{Reach}
+
+-- the rules that lists of terms name: those of a slot's cells, that a posting is one of its document, and those of a
+-- search
+abbrev pub IsListRule : ℕ → Type 0
+IsListRule number =
+    (number ≡ RESERVE_CELL) ⊎ (number ≡ OUTCOME_CELL) ⊎ (number ≡ DONE_CELL) ⊎ (number ≡ FAKE_POSTING)
+    ⊎ IsSearchRule number
 
 -- this is how far the image is filled: the horizon is one of its own, and the bounds are from the pool's start up to
 -- the edge of that horizon
@@ -19,8 +28,10 @@ pub record IsReachOf (r : Reach) (image : Image) : Type 0 where
   pub edge : EndsBelow r.volume.geometry image r.horizon r.bounds.edge
   pub pool : r.bounds.pool ≡ pool_at r.volume.geometry
 
--- the evidence stands there, and where the bounds begin at the pool's start, in a place of its rule
+-- the evidence is by a rule of lists and stands there, and where the bounds begin at the pool's start, in a place of
+-- its rule
 pub record IsNamed (r : Reach) (image : Image) (e : Evidence) : Type 0 where
+  pub rule : IsListRule e.rule
   pub stands : image e.cell ≡ Some e.found
   pub place : r.bounds.pool ≡ pool_at r.volume.geometry → IsPlaceOf r.volume.geometry e.rule e.cell
 

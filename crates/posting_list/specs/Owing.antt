@@ -37,6 +37,16 @@ pub record IsVouched (r : Reach) (term : SoughtTerm) (image : Image) (slot : ℕ
   pub same_tag : p.tag ≡ term.tag
   pub same_slot : p.key / 256 ≡ slot
 
+-- A posting of the slot stands in a block of the term's list, whichever tag it has.
+pub record HasPosting (r : Reach) (term : SoughtTerm) (image : Image) (slot : ℕ) : Type 0 where
+  pub block : ℕ
+  pub place : ℕ
+  pub p : PostingFields
+  pub leads : Leads image r.bounds.pool r.bounds.edge block (list_at r.volume.geometry term.list)
+  pub in_places : place < 128
+  pub holds : Holds image (block + place) (posting_record p)
+  pub same_slot : p.key / 256 ≡ slot
+
 -- the term of this number must not be passed at the slot
 pub record Owes (r : Reach) (terms : List SoughtTerm) (s : ViewState) (which slot : ℕ) : Type 0 where
   pub term : SoughtTerm
@@ -48,3 +58,9 @@ abbrev pub Vouches : Reach → List SoughtTerm → ViewState → ℕ → ℕ →
 Vouches r terms s which slot =
     IsTrue s.base.tells
     → (term : SoughtTerm) × (slice_get terms which ≡ Some term) × IsVouched r term s.image slot
+
+-- where the view tells its image, the list of the term of this number has a posting of the slot
+abbrev pub Lands : Reach → List SoughtTerm → ViewState → ℕ → ℕ → Type 0
+Lands r terms s which slot =
+    IsTrue s.base.tells
+    → (term : SoughtTerm) × (slice_get terms which ≡ Some term) × HasPosting r term s.image slot

@@ -17,7 +17,7 @@ use Rattle.jump_block.specs.declared.held_entry.Entry.{Entry}
 use Rattle.jump_index.specs.Searches.{HasTrail, IsEntryBehind}
 use Rattle.jump_index.specs.declared.bounds.Bounds.{Bounds}
 use Rattle.posting_list.specs.Naming.{FaultSays}
-use Rattle.posting_list.specs.Owing.{IsOwed, IsVouched}
+use Rattle.posting_list.specs.Owing.{HasPosting, IsOwed, IsVouched}
 use Rattle.posting_list.specs.declared.reach.Reach.{Reach}
 use Rattle.posting_list.specs.declared.sought_term.SoughtTerm.{SoughtTerm}
 
@@ -64,6 +64,7 @@ NextSlotEnds r term from old new (Ok (Some n)) =
     (from ≤ n) × (n < MAX_SLOTS) × (n < r.horizon)
     × (IsTrue old.base.tells → IsDoneSlot r.volume.geometry new.image n)
     × ((slot : ℕ) → IsOwed r term old slot → from ≤ slot → n ≤ slot)
+    × (IsTrue old.base.tells → HasPosting r term new.image n)
 NextSlotEnds r term from old new (Ok None) = (slot : ℕ) → IsOwed r term old slot → from ≤ slot → ⊥
 NextSlotEnds r term from old new (Err fault) = FaultSays r old new fault
 

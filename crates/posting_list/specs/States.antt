@@ -3,15 +3,15 @@ use Rattle.std.specs.Prelude.{ℕ, List, [], ◌∷◌, length, map}
 use Rattle.worm_device.specs.Views.{ViewState}
 use Rattle.zigzag_join.specs.Lists.{ListsState}
 use Rattle.posting_list.specs.Naming.{MayName, Shows}
-use Rattle.posting_list.specs.Owing.{Owes, Vouches}
+use Rattle.posting_list.specs.Owing.{Lands, Owes, Vouches}
 use Rattle.posting_list.specs.declared.reach.Reach.{Reach}
 use Rattle.posting_list.specs.declared.sought_term.SoughtTerm.{SoughtTerm}
 
 -- what is read, as a row of numbers
 abbrev pub row_of : Reach → List ℕ
 row_of r =
-    r.volume.version ∷ r.volume.geometry.slots ∷ r.volume.geometry.lists ∷ r.volume.geometry.cells ∷ r.volume.geometry.version ∷ r.horizon
-    ∷ r.bounds.pool ∷ r.bounds.edge ∷ []
+    r.volume.version ∷ r.volume.geometry.slots ∷ r.volume.geometry.lists ∷ r.volume.geometry.cells
+    ∷ r.volume.geometry.version ∷ r.horizon ∷ r.bounds.pool ∷ r.bounds.edge ∷ []
 
 -- a term as a row of numbers
 abbrev pub term_row : SoughtTerm → List ℕ
@@ -19,8 +19,8 @@ term_row t = t.list ∷ t.tag
 
 -- The lists of these terms over a view that was lent under this name: one a term, in their order. They are made of the
 -- loan, of what is read, and of the terms.
-abbrev pub lists_over : Reach → List SoughtTerm → ℕ → ViewState → ListsState
-lists_over r terms loan s = record {
+abbrev pub counted_lists : Reach → List SoughtTerm → ℕ → ViewState → ℕ → ℕ → ListsState
+counted_lists r terms loan s next_asks has_asks = record {
   lists = length terms;
   view = s;
   made_of = (loan ∷ s.loans) ∷ row_of r ∷ map term_row terms;
@@ -28,4 +28,11 @@ lists_over r terms loan s = record {
   vouches = Vouches r terms s;
   may_name = MayName r s;
   shows = Shows r s;
+  lands = Lands r terms s;
+  next_asks = next_asks;
+  has_asks = has_asks;
 }
+
+-- the same before they were asked for anything
+abbrev pub lists_over : Reach → List SoughtTerm → ℕ → ViewState → ListsState
+lists_over r terms loan s = counted_lists r terms loan s 0 0

@@ -3,11 +3,12 @@ ghost use Rattle.std.specs.Prelude.{◌≤◌, length};
 ghost use Rattle.cell_types.specs.declared.geometry.TheConstants.{MAX_SLOTS};
 ghost use Rattle.worm_device.specs.Calls.{Called};
 ghost use Rattle.worm_device.specs.Views.{Viewed};
-ghost use Rattle.posting_list.specs.Joins.{TermsJoin};
+ghost use Rattle.posting_list.specs.Joins.{TermsGather, TermsJoin};
 
 use crate::{SoughtTerms, TermLists};
-use cell_types::{Fault, Volume};
+use cell_types::{Fault, Refusal, Volume};
 use jump_index::Bounds;
+use std::alloc::Global;
 use worm_device::{Device, Direct, View};
 
 /// The first slot at or past one that all terms have.
@@ -27,6 +28,24 @@ fn first_common<V: View>(
 {
     let mut lists = TermLists::new(view, sought, volume, horizon, bounds);
     lists.next_common(from)
+}
+
+/// All slots that all terms have.
+fn each_common<V: View>(
+    alloc: Global,
+    view: &mut V,
+    sought: &SoughtTerms,
+    volume: Volume,
+    horizon: u32,
+    bounds: Bounds,
+) -> Result<Vec<u32>, Refusal>
+    requires some { 1 ≤ length sought.now.terms.items }
+    ensures viewed { Viewed (V.seen view.old) (V.seen view.new) }
+    ensures gathers { TermsGather (record { volume = volume; horizon = horizon; bounds = bounds })
+        sought.now.terms.items (V.seen view.old) (V.seen view.new) result }
+{
+    let mut lists = TermLists::new(view, sought, volume, horizon, bounds);
+    lists.all_common(alloc)
 }
 
 /// The same over a device.

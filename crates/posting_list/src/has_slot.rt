@@ -40,15 +40,19 @@ fn probe<V: View>(
     ensures kept { KeepsFronts (V.seen view.new) fronts.new }
     ensures probes { Probes reach.now list key (V.seen view.old) (V.seen view.new) result }
 {
-    match find(view, fronts, reach, list, key) {
-        Ok(Some(entry)) if entry.key == key => Ok(Some(entry)),
-        Ok(_) => Ok(None),
-        Err(fault) => Err(fault),
+    let found = find(view, fronts, reach, list, key)?;
+    let Some(entry) = found else {
+        return Ok(None);
+    };
+    if entry.key != key {
+        return Ok(None);
     }
+    Ok(Some(entry))
 }
 
-/// Whether a term's list has a slot. The slot's postings there have the ordinals from 0 to the last, and their tags
-/// rise, so that the term's is found by bisection: nine searches at most.
+/// Whether a term's list has a slot. The slot's postings there have the ordinals from 0 to the last, which ordinal 0
+/// tells, and their tags rise, so that the term's is found by bisection among the others: nine searches at most, and
+/// one where the slot has a single posting there.
 pub(crate) fn has_slot<V: View>(
     view: &mut V,
     fronts: &mut KeptFronts,
@@ -68,8 +72,11 @@ pub(crate) fn has_slot<V: View>(
     let Some(first) = first else {
         return Ok(false);
     };
-    // The ordinals from low up to, but not with, high are left.
-    let mut low = 0;
+    if is_same(&first.tag, &term.tag) {
+        return Ok(true);
+    }
+    // Ordinal 0 has another tag. The ordinals from low up to, but not with, high are left.
+    let mut low = 1;
     let mut high = u32::from(first.last) + 1;
     while low < high {
         let middle = low + (high - low) / 2;

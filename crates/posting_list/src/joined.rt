@@ -1,16 +1,18 @@
 //! The lists of terms, as the join asks them.
 use crate::has_slot::has_slot;
 use crate::next_slot::next_slot;
+use crate::term_lists::FRONTS;
 use crate::{SoughtTerm, TermLists};
-use cell_types::{Fault, MAX_SLOTS};
+use cell_types::{Fault, MAX_SLOTS, Refusal};
+use std::alloc::Global;
 use worm_device::View;
-use zigzag_join::{Lists, next_common};
+use zigzag_join::{Lists, all_common, next_common};
 
 impl<'a, V: View> TermLists<'a, V> {
     ghost use Rattle.std.specs.Prelude.{◌≡◌, ◌≤◌, length};
     ghost use Rattle.cell_types.specs.declared.geometry.TheConstants.{MAX_SLOTS};
     ghost use Rattle.worm_device.specs.Views.{Viewed};
-    ghost use Rattle.posting_list.specs.Joins.{TermsJoin};
+    ghost use Rattle.posting_list.specs.Joins.{TermsCost, TermsGather, TermsGatherCost, TermsJoin};
     ghost use Rattle.posting_list.specs.Terms.{TermEnds};
 
     /// The next slot at or past one that all of the terms have, `None` where there is none. The view is read alone.
@@ -28,8 +30,28 @@ impl<'a, V: View> TermLists<'a, V> {
         ensures viewed { Viewed (V.seen self.old.view.now) (V.seen self.new.view.now) }
         ensures joins { TermsJoin self.old.reach self.old.sought.now.terms.items from (V.seen self.old.view.now)
             (V.seen self.new.view.now) result }
+        ensures costs { TermsCost self.old.reach self.old.sought.now.terms.items from (V.seen self.old.view.now)
+            (V.seen self.new.view.now) self.old.next_asks self.old.has_asks self.new.next_asks self.new.has_asks
+            result }
     {
         next_common(self, from)
+    }
+
+    /// All slots that all of the terms have, by rising slot. The view is read alone.
+    ///
+    /// # Errors
+    ///
+    /// Those of `next_common`, a fault of a read being `DeviceFault`; and `NoMemory`.
+    pub fn all_common(&mut self, alloc: Global) -> Result<Vec<u32>, Refusal>
+        requires some { 1 ≤ length self.old.sought.now.terms.items }
+        ensures same_loan { self.new.view.ghost_name ≡ self.old.view.ghost_name }
+        ensures viewed { Viewed (V.seen self.old.view.now) (V.seen self.new.view.now) }
+        ensures gathers { TermsGather self.old.reach self.old.sought.now.terms.items (V.seen self.old.view.now)
+            (V.seen self.new.view.now) result }
+        ensures costs { TermsGatherCost self.old.reach self.old.sought.now.terms.items (V.seen self.old.view.now)
+            (V.seen self.new.view.now) self.old.next_asks self.old.has_asks self.new.next_asks self.new.has_asks }
+    {
+        all_common(alloc, self)
     }
 
     /// The term of a number, where the volume has its list, and as many cells as the view. Where it does not, nothing
@@ -52,15 +74,17 @@ impl<'a, V: View> TermLists<'a, V> {
 }
 
 impl<'a, V: View> Lists for TermLists<'a, V> {
-    ghost use Rattle.posting_list.specs.States.{lists_over};
+    ghost use Rattle.posting_list.specs.States.{counted_lists};
 
-    ghost state = { λ t. lists_over t.reach t.sought.now.terms.items t.view.ghost_name (V.seen t.view.now) };
+    ghost state = { λ t. counted_lists t.reach t.sought.now.terms.items t.view.ghost_name (V.seen t.view.now)
+        t.next_asks t.has_asks };
 
     fn count(&self) -> u32 {
         self.sought.terms.len() as u32
     }
 
     fn next(&mut self, which: u32, from: u32) -> Result<Option<u32>, Fault> {
+        self.next_asks = self.next_asks.saturating_add(1);
         if from >= MAX_SLOTS {
             return Ok(None);
         }
@@ -68,14 +92,17 @@ impl<'a, V: View> Lists for TermLists<'a, V> {
             return Ok(None);
         };
         let reach = self.reach;
-        next_slot(&mut *self.view, &mut self.fronts, &reach, &term, from)
+        let own = which as usize % FRONTS;
+        next_slot(&mut *self.view, &mut self.fronts[own], &reach, &term, from)
     }
 
     fn has(&mut self, which: u32, slot: u32) -> Result<bool, Fault> {
+        self.has_asks = self.has_asks.saturating_add(1);
         let Some(term) = self.term(which) else {
             return Ok(false);
         };
         let reach = self.reach;
-        has_slot(&mut *self.view, &mut self.fronts, &reach, &term, slot)
+        let own = which as usize % FRONTS;
+        has_slot(&mut *self.view, &mut self.fronts[own], &reach, &term, slot)
     }
 }

@@ -12,8 +12,9 @@
 //!     world: has slot 0          key 0 is there, and tells 0 to 1; of these key 1 has the tag
 //!     hello: has slot 2          key 512 is there, and tells 0 alone; it has another tag: no
 //!
-//! `next` looks at no tag: a list has the postings of many terms. **`has` decides**: it finds the slot's ordinal 0, and
-//! then the tag by bisection.
+//! `next` looks at no tag: a list has the postings of many terms. **`has` decides**: it finds the slot's ordinal 0,
+//! which tells how many there are, and where this one has another tag, it finds the term's among the others by
+//! bisection.
 //!
 //! **What is not passed**: a slot whose document stands and has the term, where its postings have trails from the
 //! list's first block. Whoever may only write blank cells can't take these away. He may add postings: so one whose slot
@@ -21,8 +22,11 @@
 //!
 //! **Memory** is taken before: `SoughtTerms` holds each term's list and tag. `TermLists` is made of it over a view that
 //! is lent to it, and making it can't fail: a constructor that answers a `Result`, or a view that is held by value,
-//! would lose the device that was lent. For all lists together it keeps fronts of blocks from one search to the next,
-//! and a ghost field says that what the view shows has them.
+//! would lose the device that was lent. For each list it keeps fronts of blocks from one search to the next, and a
+//! ghost field says that what the view shows has them.
+//!
+//! **What it costs** is counted: how often a list was asked for its next slot, and how often whether it has one. The
+//! slots of any one term's postings bound what a join asks for.
 //!
 //! Stands on `jump_index` (the search of a list), `term_tags` (tags and lists) and `commit_record` (a slot's state),
 //! and implements `Lists` of `zigzag_join`. Begin with `joined.rt`, then `next_slot.rt` and `has_slot.rt`;

@@ -51,10 +51,8 @@ fn is_live<V: View>(view: &mut V, reach: &Reach, slot: u32) -> Result<bool, Faul
     if slot >= reach.horizon.min(reach.volume.geometry.slots()) {
         return Ok(false);
     }
-    match slot_state(view, &reach.volume, slot) {
-        Ok(state) => Ok(is_done(&state)),
-        Err(fault) => Err(fault),
-    }
+    let state = slot_state(view, &reach.volume, slot)?;
+    Ok(is_done(&state))
 }
 
 /// The posting is evidence, since its slot is not live.
@@ -91,9 +89,9 @@ pub(crate) fn next_slot<V: View>(
         return Ok(None);
     };
     let slot = entry.key / 256;
-    match is_live(view, reach, slot) {
-        Ok(true) => Ok(Some(slot)),
-        Ok(false) => Err(not_live(&entry)),
-        Err(fault) => Err(fault),
+    let live = is_live(view, reach, slot)?;
+    if !live {
+        return Err(not_live(&entry));
     }
+    Ok(Some(slot))
 }

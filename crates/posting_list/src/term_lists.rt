@@ -1,6 +1,5 @@
 //! The lists of terms over a view.
-ghost use Rattle.jump_block.specs.Keeping.{AreKept};
-ghost use Rattle.posting_list.specs.Keeping.{KeepsFronts, keeps_fronts_prop};
+ghost use Rattle.posting_list.specs.Keeping.{KeepEach, keep_each_prop};
 
 use crate::{Reach, SoughtTerms};
 use cell_types::Volume;
@@ -8,14 +7,22 @@ use jump_block::KeptFronts;
 use jump_index::Bounds;
 use worm_device::View;
 
-/// The lists of some terms over a view: one a term, in their order. All searches keep their fronts together.
+/// How many lists have fronts of their own: as many as a query has terms.
+pub(crate) const FRONTS: usize = 8;
+
+/// The lists of some terms over a view: one a term, in their order. Each list keeps fronts of its own, else two lists
+/// would put each other's fronts out at every turn of the join. From the ninth on a list shares them with one before.
 #[derive(Drop)]
 pub struct TermLists<'a, V: View> {
     pub view: &'a mut V,
     pub sought: &'a SoughtTerms,
     pub reach: Reach,
-    pub(crate) fronts: KeptFronts,
-    ghost kept: { KeepsFronts (V.seen view.now) fronts } by { keeps_fronts_prop (V.seen view.now) fronts },
+    pub(crate) fronts: [KeptFronts; FRONTS],
+    /// How often a list was asked for its next slot.
+    pub next_asks: u64,
+    /// How often one was asked whether it has a slot.
+    pub has_asks: u64,
+    ghost kept: { KeepEach (V.seen view.now) fronts } by { keep_each_prop (V.seen view.now) fronts },
 }
 
 impl<'a, V: View> TermLists<'a, V> {
@@ -33,7 +40,9 @@ impl<'a, V: View> TermLists<'a, V> {
         ensures view { result.view.now ≡ view.old }
         ensures sought { result.sought.now ≡ sought.now }
         ensures reach { result.reach ≡ record { volume = volume; horizon = horizon; bounds = bounds } }
+        ensures unasked { (result.next_asks ≡ 0) × (result.has_asks ≡ 0) }
     {
+        let unknown = KeptFronts::new();
         TermLists {
             view,
             sought,
@@ -42,7 +51,9 @@ impl<'a, V: View> TermLists<'a, V> {
                 horizon,
                 bounds,
             },
-            fronts: KeptFronts::new(),
+            fronts: [unknown; FRONTS],
+            next_asks: 0,
+            has_asks: 0,
         }
     }
 }

@@ -6,7 +6,7 @@ use std::alloc::Global;
 use std::test::Fail;
 use stored_documents::WordRule;
 use word_reader::words;
-use worm_device::{Device, Direct};
+use worm_device::{Device, Direct, Failed, View};
 use worm_memory::MemoryDevice;
 use zigzag_join::Lists;
 
@@ -57,16 +57,33 @@ fn device_with(alloc: Global, cells: &[Written]) -> Result<MemoryDevice, Fail> {
     Ok(device)
 }
 
-/// What the lists of some words answer.
+/// The small volume.
+fn small_volume() -> Result<Volume, Fail> {
+    let geometry = Geometry::new(8, 2, 1_000, FIRST_VERSION).ok_or("no geometry")?;
+    Ok(Volume {
+        version: 1,
+        geometry,
+    })
+}
+
+/// The pool's cells up to 584 are reserved.
+const BOUNDS: Bounds = Bounds {
+    pool: 580,
+    edge: 584,
+};
+
+/// What the lists of some words answer, and how often they were asked for a next slot and whether they have one.
 #[derive(Clone, Copy)]
 struct Answers {
     next: Result<Option<u32>, Fault>,
     has: Result<bool, Fault>,
     common: Result<Option<u32>, Fault>,
+    next_asks: u64,
+    has_asks: u64,
 }
 
 /// Asks the list of this number for the next slot at or past one, and whether it has that one; and all lists for one
-/// that they have in common. The horizon is 1, and the pool's cells up to 584 are reserved below it.
+/// that they have in common. The horizon is 1.
 fn ask(
     alloc: Global,
     device: &mut MemoryDevice,
@@ -74,19 +91,11 @@ fn ask(
     which: u32,
     slot: u32,
 ) -> Result<Answers, Fail> {
-    let geometry = Geometry::new(8, 2, 1_000, FIRST_VERSION).ok_or("no geometry")?;
-    let volume = Volume {
-        version: 1,
-        geometry,
-    };
-    let bounds = Bounds {
-        pool: 580,
-        edge: 584,
-    };
+    let volume = small_volume()?;
     let terms = words(alloc, text, WordRule::Ascii)?;
     let sought = SoughtTerms::new(alloc, &volume, &terms)?;
     let mut view = Direct::new(device);
-    let mut lists = TermLists::new(&mut view, &sought, volume, 1, bounds);
+    let mut lists = TermLists::new(&mut view, &sought, volume, 1, BOUNDS);
     if which >= lists.count() || slot >= MAX_SLOTS {
         return Err("no such list".into());
     }
@@ -99,7 +108,13 @@ fn ask(
         return Err("the lists went away".into());
     }
     let common = lists.next_common(slot);
-    Ok(Answers { next, has, common })
+    Ok(Answers {
+        next,
+        has,
+        common,
+        next_asks: lists.next_asks,
+        has_asks: lists.has_asks,
+    })
 }
 
 #[test]
@@ -111,10 +126,16 @@ fn the_lists_of_two_words_of_one_document(rt: HostRuntime) -> Result<(), Fail> {
         assert_eq!(rt; answers.next, Ok(Some(0)));
         assert_eq!(rt; answers.has, Ok(true));
         assert_eq!(rt; answers.common, Ok(Some(0)));
+        // One ask of each kind, and two of the join.
+        assert_eq!(rt; answers.next_asks, 3);
+        assert_eq!(rt; answers.has_asks, 3);
         let later = ask(alloc, &mut device, b"hello World", which, 1)?;
         assert_eq!(rt; later.next, Ok(None));
         assert_eq!(rt; later.has, Ok(false));
         assert_eq!(rt; later.common, Ok(None));
+        // The join asks one list alone, which has no more.
+        assert_eq!(rt; later.next_asks, 2);
+        assert_eq!(rt; later.has_asks, 1);
     }
     Ok(())
 }
@@ -148,5 +169,50 @@ fn a_posting_of_a_slot_at_the_horizon_is_named(rt: HostRuntime) -> Result<(), Fa
     let answers = ask(alloc, &mut device, b"hello", 0, 1)?;
     assert_eq!(rt; answers.next, Err(named));
     assert_eq!(rt; answers.common, Err(named));
+    Ok(())
+}
+
+/// A view that counts what it is asked for.
+#[derive(Drop)]
+struct Counted<V> {
+    view: V,
+    asked: u32,
+}
+
+impl<V: View> View for Counted<V> {
+    ghost seen = { λ held. V.seen held.view };
+
+    ghost proper = { λ held. V.proper held.view };
+
+    fn cells(&self) -> u32 {
+        self.view.cells()
+    }
+
+    fn read(&mut self, at: u32) -> Result<Option<Cell>, Failed> {
+        self.asked = self.asked.saturating_add(1);
+        self.view.read(at)
+    }
+}
+
+#[test]
+fn a_single_posting_of_a_slot_is_searched_for_once(rt: HostRuntime) -> Result<(), Fail> {
+    let alloc = rt.alloc();
+    let mut device = device_with(alloc, &[HELLO_0, WORLD_0, HELLO_1])?;
+    let volume = small_volume()?;
+    for (text, there) in [(b"hello".as_slice(), true), (b"bar".as_slice(), false)] {
+        let terms = words(alloc, text, WordRule::Ascii)?;
+        let sought = SoughtTerms::new(alloc, &volume, &terms)?;
+        let mut view = Counted {
+            view: Direct::new(&mut device),
+            asked: 0,
+        };
+        let mut lists = TermLists::new(&mut view, &sought, volume, 2, BOUNDS);
+        if lists.count() == 0 {
+            return Err("no such list".into());
+        }
+        assert_eq!(rt; lists.has(0, 1), Ok(there));
+        // Cells 36 to 38, where the search for ordinal 0 ends. It tells that there is no other ordinal.
+        assert_eq!(rt; view.asked, 3);
+    }
     Ok(())
 }

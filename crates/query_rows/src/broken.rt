@@ -1,6 +1,7 @@
 //! A document that is broken, in each way there is, before each command that reads it: its commit cell is named.
 //!
-//! On the small volume, somebody else has written slot 0 from its reserve cell to its done cell.
+//! On the small volume, somebody else has written slot 0 from its reserve cell to its done cell, and the index cells that
+//! lead to it from `hello` and from the identifiers `e` and `z`.
 use cell_types::{Cell, Evidence, Refusal};
 use row_volumes::{begin, outcome_of, small_volume, write_foreign};
 use std::alloc::Global;
@@ -16,6 +17,16 @@ const RESERVE: [u8; 16] = [2, 0, 0, 2, 0x44, 0, 0, 0, 15, 0, 0, 0, 0, 0, 0, 4];
 /// The bucket that names slot 0 on the path of the identifier `z`, in the root's cell 553.
 const BUCKET: [u8; 16] = [
     8, 0, 0, 0, 0, 0x59, 0x4e, 0x51, 0x9a, 0xe4, 0x99, 0x31, 0, 0, 2, 0x29,
+];
+
+/// The bucket that names slot 0 on the path of the identifier `e`, in the root's cell 551.
+const BUCKET_OF_E: [u8; 16] = [
+    8, 0, 0, 0, 0, 0x3f, 0x79, 0xbb, 0x7b, 0x43, 0x5b, 0x05, 0, 0, 2, 0x27,
+];
+
+/// The posting that names slot 0 under `hello`, in list 0's first cell 36.
+const POSTING: [u8; 16] = [
+    6, 0, 0, 0, 0, 0, 0x2c, 0xf2, 0x4d, 0xba, 0x5f, 0xb0, 0, 0, 0, 0x24,
 ];
 
 /// Slot 0 is done.
@@ -39,8 +50,8 @@ fn content(held: u8, first: u8) -> [u8; 16] {
     cell
 }
 
-/// Writes slot 0: the document of so many stored bytes, in content cells from this one up to cell 593, and its bucket.
-/// `None` leaves a cell blank.
+/// Writes slot 0: the document of so many stored bytes, in content cells from this one up to cell 593, and the cells of
+/// the index. `None` leaves a cell blank.
 fn write_slot(
     device: &mut MemoryDevice,
     bytes: u8,
@@ -57,6 +68,8 @@ fn write_slot(
     }
     write_foreign(device, 594, BUCKET)?;
     write_foreign(device, 553, BUCKET)?;
+    write_foreign(device, 551, BUCKET_OF_E)?;
+    write_foreign(device, 36, POSTING)?;
     write_foreign(device, 5, commit(bytes))?;
     write_foreign(device, 6, DONE)?;
     begin(device)

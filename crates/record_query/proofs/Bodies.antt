@@ -1,23 +1,20 @@
 -- A body, read while its words are sought.
-use Rattle.std.proofs.Common.{◌≤◌, ◌+◌, ℕ, Bool, List, [], ◌∷◌, ◌++◌, Ok}
+use Rattle.std.proofs.Common.{◌<◌, ◌≤◌, ◌+◌, ◌∙◌, ℕ, Bool, List, [], ◌++◌, Ok, Err, arith}
+use Rattle.std.proofs.lemmas.List.{length-append}
 use Rattle.stored_documents.specs.declared.word_rules.WordRule.{WordRule}
 use Rattle.worm_device.specs.Views.{ViewState, Viewed}
-use Rattle.append_file.specs.Reading.{IsPosition, ByteEnds}
+use Rattle.append_file.specs.Reading.{IsPosition, ByteEnds, CellEnds}
 use Rattle.append_file.specs.declared.position.Position.{Position}
-use Rattle.word_reader.specs.Matching.{FinishEnds, HasPushed, PushEnds}
+use Rattle.word_reader.specs.Matching.{FinishEnds, HasPushed}
 use Rattle.word_reader.specs.declared.matcher.Matcher.{Matcher}
 use Rattle.append_file.specs.declared.piece.ContentFault.{ContentFault}
 use Rattle.append_file.specs.declared.piece.ContentFault.TheVariants.{Broken, ReadFault}
-use Rattle.document_store.specs.Heads.{FaultEnds, IsHead}
+use Rattle.document_store.specs.Heads.{IsHead, id_of}
 use Rattle.document_store.specs.declared.head.Head.{Head}
-use Rattle.record_query.specs.Matching.{HasSought, KeepsTerms, SeekFails, seek_fault_of}
-use Rattle.document_store.proofs.SoFar.{body_more, body_none, body_whole, BodySoFar}
-
--- bytes were not read
-pub unread : (start bytes : ℕ) (old new : ViewState) (fault : ContentFault) → FaultEnds start bytes old new fault
-    → SeekFails start bytes old new (seek_fault_of fault)
-unread start bytes old new Broken ends = ends
-unread start bytes old new ReadFault ends = ends
+use Rattle.record_query.specs.Matching.{HasSought, KeepsTerms, PushNextEnds, Pushes, SeekFails, seek_fault_of}
+use Rattle.record_query.specs.declared.matching.SeekFault.{SeekFault}
+use Rattle.record_query.specs.declared.matching.SeekFault.TheVariants as seeks
+use Rattle.document_store.proofs.SoFar.{body_add, body_left, body_none, body_whole, fault_on, BodySoFar}
 
 -- so many bytes of the body were read, and pushed
 pub record MatchSoFar (old now : ViewState) (start bytes : ℕ) (p q : Position) (h : Head) (m n : Matcher) (k : ℕ)
@@ -34,17 +31,48 @@ match_none old start bytes p h m head viewed = record {
   keeps = λ rule terms is. is;
 }
 
-pub match_more : (old now new : ViewState) (start bytes : ℕ) (p q r : Position) (h : Head) (m n o : Matcher)
-    (k byte : ℕ) → MatchSoFar old now start bytes p q h m n k → Viewed now new → IsPosition r
-    → new.base.reads + q.read ≤ now.base.reads + r.read → ByteEnds now new q r (Ok byte)
-    → PushEnds n o (byte ∷ []) (Ok tt) → MatchSoFar old new start bytes p r h m o (k + 1)
-match_more old now new start bytes p q r h m n o k byte so_far viewed is reads ends push = record {
-  read = body_more old now new start bytes p q r h k byte so_far.read viewed is reads ends;
-  pushed = λ rule terms has. push rule terms so_far.read.body (so_far.pushed rule terms has);
+-- the next ones too
+pub match_on : (old now new : ViewState) (start bytes : ℕ) (p q r : Position) (h : Head) (m n o : Matcher) (k count : ℕ)
+    → MatchSoFar old now start bytes p q h m n k → Viewed now new → IsPosition r
+    → new.base.reads + q.read ≤ now.base.reads + r.read → Pushes now new q r n o count
+    → MatchSoFar old new start bytes p r h m o (k + count)
+match_on old now new start bytes p q r h m n o k count so_far viewed is reads next = record {
+  read = body_add old now new start bytes p q r h k count next.piece so_far.read viewed next.faults is reads
+      next.is_length next.read;
+  pushed = λ rule terms has. next.pushed rule terms so_far.read.body (so_far.pushed rule terms has);
   keeps = λ rule terms was.
       let w = so_far.keeps rule terms was in
-      record { bytes = w.bytes ++ byte ∷ []; pushed = push rule terms w.bytes w.pushed };
+      record { bytes = w.bytes ++ next.piece; pushed = next.pushed rule terms w.bytes w.pushed };
 }
+
+-- no more of them are read than the body has
+pub match_within : (old now : ViewState) (start bytes : ℕ) (p q : Position) (h : Head) (m n : Matcher) (k : ℕ)
+    → IsHead old start bytes p h → MatchSoFar old now start bytes p q h m n k → k ≤ h.body_length
+match_within old now start bytes p q h m n k head so_far =
+    let count = so_far.read.read.count in
+    omega (arith, head.count, so_far.read.is_length, count, length-append (id_of h) so_far.read.body)
+
+-- the next bytes were not read, or not pushed
+pub next_unread : (v w : ViewState) (p q : Position) (m n : Matcher) (fault : ContentFault)
+    → ByteEnds v w p q (Err fault) → PushNextEnds v w p q m n (Err (seek_fault_of fault))
+next_unread v w p q m n Broken ends = ends
+next_unread v w p q m n ReadFault ends = ends
+
+pub cell_unread : (v w : ViewState) (p q : Position) (m n : Matcher) (fault : ContentFault)
+    → CellEnds v w p q (Err fault) → PushNextEnds v w p q m n (Err (seek_fault_of fault))
+cell_unread v w p q m n Broken ends = ends
+cell_unread v w p q m n ReadFault ends = ends
+
+pub unpushed : (old now new : ViewState) (start bytes : ℕ) (p q r : Position) (h : Head) (m n o : Matcher) (k : ℕ)
+    (fault : SeekFault) → IsHead old start bytes p h → MatchSoFar old now start bytes p q h m n k → k < h.body_length
+    → PushNextEnds now new q r n o (Err fault) → SeekFails start bytes old new fault
+unpushed old now new start bytes p q r h m n o k seeks.Broken head so_far less ends =
+    fault_on start bytes old now new q r _ Broken so_far.read.viewed so_far.read.faults so_far.read.read
+    (body_left old now start bytes p q h k head so_far.read less) ends
+unpushed old now new start bytes p q r h m n o k seeks.ReadFault head so_far less ends =
+    fault_on start bytes old now new q r _ ReadFault so_far.read.viewed so_far.read.faults so_far.read.read
+    (body_left old now start bytes p q h k head so_far.read less) ends
+unpushed old now new start bytes p q r h m n o k seeks.NoMemory head so_far less ends = ends ∙ so_far.read.faults
 
 -- all of them were
 pub match_whole : (old now : ViewState) (start bytes : ℕ) (p q : Position) (h : Head) (m n : Matcher) (matched : Bool)

@@ -1,6 +1,9 @@
 pub mod Bodies
 pub mod FoundSoFar
+pub mod Gathered
 pub mod Loans
 pub mod LookedUp
+pub mod Looking
 pub mod Matched
 pub mod Searched
+pub mod WalkedOn

@@ -1,68 +1,52 @@
--- What a look-up answers, over settling, the walk for the identifier and the body.
-use Rattle.std.proofs.Common.{◌≡◌, ◌+◌, ◌⊎◌, ℕ, List, Some, None, Option, Result, Ok, Err, refl, sym, inl, inr, subst, ⊎_elim, arith}
-use Rattle.std.specs.Prelude.{IsTrue}
-use Rattle.cell_types.specs.Image.{Image, IsUnchanged}
-use Rattle.cell_types.specs.Layout.{Layout}
+-- What a look-up answers, over settling, the walk along the identifier's path, and the body.
+use Rattle.std.proofs.Common.{◌≡◌, ◌⊎◌, ℕ, List, Result, Ok, Err, refl, sym, inl, inr, subst, ⊎_elim, arith, ◌∙◌}
+use Rattle.std.specs.Prelude.{Contains, IsTrue}
+use Rattle.cell_types.specs.Image.{Image, Extends}
+use Rattle.cell_types.specs.Layout.{Layout, root_at}
 use Rattle.cell_types.specs.Refusals.{refusal_of_fault}
 use Rattle.cell_types.specs.declared.refusal.Fault.{Fault}
 use Rattle.cell_types.specs.declared.refusal.Fault.TheVariants as faults
 use Rattle.cell_types.specs.declared.refusal.Refusal.{Refusal}
 use Rattle.cell_types.specs.declared.refusal.Refusal.TheVariants.{Absent, DeviceFault, NotAVolume, NotFormatted, SinkFault, Tampered, WrongSize}
-use Rattle.stored_documents.specs.Documents.{IsDocument}
-use Rattle.stored_documents.specs.Slots.{AreTaken}
-use Rattle.stored_documents.specs.Volumes.{IsVolume}
-use Rattle.stored_documents.proofs.Extending.{document_on, volume_on}
+use Rattle.stored_documents.specs.Documents.{Document, Stands}
+use Rattle.stored_documents.specs.Slots.{IsDoneSlot}
+use Rattle.stored_documents.proofs.Extending.{holds_on, stands_on}
+use Rattle.stored_documents.proofs.OneDocument.{one_document}
+use Rattle.index_paths.specs.HashPaths.{HashTrail}
+use Rattle.index_paths.specs.Keeping.{IsKept, Kept, sought_in}
+use Rattle.index_paths.proofs.HashTrails.{passed_to_on}
+use Rattle.index_paths.proofs.KeepingLaws.{kept_on}
 use Rattle.host_ports.specs.Sinks.{SinkState}
 use Rattle.tamper_rules.proofs.GivenUp.{one_layout}
-use Rattle.tamper_rules.proofs.Images.{same_image}
-use Rattle.worm_device.specs.Calls.{Called}
-use Rattle.worm_device.specs.Counts.{IsStill}
 use Rattle.worm_device.specs.State.{DeviceState}
 use Rattle.worm_device.specs.Views.{Viewed, seen_directly}
-use Rattle.worm_device.proofs.Counting.{still_first, still_second}
+use Rattle.worm_device.proofs.Counting.{still_second}
 use Rattle.worm_device.proofs.Elapsing.{called_then}
-use Rattle.worm_device.proofs.Images.{extends_self, unchanged_then}
-use Rattle.worm_device.proofs.Resting.{rested_since, rests_of}
+use Rattle.worm_device.proofs.Images.{extends_then}
 use Rattle.recovery_engine.specs.Settling.{SettleEnds, Settles}
 use Rattle.recovery_engine.specs.declared.settling.Ready.{Ready}
-use Rattle.document_store.specs.Looks.{BodyEnds, GotPart, HoldsBody, IsRead}
+use Rattle.document_store.specs.Looks.{BodyEnds, GotPart, HoldsBody}
 use Rattle.document_store.specs.declared.body.BodyFault.{BodyFault}
 use Rattle.document_store.specs.declared.body.BodyFault.TheVariants as bodies
-use Rattle.slot_walk.specs.Laws.{NamedIsFound}
-use Rattle.slot_walk.specs.Walks.{Below, HasNone, HasWalked, IsFirst, Reach, WalkEnds, Walks, WereRead}
+use Rattle.document_store.proofs.Holding.{held_is_done, held_is_one, held_on, held_stands}
+use Rattle.identifier_lookup.specs.Walks.{HasTrail, IsFirstOnPath, IsFound, NoneHasTrail}
+use Rattle.identifier_lookup.specs.declared.answers.Walk.TheVariants as walks
+use Rattle.identifier_lookup.proofs.Licence.{names_licensed}
+use Rattle.hash_tree.specs.declared.level.Level.{Level}
+use Rattle.hash_tree.specs.declared.path.Open.{Open}
+use Rattle.record_query.specs.Looking.{HasLooked}
+use Rattle.record_query.proofs.Looking.{is_ready, same_since, still_looking, tells_settled, volume_now, looked_more}
 use Rattle.record_query.specs.Finding.{ComesTo}
-use Rattle.record_query.specs.LookingUp.{LookUpEnds, LooksUp, PutsFront, refusal_of_body}
+use Rattle.record_query.specs.LookingUp.{IsLookedUp, IsThatOf, LookUpEnds, LooksUp, NoneHas, PathEnds, PutsFront, at_place, behind_all, refusal_of_body}
+use Rattle.record_query.specs.Reaching.{WalksOnDevice}
 use Rattle.record_query.specs.declared.found.Found.{Found}
-use Rattle.document_store.proofs.Holding.{held_is_one, stands_held}
-use Rattle.document_store.proofs.Naming.{fails_from, read_further}
-use Rattle.record_query.proofs.Searched.{comes_to_settled}
-
--- a row of calls on a device, as a view of it sees them
-viewed_directly : {old new : DeviceState} → Called old new
-    → (IsStill old.foreign_writes new.foreign_writes → IsUnchanged old.image new.image)
-    → Viewed (seen_directly old 0) (seen_directly new 0)
-viewed_directly called quiet = record {
-  called = called;
-  cells = called.cells;
-  image = called.image;
-  planned = refl;
-  owners = refl;
-  lower = called.image;
-  fresh = called.cells;
-  loans = refl;
-  quiet = rested_since (record { later = called.foreign_writes; shown = quiet; lower = quiet; below = quiet });
-}
+use Rattle.record_query.proofs.Searched.{comes_to_settled, edge_is, reach_is, walked}
 
 -- settling was ended
 module _ (id : List ℕ) (old new : DeviceState) (sink : SinkState) where
   refused : (refusal : Refusal) → SettleEnds old new (Err refusal) → LookUpEnds id old new sink sink (Err refusal)
   refused DeviceFault ends = (ends, (refl, inl refl))
-  refused (Tampered e) ends = (
-    (refl, inl refl),
-    λ tells.
-        let found = ends tells in
-        (refl, record { rule = inl found.rule; licensed = found.licensed; before = found.before }),
-  )
+  refused (Tampered e) ends = ((refl, inl refl), λ tells. (refl, (ends tells).licensed))
   refused NotFormatted ends = (refl, ends)
   refused (NotAVolume found) ends = (refl, ends)
   refused (WrongSize stated real) ends = (refl, ends)
@@ -76,157 +60,220 @@ module _ (id : List ℕ) (old new : DeviceState) (sink : SinkState) where
     ends = refused refusal s.ends;
   }
 
--- the walk along the slots
-module _ (id : List ℕ) (r : Ready) (old settled mid : DeviceState) (sink : SinkState) (s : Settles old settled (Ok r))
-    (result : Result (Option ℕ) Fault) (walks : Walks r id settled mid result) where
-  pub walked_along : HasWalked r old settled mid
-  walked_along = record { settles = s; looked = walks.called; quiet = walks.quiet }
+-- a kept document with the identifier has a hash trail
+kept_has_trail : {g : Layout} {cells : ℕ} {image : Image} {d : Document} (id : List ℕ) → d.id ≡ id
+    → IsKept cells image g d → HasTrail g cells image id d.slot
+kept_has_trail {g} {cells} {image} {d} id same kept = record {
+  body = d.body;
+  stands = subst (λ (i : List ℕ). Stands cells image d.slot i d.body) same kept.stands;
+  trail = subst (λ (i : List ℕ). HashTrail image (sought_in cells g i) d.slot (root_at g) 0) same kept.path;
+}
 
-  -- what a look-up has come to
-  come : (answer : Result Found Refusal) → LookUpEnds id old mid sink sink answer → LooksUp id old mid sink sink answer
-  come answer ends = record {
-    called = called_then s.called walks.called;
-    comes = comes_to_settled walked_along;
-    ends = ends;
-  }
+-- what is first on a path stays so
+first_on : {g : Layout} {cells : ℕ} {a b : Image} {id : List ℕ} {n : ℕ} → Extends a b → IsFirstOnPath g cells a id n
+    → IsFirstOnPath g cells b id n
+first_on e f = record {
+  node = f.node;
+  level = f.level;
+  passed = passed_to_on e f.passed;
+  bucket = holds_on e f.bucket;
+}
 
-  -- it was ended
-  pub look_up_unwalked : (fault : Fault) → WalkEnds r id old settled mid (Err fault)
-      → LooksUp id old mid sink sink (Err (refusal_of_fault fault))
-  look_up_unwalked faults.Failed ends =
-      come (Err DeviceFault) (omega (arith, s.called.faults, ends), (refl, inl refl))
-  look_up_unwalked (faults.Tampered e) ends = come (Err (Tampered e)) ((refl, inl refl), λ tells. (refl, ends tells))
+-- the walk along the path
+module _ (id : List ℕ) (r : Ready) (old settled mid : DeviceState) (s : Settles old settled (Ok r))
+    (seen : Viewed (seen_directly settled 0) (seen_directly mid 0)) where
+  before : HasLooked r old settled mid
+  before = walked s seen
 
-  -- no slot has the identifier
-  pub look_up_absent : WalkEnds r id old settled mid (Ok None) → LooksUp id old mid sink sink (Err Absent)
-  look_up_absent ends = come (Err Absent) (refl, ends.1)
-
--- Slot n is the first with the identifier, and its body was put.
-module _ (named : NamedIsFound) (id : List ℕ) (r : Ready) (old settled mid new : DeviceState) (from to : SinkState)
-    (n : ℕ) (w : HasWalked r old settled mid) (ends : WalkEnds r id old settled mid (Ok (Some n)))
-    (viewed : Viewed (seen_directly mid 0) (seen_directly new 0)) where
   abbrev g : Layout
   g = r.volume.geometry
 
-  quiet : IsStill mid.foreign_writes new.foreign_writes → IsUnchanged mid.image new.image
-  quiet = (rests_of viewed).below
+  told_mid : IsTrue old.tells → IsTrue mid.tells
+  told_mid tells = subst IsTrue (sym (called_then s.called seen.called).tells) tells
 
-  called : Called old mid
-  called = called_then w.settles.called w.looked
+  -- documents that are kept at entry, or at exit where nobody else wrote, are kept once the volume was settled
+  kept_settled : (documents : List Document) → Kept old.cells old.image documents
+      → Kept settled.cells settled.image documents
+  kept_settled documents kept =
+      subst (λ (k : ℕ). Kept k settled.image documents) (sym s.called.cells) (kept_on s.called.image kept)
 
-  mid_tells : IsTrue old.tells → IsTrue mid.tells
-  mid_tells tells = subst IsTrue (sym called.tells) tells
+  is_kept : IsTrue old.tells → (documents : List Document) → Kept settled.cells settled.image documents
+      → (d : Document) → Contains documents d → IsKept settled.cells settled.image g d
+  is_kept tells documents kept d among =
+      subst (λ (h : Layout). IsKept settled.cells settled.image h d)
+      (one_layout {cells = settled.cells} {more = settled.cells} kept.layout g kept.volume
+      (is_ready before tells).volume) (kept.each d among)
 
-  new_tells : IsTrue old.tells → IsTrue new.tells
-  new_tells tells = subst IsTrue (sym viewed.called.tells) (mid_tells tells)
+  module _ (sink : SinkState) where
+    come : (answer : Result Found Refusal) → LookUpEnds id old mid sink sink answer
+        → LooksUp id old mid sink sink answer
+    come answer ends = record {
+      called = called_then s.called seen.called;
+      comes = comes_to_settled before;
+      ends = ends;
+    }
 
-  walk_still : IsStill old.foreign_writes new.foreign_writes → IsStill old.foreign_writes mid.foreign_writes
-  walk_still = still_first called.foreign_writes viewed.called.foreign_writes
+    -- it was ended
+    pub look_up_unwalked : (fault : Fault) → WalksOnDevice r id settled mid (Err fault)
+        → LooksUp id old mid sink sink (Err (refusal_of_fault fault))
+    look_up_unwalked faults.Failed w =
+        come (Err DeviceFault) (omega (arith, s.called.faults, w.ends), (refl, inl refl))
+    look_up_unwalked (faults.Tampered e) w = come (Err (Tampered e)) (
+      (refl, inl refl),
+      λ tells.
+          let licence = w.ends.2 (tells_settled before tells) in (
+            refl,
+            record {
+              stands = licence.stands;
+              layout = g;
+              volume = volume_now before tells;
+              place = w.ends.0;
+              broken = λ still. licence.broken (still_looking before still) (volume_now before tells)
+                  (reach_is before tells still).horizon (edge_is before tells still);
+            },
+          ),
+    )
 
-  -- where nobody else wrote, the image at exit is the one behind the walk
-  same : IsStill old.foreign_writes new.foreign_writes → new.image ≡ mid.image
-  same still = same_image (quiet (still_second called.foreign_writes viewed.called.foreign_writes still))
+    none_has : IsTrue old.tells → NoneHasTrail g settled.cells settled.image id → (documents : List Document)
+        → Kept settled.cells settled.image documents → NoneHas id documents
+    none_has tells none documents kept d among same =
+        none d.slot (kept_has_trail id same (is_kept tells documents kept d among))
 
-  volume_mid : IsTrue old.tells → IsVolume mid.cells mid.image g
-  volume_mid tells = subst (λ (cells : ℕ). IsVolume cells mid.image g) (sym w.looked.cells)
-      (volume_on w.looked.image (w.settles.ends.1 tells).volume)
+    absent : (IsTrue old.tells → PathEnds g id mid × NoneHasTrail g settled.cells settled.image id)
+        → LooksUp id old mid sink sink (Err Absent)
+    absent ends = come (Err Absent) (
+      refl,
+      λ tells. record {
+        layout = g;
+        volume = volume_now before tells;
+        ends = (ends tells).0;
+        before = λ documents kept. none_has tells (ends tells).1 documents (kept_settled documents kept);
+        alone = λ still documents kept. none_has tells (ends tells).1 documents
+            (subst (λ (i : Image). Kept settled.cells i documents) (same_since before still)
+            (subst (λ (k : ℕ). Kept k mid.image documents) seen.called.cells kept));
+      },
+    )
 
-  volume_new : IsTrue old.tells → IsVolume new.cells new.image g
-  volume_new tells = subst (λ (cells : ℕ). IsVolume cells new.image g) (sym viewed.called.cells)
-      (volume_on viewed.image (volume_mid tells))
+    -- the path ends
+    pub look_up_ended : (place : Open) (level : Level) → WalksOnDevice r id settled mid (Ok (walks.End place level))
+        → LooksUp id old mid sink sink (Err Absent)
+    look_up_ended place level w = absent (λ tells.
+        let end = w.ends.4 (tells_settled before tells) in
+        let volume = (is_ready before tells).volume in
+        (at_place place level (end.passed volume) end.blank, end.none volume))
 
-  -- a volume at exit was that volume behind the walk
-  volume_was : IsTrue old.tells → {h : Layout} → IsVolume new.cells new.image h → IsVolume mid.cells mid.image h
-  volume_was tells {h} volume = subst (IsVolume mid.cells mid.image)
-      (one_layout {cells = new.cells} {more = new.cells} g h (volume_new tells) volume) (volume_mid tells)
+    pub look_up_full : WalksOnDevice r id settled mid (Ok walks.PathFull) → LooksUp id old mid sink sink (Err Absent)
+    look_up_full w = absent (λ tells.
+        let full = w.ends.1 (tells_settled before tells) in
+        let volume = (is_ready before tells).volume in
+        (behind_all (full.passed volume), full.none volume))
 
-  reads_on : (reach : Reach) → IsTrue old.tells → WereRead reach old mid → WereRead reach old new
-  reads_on reach tells were = record {
-    read = λ h m volume slot reaches taken.
-        read_further h old.image old.image mid.image new.image m (extends_self old.image) viewed.image
-        (were.read h m (volume_was tells volume) slot reaches taken);
-    alone = λ still h m volume slot reaches taken.
-        subst (λ (i : Image). IsRead h i i m) (sym (same still))
-        (were.alone (walk_still still) h m (volume_was tells volume) slot reaches
-        (subst (λ (i : Image). AreTaken i (m + 1)) (same still) taken));
-  }
+  -- slot n was found
+  module _ (n : ℕ) (w : WalksOnDevice r id settled mid (Ok (walks.Found n))) where
+    found : IsTrue old.tells → IsFound g id (seen_directly settled 0) (seen_directly mid 0) n
+    found tells = w.ends.2 (tells_settled before tells)
 
-  none_on : (reach : Reach) → IsTrue old.tells → HasNone reach id old mid → HasNone reach id old new
-  none_on reach tells none = record {
-    before = none.before;
-    alone = λ still m body reaches d. none.alone (walk_still still) m body reaches
-        (subst (λ (cells : ℕ). IsDocument cells mid.image m id body) viewed.called.cells
-        (subst (λ (i : Image). IsDocument new.cells i m id body) (same still) d));
-    read = reads_on reach tells none.read;
-  }
+    pub found_is_done : IsTrue old.tells → IsDoneSlot g mid.image n
+    found_is_done tells = held_is_done (found tells).holds.holds
 
-  -- the body that slot n holds at exit is that of the first document
-  first_holds : IsTrue old.tells → (body : List ℕ) → HoldsBody g new.image n body → IsFirst id body n old new
-  first_holds tells body h =
-      let first = (ends.2 tells).1 in
-      let document : IsDocument new.cells new.image n id first.body =
-      subst (λ (cells : ℕ). IsDocument cells new.image n id first.body) (sym viewed.called.cells)
-      (document_on viewed.image first.first.document) in
-      let one = held_is_one g new.image n id first.body h.id body
-      (stands_held g new.cells new.image n id first.body (volume_new tells) document.stands) h.holds in
-      record {
-        document = subst (IsDocument new.cells new.image n id) one.1 document;
-        none = none_on (Below n) tells first.first.none;
+    module _ (new : DeviceState) (from to : SinkState) (viewed : Viewed (seen_directly mid 0) (seen_directly new 0)) where
+      after : HasLooked r old settled new
+      after = looked_more before viewed
+
+      told_new : IsTrue old.tells → IsTrue new.tells
+      told_new tells = subst IsTrue (sym viewed.called.tells) (told_mid tells)
+
+      module _ (tells : IsTrue old.tells) (body : List ℕ) (h : HoldsBody g new.image n body) where
+        -- the body that slot n holds at exit is that of the document with the identifier
+        stands : Stands new.cells new.image n id body
+        stands =
+            let here = (found tells).holds in
+            let one = held_is_one g new.image n id here.body h.id body (held_on viewed.image here.holds) h.holds in
+            subst (λ (i : List ℕ). Stands new.cells new.image n i body) (sym one.0)
+            (held_stands g new.cells new.image n h.id body (volume_now after tells) h.holds)
+
+        that_of : (documents : List Document) → Kept settled.cells settled.image documents → IsThatOf id body n documents
+        that_of documents kept d among same =
+            let is = is_kept tells documents kept d among in
+            let slot : d.slot ≡ n = (found tells).alone (is_ready before tells).volume d.slot (kept_has_trail id same is) in
+            let there : Stands new.cells new.image d.slot d.id d.body =
+            subst (λ (k : ℕ). Stands k new.image d.slot d.id d.body)
+            (sym (viewed.called.cells ∙ seen.called.cells))
+            (stands_on (extends_then seen.image viewed.image) is.stands) in (
+              slot,
+              (one_document new.cells new.image n d.id d.body id body
+                  (subst (λ (k : ℕ). Stands new.cells new.image k d.id d.body) slot there) stands).1,
+            )
+
+        looked_up_is : IsLookedUp id body n old new
+        looked_up_is = record {
+          first = record {
+            layout = g;
+            volume = volume_now after tells;
+            stands = stands;
+            first = first_on viewed.image (subst (λ (k : ℕ). IsFirstOnPath g k mid.image id n) (sym viewed.called.cells)
+                ((found tells).first (is_ready before tells).volume));
+          };
+          before = λ documents kept. that_of documents (kept_settled documents kept);
+          alone = λ still documents kept. that_of documents
+              (subst (λ (i : Image). Kept settled.cells i documents) (same_since after still)
+              (subst (λ (k : ℕ). Kept k new.image documents) after.looked.cells kept));
+        }
+
+      puts_front : GotPart g n (seen_directly new 0) from to → PutsFront id old new from to
+      puts_front part = record {
+        body = part.body;
+        slot = n;
+        count = part.count;
+        first = λ tells. looked_up_is tells part.body (part.holds (told_new tells));
+        most = part.most;
+        gets = part.gets;
       }
 
-  puts_front : GotPart g n (seen_directly new 0) from to → PutsFront id old new from to
-  puts_front part = record {
-    body = part.body;
-    slot = n;
-    count = part.count;
-    first = λ tells. first_holds tells part.body (part.holds (new_tells tells));
-    most = part.most;
-    gets = part.gets;
-  }
+      no_more : (to ≡ from) ⊎ GotPart g n (seen_directly new 0) from to → (to ≡ from) ⊎ PutsFront id old new from to
+      no_more got = ⊎_elim (λ (e : to ≡ from). inl e) (λ part. inr (puts_front part)) got
 
-  no_more : (to ≡ from) ⊎ GotPart g n (seen_directly new 0) from to → (to ≡ from) ⊎ PutsFront id old new from to
-  no_more got = ⊎_elim (λ (e : to ≡ from). inl e) (λ part. inr (puts_front part)) got
+      come_to : (answer : Result Found Refusal) → LookUpEnds id old new from to answer
+          → LooksUp id old new from to answer
+      come_to answer is = record {
+        called = called_then (called_then s.called seen.called) viewed.called;
+        comes = comes_to_settled after;
+        ends = is;
+      }
 
-  whole_walk : HasWalked r old settled new
-  whole_walk = record {
-    settles = w.settles;
-    looked = called_then w.looked viewed.called;
-    quiet = λ still. unchanged_then
-        (w.quiet (still_first w.looked.foreign_writes viewed.called.foreign_writes still))
-        (quiet (still_second w.looked.foreign_writes viewed.called.foreign_writes still));
-  }
+      -- the whole body
+      pub looked_up : (bytes : ℕ)
+          → BodyEnds g n (seen_directly mid 0) (seen_directly new 0) from to (Ok bytes)
+          → LooksUp id old new from to (Ok (record { slot = n; bytes = bytes }))
+      looked_up bytes put = come_to (Ok (record { slot = n; bytes = bytes })) (record {
+        body = put.2.body;
+        first = λ tells. looked_up_is tells put.2.body (put.2.holds (told_new tells));
+        bytes_is = put.2.length_is;
+        gets = put.2.gets;
+        faults = put.1;
+      })
 
-  come_to : (answer : Result Found Refusal) → LookUpEnds id old new from to answer → LooksUp id old new from to answer
-  come_to answer is = record {
-    called = called_then called viewed.called;
-    comes = comes_to_settled whole_walk;
-    ends = is;
-  }
-
-  -- the whole body
-  pub looked_up : (bytes : ℕ)
-      → BodyEnds g n (seen_directly mid 0) (seen_directly new 0) from to (Ok bytes)
-      → LooksUp id old new from to (Ok (record { slot = n; bytes = bytes }))
-  looked_up bytes put = come_to (Ok (record { slot = n; bytes = bytes })) (record {
-    body = put.2.body;
-    first = λ tells. first_holds tells put.2.body (put.2.holds (new_tells tells));
-    bytes_is = put.2.length_is;
-    gets = put.2.gets;
-    faults = put.1;
-  })
-
-  -- or why it was not put
-  pub look_up_unput : (fault : BodyFault)
-      → BodyEnds g n (seen_directly mid 0) (seen_directly new 0) from to (Err fault)
-      → LooksUp id old new from to (Err (refusal_of_body fault))
-  look_up_unput (bodies.Tampered e) put = come_to (Err (Tampered e)) (
-    (put.1, no_more put.2),
-    λ tells. (
-      put.3 (mid_tells tells),
-      named r old settled new n e whole_walk tells ends.0
-          (fails_from g (viewed_directly w.looked w.quiet) viewed n ends.1 (faults.Tampered e) put.0),
-    ),
-  )
-  look_up_unput bodies.ReadFault put =
-      come_to (Err DeviceFault) (omega (arith, called.faults, put.0), (put.1, no_more put.2))
-  look_up_unput bodies.SinkFault put = come_to (Err SinkFault) (put.1, puts_front put.2)
+      -- or why it was not put
+      pub look_up_unput : (fault : BodyFault)
+          → BodyEnds g n (seen_directly mid 0) (seen_directly new 0) from to (Err fault)
+          → LooksUp id old new from to (Err (refusal_of_body fault))
+      look_up_unput (bodies.Tampered e) put = come_to (Err (Tampered e)) (
+        (put.1, no_more put.2),
+        λ tells.
+            let licence = names_licensed g r.horizon r.edge n (seen_directly mid 0) (seen_directly new 0) e viewed
+            (put.0.2 (told_mid tells)) in (
+              put.3 (told_mid tells),
+              record {
+                stands = licence.stands;
+                layout = g;
+                volume = volume_now after tells;
+                place = put.0.0;
+                broken = λ still. licence.broken
+                    (still_second seen.called.foreign_writes viewed.called.foreign_writes (still_looking after still))
+                    (volume_now after tells) (reach_is after tells still).horizon (edge_is after tells still);
+              },
+            ),
+      )
+      look_up_unput bodies.ReadFault put =
+          come_to (Err DeviceFault) (omega (arith, s.called.faults, seen.called.faults, put.0), (put.1, no_more put.2))
+      look_up_unput bodies.SinkFault put = come_to (Err SinkFault) (put.1, puts_front put.2)

@@ -12,17 +12,16 @@ use Rattle.stored_documents.specs.Documents.{stored_bytes}
 use Rattle.stored_documents.specs.Slots.{IsDoneSlot}
 use Rattle.stored_documents.specs.Words.{Matches, rule_of}
 use Rattle.worm_device.specs.Views.{ViewState, Viewed}
-use Rattle.worm_device.proofs.Images.{extends_self}
 use Rattle.word_reader.specs.declared.matcher.Matcher.{Matcher}
 use Rattle.document_store.specs.Heads.{id_of}
-use Rattle.document_store.specs.Looks.{IsPartOf, IsUndone, LookFails, PartEnds, held, undone}
+use Rattle.document_store.specs.Looks.{IsPartOf, IsUndone, LookFails, PartEnds}
 use Rattle.document_store.specs.Standing.{HoldsDocument}
 use Rattle.document_store.specs.declared.head.Head.{Head}
 use Rattle.document_store.specs.declared.part.Part.{Part}
 use Rattle.record_query.specs.Matching.{HasNoMatch, IsMatcherOf, ReadMatch, ReadOther, SlotEnds}
 use Rattle.record_query.specs.declared.found.Match.{Match}
 use Rattle.document_store.proofs.Holding.{held_is_one, held_on, part_on, whole_is_held}
-use Rattle.document_store.proofs.Naming.{fails_from, read_further}
+use Rattle.document_store.proofs.Naming.{fails_from}
 
 -- a slot that holds a document is done
 done_of_held : {g : Layout} {image : Image} {n : ℕ} {id body : List ℕ} → HoldsDocument g image n id body
@@ -37,8 +36,8 @@ done_of_held {g} {image} {n} {id} {body} h = record {
 
 -- a slot that is not done has no match
 pub undone_matches_none : {g : Layout} {before after : Image} {n : ℕ} (terms : List (List ℕ))
-    → IsUndone g before after n → HasNoMatch g before after n terms
-undone_matches_none terms u = record { read = undone u; none = λ id body h matches. u.undone (done_of_held h) }
+    → IsUndone g before after n → HasNoMatch g before n terms
+undone_matches_none terms u = λ id body h matches. u.undone (done_of_held h)
 
 -- a fault of a look, as a command refuses
 pub refused : (g : Layout) (n : ℕ) (terms : List (List ℕ)) (old new : ViewState) (fault : Fault)
@@ -60,14 +59,7 @@ module _ (g : Layout) (n : ℕ) (terms : List (List ℕ)) {old mid new : ViewSta
   pub ends_from : (result : Result (Option Match) Refusal) → SlotEnds g n terms mid new result
       → SlotEnds g n terms old new result
   ends_from (Ok (Some found)) ends = (ends.0 ∙ same, λ tells. ends.1 (told tells))
-  ends_from (Ok None) ends = (
-    ends.0 ∙ same,
-    λ tells.
-        let h = ends.1 (told tells) in record {
-          read = read_further g mid.image old.image new.image new.image n before.image (extends_self new.image) h.read;
-          none = λ id body was. h.none id body (held_on before.image was);
-        },
-  )
+  ends_from (Ok None) ends = (ends.0 ∙ same, λ tells id body was. ends.1 (told tells) id body (held_on before.image was))
   ends_from (Err NoMemory) ends = ends ∙ same
   ends_from (Err DeviceFault) ends = fails_from g before after n same faults.Failed ends
   ends_from (Err (Tampered e)) ends = fails_from g before after n same (faults.Tampered e) ends
@@ -104,12 +96,9 @@ module _ (g : Layout) (part : Part) (terms : List (List ℕ)) (m : Matcher)
     same,
     λ tells.
         let here = whole_is_held g new part.slot part read.id read.body (now_tells tells) (holds tells) read.whole in
-        record {
-          read = held read.id read.body here;
-          none = λ id body before matches.
-              let same = held_on viewed.image before in
-              let one = held_is_one g new.image part.slot id body read.id read.body same here in
-              read.differs (rule_of g.version) terms was
-              (subst (λ (b : List ℕ). Matches (rule_of g.version) b terms) one.1 matches);
-        },
+        λ id body before matches.
+        let same = held_on viewed.image before in
+        let one = held_is_one g new.image part.slot id body read.id read.body same here in
+        read.differs (rule_of g.version) terms was
+        (subst (λ (b : List ℕ). Matches (rule_of g.version) b terms) one.1 matches),
   )

@@ -1,64 +1,86 @@
--- What a search answers, over settling and the slots below the horizon.
-use Rattle.std.proofs.Common.{◌≡◌, ℕ, List, Result, Ok, Err, refl, sym, inl, subst, arith}
-use Rattle.std.specs.Prelude.{IsTrue}
+-- What a search answers, over settling, the lists, and the slots that they have in common.
+use Rattle.std.proofs.Common.{◌≡◌, ◌<◌, ℕ, zero, suc, List, [], ◌∷◌, Result, Some, Ok, Err, inl, inr, refl, sym, map, length, subst, arith}
+use Rattle.std.proofs.lemmas.Nat.{mod_below}
+use Rattle.std.proofs.lemmas.List.Elements.{Contains-append_right}
 use Rattle.std.specs.Global.{Vec}
+use Rattle.std.specs.Prelude.{Contains, IsTrue, slice_get}
 use Rattle.cell_types.specs.Image.{Image}
 use Rattle.cell_types.specs.Layout.{Layout}
 use Rattle.cell_types.specs.declared.refusal.Refusal.{Refusal}
 use Rattle.cell_types.specs.declared.refusal.Refusal.TheVariants.{DeviceFault, NoMemory, NotAVolume, NotFormatted, Tampered, WrongSize}
+use Rattle.stored_documents.specs.Documents.{Document}
+use Rattle.stored_documents.specs.Slots.{IsEdge}
 use Rattle.stored_documents.specs.Words.{Matches, rule_of}
 use Rattle.stored_documents.proofs.Extending.{volume_on}
+use Rattle.index_paths.specs.Keeping.{IsKept, Kept}
+use Rattle.index_paths.proofs.KeepingLaws.{kept_on}
 use Rattle.tamper_rules.proofs.GivenUp.{one_layout}
+use Rattle.worm_device.specs.Counts.{IsStill}
 use Rattle.worm_device.specs.State.{DeviceState}
 use Rattle.worm_device.specs.Views.{Viewed, seen_directly}
-use Rattle.worm_device.proofs.Elapsing.{called_self, called_then}
-use Rattle.worm_device.proofs.Resting.{rests_of}
+use Rattle.worm_device.proofs.Counting.{still_second}
+use Rattle.worm_device.proofs.Elapsing.{called_then}
+use Rattle.zigzag_join.specs.Joins.{AllOwe}
 use Rattle.recovery_engine.specs.Settling.{SettleEnds, Settles}
 use Rattle.recovery_engine.specs.declared.settling.Ready.{Ready}
-use Rattle.slot_walk.specs.Laws.{DocumentsAreBelow, NamedIsFound, ReadIsRead}
-use Rattle.slot_walk.specs.Walks.{HasWalked}
-use Rattle.record_query.specs.Below.{BelowEnds, FoundBelow}
-use Rattle.slot_walk.proofs.Read.{layout_is}
-use Rattle.slot_walk.proofs.Walked.{is_ready, volume_now}
-use Rattle.record_query.specs.Finding.{ComesTo, FindEnds, Finds, HasTerms, Searches}
+use Rattle.posting_list.specs.Joins.{TermsGather}
+use Rattle.posting_list.specs.Laws.{KeptAreOwed}
+use Rattle.posting_list.specs.Naming.{IsReachOf}
+use Rattle.posting_list.specs.States.{lists_over}
+use Rattle.posting_list.specs.Terms.{sought_of}
+use Rattle.posting_list.specs.declared.sought_term.SoughtTerm.{SoughtTerm}
+use Rattle.posting_list.proofs.Evidence.{state_rule}
+use Rattle.document_store.specs.Looks.{Names, of_document, of_state}
+use Rattle.document_store.specs.Standing.{HoldsDocument}
+use Rattle.document_store.proofs.Holding.{held_on, held_stands, stands_held}
+use Rattle.identifier_lookup.proofs.Licence.{names_licensed}
+use Rattle.record_query.specs.Looking.{HasLooked}
+use Rattle.record_query.proofs.Looking.{has_settled, is_ready, same_since, still_looking, still_settling, tells_settled, volume_now, looked_from, looked_more}
+use Rattle.record_query.specs.Among.{AmongEnds, FoundAmong}
+use Rattle.record_query.specs.Finding.{ComesTo, FindEnds, Finds, HasMatch, HasTerms, IsFindRule, NamesFindRule, Searches}
+use Rattle.record_query.specs.Reaching.{reach_of}
 use Rattle.record_query.specs.declared.found.Match.{Match}
 
 -- the volume was settled, and then looked at
 pub walked : {r : Ready} {old settled new : DeviceState} → Settles old settled (Ok r)
-    → Viewed (seen_directly settled 0) (seen_directly new 0) → HasWalked r old settled new
-walked s viewed = record { settles = s; looked = viewed.called; quiet = (rests_of viewed).below }
+    → Viewed (seen_directly settled 0) (seen_directly new 0) → HasLooked r old settled new
+walked s viewed = looked_more (looked_from s) viewed
 
 -- so a query has come far
 pub comes_to_settled : {X : Type 0} {result : Result X Refusal} {r : Ready} {old settled new : DeviceState}
-    → HasWalked r old settled new → ComesTo X old new result
-comes_to_settled {X} {result} {r} {old} {settled} {new} w = ComesTo.settled r
-    (record { settled = settled; settles = w.settles; looked = w.looked; quiet = w.quiet })
+    → HasLooked r old settled new → ComesTo X old new result
+comes_to_settled {X} {result} {r} w = ComesTo.settled r (has_settled w)
 
 -- settling was ended
 module _ (terms : List (List ℕ)) (old new : DeviceState) where
   refused : (refusal : Refusal) → SettleEnds old new (Err refusal) → FindEnds terms old new (Err refusal)
   refused DeviceFault ends = ends
-  refused (Tampered e) ends = λ tells.
-      let found = ends tells in record { rule = inl found.rule; licensed = found.licensed; before = found.before }
+  refused (Tampered e) ends = λ tells. (ends tells).licensed
   refused NotFormatted ends = ends
   refused (NotAVolume found) ends = ends
   refused (WrongSize stated real) ends = ends
   refused refusal ends = absurd ends
+
+  -- the evidence is by a rule of settling
+  refused_rule : (refusal : Refusal) → SettleEnds old new (Err refusal) → NamesFindRule old (Err refusal)
+  refused_rule (Tampered e) ends = λ tells. inl (ends tells).rule
+  refused_rule refusal ends = tt
 
   pub search_unsettled : (refusal : Refusal) → Settles old new (Err refusal) → Searches terms old new (Err refusal)
   search_unsettled refusal s = record {
     called = s.called;
     comes = ComesTo.settling refusal refl s;
     ends = refused refusal s.ends;
+    rule = refused_rule refusal s.ends;
   }
 
   -- no memory was to be had
   pub search_unstarted : (r : Ready) → Settles old new (Ok r) → Searches terms old new (Err NoMemory)
   search_unstarted r s = record {
     called = s.called;
-    comes = comes_to_settled {settled = new}
-        (record { settles = s; looked = called_self new; quiet = λ still cell. refl });
+    comes = comes_to_settled {settled = new} (looked_from s);
     ends = tt;
+    rule = tt;
   }
 
 -- a body has the terms by the rule of the volume's one layout
@@ -67,40 +89,198 @@ has_by : {cells : ℕ} {image : Image} {body : List ℕ} {terms : List (List ℕ
 has_by {cells} {image} {body} {terms} has same =
     subst (λ (h : Layout). Matches (rule_of h.version) body terms) same has.matches
 
-module _ (before : DocumentsAreBelow) (named : NamedIsFound) (reads : ReadIsRead) (terms : List (List ℕ))
-    (r : Ready) (old settled new : DeviceState) (w : HasWalked r old settled new) where
-  finds : (matches : List Match) → IsTrue old.tells
-      → FoundBelow r.volume.geometry r.horizon terms settled.image new.image matches → Finds terms old new matches
-  finds matches tells f = record {
-    all = λ n id body d has. let h = before.before r old settled new n id body w tells d in
-        f.all n id body h.0 h.1 (has_by has (one_layout {cells = old.cells} {more = settled.cells} has.layout
-        r.volume.geometry (volume_on w.settles.called.image has.volume) (is_ready w tells).volume));
-    whole = λ still n id body d has. let h = before.alone r old settled new n id body w tells still d in
-        f.all n id body h.0 h.1 (has_by has (layout_is w tells has.volume));
-    only = λ found among. let is = f.only found among in record {
-      body = is.is.body;
-      document = before.held r old settled new found.slot found.identifier is.is.body w tells is.below is.is.holds;
-      bytes_is = is.is.bytes_is;
-      has = record { layout = r.volume.geometry; volume = volume_now w tells; matches = is.is.matches };
+-- the list and the tag of each term
+abbrev sought : ℕ → List (List ℕ) → List SoughtTerm
+sought lists terms = map (sought_of lists) terms
+
+-- each of them is that of a term
+sought_at : (lists : ℕ) (terms : List (List ℕ)) (which : ℕ) → which < length (sought lists terms)
+    → (word : List ℕ) × (slice_get (sought lists terms) which ≡ Some (sought_of lists word)) × Contains terms word
+sought_at lists [] which less = absurd (omega (arith, less))
+sought_at lists (word ∷ rest) zero less = (word, refl, (0, omega arith, refl))
+sought_at lists (word ∷ rest) (suc which) less =
+    let there = sought_at lists rest which (omega (arith, less)) in
+    (there.0, there.1, Contains-append_right (word ∷ []) rest there.0 there.2)
+
+-- where nobody else wrote, this is how far the image is filled
+module _ {r : Ready} {old settled new : DeviceState} (w : HasLooked r old settled new) (tells : IsTrue old.tells)
+    (still : IsStill old.foreign_writes new.foreign_writes) where
+  pub reach_is : IsReachOf (reach_of r) new.image
+  reach_is = subst (IsReachOf (reach_of r)) (sym (same_since w still)) (record {
+    horizon = record {
+      most = (is_ready w tells).horizon.most;
+      below = (is_ready w tells).horizon.below;
+      free = λ less. (is_ready w tells).free (still_settling w still) less;
     };
-    rise = f.rise;
-    read = reads.all r old settled new w tells f.read;
+    edge = (is_ready w tells).edge;
+    pool = refl;
+  })
+
+  pub edge_is : IsEdge r.volume.geometry new.image new.image r.edge
+  edge_is = record {
+    u = r.horizon;
+    most = reach_is.horizon.most;
+    free = reach_is.horizon.free;
+    ends = reach_is.edge;
   }
 
-  ends_of : (result : Result (Vec Match) Refusal)
-      → BelowEnds r.volume.geometry r.horizon terms settled new result → FindEnds terms old new result
-  ends_of (Ok matches) ends = λ tells.
-      finds matches.items tells (ends (subst IsTrue (sym w.settles.called.tells) tells))
-  ends_of (Err NoMemory) ends = tt
-  ends_of (Err DeviceFault) ends = omega (arith, w.settles.called.faults, ends.refuses)
-  ends_of (Err (Tampered e)) ends = λ tells. named r old settled new ends.n e w tells ends.below ends.refuses
-  ends_of (Err refusal) ends = absurd ends.refuses
+module _ (owed : KeptAreOwed) (terms : List (List ℕ)) (r : Ready) (old settled mid : DeviceState)
+    (s : Settles old settled (Ok r)) (seen : Viewed (seen_directly settled 0) (seen_directly mid 0)) where
+  before : HasLooked r old settled mid
+  before = walked s seen
 
-  -- the slots were searched, or this was ended
-  pub searched : (result : Result (Vec Match) Refusal)
-      → BelowEnds r.volume.geometry r.horizon terms settled new result → Searches terms old new result
-  searched result ends = record {
-    called = called_then w.settles.called w.looked;
-    comes = comes_to_settled w;
-    ends = ends_of result ends;
+  abbrev these : List SoughtTerm
+  these = sought r.volume.geometry.lists terms
+
+  abbrev gathers : Result (Vec ℕ) Refusal → Type 0
+  gathers result = TermsGather (reach_of r) these (seen_directly settled 0) (seen_directly mid 0) result
+
+  told : IsTrue old.tells → IsTrue mid.tells
+  told tells = subst IsTrue (sym (called_then s.called seen.called).tells) tells
+
+  -- the slots were not gathered
+  ungathered : (refusal : Refusal) → gathers (Err refusal) → FindEnds terms old mid (Err refusal)
+  ungathered DeviceFault g = omega (arith, s.called.faults, g.ends)
+  ungathered (Tampered e) g = λ tells.
+      let named = g.ends.0 (told tells) in
+      record {
+        stands = named.stands;
+        layout = r.volume.geometry;
+        volume = volume_now before tells;
+        place = named.place refl;
+        broken = λ still. (g.ends.1 (still_looking before still) (told tells)).broken (volume_now before tells)
+            (reach_is before tells still);
+      }
+  ungathered NoMemory g = tt
+  ungathered refusal g = absurd g.ends
+
+  -- the evidence is by a rule of lists
+  ungathered_rule : (refusal : Refusal) → gathers (Err refusal) → NamesFindRule old (Err refusal)
+  ungathered_rule (Tampered e) g = λ tells. inr (inl (g.ends.0 (told tells)).rule)
+  ungathered_rule refusal g = tt
+
+  pub search_ungathered : (refusal : Refusal) → gathers (Err refusal) → Searches terms old mid (Err refusal)
+  search_ungathered refusal g = record {
+    called = called_then s.called seen.called;
+    comes = comes_to_settled before;
+    ends = ungathered refusal g;
+    rule = ungathered_rule refusal g;
   }
+
+  module _ (slots : Vec ℕ) (g : gathers (Ok slots)) (new : DeviceState)
+      (then : Viewed (seen_directly mid 0) (seen_directly new 0)) where
+    after : HasLooked r old settled new
+    after = looked_more before then
+
+    module _ (tells : IsTrue old.tells) where
+      module _ (d : Document) (has : Matches (rule_of r.volume.geometry.version) d.body terms)
+          (kept : IsKept settled.cells settled.image r.volume.geometry d) where
+        -- no list may pass the slot of a kept document that has the terms
+        all_owe : AllOwe (lists_over (reach_of r) these 0 (seen_directly settled 0)) d.slot
+        all_owe which less =
+            let term = sought_at r.volume.geometry.lists terms which less in
+            owed (reach_of r) these (seen_directly settled 0) which (sought_of r.volume.geometry.lists term.0) d
+            (tells_settled before tells) (is_ready before tells).volume refl term.1
+            (mod_below _ r.volume.geometry.lists (omega (arith, s.ends.0.layout.some_lists))) kept
+            (record { word = term.0; among = has term.0 term.2; list = refl; same = refl })
+
+        small : d.slot < 16777216
+        small =
+            let one : kept.stands.layout ≡ r.volume.geometry =
+            one_layout {cells = settled.cells} {more = settled.cells} kept.stands.layout r.volume.geometry
+            kept.stands.volume (is_ready before tells).volume in
+            omega (arith, subst (λ (h : Layout). d.slot < h.slots) one kept.stands.slot, s.ends.0.layout.slots)
+
+        -- so it was found
+        kept_found : (matches : List Match)
+            → FoundAmong r.volume.geometry slots.items (length slots.items) terms mid.image new.image matches
+            → HasMatch matches d.slot d.id d.body
+        kept_found matches f =
+            let here = g.ends.all d.slot all_owe small in
+            let held : HoldsDocument r.volume.geometry settled.image d.slot d.id d.body =
+            stands_held r.volume.geometry settled.cells settled.image d.slot d.id d.body (is_ready before tells).volume
+            kept.stands in
+            subst (λ (n : ℕ). HasMatch matches n d.id d.body) here.is
+            (f.all here.place d.id d.body here.inside
+            (subst (λ (n : ℕ). HoldsDocument r.volume.geometry mid.image n d.id d.body) (sym here.is)
+            (held_on seen.image held)) has)
+
+      -- of documents that are kept once the volume was settled, those that have the terms
+      all_found : (matches : List Match)
+          → FoundAmong r.volume.geometry slots.items (length slots.items) terms mid.image new.image matches
+          → (documents : List Document) → Kept settled.cells settled.image documents
+          → (d : Document) → Contains documents d → Matches (rule_of r.volume.geometry.version) d.body terms
+          → HasMatch matches d.slot d.id d.body
+      all_found matches f documents kept d among has =
+          let one : kept.layout ≡ r.volume.geometry =
+          one_layout {cells = settled.cells} {more = settled.cells} kept.layout r.volume.geometry kept.volume
+          (is_ready before tells).volume in
+          kept_found d has (subst (λ (h : Layout). IsKept settled.cells settled.image h d) one (kept.each d among))
+          matches f
+
+      finds : (matches : List Match)
+          → FoundAmong r.volume.geometry slots.items (length slots.items) terms mid.image new.image matches
+          → Finds terms old new matches
+      finds matches f = record {
+        all = λ documents kept d among has. all_found matches f documents
+            (subst (λ (k : ℕ). Kept k settled.image documents) (sym s.called.cells) (kept_on s.called.image kept))
+            d among (has_by has (one_layout {cells = old.cells} {more = settled.cells} has.layout r.volume.geometry
+            (volume_on s.called.image has.volume) (is_ready before tells).volume));
+        alone = λ still documents kept d among has. all_found matches f documents
+            (subst (λ (i : Image). Kept settled.cells i documents) (same_since after still)
+            (subst (λ (k : ℕ). Kept k new.image documents) after.looked.cells kept))
+            d among (has_by has (one_layout {cells = new.cells} {more = new.cells} has.layout r.volume.geometry
+            has.volume (volume_now after tells)));
+        only = λ found among. let is = (f.only found among).is in record {
+          body = is.body;
+          stands = held_stands r.volume.geometry new.cells new.image found.slot found.identifier is.body
+              (volume_now after tells) is.holds;
+          bytes_is = is.bytes_is;
+          has = record {
+            layout = r.volume.geometry;
+            volume = volume_now after tells;
+            matches = is.matches;
+          };
+        };
+        rise = f.rise;
+      }
+
+    ends_of : (result : Result (Vec Match) Refusal)
+        → AmongEnds r.volume.geometry slots.items terms mid new result → FindEnds terms old new result
+    ends_of (Ok matches) ends = λ tells.
+        finds tells matches.items (ends (told tells))
+    ends_of (Err NoMemory) ends = tt
+    ends_of (Err DeviceFault) ends = omega (arith, s.called.faults, seen.called.faults, ends.refuses)
+    ends_of (Err (Tampered e)) ends = λ tells.
+        let licence = names_licensed r.volume.geometry r.horizon r.edge ends.n (seen_directly mid 0)
+        (seen_directly new 0) e then (ends.refuses.2 (told tells)) in
+        record {
+          stands = licence.stands;
+          layout = r.volume.geometry;
+          volume = volume_now after tells;
+          place = ends.refuses.0;
+          broken = λ still. licence.broken
+              (still_second seen.called.foreign_writes then.called.foreign_writes (still_looking after still))
+              (volume_now after tells) (reach_is after tells still).horizon (edge_is after tells still);
+        }
+    ends_of (Err refusal) ends = absurd ends.refuses
+
+    -- the evidence is by a rule of a slot's cells, or by that of its document
+    rule_of_end : (result : Result (Vec Match) Refusal)
+        → AmongEnds r.volume.geometry slots.items terms mid new result → NamesFindRule old result
+    rule_of_end (Ok matches) ends = tt
+    rule_of_end (Err (Tampered e)) ends = λ tells. named (ends.refuses.2 (told tells)) where
+      named : Names r.volume.geometry ends.n (seen_directly mid 0) (seen_directly new 0) e → IsFindRule e.rule
+      named (of_state out) = inr (inl (state_rule out.seen))
+      named (of_document broken) = inr (inr broken.rule)
+    rule_of_end (Err refusal) ends = tt
+
+    -- the slots were searched, or this was ended
+    pub searched : (result : Result (Vec Match) Refusal)
+        → AmongEnds r.volume.geometry slots.items terms mid new result → Searches terms old new result
+    searched result ends = record {
+      called = called_then (called_then s.called seen.called) then.called;
+      comes = comes_to_settled after;
+      ends = ends_of result ends;
+      rule = rule_of_end result ends;
+    }

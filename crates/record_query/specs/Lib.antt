@@ -1,4 +1,6 @@
-pub mod Below
+pub mod Among
 pub mod Finding
+pub mod Looking
 pub mod LookingUp
 pub mod Matching
+pub mod Reaching

@@ -1,23 +1,69 @@
 -- What it means that a document is looked up by its identifier.
-use Rattle.std.specs.Prelude.{◌≡◌, ◌≤◌, ◌⊎◌, ℕ, List, length, take, Result, Ok, Err, IsTrue}
+use Rattle.std.specs.Prelude.{◌≡◌, ◌≤◌, ◌⊎◌, ℕ, List, length, take, Contains, Result, Ok, Err, IsTrue}
+use Rattle.cell_types.specs.Layout.{Layout}
 use Rattle.cell_types.specs.declared.refusal.Refusal.{Refusal}
 use Rattle.cell_types.specs.declared.refusal.Refusal.TheVariants.{Absent, DeviceFault, NotAVolume, NotFormatted, SinkFault, Tampered, WrongSize}
+use Rattle.commit_record.specs.Licences.{IsLicensed}
+use Rattle.stored_documents.specs.Documents.{Document, Stands}
+use Rattle.stored_documents.specs.Volumes.{IsVolume}
+use Rattle.index_paths.specs.Keeping.{Kept}
 use Rattle.host_ports.specs.Sinks.{Gets, SinkState}
 use Rattle.worm_device.specs.Calls.{Called}
-use Rattle.worm_device.specs.Counts.{Rose}
+use Rattle.worm_device.specs.Counts.{IsStill, Rose}
 use Rattle.worm_device.specs.State.{DeviceState}
-use Rattle.recovery_engine.specs.Settling.{IsFound, SettleEnds}
+use Rattle.recovery_engine.specs.Settling.{SettleEnds}
 use Rattle.document_store.specs.declared.body.BodyFault.{BodyFault}
 use Rattle.document_store.specs.declared.body.BodyFault.TheVariants as bodies
-use Rattle.slot_walk.specs.Walks.{HasNone, IsFirst, IsQueryRule, OfAll}
+use Rattle.hash_tree.specs.declared.level.Level.{Level}
+use Rattle.hash_tree.specs.declared.path.Open.{Open}
+use Rattle.identifier_lookup.specs.Walks.{IsBlankIn, IsFirstOnPath, IsPassedUpToPlace, IsPassedWhole}
 use Rattle.record_query.specs.Finding.{ComesTo}
 use Rattle.record_query.specs.declared.found.Found.{Found}
 
--- The sink got the body of the volume's first document with this identifier, whole, and the answer names its slot and
--- how many bytes the body has.
+-- slot n stands with this identifier and body, and is the first on the identifier's path: each bucket above is passed
+pub record IsFirst (id body : List ℕ) (n : ℕ) (new : DeviceState) : Type 0 where
+  pub layout : Layout
+  pub volume : IsVolume new.cells new.image layout
+  pub stands : Stands new.cells new.image n id body
+  pub first : IsFirstOnPath layout new.cells new.image id n
+
+-- where one of these documents has the identifier, it is the one in slot n with this body
+abbrev pub IsThatOf : List ℕ → List ℕ → ℕ → List Document → Type 0
+IsThatOf id body n documents = (d : Document) → Contains documents d → d.id ≡ id → (d.slot ≡ n) × (d.body ≡ body)
+
+-- The document was looked up: it stands, the first on its path; and where a document that was kept at entry has the
+-- identifier, it is that one; so it is, where nobody else wrote, of those that are kept at exit.
+pub record IsLookedUp (id body : List ℕ) (n : ℕ) (old new : DeviceState) : Type 0 where
+  pub first : IsFirst id body n new
+  pub before : (documents : List Document) → Kept old.cells old.image documents → IsThatOf id body n documents
+  pub alone : IsStill old.foreign_writes new.foreign_writes
+      → (documents : List Document) → Kept new.cells new.image documents → IsThatOf id body n documents
+
+-- none of these documents has the identifier
+abbrev pub NoneHas : List ℕ → List Document → Type 0
+NoneHas id documents = (d : Document) → Contains documents d → d.id ≡ id → ⊥
+
+-- the identifier's path ends: at a place that is blank, all buckets up to which are passed; or each of its 64 buckets is
+-- passed
+pub data PathEnds (g : Layout) (id : List ℕ) (new : DeviceState) : Type 0 where
+  at_place : (place : Open) (level : Level) → IsPassedUpToPlace g new.cells new.image id place level
+      → IsBlankIn new.image place.bucket place.child → PathEnds g id new
+  behind_all : IsPassedWhole g new.cells new.image id → PathEnds g id new
+
+-- No document has the identifier: its path ends, all buckets up to there passed; none that was kept at entry has it, and
+-- where nobody else wrote none that is kept at exit.
+pub record IsAbsent (id : List ℕ) (old new : DeviceState) : Type 0 where
+  pub layout : Layout
+  pub volume : IsVolume new.cells new.image layout
+  pub ends : PathEnds layout id new
+  pub before : (documents : List Document) → Kept old.cells old.image documents → NoneHas id documents
+  pub alone : IsStill old.foreign_writes new.foreign_writes
+      → (documents : List Document) → Kept new.cells new.image documents → NoneHas id documents
+
+-- The sink got the body of the document, whole, and the answer names its slot and how many bytes the body has.
 pub record PutsBody (id : List ℕ) (old new : DeviceState) (from to : SinkState) (found : Found) : Type 0 where
   pub body : List ℕ
-  pub first : IsTrue old.tells → IsFirst id body found.slot old new
+  pub first : IsTrue old.tells → IsLookedUp id body found.slot old new
   pub bytes_is : found.bytes ≡ length body
   pub gets : Gets from.held to.held body
   pub faults : to.faults ≡ from.faults
@@ -27,7 +73,7 @@ pub record PutsFront (id : List ℕ) (old new : DeviceState) (from to : SinkStat
   pub body : List ℕ
   pub slot : ℕ
   pub count : ℕ
-  pub first : IsTrue old.tells → IsFirst id body slot old new
+  pub first : IsTrue old.tells → IsLookedUp id body slot old new
   pub most : count ≤ length body
   pub gets : Gets from.held to.held (take count body)
 
@@ -40,9 +86,9 @@ PutsNoMore id old new from to = (to.faults ≡ from.faults) × ((to ≡ from) �
 abbrev pub LookUpEnds
     : List ℕ → DeviceState → DeviceState → SinkState → SinkState → Result Found Refusal → Type 0
 LookUpEnds id old new from to (Ok found) = PutsBody id old new from to found
-LookUpEnds id old new from to (Err Absent) = (to ≡ from) × (IsTrue old.tells → HasNone OfAll id old new)
+LookUpEnds id old new from to (Err Absent) = (to ≡ from) × (IsTrue old.tells → IsAbsent id old new)
 LookUpEnds id old new from to (Err (Tampered e)) =
-    PutsNoMore id old new from to × (IsTrue old.tells → (to ≡ from) × IsFound IsQueryRule old new e)
+    PutsNoMore id old new from to × (IsTrue old.tells → (to ≡ from) × IsLicensed old new e)
 LookUpEnds id old new from to (Err DeviceFault) = Rose old.faults new.faults × PutsNoMore id old new from to
 LookUpEnds id old new from to (Err SinkFault) = Rose from.faults to.faults × PutsFront id old new from to
 LookUpEnds id old new from to (Err NotFormatted) = (to ≡ from) × SettleEnds old new (Err NotFormatted)

@@ -1,5 +1,5 @@
 -- How a slot's document is read while words are sought in it.
-use Rattle.std.specs.Prelude.{◌≡◌, ◌↔◌, ℕ, Bool, List, [], length, Option, Some, None, Result, Ok, Err, IsTrue}
+use Rattle.std.specs.Prelude.{◌≡◌, ◌≤◌, ◌↔◌, ℕ, Bool, List, [], ◌++◌, length, Option, Some, None, Result, Ok, Err, IsTrue}
 use Rattle.cell_types.specs.Image.{Image}
 use Rattle.cell_types.specs.Layout.{Layout}
 use Rattle.cell_types.specs.declared.refusal.Refusal.{Refusal}
@@ -9,10 +9,12 @@ use Rattle.stored_documents.specs.declared.word_rules.WordRule.{WordRule}
 use Rattle.worm_device.specs.Views.{ViewState}
 use Rattle.append_file.specs.declared.piece.ContentFault.{ContentFault}
 use Rattle.append_file.specs.declared.piece.ContentFault.TheVariants as contents
-use Rattle.word_reader.specs.Matching.{HasPushed}
+use Rattle.append_file.specs.Reading.{ByteEnds, HasRead}
+use Rattle.append_file.specs.declared.position.Position.{Position}
+use Rattle.word_reader.specs.Matching.{HasPushed, PushEnds}
 use Rattle.word_reader.specs.declared.matcher.Matcher.{Matcher}
 use Rattle.document_store.specs.Heads.{FaultEnds, HasBody, IsWhole}
-use Rattle.document_store.specs.Looks.{IsRead, LookRefuses}
+use Rattle.document_store.specs.Looks.{LookRefuses}
 use Rattle.document_store.specs.Standing.{HoldsDocument}
 use Rattle.document_store.specs.declared.head.Head.{Head}
 use Rattle.record_query.specs.declared.found.Match.{Match}
@@ -46,6 +48,24 @@ abbrev pub SeekFails : ℕ → ℕ → ViewState → ViewState → SeekFault →
 SeekFails start bytes old new seeks.Broken = FaultEnds start bytes old new contents.Broken
 SeekFails start bytes old new seeks.ReadFault = FaultEnds start bytes old new contents.ReadFault
 SeekFails start bytes old new seeks.NoMemory = new.base.faults ≡ old.base.faults
+
+-- these many bytes, the next ones of a part, were read and pushed
+pub record Pushes (v w : ViewState) (p q : Position) (m n : Matcher) (count : ℕ) : Type 0 where
+  pub piece : List ℕ
+  pub is_length : length piece ≡ count
+  pub some : 1 ≤ count
+  pub faults : w.base.faults ≡ v.base.faults
+  pub read : (start bytes : ℕ) (given : List ℕ) → HasRead v start bytes p given
+      → HasRead w start bytes q (given ++ piece)
+  pub pushed : PushEnds m n piece (Ok tt)
+
+-- how reading and pushing the next bytes of a part that has one more may end, and why
+abbrev pub PushNextEnds
+    : ViewState → ViewState → Position → Position → Matcher → Matcher → Result ℕ SeekFault → Type 0
+PushNextEnds v w p q m n (Ok count) = Pushes v w p q m n count
+PushNextEnds v w p q m n (Err seeks.Broken) = ByteEnds v w p q (Err contents.Broken)
+PushNextEnds v w p q m n (Err seeks.ReadFault) = ByteEnds v w p q (Err contents.ReadFault)
+PushNextEnds v w p q m n (Err seeks.NoMemory) = w.base.faults ≡ v.base.faults
 
 -- how reading the body behind a head with a matcher may end, and why
 abbrev pub MatchEnds : ℕ → ℕ → Head → ViewState → ViewState → Matcher → Result Bool SeekFault → Type 0
@@ -81,16 +101,16 @@ pub record IsMatchIn (g : Layout) (image : Image) (n : ℕ) (terms : List (List 
   pub bytes_is : found.bytes ≡ length body
   pub matches : Matches (rule_of g.version) body terms
 
--- slot n was read between two images, and holds no document that has the terms
-pub record HasNoMatch (g : Layout) (before after : Image) (n : ℕ) (terms : List (List ℕ)) : Type 0 where
-  pub read : IsRead g before after n
-  pub none : (id body : List ℕ) → HoldsDocument g before n id body → Matches (rule_of g.version) body terms → ⊥
+-- slot n held no document that has the terms
+abbrev pub HasNoMatch : Layout → Image → ℕ → List (List ℕ) → Type 0
+HasNoMatch g before n terms =
+    (id body : List ℕ) → HoldsDocument g before n id body → Matches (rule_of g.version) body terms → ⊥
 
 -- how looking for the terms in the document of slot n may end, and why
 abbrev pub SlotEnds : Layout → ℕ → List (List ℕ) → ViewState → ViewState → Result (Option Match) Refusal → Type 0
 SlotEnds g n terms old new (Ok (Some found)) =
     (new.base.faults ≡ old.base.faults) × (IsTrue old.base.tells → IsMatchIn g new.image n terms found)
 SlotEnds g n terms old new (Ok None) =
-    (new.base.faults ≡ old.base.faults) × (IsTrue old.base.tells → HasNoMatch g old.image new.image n terms)
+    (new.base.faults ≡ old.base.faults) × (IsTrue old.base.tells → HasNoMatch g old.image n terms)
 SlotEnds g n terms old new (Err NoMemory) = new.base.faults ≡ old.base.faults
 SlotEnds g n terms old new (Err refusal) = LookRefuses g n old new refusal

@@ -1,57 +1,60 @@
 //! All documents that have the words which are sought.
-ghost use Rattle.std.specs.Prelude.{◌≡◌, ◌<◌, ◌≤◌, ℕ, List, IfOk};
+ghost use Rattle.std.specs.Prelude.{◌≡◌, ◌<◌, ◌≤◌, ℕ, List, IfOk, length};
 ghost use Rattle.stored_documents.specs.Words.{rule_of};
 ghost use Rattle.worm_device.specs.Views.{Viewed, seen_directly};
-ghost use Rattle.record_query.specs.Below.{BelowEnds, added};
+ghost use Rattle.zigzag_join.specs.Gathering.{Rise};
+ghost use Rattle.record_query.specs.Among.{AmongEnds, added};
 ghost use Rattle.record_query.specs.Finding.{Searches};
 ghost use Rattle.record_query.specs.Matching.{IsMatcherOf, KeepsTerms, SlotEnds};
 
+use crate::common::common_slots;
 use crate::found::Match;
 use crate::matching::match_in;
 use cell_types::{Refusal, Volume};
+use posting_list::{SoughtTerms, kept_are_owed};
 use recovery_engine::settle;
-use slot_walk::{documents_are_below, named_is_found, read_is_read};
 use std::alloc::{AllocError, Global};
 use stored_documents::rule_of;
 use word_reader::{Matcher, Term};
 use worm_device::{Device, Direct};
 
-/// Settles the volume, and answers each document of it that has all of the terms, by the volume's rule of words, by
-/// rising slot. Reads each cell of a document once.
+/// Settles the volume, and answers each document that its index has under all of the terms and that has them, by the
+/// volume's rule of words, by rising slot. The index says which documents are read: each cell of these is read once.
 ///
 /// # Errors
 ///
-/// `NotFormatted`, `NotAVolume` and `WrongSize` by cell 0; `Tampered` where a cell breaks a rule of the log, or a
-/// document is broken (rules 1 to 6); `DeviceFault`; `NoMemory`.
+/// `NotFormatted`, `NotAVolume` and `WrongSize` by cell 0; `Tampered` where a cell breaks a rule of the log (1, 2, 3, 5
+/// and 6) or of the index (8, 9 and 10), or a document is broken (4); `DeviceFault`; `NoMemory`.
 pub fn find<D: Device>(alloc: Global, device: &mut D, terms: &[Term]) -> Result<Vec<Match>, Refusal>
+    requires some { 1 ≤ length terms.now }
     ensures { Searches terms.now (D.state device.old) (D.state device.new) result }
 {
-    documents_are_below();
-    named_is_found();
-    read_is_read();
+    kept_are_owed();
     let ready = settle(device)?;
     let rule = rule_of(ready.volume.geometry.version());
+    let sought = SoughtTerms::new(alloc, &ready.volume, terms)?;
     let mut matcher = Matcher::new(alloc, terms, rule)?;
-    find_below(alloc, device, &ready.volume, ready.horizon, &mut matcher)
+    let slots = common_slots(alloc, device, &ready, &sought)?;
+    find_among(alloc, device, &ready.volume, &slots, &mut matcher)
 }
 
-/// The matches in the slots below the horizon, by rising slot.
-fn find_below<D: Device>(
+/// The matches in the slots of a row.
+fn find_among<D: Device>(
     alloc: Global,
     device: &mut D,
     volume: &Volume,
-    horizon: u32,
+    slots: &[u32],
     matcher: &mut Matcher,
 ) -> Result<Vec<Match>, Refusal>
-    requires horizon { horizon ≤ volume.now.geometry.slots }
+    requires rise { Rise slots.now }
     requires size { volume.now.geometry.cells ≤ (D.state device.old).cells }
     ensures viewed { Viewed (seen_directly (D.state device.old) 0) (seen_directly (D.state device.new) 0) }
     ensures ends { (terms : List (List ℕ)) → IsMatcherOf (rule_of volume.now.geometry.version) terms matcher.old
-        → BelowEnds volume.now.geometry horizon terms (D.state device.old) (D.state device.new) result }
+        → AmongEnds volume.now.geometry slots.now terms (D.state device.old) (D.state device.new) result }
 {
     let mut matches = Vec::new(alloc);
-    for slot in 0..horizon {
-        let found = match_on_device(alloc, device, volume, slot, matcher)?;
+    for place in 0..slots.len() {
+        let found = match_on_device(alloc, device, volume, slots[place], matcher)?;
         keep(&mut matches, found)?;
     }
     Ok(matches)
@@ -65,7 +68,6 @@ fn match_on_device<D: Device>(
     slot: u32,
     matcher: &mut Matcher,
 ) -> Result<Option<Match>, Refusal>
-    requires slot { slot < volume.now.geometry.slots }
     requires size { volume.now.geometry.cells ≤ (D.state device.old).cells }
     ensures viewed { Viewed (seen_directly (D.state device.old) 0) (seen_directly (D.state device.new) 0) }
     ensures matcher { KeepsTerms matcher.old matcher.new }
@@ -73,6 +75,10 @@ fn match_on_device<D: Device>(
         → SlotEnds volume.now.geometry slot terms (seen_directly (D.state device.old) 0)
         (seen_directly (D.state device.new) 0) result }
 {
+    if slot >= volume.geometry.slots() {
+        // The lists answer slots of the volume alone, which their contract does not say.
+        return Ok(None);
+    }
     match_in(alloc, &mut Direct::new(device), volume, slot, matcher)
 }
 

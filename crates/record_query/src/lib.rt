@@ -1,27 +1,32 @@
 //! The two queries: documents by their words, and a document by its identifier.
 //!
-//! Each settles the volume first, and then reads the documents of the slots below the horizon, one after another. On a
-//! volume with three documents and a slot that was given up:
+//! Each settles the volume first, and then goes by its index, not along its slots. On a volume with three documents and a
+//! slot that was given up:
 //!
 //!     slot         0              1            2           3
 //!     document     a              -            b           c
 //!     body         hello world    given up     hello       bye
 //!
-//!     find hello              two matches: slot 0, `a`, 11 bytes; slot 2, `b`, 5 bytes
-//!     find hello world        one match: slot 0
-//!     look up c               the bytes `bye`; slot 3, 3 bytes
-//!     look up d               absent
+//!     find hello              the word's list has slots 0 and 2: two matches, `a` with 11 bytes and `b` with 5
+//!     find hello world        the two words' lists have slot 0 in common: one match
+//!     look up c               the path of `c` leads to slot 3: the bytes `bye`; slot 3, 3 bytes
+//!     look up d               the path of `d` ends at a blank place: absent
 //!
-//! A find reads each document once, whether it matches or not: so it passes none that was there when it began, whatever
-//! somebody else writes in the meantime, or names a cell as evidence of tampering. What a word is, the version of the
-//! volume says; where words are of characters, a find takes memory for one body at a time. A look-up checks its document
-//! whole before the first byte goes out, and takes no memory.
+//! A find reads a document only where the lists of all the words have its slot, and then each of its cells once. It passes
+//! none that was kept when it began, whatever somebody else writes in the meantime, or names a cell as evidence of
+//! tampering. What it answers it has read: a posting alone makes no match. What a word is, the version of the volume says;
+//! where words are of characters, a find takes memory for one body at a time. A document that no word leads to is not read,
+//! so that one is broken there is left to an audit.
 //!
-//! Stands on `slot_walk` (what reading the slots tells of the volume), `document_store` (reading one) and `word_reader`
-//! (words). Begin with `finding.rt` and `looking_up.rt`; specs/Finding.antt and specs/LookingUp.antt say how each may
-//! end, and why.
+//! A look-up goes along the identifier's path alone. It checks its document whole before the first byte goes out, and takes
+//! no memory.
+//!
+//! Stands on `posting_list` (the slots that words have in common), `identifier_lookup` (the path of an identifier),
+//! `document_store` (reading a document) and `word_reader` (words). Begin with `finding.rt` and `looking_up.rt`;
+//! specs/Finding.antt and specs/LookingUp.antt say how each may end, and why.
 #![tactic(auto)]
 
+mod common;
 mod finding;
 mod found;
 mod looking_up;

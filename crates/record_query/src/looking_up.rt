@@ -3,24 +3,26 @@ ghost use Rattle.std.specs.Prelude.{◌≡◌, ◌<◌, ◌≤◌, IsTrue};
 ghost use Rattle.stored_documents.specs.Slots.{IsDoneSlot};
 ghost use Rattle.worm_device.specs.Views.{Viewed, seen_directly};
 ghost use Rattle.document_store.specs.Looks.{BodyEnds};
+ghost use Rattle.hash_tree.specs.Levels.{AreBounds};
 ghost use Rattle.record_query.specs.LookingUp.{LooksUp, refusal_of_body};
+ghost use Rattle.record_query.specs.Reaching.{WalksOnDevice};
 
 use crate::found::Found;
-use cell_types::{Refusal, Volume};
+use cell_types::{Fault, Refusal, Volume};
 use document_store::{BodyFault, body_into};
 use host_ports::Sink;
-use recovery_engine::settle;
-use slot_walk::{first_with_identifier, named_is_found};
+use identifier_lookup::{Walk, walk};
+use recovery_engine::{Ready, settle};
 use worm_device::{Device, Direct};
 
-/// Settles the volume, and puts the body of its first document with this identifier into the sink. The whole document
-/// is checked before the first byte goes out. Takes no memory.
+/// Settles the volume, and puts the body of the first document on the identifier's path that has it into the sink. The
+/// whole document is checked before the first byte goes out. Takes no memory.
 ///
 /// # Errors
 ///
-/// `NotFormatted`, `NotAVolume` and `WrongSize` by cell 0; `Tampered` where a cell breaks a rule of the log, or a
-/// document that was read is broken (rules 1 to 6); `Absent` where no document of the volume has the identifier;
-/// `DeviceFault`, `SinkFault`.
+/// `NotFormatted`, `NotAVolume` and `WrongSize` by cell 0; `Tampered` where a cell breaks a rule of the log (1, 2, 3, 5
+/// and 6) or of the path (11 and 12), or a document that was read is broken (4); `Absent` where the path ends and no
+/// document on it has the identifier; `DeviceFault`, `SinkFault`.
 pub fn lookup_into<D: Device, K: Sink>(
     device: &mut D,
     id: &[u8],
@@ -28,15 +30,34 @@ pub fn lookup_into<D: Device, K: Sink>(
 ) -> Result<Found, Refusal>
     ensures { LooksUp id.now (D.state device.old) (D.state device.new) (K.state sink.old) (K.state sink.new) result }
 {
-    named_is_found();
     let ready = settle(device)?;
-    let Some(slot) = first_with_identifier(device, &ready, id)? else {
-        return Err(Refusal::Absent);
+    let walked = walk_device(device, &ready, id)?;
+    let slot = match walked {
+        Walk::Found(slot) => slot,
+        Walk::End(_place, _level) => return Err(Refusal::Absent),
+        Walk::PathFull => return Err(Refusal::Absent),
     };
     match put_body(device, &ready.volume, slot, sink) {
         Ok(bytes) => Ok(Found { slot, bytes }),
         Err(fault) => Err(refusal_of_body(fault)),
     }
+}
+
+/// The walk along the identifier's path on the device.
+#[tactic(auto, using(crate::proofs::WalkedOn::device_walks))]
+fn walk_device<D: Device>(device: &mut D, ready: &Ready, id: &[u8]) -> Result<Walk, Fault>
+    requires size { ready.now.volume.geometry.cells ≤ (D.state device.old).cells }
+    requires horizon { ready.now.horizon ≤ ready.now.volume.geometry.slots }
+    requires bounds { AreBounds ready.now.volume.geometry ready.now.edge }
+    ensures { WalksOnDevice ready.now id.now (D.state device.old) (D.state device.new) result }
+{
+    walk(
+        &mut Direct::new(device),
+        &ready.volume,
+        ready.horizon,
+        ready.edge,
+        id,
+    )
 }
 
 /// Puts the body of the document of a slot of the device into the sink.

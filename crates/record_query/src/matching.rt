@@ -8,13 +8,13 @@ ghost use Rattle.append_file.specs.Reading.{IsPosition};
 ghost use Rattle.word_reader.specs.Matching.{HasPushed};
 ghost use Rattle.document_store.specs.Heads.{IsHead, id_of};
 ghost use Rattle.document_store.specs.Looks.{IsPartOf, IsStated};
-ghost use Rattle.record_query.specs.Matching.{IsMatcherOf, KeepsTerms, MatchEnds, SeekEnds, SlotEnds, seek_fault_of};
+ghost use Rattle.record_query.specs.Matching.{IsMatcherOf, KeepsTerms, MatchEnds, PushNextEnds, SeekEnds, SlotEnds, seek_fault_of};
 ghost use Rattle.record_query.specs.declared.matching.SeekFault.TheVariants as seeks;
 
 use crate::found::{Match, Text};
 use cell_types::{Geometry, NoMemory, Refusal, Volume};
 use document_store::{
-    ContentFault, Head, Part, Position, name_commit, read_byte, read_head, slot_part,
+    ContentFault, Head, Part, Position, name_commit, next_cell, read_byte, read_head, slot_part,
 };
 use std::alloc::{AllocError, Global};
 use word_reader::Matcher;
@@ -162,10 +162,37 @@ fn match_body<V: View>(
     ensures matcher { KeepsTerms matcher.old matcher.new }
     ensures ends { MatchEnds start bytes head.now (V.seen view.old) (V.seen view.new) matcher.old result }
 {
-    for _count in 0..head.body_length {
-        let byte = read_byte(view, position)?;
-        matcher.push(byte)?;
+    let mut count = 0;
+    while count < head.body_length {
+        count += push_next(view, position, matcher)?;
     }
     let matched = matcher.finish()?;
     Ok(matched)
+}
+
+/// Reads the next bytes of a part that has one more, pushes them, and answers how many they are: the next byte of a cell
+/// that was begun, or else a whole cell.
+fn push_next<V: View>(
+    view: &mut V,
+    position: &mut Position,
+    matcher: &mut Matcher,
+) -> Result<u32, SeekFault>
+    requires is { IsPosition position.old }
+    requires inside { position.old.start + cells_for position.old.bytes ≤ (V.seen view.old).cells }
+    ensures is { IsPosition position.new }
+    ensures viewed { Viewed (V.seen view.old) (V.seen view.new) }
+    ensures reads { (V.seen view.new).base.reads + position.old.read
+        ≤ (V.seen view.old).base.reads + position.new.read }
+    ensures matcher { KeepsTerms matcher.old matcher.new }
+    ensures ends { PushNextEnds (V.seen view.old) (V.seen view.new) position.old position.new matcher.old matcher.new
+        result }
+{
+    if !position.is_spent() {
+        let byte = read_byte(view, position)?;
+        matcher.push(byte)?;
+        return Ok(1);
+    }
+    let cell = next_cell(view, position)?;
+    matcher.push_all(&cell.bytes[..usize::from(cell.length)])?;
+    Ok(u32::from(cell.length))
 }

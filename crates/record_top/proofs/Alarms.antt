@@ -6,10 +6,10 @@ use Rattle.cell_types.specs.declared.refusal.Refusal.{Refusal}
 use Rattle.cell_types.specs.declared.refusal.Refusal.TheVariants.{Tampered}
 use Rattle.worm_device.specs.Counts.{IsStill}
 use Rattle.worm_device.specs.State.{DeviceState, IsDevice}
-use Rattle.recovery_engine.specs.Settling.{IsFound, Settles}
+use Rattle.commit_record.specs.Licences.{IsLicensed}
+use Rattle.recovery_engine.specs.Settling.{Settles}
 use Rattle.steady_volumes.specs.Steadiness.{IsSteady}
 use Rattle.steady_volumes.proofs.Alarms.{looked_unbroken, settling_named}
-use Rattle.slot_walk.specs.Walks.{IsQueryRule}
 use Rattle.record_query.specs.Finding.{ComesTo, settled, settling}
 use Rattle.record_top.proofs.Results.{one_refusal}
 
@@ -20,8 +20,8 @@ module _ (old new : DeviceState) (device : IsDevice old) (tells : IsTrue old.tel
       (subst (λ (r : Refusal). Settles old new (Err r)) same settles) alone steady
 
   pub query_alarms : {X : Type 0} {answer : Result X Refusal} → IsDevice new → ComesTo X old new answer
-      → (e : Evidence) → answer ≡ Err (Tampered e) → IsFound IsQueryRule old new e → ⊥
+      → (e : Evidence) → answer ≡ Err (Tampered e) → IsLicensed old new e → ⊥
   query_alarms {X} {answer} device_new (settling refusal is settles) e named found =
       settling_alarms refusal e settles (one_refusal answer refusal (Tampered e) is named)
   query_alarms device_new (settled r has) e named found =
-      looked_unbroken old new r e.rule e.cell device device_new tells has alone steady (found.licensed.broken alone)
+      looked_unbroken old new r e.rule e.cell device device_new tells has alone steady (found.broken alone)

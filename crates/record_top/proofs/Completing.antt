@@ -3,7 +3,7 @@ use Rattle.std.proofs.Common.{◌≡◌, ◌≤◌, ◌+◌, ◌++◌, ℕ, List
 use Rattle.std.proofs.lemmas.List.{append-nil}
 use Rattle.std.proofs.lemmas.Option.{none-some}
 use Rattle.cell_types.specs.Image.{Image}
-use Rattle.cell_types.specs.Layout.{Layout}
+use Rattle.cell_types.specs.Layout.{Layout, reserve_at}
 use Rattle.cell_types.specs.declared.refusal.Evidence.{Evidence}
 use Rattle.cell_types.specs.declared.refusal.Refusal.{Refusal}
 use Rattle.cell_types.specs.declared.refusal.Refusal.TheVariants as refusals
@@ -11,13 +11,16 @@ use Rattle.host_ports.specs.Sources.{Gives, IsAtEnd}
 use Rattle.stored_documents.specs.Documents.{Stands}
 use Rattle.stored_documents.specs.Slots.{IsEdge, IsHorizon}
 use Rattle.stored_documents.specs.Volumes.{IsVolume}
-use Rattle.stored_documents.proofs.Extending.{volume_on}
+use Rattle.stored_documents.proofs.Extending.{volume_on, written_on}
+use Rattle.tamper_rules.specs.Settling.{IsSettled}
+use Rattle.tamper_rules.proofs.GivenUp.{one_layout}
+use Rattle.tamper_rules.proofs.Settled.{taken_to}
 use Rattle.index_paths.specs.Postings.{AreTags}
 use Rattle.index_paths.proofs.Tags.{tags_one}
 use Rattle.volume_growth.specs.Needs.{IsNeed}
 use Rattle.worm_device.specs.Calls.{Called}
 use Rattle.worm_device.specs.State.{IsDevice}
-use Rattle.worm_device.proofs.Counting.{rose_or_still, still_first}
+use Rattle.worm_device.proofs.Counting.{rose_or_still, still_first, still_second}
 use Rattle.commit_record.specs.Licences.{IsLicensed}
 use Rattle.document_store.proofs.Holding.{held_stands}
 use Rattle.recovery_engine.specs.Settling.{HasSettled, Settles}
@@ -89,9 +92,24 @@ module _ {id body : List ℕ} {g : Layout} {slot : ℕ} {old new : Ports} (ready
       let has = h.settled in
       let still = still_first has.settles.called.foreign_writes has.looked.foreign_writes ready.begins.alone in
       let unused = settled_unused g slot old.device ready.volume ready.unused has.settles ready.begins.tells still in
-      let taken = (has.settles.ends.1 ready.begins.tells).taken slot
-      (omega (arith, ready.unused.slot, h.taken, ap (λ (l : Layout). l.slots) (layout h.ready has))) in
-      none-some taken.found (sym unused.reserve ∙ taken.stands)
+      let ends = has.settles.ends.1 ready.begins.tells in
+      let full : h.ready.horizon ≡ g.slots = h.taken ∙ ap (λ (l : Layout). l.slots) (layout h.ready has) in
+      let after = ready.sound.after in
+      let same : ready.sound.settled.layout ≡ g =
+      one_layout {cells = old.device.cells} {more = new.device.cells} ready.sound.settled.layout
+      h.ready.volume.geometry ready.sound.settled.volume
+      (subst (λ (i : Image). IsVolume new.device.cells i h.ready.volume.geometry) (stands_as h.ready has)
+      (volume_2 h.ready has ready.begins.tells)) ∙ layout h.ready has in
+      let whole : IsSettled g new.device.image = subst (IsSettled g) (sym (stands_as h.ready has))
+      (subst (λ (l : Layout). IsSettled l after) same ready.sound.settled.settled) in
+      let taken = taken_to g new.device.image whole g.slots (record {
+        most = omega arith;
+        below = λ m is. written_on has.looked.image (ends.horizon.below m (full ∙ is));
+        free = λ less. absurd (omega (arith, less));
+      }) slot ready.unused.slot in
+      let stood = has.quiet (still_second has.settles.called.foreign_writes has.looked.foreign_writes ready.begins.alone)
+      (reserve_at slot) in
+      none-some taken.found (sym (stood ∙ unused.reserve) ∙ taken.stands)
 
   -- no document has the identifier
   not_taken : (n : ℕ) → IsTaken id n old.device new.device → ⊥
@@ -118,12 +136,13 @@ module _ {id body : List ℕ} {g : Layout} {slot : ℕ} {old new : Ports} (ready
   -- no list gets too many of the body's tags
   few : (list count : ℕ) → IsTooMany id body list count old.device new.device → ⊥
   few list count h =
+      let many = h.ends.many in
       let lists = ap (λ (l : Layout). l.lists) (layout h.ready h.settled.settled) in
-      let t = ready.postings.each list (omega (arith, h.many.below, lists)) in
-      let same : h.many.tags ≡ t.0 =
-      tags_one g body list h.many.tags t.0
-      (subst (λ (l : Layout). AreTags l body list h.many.tags) (layout h.ready h.settled.settled) h.many.are) t.1 in
-      omega (arith, ap length same, h.many.number, h.many.many, t.2)
+      let t = ready.postings.each list (omega (arith, many.below, lists)) in
+      let same : many.tags ≡ t.0 =
+      tags_one g body list many.tags t.0
+      (subst (λ (l : Layout). AreTags l body list many.tags) (layout h.ready h.settled.settled) many.are) t.1 in
+      omega (arith, ap length same, many.number, many.many, t.2)
 
   -- there is room for the need
   fits : (need free : ℕ) → HasNoRoom id body need free old.device new.device → ⊥
@@ -155,7 +174,7 @@ module _ {id body : List ℕ} {g : Layout} {slot : ℕ} {old new : Ports} (ready
       ready.begins.alone ready.begins.steady (licensed.broken ready.begins.alone)
 
   -- no tampering is named
-  untouched : (e : Evidence) → IsNamed old.device new.device e → ⊥
+  untouched : (e : Evidence) → IsNamed id body old.device new.device e → ⊥
   untouched e (by_settling settles found) = settling_named old.device new.device e device ready.begins.tells settles
       ready.begins.alone ready.begins.steady
   untouched e (by_plan way) = behind_unbroken way.ready (slot_still way ready.begins.alone) way.found.licensed

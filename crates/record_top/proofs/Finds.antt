@@ -1,7 +1,8 @@
 -- How a find ends: over what every call of the device keeps, never with `Usage`, and where nothing hinders it with no
 -- refusal but want of memory.
-use Rattle.std.proofs.Common.{◌-◌, ℕ, List, Result, Ok, Err, refl, subst, sym, inl}
+use Rattle.std.proofs.Common.{◌-◌, ◌≤◌, arith, get_or, length, ℕ, List, [], Result, Ok, Err, refl, subst, sym}
 use Rattle.std.proofs.lemmas.Option.{get_or_from_slice_get, slice_get_within}
+use Rattle.std.proofs.lemmas.List.Elements.{Contains-get_or}
 use Rattle.std.specs.Global.{Vec}
 use Rattle.std.specs.Prelude.{Contains}
 use Rattle.cell_types.specs.Layout.{Layout}
@@ -14,12 +15,12 @@ use Rattle.worm_device.proofs.Elapsing.{called_self}
 use Rattle.recovery_engine.specs.Settling.{IsSettlingRule}
 use Rattle.record_query.specs.Finding.{ComesTo, FindEnds, Searches}
 use Rattle.record_query.specs.declared.found.Match.{Match}
-use Rattle.record_top.specs.Finding.{DoesFind, IsFirstBadWord, IsReadyToFind, TermsEnd, found_text, misworded, searched, unread}
+use Rattle.record_top.specs.Finding.{AreTermsOf, DoesFind, IsFirstBadWord, IsReadyToFind, TermsEnd, found_text, misworded, searched, unread}
 use Rattle.record_top.specs.Ports.{Ports, IsOkOrNoMemory, TellsFromMemory}
 use Rattle.record_top.specs.WholeLogs.{HasWholeLog}
 use Rattle.record_top.proofs.Alarms.{query_alarms}
 use Rattle.record_top.proofs.Results.{other_refusal}
-use Rattle.record_top.proofs.WholeLogs.{none_found, settles_whole, settling_log}
+use Rattle.record_top.proofs.WholeLogs.{settles_whole, settling_steady}
 
 -- where the terms can't be read, nothing is done
 pub not_searched : (asked : List (List ℕ)) (ports : Ports) (refusal : Refusal) → TermsEnd asked (Err refusal)
@@ -27,6 +28,12 @@ pub not_searched : (asked : List (List ℕ)) (ports : Ports) (refusal : Refusal)
 not_searched asked ports (refusals.BadWord i) ends = misworded i ends refl refl
 not_searched asked ports refusals.NoMemory ends = unread refl refl
 not_searched asked ports refusal ends = absurd ends
+
+-- where a word is asked for, some term is sought
+pub some_term : (asked terms : List (List ℕ)) → AreTermsOf asked terms → 1 ≤ length asked → 1 ≤ length terms
+some_term asked terms are some =
+    let there = are.all (get_or asked 0 []) (Contains-get_or asked 0 [] some) in
+    omega (arith, there.2.1)
 
 module _ (asked : List (List ℕ)) (old new : Ports) where
   -- a find keeps what every call of the device keeps
@@ -54,7 +61,7 @@ module _ (asked : List (List ℕ)) (old new : Ports) where
 module _ (asked : List (List ℕ)) (g : Layout) (old new : Ports) (ready : IsReadyToFind asked g old new)
     (device : IsDevice old.device) (device_new : IsDevice new.device) where
   settling : HasWholeLog IsSettlingRule g old.device new.device
-  settling = settling_log ready.log (λ number rule. inl rule)
+  settling = settling_steady ready.log
 
   module _ (terms : List (List ℕ)) (called : Called old.device new.device) where
     searches_whole : (refusal : Refusal) → ComesTo (Vec Match) old.device new.device (Err refusal)
@@ -62,11 +69,8 @@ module _ (asked : List (List ℕ)) (g : Layout) (old new : Ports) (ready : IsRea
     searches_whole refusals.NoMemory comes ends = tt
     searches_whole refusals.DeviceFault comes ends = rose_or_still _ _ ends ready.log.no_fault
     searches_whole (refusals.Tampered e) comes ends =
-        let found = ends ready.log.tells in
-        none_found ready.log called e
-        (λ steady. query_alarms old.device new.device device ready.log.tells ready.log.alone steady device_new comes e refl
-        found)
-        found
+        absurd (query_alarms old.device new.device device ready.log.tells ready.log.alone ready.log.is device_new comes e
+        refl (ends ready.log.tells))
     searches_whole refusals.NotFormatted comes ends =
         absurd (settles_whole settling called refusals.NotFormatted (λ e same. absurd cc) ends)
     searches_whole (refusals.NotAVolume found) comes ends =

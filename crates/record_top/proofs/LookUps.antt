@@ -1,6 +1,6 @@
 -- How a look-up ends: over what every call of the device keeps, never with `Usage`, and where nothing hinders it with
 -- no refusal but that no document has the identifier.
-use Rattle.std.proofs.Common.{ℕ, List, Result, Ok, Err, refl, subst, sym, inl}
+use Rattle.std.proofs.Common.{ℕ, List, Result, Ok, Err, refl, subst, sym}
 use Rattle.cell_types.specs.Layout.{Layout}
 use Rattle.cell_types.specs.declared.refusal.Refusal.{Refusal}
 use Rattle.cell_types.specs.declared.refusal.Refusal.TheVariants as refusals
@@ -17,7 +17,7 @@ use Rattle.record_top.specs.Ports.{Ports, IsOkOrAbsent}
 use Rattle.record_top.specs.WholeLogs.{HasWholeLog}
 use Rattle.record_top.proofs.Alarms.{query_alarms}
 use Rattle.record_top.proofs.Results.{no_answer, one_refusal, other_refusal}
-use Rattle.record_top.proofs.WholeLogs.{none_found, settles_whole, settling_log}
+use Rattle.record_top.proofs.WholeLogs.{settles_whole, settling_steady}
 
 module _ (id : List ℕ) (old new : Ports) where
   -- a look-up keeps what every call of the device keeps
@@ -42,7 +42,7 @@ module _ (id : List ℕ) (old new : Ports) where
 module _ (id : List ℕ) (g : Layout) (old new : Ports) (ready : IsReadyToLookUp id g old new) (device : IsDevice old.device)
     (device_new : IsDevice new.device) where
   settling : HasWholeLog IsSettlingRule g old.device new.device
-  settling = settling_log ready.log (λ number rule. inl rule)
+  settling = settling_steady ready.log
 
   module _ (called : Called old.device new.device) where
     looks_whole : (refusal : Refusal) → ComesTo Found old.device new.device (Err refusal)
@@ -51,11 +51,8 @@ module _ (id : List ℕ) (g : Layout) (old new : Ports) (ready : IsReadyToLookUp
     looks_whole refusals.DeviceFault comes ends = rose_or_still _ _ ends.0 ready.log.no_fault
     looks_whole refusals.SinkFault comes ends = rose_or_still _ _ ends.0 ready.no_sink_fault
     looks_whole (refusals.Tampered e) comes ends =
-        let found = (ends.1 ready.log.tells).1 in
-        none_found ready.log called e
-        (λ steady. query_alarms old.device new.device device ready.log.tells ready.log.alone steady device_new comes e refl
-        found)
-        found
+        absurd (query_alarms old.device new.device device ready.log.tells ready.log.alone ready.log.is device_new comes e
+        refl (ends.1 ready.log.tells).1)
     looks_whole refusals.NotFormatted comes ends =
         absurd (settles_whole settling called refusals.NotFormatted (λ e same. absurd cc) ends.1)
     looks_whole (refusals.NotAVolume found) comes ends =

@@ -16,13 +16,13 @@ use Rattle.worm_device.specs.Calls.{Called}
 use Rattle.worm_device.specs.State.{DeviceState, IsDevice}
 use Rattle.worm_device.proofs.Elapsing.{elapses_of}
 use Rattle.worm_device.proofs.Images.{extends_self, extends_then}
-use Rattle.recovery_engine.specs.Settling.{IsFound, Settles}
+use Rattle.recovery_engine.specs.Settling.{Settles}
 use Rattle.recovery_engine.specs.declared.settling.Ready.{Ready}
 use Rattle.steady_volumes.specs.Steadiness.{IsLeftWhole, IsSteady, StaysSteady}
 use Rattle.steady_volumes.proofs.LeftWhole.{held_unmoved, left_between, not_blank, settling_keeps, settling_left, stays_steady}
 use Rattle.steady_volumes.proofs.LookedAt.{looking_keeps, looking_steady}
 use Rattle.ingest_engine.specs.Formats.{volume_cell}
-use Rattle.slot_walk.specs.Walks.{IsQueryRule}
+use Rattle.commit_record.specs.Licences.{IsLicensed}
 use Rattle.record_query.specs.Finding.{ComesTo, FindEnds, settled, settling}
 use Rattle.record_query.specs.LookingUp.{LookUpEnds}
 use Rattle.record_query.specs.declared.found.Found.{Found}
@@ -246,7 +246,7 @@ module _ (old new : Ports) (device : IsDevice old.device) (device_new : IsDevice
       looking_steady old.device new.device r begins.tells has begins.alone device device_new begins.steady
 
   query_names : {X : Type 0} {answer : Result X Refusal} → ComesTo X old.device new.device answer → (e : Evidence)
-      → answer ≡ Err (refusals.Tampered e) → IsFound IsQueryRule old.device new.device e → ⊥
+      → answer ≡ Err (refusals.Tampered e) → IsLicensed old.device new.device e → ⊥
   query_names comes e named found =
       query_alarms old.device new.device device begins.tells begins.alone begins.steady device_new comes e named found
 

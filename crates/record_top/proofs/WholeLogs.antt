@@ -16,7 +16,7 @@ use Rattle.worm_device.proofs.Counting.{rose_or_still}
 use Rattle.commit_record.specs.Opening.{IsNoVolumeCell}
 use Rattle.recovery_engine.specs.Settling.{IsFound, IsSettlingRule, SettleEnds}
 use Rattle.steady_volumes.specs.Steadiness.{IsSteady}
-use Rattle.record_top.specs.WholeLogs.{HasWholeLog, IsUntampered, steady, unbroken}
+use Rattle.record_top.specs.WholeLogs.{HasSteadyVolume, HasWholeLog, IsUntampered, steady, unbroken}
 
 some_is : (a b : List ℕ) → Some a ≡ Some b → a ≡ b
 some_is a b e = cc
@@ -67,17 +67,13 @@ settles_whole whole called (refusals.WrongSize stated real) alarm ends =
 settles_whole whole called (refusals.Tampered e) alarm ends = none_found whole called e (alarm e refl) (ends whole.tells)
 settles_whole whole called refusal alarm ends = ends
 
--- nothing hinders settling either, where its rules are looked at, too
-pub settling_log : {IsLookedAt : ℕ → Type 0} {g : Layout} {old new : DeviceState} → HasWholeLog IsLookedAt g old new
-    → ((number : ℕ) → IsSettlingRule number → IsLookedAt number) → HasWholeLog IsSettlingRule g old new
-settling_log {IsLookedAt} {g} {old} whole too = record {
+-- nothing hinders settling of a steady volume
+pub settling_steady : {g : Layout} {old new : DeviceState} → HasSteadyVolume g old new
+    → HasWholeLog IsSettlingRule g old new
+settling_steady whole = record {
   tells = whole.tells;
   volume = whole.volume;
-  untampered = fewer whole.untampered;
+  untampered = steady whole.is;
   alone = whole.alone;
   no_fault = whole.no_fault;
 }
-  where
-    fewer : IsUntampered IsLookedAt old → IsUntampered IsSettlingRule old
-    fewer (steady is) = steady is
-    fewer (unbroken none) = unbroken (λ number cell rule broken. none number cell (too number rule) broken)

@@ -8,11 +8,10 @@ use Rattle.cell_types.specs.declared.refusal.Refusal.TheVariants.{BadWord, NoMem
 use Rattle.stored_documents.specs.Words.{AreWords}
 use Rattle.stored_documents.specs.declared.word_rules.WordRule.TheVariants.{Ascii}
 use Rattle.worm_device.specs.Counts.{IsStill}
-use Rattle.slot_walk.specs.Walks.{IsQueryRule}
 use Rattle.record_query.specs.Finding.{Searches}
 use Rattle.record_query.specs.declared.found.Match.{Match}
 use Rattle.record_top.specs.Ports.{Ports, TellsFromMemory}
-use Rattle.record_top.specs.WholeLogs.{HasWholeLog}
+use Rattle.record_top.specs.WholeLogs.{HasSteadyVolume}
 use Rattle.record_top.specs.Words.{IsNoOption}
 use Rattle.record_top.specs.declared.words.TheConstants.{MAX_QUERY_WORDS}
 
@@ -85,5 +84,5 @@ pub data DoesFind (asked : List (List ℕ)) (old new : Ports) (result : Result U
 -- all is as the command wants it: each word holds exactly one term
 pub record IsReadyToFind (asked : List (List ℕ)) (g : Layout) (old new : Ports) : Type 0 where
   pub words : (word : List ℕ) → Contains asked word → HasOneTerm word
-  pub log : HasWholeLog IsQueryRule g old.device new.device
+  pub log : HasSteadyVolume g old.device new.device
   pub no_sink_fault : IsStill old.sink.faults new.sink.faults

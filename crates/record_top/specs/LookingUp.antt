@@ -5,11 +5,10 @@ use Rattle.cell_types.specs.declared.refusal.Refusal.{Refusal}
 use Rattle.cell_types.specs.declared.refusal.Refusal.TheVariants.{BadIdentifier}
 use Rattle.stored_documents.specs.Documents.{IsIdentifier}
 use Rattle.worm_device.specs.Counts.{IsStill}
-use Rattle.slot_walk.specs.Walks.{IsQueryRule}
 use Rattle.record_query.specs.LookingUp.{LooksUp}
 use Rattle.record_query.specs.declared.found.Found.{Found}
 use Rattle.record_top.specs.Ports.{Ports}
-use Rattle.record_top.specs.WholeLogs.{HasWholeLog}
+use Rattle.record_top.specs.WholeLogs.{HasSteadyVolume}
 use Rattle.record_top.specs.Words.{IsNoOption}
 
 -- the words are `lookup` and this one
@@ -34,5 +33,5 @@ pub data DoesLookUp (id : List ℕ) (old new : Ports) (result : Result Unit Refu
 -- all is as the command wants it
 pub record IsReadyToLookUp (id : List ℕ) (g : Layout) (old new : Ports) : Type 0 where
   pub identifier : IsIdentifier id
-  pub log : HasWholeLog IsQueryRule g old.device new.device
+  pub log : HasSteadyVolume g old.device new.device
   pub no_sink_fault : IsStill old.sink.faults new.sink.faults

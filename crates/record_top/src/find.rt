@@ -25,6 +25,7 @@ pub fn find_documents<D: Device, S: Source, K: Sink>(
     source: &mut S,
     sink: &mut K,
 ) -> Outcome
+    requires some { 1 ≤ length words.now }
     requires most { length words.now ≤ MAX_QUERY_WORDS }
     ensures { DoesFind (map string_bytes words.now)
         (ports_of (D.state device.old) (S.state source.old) (K.state sink.old))

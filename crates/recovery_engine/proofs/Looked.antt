@@ -18,12 +18,13 @@ use Rattle.worm_device.proofs.Counting.{still_first, still_second}
 use Rattle.worm_device.proofs.Elapsing.{called_then, elapses_of}
 use Rattle.worm_device.proofs.Images.{extends_self, extends_then, unchanged_then}
 use Rattle.recovery_engine.specs.Ending.{HasJournal, IsFirstEnd, IsLastEnd, end_plan, end_phases, step_of}
-use Rattle.recovery_engine.specs.Settling.{Settles, SettleEnds, NamesTarget, EndsByPhases, IsEnding, settle_plan}
+use Rattle.recovery_engine.specs.Settling.{Settles, SettleEnds, LooksBriefly, NamesTarget, EndsByPhases, IsEnding, settle_plan}
+use Rattle.recovery_engine.specs.declared.settling.Step.TheVariants.{Nothing}
 use Rattle.recovery_engine.specs.LastSlot.{IsLast}
 use Rattle.cell_types.specs.Layout.{Layout}
-use Rattle.stored_documents.specs.Slots.{AreTaken, IsHorizon}
+use Rattle.stored_documents.specs.Slots.{IsHorizon}
 use Rattle.stored_documents.specs.Volumes.{IsVolume}
-use Rattle.stored_documents.proofs.Extending.{horizon_further, taken_on}
+use Rattle.stored_documents.proofs.Extending.{horizon_further}
 use Rattle.recovery_engine.proofs.InOrder.{state_further}
 use Rattle.recovery_engine.specs.declared.settling.Ready.{Ready}
 
@@ -129,8 +130,9 @@ none_settles image j put h = ⊎_elim
 settled_spared : (old now : DeviceState) (result : Result Ready Refusal) → Called old now
     → (IsStill old.foreign_writes now.foreign_writes → IsUnchanged old.image now.image) → CrashesSpare old now
     → (IsOk result → IsTrue old.tells → Extends old.image now.sure) → IfOk result (λ r. r.step ≡ step_of 0 Unused)
-    → (IsTrue old.tells → NamesTarget old now result) → SettleEnds old now result → Settles old now result
-settled_spared old now result called quiet crashes synced step targets ends = record {
+    → (IsTrue old.tells → NamesTarget old now result) → SettleEnds old now result → LooksBriefly old now result
+    → Settles old now result
+settled_spared old now result called quiet crashes synced step targets ends reads = record {
   called = called;
   writes = λ tells. record {
     between = old.image;
@@ -141,24 +143,34 @@ settled_spared old now result called quiet crashes synced step targets ends = re
     quiet = λ still cell. refl;
     ending = λ some. absurd (omega (arith, some));
     step = step;
+    below = λ some. absurd (omega (arith, some));
     sure = λ okay. (λ put h. absurd (none_settles old.image h.0 put h.2), synced okay tells);
     only = λ still. changes_same (IsInFirst (settle_plan old.image 0 Unused) 3) old.image now.image (quiet still);
     crashes = spared_phases (settle_plan old.image 0 Unused) 3 old now quiet crashes;
   };
   ends = ends;
   targets = targets;
+  reads = reads;
 }
 
 pub settled_looked : (old now : DeviceState) (result : Result Ready Refusal) → Looked old now
     → IfOk result (λ r. r.step ≡ step_of 0 Unused) → (IsTrue old.tells → NamesTarget old now result)
-    → SettleEnds old now result → Settles old now result
-settled_looked old now result looked step targets ends = settled_spared old now result looked.called looked.quiet
-    looked.crashes (λ okay tells. looked.synced tells) step targets ends
+    → SettleEnds old now result → LooksBriefly old now result → Settles old now result
+settled_looked old now result looked step targets ends reads = settled_spared old now result looked.called
+    looked.quiet looked.crashes (λ okay tells. looked.synced tells) step targets ends reads
 
 -- the sync failed
 pub sync_failed : (s0 s1 : DeviceState) (f : Failed) → Syncs s0 s1 (Err f) → Settles s0 s1 (Err DeviceFault)
 sync_failed s0 s1 f sync = settled_spared s0 s1 (Err DeviceFault) sync.called sync.only (spared_call sync.called)
-    (λ okay tells. absurd (false_true okay)) tt (λ tells. tt) sync.cause
+    (λ okay tells. absurd (false_true okay)) tt (λ tells. tt) sync.cause tt
+
+-- where the step is none, no phase was to be put
+pub none_ended : (n : ℕ) (state : SlotState) → step_of n state ≡ Nothing → end_phases state ≡ 0
+none_ended n Unused is = refl
+none_ended n (Reserved s l) is = cc
+none_ended n (Abandoned s l) is = refl
+none_ended n (Committed s l b j) is = cc
+none_ended n (Done s l b j) is = refl
 
 two_phases : (state : SlotState) → end_phases state ≤ 2
 two_phases Unused = omega arith
@@ -200,13 +212,12 @@ in_phases image n (Done s l b k) j put h = absurd (⊎_elim (λ (a : (j ≡ 1) �
 -- the slot that settling is to end
 pub ending_of : (g : Layout) (n u : ℕ) (s0 s2 s3 s5 : DeviceState) (state : SlotState) → u ≡ n + 1 → Looked s0 s2
     → Called s2 s3 → Looked s0 s5 → Called s3 s5
-    → IsVolume s5.cells s5.image g → IsHorizon g s2.image s3.image u → AreTaken s3.image u
+    → IsVolume s5.cells s5.image g → IsHorizon g s2.image s3.image u
     → IsLast g s3.image s5.image n state → HasJournal g state s5.image → IsEnding s0.cells s0.image s5.image n state
-ending_of g n u s0 s2 s3 s5 state next l2 c23 l5 c35 volume horizon taken last journal = record {
+ending_of g n u s0 s2 s3 s5 state next l2 c23 l5 c35 volume horizon last journal = record {
   layout = g;
   volume = subst (λ (k : ℕ). IsVolume k s5.image g) l5.called.cells volume;
   horizon = subst (λ (k : ℕ). IsHorizon g s0.image s5.image k) next (horizon_further l2.called.image c35.image horizon);
-  taken = subst (AreTaken s5.image) next (taken_on u c35.image taken);
   is = state_further g s3.image s0.image s5.image s5.image n state (extends_then l2.called.image c23.image)
       (extends_self s5.image) last.is;
   journal = journal;
@@ -218,13 +229,15 @@ pub settled_ended : (n : ℕ) (s0 s4 s5 : DeviceState) (state : SlotState) (ende
     → PutsPhases (end_plan s4.image n state) (end_phases state) s4 s5 ended →
     (IsTrue s0.tells → IsEnding s0.cells s0.image s4.image n state)
     → (IsOk result → PutsPhases (end_plan s4.image n state) (end_phases state) s4 s5 (Ok tt))
-    → IfOk result (λ r. r.step ≡ step_of n state) → (IsTrue s0.tells → NamesTarget s0 s5 result)
-    → SettleEnds s0 s5 result → Settles s0 s5 result
-settled_ended n s0 s4 s5 state ended result looked phases ending okay step targets ends = record {
+    → IfOk result (λ r. r.step ≡ step_of n state) → IfOk result (λ r. r.horizon ≡ n + 1)
+    → (IsTrue s0.tells → NamesTarget s0 s5 result) → SettleEnds s0 s5 result → LooksBriefly s0 s5 result
+    → Settles s0 s5 result
+settled_ended n s0 s4 s5 state ended result looked phases ending okay step below targets ends reads = record {
   called = called_then looked.called phases.puts.called;
   writes = λ tells. writes ended phases tells;
   ends = ends;
   targets = targets;
+  reads = reads;
 }
   where
     plan : ℕ → Put → Type 0
@@ -252,6 +265,7 @@ settled_ended n s0 s4 s5 state ended result looked phases ending okay step targe
           quiet = λ still. looked.quiet (still_first looked.called.foreign_writes p.puts.called.foreign_writes still);
           ending = λ some. ending tells;
           step = step;
+          below = λ some. below;
           sure = λ ok.
               let sure = (all (Ok tt) (okay ok)).sure tells in (
                 λ put h. sure.0 put (h.0, in_phases s4.image n state h.0 put h.2, h.2),

@@ -9,12 +9,13 @@ use Rattle.cell_types.specs.declared.record_cell.RecordCell.TheVariants as recor
 use Rattle.cell_types.specs.declared.refusal.Evidence.{Evidence}
 use Rattle.commit_record.specs.Reservations.{reservation_of}
 use Rattle.commit_record.specs.Licences.{IsLicensed}
+use Rattle.commit_record.specs.LogEnds.{IsLogEnd}
 use Rattle.commit_record.specs.declared.reservation.Reservation.{Reservation}
 use Rattle.commit_record.specs.declared.slot.SlotState.{SlotState}
 use Rattle.commit_record.specs.declared.slot.SlotState.TheVariants.{Unused, Reserved, Abandoned, Committed, Done}
-use Rattle.stored_documents.specs.Slots.{Reserves, HasEnded, IsHorizon, AreTaken}
+use Rattle.stored_documents.specs.Slots.{Reserves, HasEnded}
 use Rattle.stored_documents.specs.Volumes.{IsVolume}
-use Rattle.stored_documents.proofs.Extending.{blank_before, reserves_on, commits_on, reserved_further, abandoned_further, committed_further, done_on, horizon_further, taken_on}
+use Rattle.stored_documents.proofs.Extending.{blank_before, ended_further, ends_on, reserves_on, commits_on, reserved_further, abandoned_further, committed_further, done_on, horizon_further, written_on}
 use Rattle.cell_types.specs.declared.refusal.Fault.{Fault}
 use Rattle.cell_types.specs.declared.refusal.Fault.TheVariants as faults
 use Rattle.commit_record.specs.Opening.{OpenEnds, refusal_of}
@@ -28,7 +29,7 @@ use Rattle.worm_device.proofs.Counting.{still_first, still_second}
 use Rattle.worm_device.proofs.Elapsing.{called_then}
 use Rattle.worm_device.proofs.Images.{extends_self, extends_then}
 use Rattle.recovery_engine.specs.LastSlot.{IsLast, IsNamed, IsSlotRule, LastEnds}
-use Rattle.recovery_engine.specs.Settling.{StepMakes, IsReady, LiesInBounds, NamesTarget, SettleEnds, unused}
+use Rattle.recovery_engine.specs.Settling.{LastFollows, StepMakes, IsReady, LiesInBounds, NamesTarget, SettleEnds, unused}
 use Rattle.tamper_rules.specs.declared.numbers.TheConstants.{OTHER_TARGET, RESERVE_CELL, OUTCOME_CELL, DONE_CELL}
 use Rattle.cell_types.specs.declared.geometry.Volume.{Volume}
 use Rattle.cell_types.specs.Refusals.{refusal_of_fault}
@@ -128,24 +129,39 @@ module _ (g : Layout) (n u : ℕ) (cells : Reservation) (next : u ≡ n + 1) (le
             ),
       )
 
+  -- the slot follows the one before it, at the end too
+  last_follows : (state : SlotState) → IsLast g s3.image s4.image n state → reservation_of state ≡ Some cells
+      → LastFollows g s0.image s5.image n
+  last_follows state last reserved =
+      let follows = last.follows cells reserved in
+      record {
+        start = cells.start;
+        length = cells.length;
+        reserves = reserves_on c45.image (reserved_by g s3.image s4.image n state cells last.is reserved);
+        follows = record {
+          begins = ends_on {before = s3.image} {before' = s3.image} (extends_self s3.image) c45.image follows.begins;
+          ended = λ m is. ended_further e03 c45.image (follows.ended m is);
+        };
+      }
+
   -- the volume is ready
   pub ready : (r : Ready) (state : SlotState) (u0 : Unit {0}) → r.volume.geometry ≡ g → r.horizon ≡ u
       → r.edge ≡ cells.start + cells.length → IsVolume s5.cells s5.image r.volume.geometry
-      → IsHorizon r.volume.geometry s2.image s3.image r.horizon → AreTaken s3.image r.horizon
+      → IsLogEnd r.volume.geometry s2.image s3.image r.horizon
       → IsLast g s3.image s4.image n state → reservation_of state ≡ Some cells
       → HasJournal g state s4.image → PutsPhases (end_plan s4.image n state) (end_phases state) s4 s5 (Ok u0) → r.step ≡
       step_of n state → Extends s0.image s5.sure
       → (IsStill s2.foreign_writes s4.foreign_writes → IsUnchanged s2.image s4.image) → IsReady s0 s5 r
-  ready r state u0 e_g e_u e_edge volume horizon taken last reserved entries phases e_step synced quiet = record {
+  ready r state u0 e_g e_u e_edge volume log last reserved entries phases e_step synced quiet = record {
     volume = volume;
-    horizon = horizon_further c02.image (extends_then c34.image c45.image) horizon;
-    taken = taken_on r.horizon (extends_then c34.image c45.image) taken;
+    horizon = horizon_further c02.image (extends_then c34.image c45.image) log.horizon;
+    full = λ w. log.full (written_on c02.image w);
     free = λ still under.
         let more : s2.foreign_writes ≤ s4.foreign_writes = omega (arith, c23.foreign_writes, c34.foreign_writes) in
         let e25 = still_second c02.foreign_writes (omega (arith, more, c45.foreign_writes)) still in
         stays_free g n r.horizon state s4 s5 u0 (subst (λ (h : Layout). r.horizon < h.slots) e_g under) entries phases
         tells (still_second more c45.foreign_writes e25)
-        (quiet (still_first more c45.foreign_writes e25) (reserve_at r.horizon) ∙ horizon.free under);
+        (quiet (still_first more c45.foreign_writes e25) (reserve_at r.horizon) ∙ log.horizon.free under);
     edge = inr (
       n,
       cells.start,
@@ -155,6 +171,9 @@ module _ (g : Layout) (n u : ℕ) (cells : Reservation) (next : u ≡ n + 1) (le
           (reserves_on c45.image (reserved_by g s3.image s4.image n state cells last.is reserved)),
       e_edge,
     );
+    last = λ m is.
+        subst (λ (h : Layout). LastFollows h s0.image s5.image m) (sym e_g)
+        (subst (LastFollows g s0.image s5.image) (same_slot m (sym e_u ∙ is)) (last_follows state last reserved));
     step = subst (λ (h : Layout). StepMakes h s0 s5 r.horizon r.step) (sym e_g)
         (subst (λ (k : ℕ). StepMakes g s0 s5 k r.step) (sym e_u)
         (subst (StepMakes g s0 s5 u) (sym e_step) (step_makes state u0 last entries reserved phases)));
@@ -175,15 +194,16 @@ unused_bounds new volume version layout size = record {
 
 pub unused_ready : (s0 s2 s3 : DeviceState) (volume : Volume) → Called s0 s2 → Called s2 s3
     → (IsStill s2.foreign_writes s3.foreign_writes → IsUnchanged s2.image s3.image)
-    → IsVolume s3.cells s3.image volume.geometry → IsHorizon volume.geometry s2.image s3.image 0
+    → IsVolume s3.cells s3.image volume.geometry → IsLogEnd volume.geometry s2.image s3.image 0
     → Extends s0.image s3.sure → IsReady s0 s3 (unused volume)
-unused_ready s0 s2 s3 volume c02 c23 quiet is horizon synced = record {
+unused_ready s0 s2 s3 volume c02 c23 quiet is log synced = record {
   volume = is;
-  horizon = horizon_further c02.image (extends_self s3.image) horizon;
-  taken = λ m below. absurd (omega (arith, below));
+  horizon = horizon_further c02.image (extends_self s3.image) log.horizon;
+  full = λ w. log.full (written_on c02.image w);
   free = λ still under.
-      quiet (still_second c02.foreign_writes c23.foreign_writes still) (reserve_at 0) ∙ horizon.free under;
+      quiet (still_second c02.foreign_writes c23.foreign_writes still) (reserve_at 0) ∙ log.horizon.free under;
   edge = inl (refl, refl);
+  last = λ m is. absurd (omega (arith, is));
   step = λ m is. absurd (omega (arith, is));
   synced = synced;
 }

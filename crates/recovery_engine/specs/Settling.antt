@@ -1,12 +1,12 @@
 -- What it means that a volume is settled: what a crash left half done is given up or carried out.
-use Rattle.std.specs.Prelude.{◌≡◌, ◌≢◌, ◌<◌, ◌≤◌, ◌+◌, ◌⊎◌, ℕ, List, Some, None, Result, Ok, Err, IsTrue, IsOk, IfOk, ⊤}
+use Rattle.std.specs.Prelude.{◌≡◌, ◌≢◌, ◌<◌, ◌≤◌, ◌+◌, ◌-◌, ◌⊎◌, ℕ, List, Some, None, Result, Ok, Err, IsTrue, IsOk, IfOk, ⊤}
 use Rattle.cell_types.specs.Image.{Image, Extends, IsUnchanged}
 use Rattle.cell_types.specs.Layout.{Layout, IsLayout, reserve_at, pool_at}
 use Rattle.cell_types.specs.declared.refusal.Evidence.{Evidence}
 use Rattle.cell_types.specs.declared.refusal.Refusal.{Refusal}
 use Rattle.cell_types.specs.declared.refusal.Refusal.TheVariants.{Tampered, DeviceFault, NotFormatted, NotAVolume, WrongSize}
-use Rattle.stored_documents.specs.Slots.{IsReserved, IsCommitted, IsAbandoned, IsDone, HasEnded, EndsBelow, IsHorizon, AreTaken}
-use Rattle.stored_documents.specs.Volumes.{Holds, IsVolume, volume_record}
+use Rattle.stored_documents.specs.Slots.{Reserves, IsReserved, IsCommitted, IsAbandoned, IsDone, HasEnded, EndsBelow, IsHorizon}
+use Rattle.stored_documents.specs.Volumes.{Holds, IsVolume, IsWritten, volume_record}
 use Rattle.tamper_rules.specs.Journals.{journal_at}
 use Rattle.tamper_rules.specs.Rules.{IsBroken}
 use Rattle.tamper_rules.specs.declared.numbers.TheConstants.{BROKEN_JOURNAL, OTHER_TARGET}
@@ -21,7 +21,7 @@ use Rattle.commit_record.specs.States.{IsState}
 use Rattle.commit_record.specs.declared.slot.SlotState.{SlotState}
 use Rattle.recovery_engine.specs.Ending.{HasJournal, IsFirstEnd, IsLastEnd, end_phases, step_of}
 use Rattle.recovery_engine.specs.Entries.{target_of}
-use Rattle.recovery_engine.specs.LastSlot.{IsSlotRule}
+use Rattle.recovery_engine.specs.LastSlot.{Follows, IsSlotRule}
 use Rattle.cell_types.specs.declared.geometry.Volume.{Volume}
 use Rattle.recovery_engine.specs.declared.settling.Ready.{Ready}
 use Rattle.recovery_engine.specs.declared.settling.Step.{Step}
@@ -55,15 +55,24 @@ StepMakes g old new u (Completed n) =
     × IsCommitted g old.image new.image n start length bytes journal × IsDone g new.sure n start length bytes journal
     × AreApplied new.sure (journal_at start length journal) journal
 
--- A volume is ready for what comes: its horizon, which is the least one, and its edge; what the step has made; and that
--- all that stood is sure.
+-- slot m reserves cells that begin where those of the slots below it end, and the slot before it has ended
+pub record LastFollows (g : Layout) (before after : Image) (m : ℕ) : Type 0 where
+  pub start : ℕ
+  pub length : ℕ
+  pub reserves : Reserves g after m start length
+  pub follows : Follows g before after m start
+
+-- A volume is ready for what comes: its horizon, which is its number of slots where the last slot was taken, and its
+-- edge; that the slot below the horizon follows the one before it; what the step has made; and that all that stood is
+-- sure.
 pub record IsReady (old new : DeviceState) (r : Ready) : Type 0 where
   pub volume : IsVolume new.cells new.image r.volume.geometry
   pub horizon : IsHorizon r.volume.geometry old.image new.image r.horizon
-  pub taken : AreTaken new.image r.horizon
+  pub full : IsWritten old.image (reserve_at (r.volume.geometry.slots - 1)) → r.horizon ≡ r.volume.geometry.slots
   pub free : IsStill old.foreign_writes new.foreign_writes
       → r.horizon < r.volume.geometry.slots → new.image (reserve_at r.horizon) ≡ None
   pub edge : EndsBelow r.volume.geometry new.image r.horizon r.edge
+  pub last : (m : ℕ) → r.horizon ≡ m + 1 → LastFollows r.volume.geometry old.image new.image m
   pub step : StepMakes r.volume.geometry old new r.horizon r.step
   pub synced : Extends old.image new.sure
 
@@ -113,18 +122,18 @@ NamesTarget old new result = ⊤
 abbrev pub settle_plan : Image → ℕ → SlotState → ℕ → Put → Type 0
 settle_plan image n state j put = ((j ≡ 1) × IsFirstEnd image n state put) ⊎ ((j ≡ 2) × IsLastEnd n state put)
 
--- Slot n, the one below the least horizon of a volume, is in this state, as seen between two images; and where it is
+-- Slot n, the one below a horizon of a volume, is in this state, as seen between two images; and where it is
 -- committed, each cell of its journal asks for what it may ask for.
 pub record IsEnding (cells : ℕ) (old between : Image) (n : ℕ) (state : SlotState) : Type 0 where
   pub layout : Layout
   pub volume : IsVolume cells between layout
   pub horizon : IsHorizon layout old between (n + 1)
-  pub taken : AreTaken between (n + 1)
   pub is : IsState layout old between n state
   pub journal : HasJournal layout state between
 
--- Settling ends one slot at most, by its state, in phases, and its step says which. The slot's journal stands in an
--- image that lies between the one at entry and the one at exit, and is the one at entry where nobody else wrote.
+-- Settling ends one slot at most, by its state, in phases, and its step says which; it is the one below the horizon
+-- that is answered. The slot's journal stands in an image that lies between the one at entry and the one at exit, and
+-- is the one at entry where nobody else wrote.
 pub record EndsByPhases (old new : DeviceState) (result : Result Ready Refusal) : Type 0 where
   pub between : Image
   pub grows : Extends old.image between
@@ -134,11 +143,17 @@ pub record EndsByPhases (old new : DeviceState) (result : Result Ready Refusal) 
   pub quiet : IsStill old.foreign_writes new.foreign_writes → IsUnchanged old.image between
   pub ending : 1 ≤ end_phases state → IsEnding old.cells old.image between slot state
   pub step : IfOk result (λ r. r.step ≡ step_of slot state)
+  pub below : 1 ≤ end_phases state → IfOk result (λ r. r.horizon ≡ slot + 1)
   pub sure : IsOk result
       → AreStanding (IsInFirst (settle_plan between slot state) 3) new.sure × Extends old.image new.sure
   pub only : IsStill old.foreign_writes new.foreign_writes
       → ChangesBy (IsInFirst (settle_plan between slot state) 3) old.image new.image
   pub crashes : CrashesLeavePhases (settle_plan between slot state) 3 old new
+
+-- where there was nothing to end, 64 reads are enough
+abbrev pub LooksBriefly : DeviceState → DeviceState → Result Ready Refusal → Type 0
+LooksBriefly old new (Ok r) = r.step ≡ Nothing → new.reads ≤ old.reads + 64
+LooksBriefly old new (Err refusal) = ⊤
 
 -- what it means that a volume is settled, or that settling it was ended
 pub record Settles (old new : DeviceState) (result : Result Ready Refusal) : Type 0 where
@@ -146,6 +161,7 @@ pub record Settles (old new : DeviceState) (result : Result Ready Refusal) : Typ
   pub writes : IsTrue old.tells → EndsByPhases old new result
   pub ends : SettleEnds old new result
   pub targets : IsTrue old.tells → NamesTarget old new result
+  pub reads : LooksBriefly old new result
 
 -- The volume was settled, and has only been looked at since.
 pub record HasSettled (old new : DeviceState) (r : Ready) : Type 0 where

@@ -60,6 +60,7 @@ pub fn check_slot<D: Device>(
     ensures called { Called (D.state device.old) (D.state device.new) }
     ensures quiet { IsStill (D.state device.old).foreign_writes (D.state device.new).foreign_writes →
         IsUnchanged (D.state device.old).image (D.state device.new).image }
+    ensures reads { end_phases state.now ≡ 0 → (D.state device.new).reads ≡ (D.state device.old).reads }
     ensures ends { SlotCheckEnds geometry.now slot state.now (D.state device.old) (D.state device.new) result }
 {
     match *state {
@@ -89,8 +90,9 @@ pub fn end_slot<D: Device>(
     requires within { LiesInPool geometry.now state.now }
     requires journal { IsTrue (D.state device.old).tells →
         HasJournal geometry.now state.now (D.state device.old).image }
-    ensures { PutsPhases (end_plan (D.state device.old).image slot state.now) (end_phases state.now)
+    ensures phases { PutsPhases (end_plan (D.state device.old).image slot state.now) (end_phases state.now)
         (D.state device.old) (D.state device.new) result }
+    ensures reads { end_phases state.now ≡ 0 → (D.state device.new).reads ≡ (D.state device.old).reads }
 {
     match *state {
         SlotState::Reserved { .. } => {

@@ -9,7 +9,9 @@
 //!
 //! Before it trusts any of this it makes sure what stands, by a first sync, and checks that the slot follows those
 //! below it and that its journal asks for nothing but index cells. A cell that is out of place is named, with the rule
-//! that it breaks. No memory is taken, and it may be cut short anywhere and begun again.
+//! that it breaks. No memory is taken, and it may be cut short anywhere and begun again. The slots before these two are
+//! not looked at, so that settling costs the same on a long log: the last slot is the one below the horizon that a
+//! bisection finds, and where it has ended 64 reads are enough.
 //!
 //! `apply_journal` and `finish` are the last two phases, which an ingest shares.
 //!

@@ -1,12 +1,11 @@
 //! Looks at a device, as calls on the device itself.
-ghost use Rattle.std.specs.Prelude.{◌≡◌, ◌<◌, ◌≤◌, ◌↔◌, IfOk, IsErr, IsNone, IsSome, IsTrue, Some};
+ghost use Rattle.std.specs.Prelude.{◌≡◌, ◌<◌, ◌≤◌, ◌+◌, ◌↔◌, IfOk, IsErr, IsNone, IsSome, IsTrue, Some};
 ghost use Rattle.cell_types.specs.Image.{IsUnchanged};
 ghost use Rattle.cell_types.specs.Layout.{reserve_at};
-ghost use Rattle.stored_documents.specs.Slots.{IsHorizon, AreTaken};
 ghost use Rattle.worm_device.specs.Calls.{Called};
 ghost use Rattle.worm_device.specs.Counts.{Rose, IsStill};
 ghost use Rattle.worm_device.specs.Views.{Viewed, seen_directly};
-ghost use Rattle.commit_record.specs.LogEnds.{IsLastReserve};
+ghost use Rattle.commit_record.specs.LogEnds.{IsLastReserve, IsLogEnd};
 ghost use Rattle.commit_record.specs.Opening.{OpenEnds};
 ghost use Rattle.commit_record.specs.Reservations.{reservation_of};
 ghost use Rattle.recovery_engine.specs.LastSlot.{LastEnds};
@@ -21,6 +20,7 @@ pub fn open_device<D: Device>(device: &mut D) -> Result<Volume, OpenRefusal>
     ensures called { Called (D.state device.old) (D.state device.new) }
     ensures quiet { IsStill (D.state device.old).foreign_writes (D.state device.new).foreign_writes →
         IsUnchanged (D.state device.old).image (D.state device.new).image }
+    ensures reads { (D.state device.new).reads ≤ (D.state device.old).reads + 1 }
     ensures ends { OpenEnds (seen_directly (D.state device.old) 0) (seen_directly (D.state device.new) 0) result }
 {
     open(&mut Direct::new(device))
@@ -32,11 +32,11 @@ pub fn log_end_of_device<D: Device>(device: &mut D, volume: &Volume) -> Result<L
     ensures called { Called (D.state device.old) (D.state device.new) }
     ensures quiet { IsStill (D.state device.old).foreign_writes (D.state device.new).foreign_writes →
         IsUnchanged (D.state device.old).image (D.state device.new).image }
+    ensures reads { (D.state device.new).reads ≤ (D.state device.old).reads + 26 }
     ensures within { IfOk result (λ log. log.horizon ≤ volume.now.geometry.slots) }
     ensures none { IfOk result (λ log. IsNone log.last ↔ (log.horizon ≡ 0)) }
     ensures horizon { IsTrue (D.state device.old).tells → IfOk result (λ log.
-        IsHorizon volume.now.geometry (D.state device.old).image (D.state device.new).image log.horizon
-        × AreTaken (D.state device.new).image log.horizon) }
+        IsLogEnd volume.now.geometry (D.state device.old).image (D.state device.new).image log.horizon) }
     ensures last { IsTrue (D.state device.old).tells → IfOk result (λ log.
         IsLastReserve (D.state device.new).image log.horizon log.last) }
     ensures cause { IsErr result → Rose (D.state device.old).faults (D.state device.new).faults }
@@ -58,6 +58,7 @@ pub fn last_slot_of_device<D: Device>(
     ensures called { Called (D.state device.old) (D.state device.new) }
     ensures quiet { IsStill (D.state device.old).foreign_writes (D.state device.new).foreign_writes →
         IsUnchanged (D.state device.old).image (D.state device.new).image }
+    ensures reads { (D.state device.new).reads ≤ (D.state device.old).reads + 5 }
     ensures used { IfOk result (λ state. IsSome (reservation_of state)) }
     ensures ends { LastEnds volume.now.geometry last (seen_directly (D.state device.old) 0)
         (seen_directly (D.state device.new) 0) result }

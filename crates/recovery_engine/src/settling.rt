@@ -22,7 +22,8 @@ pub enum Step {
 #[derive(Clone, Copy, Debug, PartialEq, Eq)]
 pub struct Ready {
     pub volume: Volume,
-    /// The first slot whose reserve cell is blank, or the number of slots where there is none.
+    /// Where the log ends: a free slot behind one that is taken, or with none before it; or the number of slots, where
+    /// the last slot is taken.
     pub horizon: u32,
     /// The first cell of the pool that no slot reserves.
     pub edge: u32,
@@ -44,7 +45,8 @@ impl Ready {
 }
 
 /// Settles the volume: makes sure what stands, and then gives up the last slot where it is reserved alone, or carries
-/// its journal out and puts its done cell where it is committed. Takes no memory.
+/// its journal out and puts its done cell where it is committed. Takes no memory. Where there is nothing to put it
+/// makes at most 64 reads, however many slots are taken.
 ///
 /// # Errors
 ///

@@ -5,7 +5,7 @@ use Rattle.std.proofs.lemmas.Option.{none-some}
 use Rattle.std.proofs.lemmas.Bool.{cases_lt}
 use Rattle.cell_types.specs.Image.{Between, Extends, Image}
 use Rattle.cell_types.specs.Layout.{Layout, done_at, outcome_at, reserve_at}
-use Rattle.stored_documents.specs.Documents.{AreDocuments, IsDocument}
+use Rattle.stored_documents.specs.Documents.{AreDocuments, Stands}
 use Rattle.stored_documents.specs.Volumes.{IsVolume}
 use Rattle.stored_documents.proofs.Extending.{volume_on}
 use Rattle.tamper_rules.specs.Rules as Rules
@@ -48,7 +48,7 @@ module _ (g : Layout) (n : ℕ) (p : Plan) (id body : List ℕ) (old new : Devic
     (d : PlansDocument p id body) (suits : Suits g p) (w : IsWellPlanned g old.image after (plan_of n p id body))
     (tells : IsTrue old.tells) (sure_then : old.sure ≡ old.image)
     (still : IsStill old.foreign_writes new.foreign_writes) (puts : PutsPlan n p old new) (device : IsDevice new)
-    (stored : IsDocument new.cells new.sure n id body) where
+    (stored : Stands new.cells new.sure n id body) where
   -- a slot at the horizon has no done cell
   done_blank : old.image (done_at n) ≡ None
   done_blank = ⊎_elim (λ none. none)
@@ -64,7 +64,7 @@ module _ (g : Layout) (n : ℕ) (p : Plan) (id body : List ℕ) (old new : Devic
   module _ (image : Image) (b : Between new.sure new.image image) where
     done_value : image (done_at n) ≡ Some (done_put n).value
     done_value =
-        let h = stored.stands.done.done in
+        let h = stored.done.done in
         b.above.keeps (done_at n) h.cell h.stands ∙ ap (λ (x : List ℕ). Some x) h.is.same
 
     phases : LeavesPhases (ingest_phases n p) INGEST_PHASES old new image
@@ -144,7 +144,7 @@ module _ (id body : List ℕ) (old new : DeviceState) (n : ℕ) (device : IsDevi
   -- the slot's reserve cell was blank, and is not
   reserve_stands : (value : List ℕ) × (new.image (reserve_at n) ≡ Some value)
   reserve_stands =
-      let h = is.document.stands.done.commits.reserves.reserve in
+      let h = is.document.done.commits.reserves.reserve in
       (h.cell, device_new.sure.keeps (reserve_at n) h.cell h.stands)
 
   not_before : (value : List ℕ) → old.image (reserve_at n) ≡ Some value → ⊥
@@ -197,7 +197,7 @@ module _ (id body : List ℕ) (old new : DeviceState) (n : ℕ) (device : IsDevi
     ends : (new.image ≡ made.0) × (new.sure ≡ made.0)
     ends = put_whole g r.horizon p id body looked new made.0 plans.document plans.suits made.1 tells_then
         (sure id body old looked new r p tells h device device_looked less plans puts still steady) still_then puts
-        device_new (subst (λ (m : ℕ). IsDocument new.cells new.sure m id body) slot_is is.document)
+        device_new (subst (λ (m : ℕ). Stands new.cells new.sure m id body) slot_is is.document)
 
     volume_new : IsVolume new.cells new.image g
     volume_new = subst (λ (k : ℕ). IsVolume k new.image g) (sym puts.called.cells)

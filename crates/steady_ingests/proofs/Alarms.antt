@@ -1,5 +1,5 @@
 -- What is named as evidence of tampering was broken in the log, or in the volume as settling has left it, and none is.
-use Rattle.std.specs.Prelude.{IsTrue}
+use Rattle.std.specs.Prelude.{ℕ, List, IsTrue}
 use Rattle.cell_types.specs.declared.refusal.Evidence.{Evidence}
 use Rattle.worm_device.specs.Counts.{IsStill}
 use Rattle.worm_device.specs.State.{DeviceState, IsDevice}
@@ -16,7 +16,7 @@ module _ (old new : DeviceState) (e : Evidence) (device : IsDevice old) (device_
   none_behind r slot licensed = looked_unbroken old new r e.rule e.cell device device_new tells slot.settled still steady
       (licensed.broken still)
 
-  pub none_named : IsNamed old new e → ⊥
+  pub none_named : {id body : List ℕ} → IsNamed id body old new e → ⊥
   none_named (by_settling settles found) = settling_named old new e device tells settles still steady
   none_named (by_plan way) = none_behind way.ready (slot_still way still) way.found.licensed
   none_named (in_index r slot rule licensed) = none_behind r slot licensed

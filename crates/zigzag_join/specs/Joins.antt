@@ -1,5 +1,5 @@
 -- What a join of lists answers.
-use Rattle.std.specs.Prelude.{◌<◌, ◌≤◌, ℕ, Option, Some, None, Result, Ok, Err}
+use Rattle.std.specs.Prelude.{◌≡◌, ◌<◌, ◌≤◌, ◌+◌, ◌⊎◌, ℕ, Bool, true, false, Option, Some, None, Result, Ok, Err}
 use Rattle.cell_types.specs.declared.geometry.TheConstants.{MAX_SLOTS}
 use Rattle.cell_types.specs.declared.refusal.Fault.{Fault}
 use Rattle.zigzag_join.specs.Lists.{ListsState, FaultEnds}
@@ -11,6 +11,20 @@ AllOwe s slot = (which : ℕ) → which < s.lists → s.owes which slot
 -- every list vouches for the slot
 abbrev pub AllVouch : ListsState → ℕ → Type 0
 AllVouch s slot = (which : ℕ) → which < s.lists → s.vouches which slot
+
+-- lists are asked in turn
+abbrev pub IsTurnAfter : ℕ → ℕ → ℕ → Type 0
+IsTurnAfter lists which next = ((which + 1 ≡ lists) × (next ≡ 0)) ⊎ ((which + 1 < lists) × (next ≡ which + 1))
+
+-- so many lists, in turn, have come to the next slot
+abbrev pub HasAgreed : ℕ → ℕ → ℕ → ℕ → Type 0
+HasAgreed next slot agreed now = ((slot < next) × (now ≡ 1)) ⊎ ((next ≡ slot) × (now ≡ agreed + 1))
+
+-- whether all lists have the slot
+abbrev pub AllHaveEnds : ℕ → ListsState → ListsState → Result Bool Fault → Type 0
+AllHaveEnds slot old new (Ok true) = AllVouch new slot
+AllHaveEnds slot old new (Ok false) = AllOwe old slot → ⊥
+AllHaveEnds slot old new (Err fault) = FaultEnds old new fault
 
 -- The next slot at or past one that all lists have: every list vouches for it at exit, and no slot before it was one
 -- that at entry no list could pass. None comes only where there is no such slot at all.

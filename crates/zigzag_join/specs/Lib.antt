@@ -1,3 +1,5 @@
+pub mod Counts
+pub mod Gathering
 pub mod Joins
 pub mod Lists
 pub mod NoDevice

@@ -1,5 +1,5 @@
 -- Lists of slots: what they are for contracts, and what their calls answer.
-use Rattle.std.specs.Prelude.{◌≡◌, ◌<◌, ◌≤◌, ℕ, Bool, List, Option, Some, None, Result, Ok, Err, IsTrue}
+use Rattle.std.specs.Prelude.{◌≡◌, ◌<◌, ◌≤◌, ◌+◌, ℕ, Bool, List, Option, Some, None, Result, Ok, Err, IsTrue}
 use Rattle.cell_types.specs.declared.geometry.TheConstants.{MAX_SLOTS}
 use Rattle.cell_types.specs.declared.refusal.Evidence.{Evidence}
 use Rattle.cell_types.specs.declared.refusal.Fault.{Fault}
@@ -24,6 +24,11 @@ pub record ListsState : Type 1 where
   pub may_name : Evidence → Type 0
   -- the lists show this evidence
   pub shows : Evidence → Type 0
+  -- the list has some posting of the slot: its next slot is always one of these
+  pub lands : ℕ → ℕ → Type 0
+  -- how often a list was asked for its next slot, and how often whether it has one
+  pub next_asks : ℕ
+  pub has_asks : ℕ
 
 -- What every call keeps, and so every row of calls: the lists stay as many and what they are, the view is read alone,
 -- and what a list must not pass, vouches for or may name once it does ever after.
@@ -34,6 +39,8 @@ pub record Keeps (old new : ListsState) : Type 0 where
   pub owing : (which slot : ℕ) → old.owes which slot → new.owes which slot
   pub vouching : (which slot : ℕ) → old.vouches which slot → new.vouches which slot
   pub naming : (e : Evidence) → old.may_name e → new.may_name e
+  pub landing : IsStill old.view.base.foreign_writes new.view.base.foreign_writes → (which slot : ℕ)
+      → new.lands which slot → old.lands which slot
 
 -- Why there is no answer: a call below failed, or this is evidence that the lists may name, and that they show
 -- where nobody else wrote.
@@ -42,10 +49,20 @@ FaultEnds old new Failed = Rose old.view.base.faults new.view.base.faults
 FaultEnds old new (Tampered e) =
     new.may_name e × (IsStill old.view.base.foreign_writes new.view.base.foreign_writes → new.shows e)
 
+-- one ask for a next slot was made, and is counted where the count has not reached its last value
+abbrev pub AsksNext : ListsState → ListsState → Type 0
+AsksNext old new =
+    (new.next_asks ≤ old.next_asks + 1) × (new.has_asks ≡ old.has_asks) × Rose old.next_asks new.next_asks
+
+-- and one whether a list has a slot
+abbrev pub AsksHas : ListsState → ListsState → Type 0
+AsksHas old new =
+    (new.next_asks ≡ old.next_asks) × (new.has_asks ≤ old.has_asks + 1) × Rose old.has_asks new.has_asks
+
 -- what a list answers that is asked for a slot at or past one
 abbrev pub NextEnds : ℕ → ℕ → ListsState → ListsState → Result (Option ℕ) Fault → Type 0
 NextEnds which from old new (Ok (Some n)) =
-    (from ≤ n) × (n < MAX_SLOTS) × ((slot : ℕ) → old.owes which slot → from ≤ slot → n ≤ slot)
+    (from ≤ n) × (n < MAX_SLOTS) × new.lands which n × ((slot : ℕ) → old.owes which slot → from ≤ slot → n ≤ slot)
 NextEnds which from old new (Ok None) = (slot : ℕ) → old.owes which slot → from ≤ slot → ⊥
 NextEnds which from old new (Err fault) = FaultEnds old new fault
 

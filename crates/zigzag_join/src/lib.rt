@@ -1,27 +1,36 @@
 //! The zigzag join: the slots that several lists have in common, one after another.
 //!
-//! The lists are asked in turn. Each is asked for its next slot at or past the one at hand, and then whether it has
-//! that one; where so many lists in turn as there are have it, it is the answer:
+//! The lists are asked in turn for their next slot at or past the one at hand, until so many lists in turn as there are
+//! have come to one slot. Only then each is asked whether it has that slot; where all have it, it is the answer:
 //!
-//!     list 0: 1 4 7 9        next from 0: 1, has 1     one list agrees
-//!     list 1: 2 4 9          next from 1: 2, has 2     the slot is another: one list agrees
-//!     list 0                 next from 2: 4, has 4     one
-//!     list 1                 next from 4: 4, has 4     two of two: the answer is 4
+//!     list 0: 1 4 7 9        next from 0: 1        one list has come to 1
+//!     list 1: 2 4 9          next from 1: 2        the slot is another: one list has come to 2
+//!     list 0                 next from 2: 4        one to 4
+//!     list 1                 next from 4: 4        two of two; has 0 slot 4? has 1? both: the answer is 4
 //!
 //! A list may hold more than it should: whoever may write blank cells adds postings, and what a list answers then need
 //! not be a slot that all have. So a list does not tell what it has, but which slots it **must not pass**, and for
 //! which it **vouches**. The join passes no slot that no list may pass, and each list vouches for its answer. Where
 //! `next` lands is never taken for such a slot: `has` decides, and where it says no, the join goes on by one.
 //!
+//! **What it costs.** Take any one list, and say that it has m slots from where the join begins up to the answer, or to
+//! the end where there is none. Then the join asks at most `count * (m + 1)` times for a next slot, and at most
+//! `count * m` times whether a list has one, unless somebody else writes meanwhile. Asking for the latter as soon as a
+//! list comes to a slot would break that: with list 0: 1 5 and list 1: 5 it is asked of 1 too, three times in all, and
+//! list 1 has but one slot. Gathering all common slots asks at most `count * (2 * m + 1)` times for a next slot and
+//! `count * m` times whether a list has one, where m are all slots of any one list.
+//!
 //! The lists are read through a view, and a join only reads it. Stands on `cell_types` and on the views of
-//! `worm_device`. Begin with `lists.rt`; `specs/Joins.antt` says what an
-//! answer means.
+//! `worm_device`. Begin with `lists.rt`; `specs/Joins.antt` says what an answer means, `specs/Counts.antt` what it
+//! costs, and `gather.rt` asks for one common slot after another.
 #![tactic(auto)]
 
+mod gather;
 mod join;
 mod lists;
 #[cfg(test)]
 mod tests;
 
+pub use gather::all_common;
 pub use join::next_common;
 pub use lists::Lists;

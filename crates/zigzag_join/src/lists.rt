@@ -1,7 +1,7 @@
 //! Lists of slots that can be asked for the next slot at or past one, and whether they have one.
 ghost use Rattle.std.specs.Prelude.{◌≡◌, ◌<◌, ◌≤◌};
 ghost use Rattle.cell_types.specs.declared.geometry.TheConstants.{MAX_SLOTS};
-ghost use Rattle.zigzag_join.specs.Lists.{ListsState, Keeps, NextEnds, HasEnds};
+ghost use Rattle.zigzag_join.specs.Lists.{ListsState, Keeps, NextEnds, HasEnds, AsksNext, AsksHas};
 
 use cell_types::Fault;
 
@@ -21,6 +21,7 @@ pub trait Lists {
         requires which { which < (state self.old).lists }
         requires from { from ≤ MAX_SLOTS }
         ensures kept { Keeps (state self.old) (state self.new) }
+        ensures asks { AsksNext (state self.old) (state self.new) }
         ensures ends { NextEnds which from (state self.old) (state self.new) result };
 
     /// Whether a list has the slot. It has each slot that it must not pass, and vouches for each that it has.
@@ -28,5 +29,6 @@ pub trait Lists {
         requires which { which < (state self.old).lists }
         requires slot { slot < MAX_SLOTS }
         ensures kept { Keeps (state self.old) (state self.new) }
+        ensures asks { AsksHas (state self.old) (state self.new) }
         ensures ends { HasEnds which slot (state self.old) (state self.new) result };
 }

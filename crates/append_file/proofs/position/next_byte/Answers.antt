@@ -12,6 +12,7 @@ cells_left read here bytes cells e differs most is =
 
 pub returns-then-position-2-clause-ends : goal.returns-then-position-2-clause-ends
 returns-then-position-2-clause-ends g c = (
+  c.if-position.false,
   refl,
   λ start bytes given h.
       give_on _ start bytes c.args.position.now given h c.requires.is c.if-position-2.true c.give.new.self c.give.result
@@ -20,6 +21,7 @@ returns-then-position-2-clause-ends g c = (
 
 pub returns-in-Ok-clause-ends : goal.returns-in-Ok-clause-ends
 returns-in-Ok-clause-ends g c = (
+  c.if-position.false,
   c.in-Ok.ensures.ends.0,
   λ start bytes given h.
       let p = c.args.position.now in
@@ -35,5 +37,5 @@ returns-in-Err-clause-ends g c =
     let p = c.args.position.now in
     let left = cells_left p.read p.bytes p.bytes _ c.cells_for.ensures c.if-position-cells_for.false c.requires.is.read
     refl in
-    byte_fails (g.V.View.seen c.args.view.now) (g.V.View.seen c.read_piece.new.view) p c.end.new.self left.1
-    c.in-Err.fault c.in-Err.ensures.ends
+    byte_fails (g.V.View.seen c.args.view.now) (g.V.View.seen c.read_piece.new.view) p c.end.new.self
+    c.if-position.false c.end.ensures left.1 c.in-Err.fault c.in-Err.ensures.ends

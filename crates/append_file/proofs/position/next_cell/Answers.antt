@@ -1,7 +1,7 @@
 -- The bytes of the next cell, and a cell that is broken.
 use Rattle.std.proofs.Common.{◌≡◌, ◌<◌, ◌≤◌, ◌*◌, ℕ, refl, arith, sym}
 use Rattle.stored_documents.specs.Slots.{cells_for}
-use Rattle.append_file.proofs.GoingOn.{all_on, byte_fails, cell_fails}
+use Rattle.append_file.proofs.GoingOn.{all_on, cell_fails}
 use Rattle.append_file.proofs.position.next_cell.Goals as goal
 
 -- a cell is left to be read
@@ -27,6 +27,5 @@ pub returns-in-Err-clause-ends : goal.returns-in-Err-clause-ends
 returns-in-Err-clause-ends g c =
     let p = c.args.position.now in
     let left = cells_left p.read p.bytes p.bytes _ c.cells_for.ensures (λ e. c.if-cells_for-position.false (sym e)) c.requires.is.read refl in
-    cell_fails (g.V.View.seen c.args.view.now) (g.V.View.seen c.read_piece.new.view) p c.end.new.self c.in-Err.fault
-    (byte_fails (g.V.View.seen c.args.view.now) (g.V.View.seen c.read_piece.new.view) p c.end.new.self left.1
-    c.in-Err.fault c.in-Err.ensures.ends)
+    cell_fails (g.V.View.seen c.args.view.now) (g.V.View.seen c.read_piece.new.view) p c.end.new.self left.1
+    c.in-Err.fault c.in-Err.ensures.ends

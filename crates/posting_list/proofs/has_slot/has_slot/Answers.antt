@@ -2,7 +2,7 @@
 use Rattle.std.proofs.Common.{rules, ◌+◌, sym, subst, arith, ◌∙◌}
 use Rattle.cell_types.proofs.Passed.{handed}
 use Rattle.posting_list.proofs.Evidence.{false_never}
-use Rattle.posting_list.proofs.Bisecting.{HasSoFar, first_missing, go_down, go_up, has_fault, has_first, middle_found, middle_missing, none_left}
+use Rattle.posting_list.proofs.Bisecting.{HasSoFar, first_found, first_missing, go_down, go_up, has_fault, has_first, middle_found, middle_missing, none_left}
 use Rattle.posting_list.proofs.has_slot.has_slot.Goals as goal
 
 -- there is no posting with ordinal 0
@@ -10,15 +10,24 @@ pub returns-in_default-clause-has : goal.returns-in_default-clause-has
 returns-in_default-clause-has g c =
     first_missing c.args.reach.now c.args.term.now c.args.slot _ _ (rw c.in_default.is at c.in_ok-first.ensures.probes)
 
--- it tells the last ordinal
+-- it has the tag
+pub returns-then-is_same-clause-has : goal.returns-then-is_same-clause-has
+returns-then-is_same-clause-has g c =
+    first_found c.args.reach.now c.args.term.now c.args.slot (g.V.View.seen c.args.view.now)
+    (g.V.View.seen c.probe.new.view) c.in-Some.first (rw c.in-Some.is at c.in_ok-first.ensures.probes)
+    (c.is_same.ensures.0 c.if-is_same.true)
+
+-- it has another one, and tells the last ordinal
 pub loop-low-init : goal.loop-low-init
 loop-low-init g c = record {
   kept = c.probe.ensures.kept;
   so_far = subst
       (λ n. HasSoFar c.args.reach.now c.args.term.now c.args.slot (g.V.View.seen c.args.view.now)
-      (g.V.View.seen c.probe.new.view) 0 (n + 1)) (sym c.from-high.ensures)
+      (g.V.View.seen c.probe.new.view) 1 (n + 1)) (sym c.from-high.ensures)
       (has_first c.args.reach.now c.args.term.now c.args.slot (g.V.View.seen c.args.view.now)
-      (g.V.View.seen c.probe.new.view) c.in-Some.first (search rules) (rw c.in-Some.is at c.in_ok-first.ensures.probes));
+      (g.V.View.seen c.probe.new.view) c.in-Some.first (search rules)
+      (rw c.in-Some.is at c.in_ok-first.ensures.probes)
+      (λ same. false_never (sym c.if-is_same.false ∙ c.is_same.ensures.1 same)));
 }
 
 -- a probe gives no answer
@@ -37,13 +46,13 @@ returns-in_default-found-clause-has g c =
     c.loop-low.invariant.so_far (omega arith) (omega (arith, c.loop-low-test.true))
     (rw c.in_default-found.is at c.in_ok-found.ensures.probes)
 
--- it has the tag
-pub returns-then-is_same-clause-has : goal.returns-then-is_same-clause-has
-returns-then-is_same-clause-has g c =
+-- the middle ordinal has the tag
+pub returns-then-is_same-2-clause-has : goal.returns-then-is_same-2-clause-has
+returns-then-is_same-2-clause-has g c =
     middle_found c.args.reach.now c.args.term.now c.args.slot (g.V.View.seen c.args.view.now)
     (g.V.View.seen c.loop-low.view) (g.V.View.seen c.probe-in-loop-low.new.view) c.loop-low.low c.loop-low.high _
     c.loop-low.invariant.so_far (omega arith) (omega (arith, c.loop-low-test.true)) c.in-Some-found.entry
-    (rw c.in-Some-found.is at c.in_ok-found.ensures.probes) (c.is_same.ensures.0 c.if-is_same.true)
+    (rw c.in-Some-found.is at c.in_ok-found.ensures.probes) (c.is_same-in-loop-low.ensures.0 c.if-is_same-2.true)
 
 -- it has a smaller one
 pub loop-low-preserved-then-number_of-sought : goal.loop-low-preserved-then-number_of-sought
@@ -53,7 +62,7 @@ loop-low-preserved-then-number_of-sought g c = record {
       (g.V.View.seen c.loop-low.view) (g.V.View.seen c.probe-in-loop-low.new.view) c.loop-low.low c.loop-low.high _
       c.loop-low.invariant.so_far (omega arith) (omega (arith, c.loop-low-test.true)) c.in-Some-found.entry
       (rw c.in-Some-found.is at c.in_ok-found.ensures.probes)
-      (λ same. false_never (sym c.if-is_same.false ∙ c.is_same.ensures.1 same))
+      (λ same. false_never (sym c.if-is_same-2.false ∙ c.is_same-in-loop-low.ensures.1 same))
       (omega (arith, c.if-number_of-sought.true, c.number_of.ensures, c.number_of-sought.ensures));
 }
 
@@ -65,7 +74,7 @@ loop-low-preserved g c = record {
       (g.V.View.seen c.loop-low.view) (g.V.View.seen c.probe-in-loop-low.new.view) c.loop-low.low c.loop-low.high _
       c.loop-low.invariant.so_far (omega arith) (omega (arith, c.loop-low-test.true)) c.in-Some-found.entry
       (rw c.in-Some-found.is at c.in_ok-found.ensures.probes)
-      (λ same. false_never (sym c.if-is_same.false ∙ c.is_same.ensures.1 same))
+      (λ same. false_never (sym c.if-is_same-2.false ∙ c.is_same-in-loop-low.ensures.1 same))
       (omega (arith, c.if-number_of-sought.false, c.number_of.ensures, c.number_of-sought.ensures));
 }
 

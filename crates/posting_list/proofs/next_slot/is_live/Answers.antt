@@ -1,5 +1,6 @@
 -- By the horizon, and then by the slot's state.
 use Rattle.std.proofs.Common.{arith}
+use Rattle.cell_types.proofs.Passed.{handed}
 use Rattle.posting_list.proofs.Evidence.{live_fault, live_not, live_state}
 use Rattle.posting_list.proofs.next_slot.is_live.Goals as goal
 
@@ -8,13 +9,15 @@ pub returns-then-slot-min : goal.returns-then-slot-min
 returns-then-slot-min g c = live_not c.args.reach.now c.args.slot _
     (omega (arith, c.if-slot-min.true, c.min.ensures, c.slots.ensures.slots))
 
--- its cells are a state
-pub returns-in-Ok : goal.returns-in-Ok
-returns-in-Ok g c = live_state c.args.reach.now c.args.slot _ _ c.in-Ok.state c.is_done.result
-    (omega (arith, c.if-slot-min.false, c.min.ensures, c.slots.ensures.slots)) c.slot_state.ensures.viewed
-    c.in-Ok.ensures.ends c.is_done.ensures
+-- one of its cells is out of place
+pub returns-in_err-state : goal.returns-in_err-state
+returns-in_err-state g c =
+    rw (handed c.from_residual.result c.in_err-state.field-0.0 c.from_residual.ensures.1)
+    (live_fault c.args.reach.now c.args.slot _ _ c.in_err-state.field-0.0 c.slot_state.ensures.viewed
+    c.in_err-state.ensures.ends)
 
--- or one of them is out of place
-pub returns-in-Err : goal.returns-in-Err
-returns-in-Err g c =
-    live_fault c.args.reach.now c.args.slot _ _ c.in-Err.fault c.slot_state.ensures.viewed c.in-Err.ensures.ends
+-- or they are a state
+pub returns : goal.returns
+returns g c = live_state c.args.reach.now c.args.slot _ _ c.in_ok-state.state c.is_done.result
+    (omega (arith, c.if-slot-min.false, c.min.ensures, c.slots.ensures.slots)) c.slot_state.ensures.viewed
+    c.in_ok-state.ensures.ends c.is_done.ensures

@@ -9,7 +9,8 @@ pub returns-in_err-found-clause-next : goal.returns-in_err-found-clause-next
 returns-in_err-found-clause-next g c =
     rw (handed c.from_residual.result c.in_err-found.field-0.0 c.from_residual.ensures.1)
     (let s = g.V.View.seen c.find.new.view in
-    next_fault c.args.reach.now c.args.term.now c.args.from _ s s c.requires.list c.in_err-found.field-0.0 c.in_err-found.ensures.finds)
+    next_fault c.args.reach.now c.args.term.now c.args.from _ s s c.requires.list c.in_err-found.field-0.0
+    c.in_err-found.ensures.finds)
 
 -- it finds no posting
 pub returns-in_default-clause-next : goal.returns-in_default-clause-next
@@ -18,33 +19,35 @@ returns-in_default-clause-next g c =
     next_none c.args.reach.now c.args.term.now c.args.from _ s s c.requires.list
     (rw c.in_default.is at c.in_ok-found.ensures.finds)
 
--- the posting's slot is live
-pub returns-in-Ok-true-clause-kept : goal.returns-in-Ok-true-clause-kept
-returns-in-Ok-true-clause-kept g c = keeps_on c.find.new.fronts _ _ c.is_live.ensures.viewed c.find.ensures.kept
+-- the slot's cells give no answer
+pub returns-in_err-live-clause-kept : goal.returns-in_err-live-clause-kept
+returns-in_err-live-clause-kept g c = keeps_on c.find.new.fronts _ _ c.is_live.ensures.viewed c.find.ensures.kept
 
-pub returns-in-Ok-true-clause-next : goal.returns-in-Ok-true-clause-next
-returns-in-Ok-true-clause-next g c =
-    next_some c.args.reach.now c.args.term.now c.args.from (g.V.View.seen c.args.view.now)
+pub returns-in_err-live-clause-next : goal.returns-in_err-live-clause-next
+returns-in_err-live-clause-next g c =
+    rw (handed c.from_residual-in_err-live.result c.in_err-live.field-0.0 c.from_residual-in_err-live.ensures.1)
+    (next_live_fault c.args.reach.now c.args.term.now c.args.from (g.V.View.seen c.args.view.now)
     (g.V.View.seen c.find.new.view) (g.V.View.seen c.is_live.new.view) c.requires.list c.in-Some.entry
-    (rw c.in-Some.is at c.in_ok-found.ensures.finds) (search rules) (rw c.in-Ok-true.field-0-test at c.in-Ok-true.ensures)
+    (rw c.in-Some.is at c.in_ok-found.ensures.finds) c.in_err-live.field-0.0 c.in_err-live.ensures)
 
--- it is not
-pub returns-in-Ok-false-clause-kept : goal.returns-in-Ok-false-clause-kept
-returns-in-Ok-false-clause-kept g c = keeps_on c.find.new.fronts _ _ c.is_live.ensures.viewed c.find.ensures.kept
+-- the posting's slot is not live
+pub returns-then-not-live-clause-kept : goal.returns-then-not-live-clause-kept
+returns-then-not-live-clause-kept g c = keeps_on c.find.new.fronts _ _ c.is_live.ensures.viewed c.find.ensures.kept
 
-pub returns-in-Ok-false-clause-next : goal.returns-in-Ok-false-clause-next
-returns-in-Ok-false-clause-next g c =
+pub returns-then-not-live-clause-next : goal.returns-then-not-live-clause-next
+returns-then-not-live-clause-next g c =
     next_false c.args.reach.now c.args.term.now c.args.from (g.V.View.seen c.args.view.now)
     (g.V.View.seen c.find.new.view) (g.V.View.seen c.is_live.new.view) c.requires.list c.in-Some.entry
     (rw c.in-Some.is at c.in_ok-found.ensures.finds) c.not_live.result
-    (rw c.in-Ok-false.field-0-test at c.in-Ok-false.ensures) c.not_live.ensures
+    (rw c.if-not-live.true at c.in_ok-live.ensures) c.not_live.ensures
 
--- the slot's cells give no answer
-pub returns-in-Err-clause-kept : goal.returns-in-Err-clause-kept
-returns-in-Err-clause-kept g c = keeps_on c.find.new.fronts _ _ c.is_live.ensures.viewed c.find.ensures.kept
+-- it is
+pub returns-clause-kept : goal.returns-clause-kept
+returns-clause-kept g c = keeps_on c.find.new.fronts _ _ c.is_live.ensures.viewed c.find.ensures.kept
 
-pub returns-in-Err-clause-next : goal.returns-in-Err-clause-next
-returns-in-Err-clause-next g c =
-    next_live_fault c.args.reach.now c.args.term.now c.args.from (g.V.View.seen c.args.view.now)
+pub returns-clause-next : goal.returns-clause-next
+returns-clause-next g c =
+    next_some c.args.reach.now c.args.term.now c.args.from (g.V.View.seen c.args.view.now)
     (g.V.View.seen c.find.new.view) (g.V.View.seen c.is_live.new.view) c.requires.list c.in-Some.entry
-    (rw c.in-Some.is at c.in_ok-found.ensures.finds) c.in-Err.fault c.in-Err.ensures
+    (rw c.in-Some.is at c.in_ok-found.ensures.finds) (search rules)
+    (rw c.if-not-live.false at c.in_ok-live.ensures)

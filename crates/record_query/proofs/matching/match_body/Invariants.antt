@@ -1,8 +1,12 @@
 -- So many bytes of the body were read, and pushed.
+use Rattle.std.proofs.Common.{◌-◌}
 use Rattle.record_query.proofs.Bodies.{MatchSoFar}
 use Rattle.record_query.proofs.matching.match_body.Given as goal
 
 abbrev pub invariant-loop-count : goal.invariant-loop-count
 invariant-loop-count g l =
     MatchSoFar (g.V.View.seen l.fn.view) (g.V.View.seen l.view) l.start l.bytes l.fn.position l.position l.head
-    l.fn.matcher l.matcher l._count
+    l.fn.matcher l.matcher l.count
+
+abbrev pub decreases-loop-count : goal.decreases-loop-count
+decreases-loop-count g l = l.head.body_length - l.count

@@ -1,5 +1,5 @@
 -- Each exit, by how far the command came.
-use Rattle.std.proofs.Common.{ℕ, List, Ok, Err, map, refl, ap, ◌∙◌, subst}
+use Rattle.std.proofs.Common.{arith, ℕ, List, Ok, Err, map, refl, ap, ◌∙◌, subst}
 use Rattle.std.specs.String.{string_bytes}
 use Rattle.cell_types.specs.declared.refusal.Refusal.TheVariants.{NoMemory, SinkFault}
 use Rattle.cell_types.proofs.Passed.{handed}
@@ -7,7 +7,8 @@ use Rattle.host_ports.specs.Sinks.{Gets, PutsPart}
 use Rattle.record_query.specs.Finding.{Searches}
 use Rattle.record_top.specs.Finding.{find_text, searched}
 use Rattle.record_top.specs.Ports.{ports_of}
-use Rattle.record_top.proofs.Finds.{not_searched}
+use Rattle.std.proofs.lemmas.List.{length-map}
+use Rattle.record_top.proofs.Finds.{not_searched, some_term}
 use Rattle.record_top.proofs.find.find_documents.Goals as goal
 
 -- the terms were not read
@@ -18,6 +19,15 @@ returns-in_err-terms g c =
     let refusal = c.in_err-terms.field-0.0 in
     rw (handed c.from_residual.result refusal c.from_residual.ensures.1)
     (not_searched (map string_bytes c.args.words.now) ports refusal c.in_err-terms.ensures)
+
+-- some term is sought
+pub find-requires : goal.find-requires
+find-requires g c =
+    rw c.deref.ensures.value
+    (record {
+      some = some_term (map string_bytes c.args.words.now) c.in_ok-terms.terms.items c.in_ok-terms.ensures
+          (omega (arith, c.requires.some, length-map c.args.words.now string_bytes));
+    })
 
 -- the search was ended
 pub returns-in_err-matches : goal.returns-in_err-matches

@@ -2,7 +2,7 @@
 use Rattle.std.proofs.Common.{◌≡◌, ◌<◌, ◌+◌, ◌-◌, ℕ, refl, sym, ◌∙◌, subst, arith}
 use Rattle.std.specs.Prelude.{IsTrue, Ok}
 use Rattle.worm_device.specs.Counts.{Rose, IsStill}
-use Rattle.stored_documents.specs.Slots.{IsHorizon}
+use Rattle.commit_record.specs.LogEnds.{IsLogEnd}
 use Rattle.recovery_engine.specs.Settling.{Settles}
 use Rattle.recovery_engine.specs.declared.settling.Ready.{Ready}
 use Rattle.recovery_engine.proofs.States.{of_pool}
@@ -13,7 +13,7 @@ use Rattle.commit_record.specs.Opening.{refusal_of}
 use Rattle.cell_types.specs.declared.geometry.TheConstants.{MAX_SLOTS}
 use Rattle.worm_device.proofs.Elapsing.{called_then}
 use Rattle.worm_device.proofs.Images.{extends_then, unchanged_then}
-use Rattle.recovery_engine.proofs.Looked.{false_true, none_is, some_used, looked_sync, looked_more, settled_looked, settled_ended, ending_of, sync_failed}
+use Rattle.recovery_engine.proofs.Looked.{false_true, none_ended, none_is, some_used, looked_sync, looked_more, settled_looked, settled_ended, ending_of, sync_failed}
 use Rattle.recovery_engine.proofs.Settled.{ready, unused_bounds, unused_ready, open_names, open_refused, last_names, last_refused}
 use Rattle.recovery_engine.proofs.Licensed.{check_names, check_refused, end_names, end_refused, last_on, volume_later}
 use Rattle.recovery_engine.specs.Ending.{HasJournal}
@@ -36,7 +36,8 @@ returns-in_err-volume g c =
     let l2 = looked_more s0 s1 s2 l1 c.open_device.ensures.called c.open_device.ensures.quiet in
     rw (handed c.from_residual-in_err-volume.result (refusal_of c.in_err-volume.field-0.0) c.from_residual-in_err-volume.ensures.1)
     (settled_looked s0 s2 _ l2 tt (λ tells. open_names s0 s2 c.in_err-volume.field-0.0)
-    (open_refused s0 s1 s2 c.in_err-volume.field-0.0 l1 l2 c.open_device.ensures.called c.in_err-volume.ensures.ends))
+    (open_refused s0 s1 s2 c.in_err-volume.field-0.0 l1 l2 c.open_device.ensures.called c.in_err-volume.ensures.ends)
+    tt)
 
 pub returns-in_err-log : goal.returns-in_err-log
 returns-in_err-log g c =
@@ -49,7 +50,7 @@ returns-in_err-log g c =
     let l3 = looked_more s0 s2 s3 l2 c.log_end_of_device.ensures.called c.log_end_of_device.ensures.quiet in
     let rose : Rose s2.faults s3.faults = c.in_err-log.ensures.cause refl in
     rw (handed c.from_residual-in_err-log.result DeviceFault c.from_residual-in_err-log.ensures.1)
-    (settled_looked s0 s3 _ l3 tt (λ tells. tt) (omega (arith, rose, l2.called.faults)))
+    (settled_looked s0 s3 _ l3 tt (λ tells. tt) (omega (arith, rose, l2.called.faults)) tt)
 
 pub returns-in_default : goal.returns-in_default
 returns-in_default g c =
@@ -72,10 +73,15 @@ returns-in_default g c =
       λ tells. unused_ready s0 s2 s3 volume l2.called c.log_end_of_device.ensures.called
           c.log_end_of_device.ensures.quiet
           (volume_later s2 s3 volume.geometry c.log_end_of_device.ensures.called (opened.4 (tells_1 tells)))
-          (subst (λ (k : ℕ). IsHorizon volume.geometry s2.image s3.image k) zero_is
-          (c.in_ok-log.ensures.horizon (tells_2 tells)).0)
+          (subst (λ (k : ℕ). IsLogEnd volume.geometry s2.image s3.image k) zero_is
+          (c.in_ok-log.ensures.horizon (tells_2 tells)))
           (l3.synced tells),
-    ))
+    ) (λ nothing. omega (
+      arith,
+      c.in_ok-sync.ensures.count,
+      c.open_device.ensures.reads,
+      c.log_end_of_device.ensures.reads,
+    )))
 
 pub returns-in_err-state : goal.returns-in_err-state
 returns-in_err-state g c =
@@ -107,7 +113,7 @@ returns-in_err-state g c =
     (tells_3 tells) c.in_err-state.ensures.ends)
     (last_refused volume.geometry n s0 s3 s4 c.in_err-state.field-0.0 l3.called c.last_slot_of_device.ensures.called
     l4.quiet
-    (λ tells. volume_later s2 s4 volume.geometry c24 (opened.4 (tells_1 tells))) c.in_err-state.ensures.ends))
+    (λ tells. volume_later s2 s4 volume.geometry c24 (opened.4 (tells_1 tells))) c.in_err-state.ensures.ends) tt)
 
 pub returns-in_err-check_slot : goal.returns-in_err-check_slot
 returns-in_err-check_slot g c =
@@ -154,7 +160,7 @@ returns-in_err-check_slot g c =
     c.last_slot_of_device.ensures.quiet state c.in_err-check_slot.field-0.0 c.check_slot.ensures.quiet
     (λ tells. volume_later s2 s4 layout
     (called_then c.log_end_of_device.ensures.called c.last_slot_of_device.ensures.called) (opened.4 (tells_1 tells)))
-    last_4 c.in_err-check_slot.ensures.ends))
+    last_4 c.in_err-check_slot.ensures.ends) tt)
 
 pub returns-in_err-end_slot : goal.returns-in_err-end_slot
 returns-in_err-end_slot g c =
@@ -202,25 +208,24 @@ returns-in_err-end_slot g c =
     let s6 = g.D.Device.state c.end_slot.new.device in
     let journal : IsTrue s5.tells → HasJournal layout state s5.image = λ t. c.in_ok-check_slot.ensures.ends
     (subst IsTrue c.check_slot.ensures.called.tells t) in
-    let c26 = called_then c.log_end_of_device.ensures.called (called_then c35 c.end_slot.ensures.puts.called) in
+    let c26 = called_then c.log_end_of_device.ensures.called (called_then c35 c.end_slot.ensures.phases.puts.called) in
     rw (handed c.from_residual-in_err-end_slot.result (refusal_of_fault c.in_err-end_slot.field-0.0)
     c.from_residual-in_err-end_slot.ensures.1)
-    (settled_ended n s0 s5 s6 state _ _ l5 c.end_slot.ensures
+    (settled_ended n s0 s5 s6 state _ _ l5 c.end_slot.ensures.phases
     (λ tells. ending_of layout n c.in_ok-log.log.horizon s0 s2 s3 s5 state
     (omega (arith, some)) l2 c.log_end_of_device.ensures.called l5 c35
     (volume_later s2 s5 layout (called_then c.log_end_of_device.ensures.called c35) (opened.4 (tells_1 tells)))
-    (c.in_ok-log.ensures.horizon (tells_2 tells)).0
-    (c.in_ok-log.ensures.horizon (tells_2 tells)).1 (last_5 (tells_5 tells))
+    (c.in_ok-log.ensures.horizon (tells_2 tells)).horizon (last_5 (tells_5 tells))
     (journal (tells_5 tells)))
-    (λ okay. absurd (false_true okay)) tt
-    (λ tells. end_names layout n s0 s3 s5 s6 l3.called c35 c.end_slot.ensures.puts.called l5.quiet quiet_35 state
+    (λ okay. absurd (false_true okay)) tt tt
+    (λ tells. end_names layout n s0 s3 s5 s6 l3.called c35 c.end_slot.ensures.phases.puts.called l5.quiet quiet_35 state
     c.in_err-end_slot.field-0.0
     (volume_later s2 s5 layout (called_then c.log_end_of_device.ensures.called c35) (opened.4 (tells_1 tells)))
-    (tells_5 tells) (last_5 (tells_5 tells)) (journal (tells_5 tells)) c.in_err-end_slot.ensures)
-    (end_refused layout n s0 s3 s5 s6 l3.called c35 c.end_slot.ensures.puts.called l5.quiet quiet_35 state
+    (tells_5 tells) (last_5 (tells_5 tells)) (journal (tells_5 tells)) c.in_err-end_slot.ensures.phases)
+    (end_refused layout n s0 s3 s5 s6 l3.called c35 c.end_slot.ensures.phases.puts.called l5.quiet quiet_35 state
     c.in_err-end_slot.field-0.0
     (λ tells. volume_later s2 s5 layout (called_then c.log_end_of_device.ensures.called c35) (opened.4 (tells_1 tells)))
-    last_5 journal c.in_err-end_slot.ensures))
+    last_5 journal c.in_err-end_slot.ensures.phases) tt)
 
 pub returns : goal.returns
 returns g c =
@@ -268,19 +273,18 @@ returns g c =
     let s6 = g.D.Device.state c.end_slot.new.device in
     let journal : IsTrue s5.tells → HasJournal layout state s5.image = λ t. c.in_ok-check_slot.ensures.ends
     (subst IsTrue c.check_slot.ensures.called.tells t) in
-    let c26 = called_then c.log_end_of_device.ensures.called (called_then c35 c.end_slot.ensures.puts.called) in
+    let c26 = called_then c.log_end_of_device.ensures.called (called_then c35 c.end_slot.ensures.phases.puts.called) in
     let u = c.in_ok-log.log.horizon in
     let next : u ≡ (u - 1) + 1 = omega (arith, some) in
     let within = of_pool layout state c.in-Some-reservation.cells c.in_ok-state.ensures.ends.0
     (sym c.reservation.ensures ∙ c.in-Some-reservation.is) in
-    settled_ended n s0 s5 s6 state _ _ l5 c.end_slot.ensures
+    settled_ended n s0 s5 s6 state _ _ l5 c.end_slot.ensures.phases
     (λ tells. ending_of layout n c.in_ok-log.log.horizon s0 s2 s3 s5 state
     (omega (arith, some)) l2 c.log_end_of_device.ensures.called l5 c35
     (volume_later s2 s5 layout (called_then c.log_end_of_device.ensures.called c35) (opened.4 (tells_1 tells)))
-    (c.in_ok-log.ensures.horizon (tells_2 tells)).0
-    (c.in_ok-log.ensures.horizon (tells_2 tells)).1 (last_5 (tells_5 tells))
+    (c.in_ok-log.ensures.horizon (tells_2 tells)).horizon (last_5 (tells_5 tells))
     (journal (tells_5 tells)))
-    (λ okay. c.in_ok-end_slot.ensures) c.step_of.ensures (λ tells. tt) (
+    (λ okay. c.in_ok-end_slot.ensures.phases) c.step_of.ensures next (λ tells. tt) (
       record {
         version = opened.0;
         layout = opened.1;
@@ -290,15 +294,25 @@ returns g c =
         to = omega (arith, within.2, c.end.ensures);
       },
       λ tells. ready layout n u c.in-Some-reservation.cells next small s0 s2 s3 s5 s6
-          l2.called c.log_end_of_device.ensures.called c35 c.end_slot.ensures.puts.called (tells_5 tells) _ state tt
+          l2.called c.log_end_of_device.ensures.called c35 c.end_slot.ensures.phases.puts.called (tells_5 tells) _
+          state tt
           refl refl c.end.ensures
           (volume_later s2 s6 layout c26 (opened.4 (tells_1 tells)))
-          (c.in_ok-log.ensures.horizon (tells_2 tells)).0
-          (c.in_ok-log.ensures.horizon (tells_2 tells)).1
+          (c.in_ok-log.ensures.horizon (tells_2 tells))
           (last_5 (tells_5 tells)) (sym c.reservation.ensures ∙ c.in-Some-reservation.is) (journal (tells_5 tells))
-          c.in_ok-end_slot.ensures c.step_of.ensures
-          (extends_then (l5.synced tells) c.end_slot.ensures.puts.called.sure)
+          c.in_ok-end_slot.ensures.phases c.step_of.ensures
+          (extends_then (l5.synced tells) c.end_slot.ensures.phases.puts.called.sure)
           (λ still. unchanged_then (c.log_end_of_device.ensures.quiet
           (still_first c.log_end_of_device.ensures.called.foreign_writes c35.foreign_writes still))
           (quiet_35 (still_second c.log_end_of_device.ensures.called.foreign_writes c35.foreign_writes still))),
-    )
+    ) (λ nothing.
+    let none = none_ended n state (sym c.step_of.ensures ∙ nothing) in
+    omega (
+      arith,
+      c.in_ok-sync.ensures.count,
+      c.open_device.ensures.reads,
+      c.log_end_of_device.ensures.reads,
+      c.last_slot_of_device.ensures.reads,
+      c.check_slot.ensures.reads none,
+      c.end_slot.ensures.reads none,
+    ))

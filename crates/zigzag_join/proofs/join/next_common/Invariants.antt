@@ -1,4 +1,4 @@
--- No slot that no list may pass was passed, and the last lists vouch for this one.
+-- No slot that no list may pass was passed, and the last lists have come to this one.
 use Rattle.std.proofs.Common.{◌≡◌, ◌+◌, ◌-◌, ◌*◌}
 use Rattle.zigzag_join.proofs.Joining.{JoinSoFar}
 use Rattle.zigzag_join.proofs.join.next_common.Given as goal

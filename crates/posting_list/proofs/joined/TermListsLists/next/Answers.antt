@@ -1,5 +1,7 @@
 -- What the search for the next slot says, of the lists.
+use Rattle.std.proofs.Common.{◌%◌}
 use Rattle.posting_list.proofs.Joining.{keeps_all, next_ends, none_owed}
+use Rattle.posting_list.proofs.Landing.{keep_each_on}
 use Rattle.posting_list.proofs.joined.TermListsLists.next.Goals as goal
 
 -- the list can't be asked
@@ -12,11 +14,19 @@ pub returns-clause-kept : goal.returns-clause-kept
 returns-clause-kept g c =
     keeps_all c.args.self.now.reach c.args.self.now.sought.now.terms.items c.args.self.now.view.ghost_name
     (g.V.View.seen c.args.self.now.view.now)
-    (g.V.View.seen c.next_slot.new.view) c.next_slot.ensures.next.viewed
+    (g.V.View.seen c.next_slot.new.view) _ _ _ _ c.next_slot.ensures.next.viewed
 
 pub returns-clause-ends : goal.returns-clause-ends
 returns-clause-ends g c =
     next_ends c.args.self.now.reach c.args.self.now.sought.now.terms.items c.args.self.now.view.ghost_name
     (g.V.View.seen c.args.self.now.view.now)
-    (g.V.View.seen c.next_slot.new.view) c.args.which c.in-Some.term c.in-Some.ensures.there c.args.from
+    (g.V.View.seen c.next_slot.new.view) 0 0 0 0 c.args.which c.in-Some.term c.in-Some.ensures.there c.args.from
     c.next_slot.result c.next_slot.ensures.next
+
+-- what the list's own fronts keep is known now, and what the others do goes on being known
+pub invariant_of-self-2 : goal.invariant_of-self-2
+invariant_of-self-2 g c = record {
+  kept = keep_each_on c.args.self.now.fronts (c.args.which % 8) c.next_slot.new.fronts
+      (g.V.View.seen c.args.self.now.view.now) (g.V.View.seen c.next_slot.new.view) c.next_slot.ensures.next.viewed
+      c.args.self.now.kept c.next_slot.ensures.kept;
+}

@@ -1,0 +1,39 @@
+//! A view that keeps written cells of the view below, so that most cells are read there once.
+//!
+//! A written cell never changes, so one that was read once may be answered again from memory. A blank cell may be
+//! written at any time, by whoever else writes: it is never kept, and each read of it asks below. Two cells are kept
+//! here, of a device where 36 and 37 are written and 38 is blank:
+//!
+//!     read 36    below     kept: 36
+//!     read 36    memory    kept: 36
+//!     read 38    below     kept: 36           blank
+//!     read 38    below     kept: 38, 36       somebody else has written it meanwhile, and that is answered
+//!     read 37    below     kept: 37, 38       36 was used longest ago, and makes room
+//!
+//! Contracts see the view below: `Cached` shows what it shows, plans nothing, and adds the name of the loan alone. A
+//! ghost field says that each kept cell stands in what is shown, where the device at the bottom tells its image. Each
+//! read asks below once at most, and not at all for a kept cell.
+//!
+//! **Memory** stands in `CellCache`, which is made before and lent: `CellCache::new` can fail, `Cached::new` can't. A
+//! constructor that answers a `Result`, a view that is held by value, or memory that is held by value and dropped beside
+//! it would lose the device that was lent. A memory that serves one view after another begins anew with each, so that no
+//! view answers with cells of another. Room for a cell is taken when it is kept; where there is none, it is not kept.
+//!
+//! **Not claimed**: how many reads this saves. Tests count some. The hash of a cell's number has a fixed seed, so whoever
+//! picks numbers could make look-ups slow, by as many steps as cells are kept.
+//!
+//! Stands on `lru` (which cells are kept) and `worm_device`. Begin with `cached.rt`, then `reads.rt`;
+//! specs/Keeping.antt says what is known of kept cells.
+#![tactic(auto)]
+
+mod cached;
+#[cfg(test)]
+mod callers;
+mod cell_cache;
+mod kept;
+mod reads;
+#[cfg(test)]
+mod tests;
+
+pub use cached::Cached;
+pub use cell_cache::CellCache;

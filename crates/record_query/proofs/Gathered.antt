@@ -1,0 +1,65 @@
+-- The slots that were gathered by way of a device do not speak of the loan by which they were.
+use Rattle.std.proofs.Common.{◌≡◌, ℕ, List, Result, Ok, Err, subst}
+use Rattle.std.specs.Global.{Vec}
+use Rattle.cell_types.specs.declared.refusal.Evidence.{Evidence}
+use Rattle.cell_types.specs.declared.refusal.Refusal.{Refusal}
+use Rattle.cell_types.specs.declared.refusal.Refusal.TheVariants as refusals
+use Rattle.worm_device.specs.State.{DeviceState}
+use Rattle.worm_device.specs.Views.{ViewState, seen_directly}
+use Rattle.zigzag_join.specs.Joins.{AllOwe}
+use Rattle.posting_list.specs.Joins.{TermsGather}
+use Rattle.posting_list.specs.Naming.{IsShown}
+use Rattle.posting_list.specs.Owing.{Owes}
+use Rattle.posting_list.specs.States.{lists_over}
+use Rattle.posting_list.specs.declared.reach.Reach.{Reach}
+use Rattle.posting_list.specs.declared.sought_term.SoughtTerm.{SoughtTerm}
+
+module _ (r : Reach) (terms : List SoughtTerm) (old new : DeviceState) (a b : ℕ) where
+  owes : (which slot : ℕ) → Owes r terms (seen_directly old 0) which slot
+      → Owes r terms (seen_directly old a) which slot
+  owes which slot o = record {
+    term = o.term;
+    there = o.there;
+    owed = record {
+      tells = o.owed.tells;
+      volume = o.owed.volume;
+      list = o.owed.list;
+      id = o.owed.id;
+      body = o.owed.body;
+      stands = o.owed.stands;
+      postings = o.owed.postings;
+      tagged = o.owed.tagged;
+      trails = o.owed.trails;
+    };
+  }
+
+  all_owe : (slot : ℕ) → AllOwe (lists_over r terms 0 (seen_directly old 0)) slot
+      → AllOwe (lists_over r terms 0 (seen_directly old a)) slot
+  all_owe slot owe which less = owes which slot (owe which less)
+
+  shown : (e : Evidence) → IsShown r (seen_directly new b) e → IsShown r (seen_directly new 0) e
+  shown e s = record { stands = s.stands; broken = s.broken }
+
+  pub gathers_by_any : (result : Result (Vec ℕ) Refusal)
+      → TermsGather r terms (seen_directly old a) (seen_directly new b) result
+      → TermsGather r terms (seen_directly old 0) (seen_directly new 0) result
+  gathers_by_any (Ok slots) g = record {
+    ends = record {
+      all = λ slot owe small. g.ends.all slot (all_owe slot owe) small;
+      vouched = g.ends.vouched;
+      rise = g.ends.rise;
+    };
+  }
+  gathers_by_any (Err refusals.DeviceFault) g = record { ends = g.ends }
+  gathers_by_any (Err (refusals.Tampered e)) g = record {
+    ends = (g.ends.0, λ still tells. shown e (g.ends.1 still tells));
+  }
+  gathers_by_any (Err refusals.NoMemory) g = record { ends = tt }
+  gathers_by_any (Err refusal) g = absurd g.ends
+
+-- the same where the views at entry and at exit are said in another way
+pub gathers_then : {r : Reach} {terms : List SoughtTerm} {old was new now : ViewState} {result : Result (Vec ℕ) Refusal}
+    → TermsGather r terms was now result → was ≡ old → now ≡ new → TermsGather r terms old new result
+gathers_then {r} {terms} {old} {was} {new} {now} {result} gathers entry exit =
+    subst (λ (v : ViewState). TermsGather r terms v new result) entry
+    (subst (λ (v : ViewState). TermsGather r terms was v result) exit gathers)

@@ -1,0 +1,30 @@
+-- The loan is not spoken of.
+use Rattle.std.proofs.Common.{ℕ, rules, subst}
+use Rattle.worm_device.specs.Views.{seen_directly}
+use Rattle.posting_list.specs.Joins.{TermsGather}
+use Rattle.record_query.specs.Reaching.{reach_of}
+use Rattle.record_query.proofs.Gathered.{gathers_by_any, gathers_then}
+use Rattle.record_query.proofs.Loans.{viewed_by_any}
+use Rattle.record_query.proofs.common.common_slots.Goals as goal
+
+pub returns-clause-viewed : goal.returns-clause-viewed
+returns-clause-viewed g c =
+    let viewed = viewed_by_any (g.D.Device.state c.new.result.device.now)
+    (g.D.Device.state c.common_in.new.view.device.now) c.new.result.device.ghost_name
+    c.common_in.new.view.device.ghost_name c.common_in.ensures.viewed in
+    search (rules, viewed)
+
+pub returns-clause-gathers : goal.returns-clause-gathers
+returns-clause-gathers g c =
+    let ends = gathers_by_any (reach_of c.args.ready.now) c.args.sought.now.terms.items
+    (g.D.Device.state c.new.result.device.now) (g.D.Device.state c.common_in.new.view.device.now)
+    c.new.result.device.ghost_name c.common_in.new.view.device.ghost_name c.common_in.result
+    (subst (λ (pool : ℕ). TermsGather (record {
+      volume = c.args.ready.now.volume;
+      horizon = c.args.ready.now.horizon;
+      bounds = record { pool = pool; edge = c.args.ready.now.edge };
+    }) c.args.sought.now.terms.items
+    (seen_directly (g.D.Device.state c.new.result.device.now) c.new.result.device.ghost_name)
+    (seen_directly (g.D.Device.state c.common_in.new.view.device.now) c.common_in.new.view.device.ghost_name)
+    c.common_in.result) c.pool_at.ensures.at c.common_in.ensures.gathers) in
+    gathers_then ends (search rules) (search rules)

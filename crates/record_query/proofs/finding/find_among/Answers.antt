@@ -1,0 +1,35 @@
+-- Slot after slot of the row.
+use Rattle.std.proofs.Common.{◌≡◌, ℕ, arith, length, subst}
+use Rattle.cell_types.proofs.Passed.{handed}
+use Rattle.record_query.specs.Among.{FoundAmong}
+use Rattle.record_query.proofs.FoundSoFar.{so_far_ended, so_far_more}
+use Rattle.record_query.proofs.finding.find_among.Goals as goal
+
+-- a slot was not read
+pub returns-in_err-found-clause-ends : goal.returns-in_err-found-clause-ends
+returns-in_err-found-clause-ends g c = λ terms was.
+    let refusal = c.in_err-found.field-0.0 in
+    rw (handed c.from_residual.result refusal c.from_residual.ensures.1)
+    (so_far_ended c.args.volume.now.geometry c.args.slots.now c.loop-place.place (g.D.Device.state c.args.device.now)
+    (g.D.Device.state c.loop-place.device) (g.D.Device.state c.match_on_device.new.device) c.args.matcher.now
+    c.loop-place.matcher c.loop-place.matches.items c.loop-place.invariant c.in_err-found.ensures.viewed
+    refusal c.in_err-found.ensures.ends terms was)
+
+-- a slot more
+pub loop-place-preserved : goal.loop-place-preserved
+loop-place-preserved g c =
+    so_far_more c.args.volume.now.geometry c.args.slots.now c.loop-place.place (g.D.Device.state c.args.device.now)
+    (g.D.Device.state c.loop-place.device) (g.D.Device.state c.match_on_device.new.device) c.args.matcher.now
+    c.loop-place.matcher c.loop-place.matches.items c.loop-place.invariant c.in_ok-found.ensures.viewed
+    c.requires.rise c.loop-place-test.true
+    c.match_on_device.new.matcher c.in_ok-found.found c.keep.new.matches.items c.in_ok-found.ensures.matcher
+    c.in_ok-found.ensures.ends c.in_ok-keep.ensures
+
+-- all slots
+pub returns-clause-ends : goal.returns-clause-ends
+returns-clause-ends g c = λ terms was tells.
+    let at_end : c.loop-place.place ≡ length c.args.slots.now =
+    omega (arith, c.loop-place-test.false, c.loop-place.auto.place-end) in
+    subst (λ (u : ℕ). FoundAmong c.args.volume.now.geometry c.args.slots.now u terms
+    (g.D.Device.state c.args.device.now).image (g.D.Device.state c.loop-place.device).image
+    c.loop-place.matches.items) at_end (c.loop-place.invariant.found terms was tells)

@@ -1,0 +1,56 @@
+//! The slots that all of the sought terms have, by the index of a settled volume.
+ghost use Rattle.std.specs.Prelude.{◌≡◌, ◌≤◌, length};
+ghost use Rattle.worm_device.specs.Views.{Viewed, seen_directly};
+ghost use Rattle.posting_list.specs.Joins.{TermsGather};
+ghost use Rattle.record_query.specs.Reaching.{reach_of};
+
+use cell_types::{Refusal, Volume};
+use jump_index::Bounds;
+use posting_list::{SoughtTerms, TermLists};
+use recovery_engine::Ready;
+use std::alloc::Global;
+use worm_device::{Device, Direct, View};
+
+/// All slots that all terms have, by rising slot.
+pub(crate) fn common_slots<D: Device>(
+    alloc: Global,
+    device: &mut D,
+    ready: &Ready,
+    sought: &SoughtTerms,
+) -> Result<Vec<u32>, Refusal>
+    requires some { 1 ≤ length sought.now.terms.items }
+    ensures viewed { Viewed (seen_directly (D.state device.old) 0) (seen_directly (D.state device.new) 0) }
+    ensures gathers { TermsGather (reach_of ready.now) sought.now.terms.items (seen_directly (D.state device.old) 0)
+        (seen_directly (D.state device.new) 0) result }
+{
+    let bounds = Bounds {
+        pool: ready.volume.geometry.pool_at(),
+        edge: ready.edge,
+    };
+    common_in(
+        alloc,
+        &mut Direct::new(device),
+        ready.volume,
+        ready.horizon,
+        bounds,
+        sought,
+    )
+}
+
+/// The same over any view.
+fn common_in<V: View>(
+    alloc: Global,
+    view: &mut V,
+    volume: Volume,
+    horizon: u32,
+    bounds: Bounds,
+    sought: &SoughtTerms,
+) -> Result<Vec<u32>, Refusal>
+    requires some { 1 ≤ length sought.now.terms.items }
+    ensures viewed { Viewed (V.seen view.old) (V.seen view.new) }
+    ensures gathers { TermsGather (record { volume = volume; horizon = horizon; bounds = bounds })
+        sought.now.terms.items (V.seen view.old) (V.seen view.new) result }
+{
+    let mut lists = TermLists::new(view, sought, volume, horizon, bounds);
+    lists.all_common(alloc)
+}

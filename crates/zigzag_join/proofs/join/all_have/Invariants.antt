@@ -1,0 +1,12 @@
+-- The lists before this one have the slot.
+use Rattle.std.proofs.Common.{◌<◌, ◌≤◌, ◌+◌, ℕ}
+use Rattle.zigzag_join.specs.Lists.{Keeps}
+use Rattle.zigzag_join.proofs.join.all_have.Given as goal
+
+abbrev pub invariant-loop-which : goal.invariant-loop-which
+invariant-loop-which g l = record {
+  kept : Keeps (g.Q.Lists.state l.fn.lists) (g.Q.Lists.state l.lists);
+  next_asks : (g.Q.Lists.state l.lists).next_asks ≤ (g.Q.Lists.state l.fn.lists).next_asks;
+  has_asks : (g.Q.Lists.state l.lists).has_asks ≤ (g.Q.Lists.state l.fn.lists).has_asks + l.which;
+  vouched : (w : ℕ) → w < l.which → (g.Q.Lists.state l.lists).vouches w l.slot;
+}
