@@ -1,5 +1,5 @@
 -- What it means that a volume is opened, or not.
-use Rattle.std.specs.Prelude.{◌≡◌, ◌≢◌, ℕ, List, Some, None, Result, Ok, Err, IsTrue}
+use Rattle.std.specs.Prelude.{◌≡◌, ◌≢◌, ℕ, List, Option, Some, None, Result, Ok, Err, IsTrue}
 use Rattle.cell_types.specs.Layout.{Layout, IsLayout}
 use Rattle.cell_types.specs.Records.{IsRecordCell}
 use Rattle.cell_types.specs.declared.geometry.Volume.{Volume}
@@ -18,6 +18,21 @@ StatesCells view stated = (g : Layout) × Holds view.image 0 (volume_record g) �
 -- the cell's bytes are those of no volume cell
 abbrev pub IsNoVolumeCell : List ℕ → Type 0
 IsNoVolumeCell cell = (g : Layout) → IsRecordCell (volume_record g) 0 cell → ⊥
+
+-- the bytes that were found are those of a volume cell that states this layout
+abbrev pub AreStating : Option (List ℕ) → Layout → Type 0
+AreStating found g = (cell : List ℕ) × (found ≡ Some cell) × IsRecordCell (volume_record g) 0 cell
+
+-- Which volume is stated by what was found in cell 0 of so many cells, or why none is.
+abbrev pub StatedBy : Option (List ℕ) → ℕ → Result Volume OpenRefusal → Type 0
+StatedBy found cells (Ok volume) =
+    (volume.version ≡ volume.geometry.version) × IsLayout volume.geometry × (volume.geometry.cells ≡ cells)
+    × AreStating found volume.geometry
+StatedBy found cells (Err NotFormatted) = found ≡ None
+StatedBy found cells (Err (NotAVolume cell)) = (found ≡ Some cell) × IsNoVolumeCell cell
+StatedBy found cells (Err (WrongSize stated real)) =
+    (real ≡ cells) × (stated ≢ real) × (g : Layout) × AreStating found g × (g.cells ≡ stated)
+StatedBy found cells (Err ReadFault) = ⊥
 
 -- How opening may end, and why, by cell 0 as it stands at the end. At most one answer but a fault fits what stands
 -- there, so each comes exactly where it is said to.

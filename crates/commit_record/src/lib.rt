@@ -55,7 +55,7 @@ mod used_slot;
 
 pub use laws::{a_slot_has_one_state, no_state_breaks_a_rule};
 pub use log_end::{LogEnd, end_of_log, horizon};
-pub use opening::{OpenRefusal, open};
+pub use opening::{OpenRefusal, open, volume_of};
 pub use partition::Parts;
 pub use reservation::Reservation;
 pub use slot::{SlotState, slot_state};

@@ -1,11 +1,11 @@
 //! The volume that cell 0 states.
 ghost use Rattle.std.specs.Prelude.{◌≡◌, ◌<◌, ◌≤◌, ◌+◌};
 ghost use Rattle.worm_device.specs.Views.{Viewed};
-ghost use Rattle.commit_record.specs.Opening.{OpenEnds, refusal_of};
+ghost use Rattle.commit_record.specs.Opening.{OpenEnds, StatedBy, refusal_of};
 ghost use Rattle.commit_record.specs.declared.opening.OpenRefusal.TheVariants as refusals;
 
-use cell_types::{Cell, Geometry, RecordCell, Refusal, Volume};
-use worm_device::{Failed, Found, View, look};
+use cell_types::{Cell, Geometry, RecordCell, Refusal, Volume, decode};
+use worm_device::{Failed, View};
 
 /// Why a volume is not opened.
 #[derive(Clone, Copy, Debug, PartialEq, Eq)]
@@ -41,6 +41,35 @@ impl From<OpenRefusal> for Refusal {
     }
 }
 
+/// The volume that is stated by what was found in cell 0 of so many cells.
+pub fn volume_of(found: Option<Cell>, cells: u32) -> Result<Volume, OpenRefusal>
+    ensures { StatedBy found cells result }
+{
+    let Some(cell) = found else {
+        return Err(OpenRefusal::NotFormatted);
+    };
+    let Some(held) = decode(cell, 0) else {
+        return Err(OpenRefusal::NotAVolume(cell));
+    };
+    let RecordCell::Volume {
+        version,
+        slots,
+        lists,
+        cells: stated,
+    } = held
+    else {
+        return Err(OpenRefusal::NotAVolume(cell));
+    };
+    if stated != cells {
+        return Err(OpenRefusal::WrongSize {
+            stated,
+            real: cells,
+        });
+    }
+    let geometry = Geometry::new(slots, lists, cells, version).unwrap();
+    Ok(Volume { version, geometry })
+}
+
 /// The volume that cell 0 states, where it states the view's number of cells. Makes one read.
 pub fn open<V: View>(view: &mut V) -> Result<Volume, OpenRefusal>
     requires { 0 < (V.seen view.old).cells }
@@ -48,28 +77,6 @@ pub fn open<V: View>(view: &mut V) -> Result<Volume, OpenRefusal>
     ensures reads { (V.seen view.new).base.reads ≤ (V.seen view.old).base.reads + 1 }
     ensures ends { OpenEnds (V.seen view.old) (V.seen view.new) result }
 {
-    let found = look(view, 0)?;
-    let (cell, held) = match found {
-        Found::Blank => return Err(OpenRefusal::NotFormatted),
-        Found::Stray(cell) => return Err(OpenRefusal::NotAVolume(cell)),
-        Found::Record(cell, held) => (cell, held),
-    };
-    let RecordCell::Volume {
-        version,
-        slots,
-        lists,
-        cells,
-    } = held
-    else {
-        return Err(OpenRefusal::NotAVolume(cell));
-    };
-    let real = view.cells();
-    if cells != real {
-        return Err(OpenRefusal::WrongSize {
-            stated: cells,
-            real,
-        });
-    }
-    let geometry = Geometry::new(slots, lists, cells, version).unwrap();
-    Ok(Volume { version, geometry })
+    let found = view.read(0)?;
+    volume_of(found, view.cells())
 }

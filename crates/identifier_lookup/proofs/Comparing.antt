@@ -1,9 +1,11 @@
 -- Comparing the document of a candidate's slot, over plain values.
-use Rattle.std.proofs.Common.{◌<◌, inr, ℕ, List, Bool, Some, Result, Ok, Err}
+use Rattle.std.proofs.Common.{◌<◌, ◌≤◌, ◌+◌, inr, ℕ, List, Bool, Some, Result, Ok, Err, refl, arith}
 use Rattle.std.specs.Prelude.{IsTrue}
 use Rattle.cell_types.specs.Layout.{Layout}
 use Rattle.cell_types.specs.declared.refusal.Fault.{Fault}
 use Rattle.cell_types.specs.declared.refusal.Fault.TheVariants.{Tampered, Failed}
+use Rattle.stored_documents.specs.Slots.{cells_for}
+use Rattle.stored_documents.proofs.Extending.{done_on}
 use Rattle.worm_device.specs.Views.{ViewState, Viewed}
 use Rattle.worm_device.proofs.Resting.{viewed_self, viewed_then}
 use Rattle.document_store.specs.Looks.{IsPartOf, PartEnds, SameEnds}
@@ -20,9 +22,22 @@ module _ (g : Layout) (horizon : ℕ) (named : Named) (id : List ℕ) (old mid :
 
   -- the slot is done, and its document was compared
   pub compared : (new : ViewState) → named.slot < horizon → Viewed mid new → (result : Result Bool Fault)
-      → SameEnds g part.slot id mid new result → Compares g horizon named id old new result
-  compared new less after result ends = record {
+      → SameEnds g part.slot id mid new result → mid.base.reads ≤ old.base.reads + 3
+      → new.base.reads ≤ mid.base.reads + cells_for part.bytes → Compares g horizon named id old new result
+  compared new less after result ends before cells = record {
     viewed = viewed_then looked after;
+    costs = record {
+      cells = cells_for part.bytes;
+      reads = omega (arith, before, cells);
+      are = λ tells. let there = found.3 tells in inr (record {
+        start = there.first;
+        reserved = there.reserved;
+        bytes = part.bytes;
+        journal = part.journal;
+        done = done_on after.image there.done;
+        is = refl;
+      });
+    };
     ends = compare result (same_then g named.slot old mid new part looked after found id result ends);
   } where
     compare : (result : Result Bool Fault) → SameEnds g named.slot id old new result

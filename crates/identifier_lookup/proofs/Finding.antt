@@ -1,5 +1,5 @@
 -- A walk along an identifier's path, candidate by candidate, over plain values.
-use Rattle.std.proofs.Common.{◌≡◌, ◌<◌, ◌≤◌, ◌+◌, ◌∙◌, ◌⊎◌, ⊎_elim, inr, ℕ, List, true, false, Option, Some, None, Result, Ok, Err, refl, ap, sym, subst, arith}
+use Rattle.std.proofs.Common.{◌≡◌, ◌<◌, ◌≤◌, ◌+◌, ◌∙◌, ◌⊎◌, ⊎_elim, inr, ℕ, List, Bool, true, false, Option, Some, None, Result, Ok, Err, refl, ap, sym, subst, arith}
 use Rattle.std.specs.Prelude.{IsTrue}
 use Rattle.sha2.specs.Sha256.{sha256}
 use Rattle.cell_types.specs.Image.{Image}
@@ -13,7 +13,9 @@ use Rattle.stored_documents.proofs.Extending.{holds_on, stands_on, volume_on}
 use Rattle.index_paths.specs.HashPaths.{HashTrail, IsPassed, PassedTo, Sought, at_root, fingerprint_of, nibble}
 use Rattle.index_paths.specs.Keeping.{sought_in}
 use Rattle.index_paths.specs.Nodes as nodes
+use Rattle.index_paths.specs.Nodes.{IsOnPath}
 use Rattle.index_paths.proofs.HashTrails.{follows, hash_trail_on, none_at_blank_bucket, none_at_blank_child, none_at_the_end, passed_to_on, the_found_one}
+use Rattle.tamper_rules.proofs.GoingOn.{on_path_on}
 use Rattle.worm_device.specs.Views.{ViewState, Viewed}
 use Rattle.worm_device.proofs.Counting.{rose_from}
 use Rattle.worm_device.proofs.Resting.{viewed_self, viewed_then}
@@ -30,14 +32,17 @@ use Rattle.hash_tree.proofs.Growing.{led_within_on, passed_up_to_on, placed_on, 
 use Rattle.hash_tree.proofs.Licence.{bucket_place}
 use Rattle.hash_tree.proofs.Paths.{false_never}
 use Rattle.identifier_lookup.specs.Candidates.{Compares, HoldsNamed, NamesBucket}
+use Rattle.identifier_lookup.specs.Costs.{WalkCosts}
 use Rattle.identifier_lookup.specs.Walks.{HasTrail, IsBlankIn, IsPassedAbove, LooksUp, NoneHasTrail, WalkEnds, Walks}
 use Rattle.identifier_lookup.specs.declared.answers.Walk.TheVariants as walks
 use Rattle.identifier_lookup.specs.declared.candidates.Named.{Named}
+use Rattle.identifier_lookup.proofs.Costing.{CostsSoFar, below_candidate, below_next, compared_below, costs_begin, costs_end, costs_end_there, costs_more, passed_is_way}
 use Rattle.identifier_lookup.proofs.Licence.{fake_licensed, half_byte, names_licensed}
 
 -- The path is passed up to this level. Nothing has gone wrong, and the level's node is one of the volume's.
 pub record WalkSoFar (g : Layout) (edge : ℕ) (id : List ℕ) (old now : ViewState) (level : Level) : Type 0 where
   pub viewed : Viewed old now
+  pub costs : CostsSoFar g id old now level.number (compared_below level.number level.answered)
   pub faults : now.base.faults ≡ old.base.faults
   pub digest : level.digest ≡ sha256 id
   pub placed : IsPlaced g edge now level
@@ -53,6 +58,7 @@ walk_begins g edge id old level size bounds is =
     subst (λ (l : Level). WalkSoFar g edge id old old l) (sym is)
     (record {
       viewed = viewed_self old;
+      costs = costs_begin g id old 0 0;
       faults = refl;
       digest = refl;
       placed = record { number = omega arith; within = tt; led = λ tells. tt };
@@ -137,6 +143,11 @@ module _ (g : Layout) (horizon edge : ℕ) (id : List ℕ) (old now mid : ViewSt
     digest_is : next.digest ≡ sha256 id
     digest_is = step.digest ∙ so_far.digest
 
+    -- what it cost up to there
+    costs_here : WalkCosts g id old mid
+    costs_here = costs_end so_far.costs mid next.number step.viewed step.reads
+        (below_next level.number next.number level.answered step.further) step.placed.number
+
     -- the path is passed up to the next level's node
     up_to : IsTrue old.base.tells → IsVolume old.cells old.image g
         → IsPassedUpTo g edge mid.image (root_at g) s level
@@ -152,6 +163,11 @@ module _ (g : Layout) (horizon edge : ℕ) (id : List ℕ) (old now mid : ViewSt
     led_here : IsTrue old.base.tells → IsLedWithin g mid.image next.led_by
     led_here tells = step.led_within (told tells) (reached_on level step.viewed.image (so_far.reached tells))
         (led_within_on g level.led_by step.viewed.image (so_far.led_within tells))
+
+    -- the node is on the path
+    way_here : IsTrue old.base.tells → IsVolume old.cells old.image g
+        → IsOnPath g mid.image (sha256 id) next.number (node_of g next)
+    way_here tells volume = passed_is_way refl (omega (arith, volume.size)) (passed_here tells volume)
 
     -- a hash trail at entry goes on from there
     trail_here : IsTrue old.base.tells → IsVolume old.cells old.image g → (n : ℕ)
@@ -175,10 +191,12 @@ module _ (g : Layout) (horizon edge : ℕ) (id : List ℕ) (old now mid : ViewSt
       → Walks g horizon edge id old mid (Err fault)
   walk_fails Failed step = record {
     viewed = viewed_then so_far.viewed step.viewed;
+    costs = costs_here (Err Failed) step;
     ends = rose_from _ _ _ so_far.faults step.ends;
   }
   walk_fails (Tampered e) step = record {
     viewed = viewed_then so_far.viewed step.viewed;
+    costs = costs_here (Err (Tampered e)) step;
     ends = (
       step.ends.1,
       step.ends.2 ∙ so_far.faults,
@@ -223,6 +241,7 @@ module _ (g : Layout) (horizon edge : ℕ) (id : List ℕ) (old now mid : ViewSt
     pub walk_ends : Walks g horizon edge id old mid (Ok (walks.End place next))
     walk_ends = record {
       viewed = whole ended step;
+      costs = costs_here ended step;
       ends = (
         digest_is ended step,
         step.placed,
@@ -267,6 +286,7 @@ module _ (g : Layout) (horizon edge : ℕ) (id : List ℕ) (old now mid : ViewSt
     pub walk_full : Walks g horizon edge id old mid (Ok walks.PathFull)
     walk_full = record {
       viewed = whole filled step;
+      costs = costs_here filled step;
       ends = (
         step.ends.1 ∙ so_far.faults,
         λ tells. record {
@@ -309,6 +329,30 @@ module _ (g : Layout) (horizon edge : ℕ) (id : List ℕ) (old now mid : ViewSt
       bucket_here : bucket ≡ node_of g next + nibble (sha256 id) next.number
       bucket_here = step.ends.0.0 ∙ bucket_is offered step
 
+      bucket_later : {result : Result Bool Fault} → Compares g horizon named id mid new result
+          → IsTrue old.base.tells
+          → Holds new.image (node_of g next + nibble (sha256 id) next.number) (Bucket slot (fingerprint_of (sha256 id)))
+      bucket_later compared tells =
+          subst (λ (c : ℕ). Holds new.image c (Bucket slot (fingerprint_of (sha256 id)))) bucket_here
+          (holds_on compared.viewed.image (is_named (named_later tells)))
+
+      -- what the walk cost, with this comparison
+      under : compared_below level.number level.answered ≤ next.number
+      under = below_candidate level.number next.number level.answered step.further step.ends.0.2
+
+      costs_on : {result : Result Bool Fault} → Compares g horizon named id mid new result
+          → CostsSoFar g id old new next.number (next.number + 1)
+      costs_on compared = costs_more so_far.costs mid next.number step.viewed step.reads
+          (below_next level.number next.number level.answered step.further) step.placed.number (node_of g next) slot new
+          compared.viewed compared.costs (viewed_then (whole offered step) compared.viewed) under
+          (λ tells volume. on_path_on compared.viewed.image (way_here offered step tells volume)) (bucket_later compared)
+
+      costs_whole : {result : Result Bool Fault} → Compares g horizon named id mid new result → WalkCosts g id old new
+      costs_whole compared = costs_end_there so_far.costs mid next.number step.viewed step.reads
+          (below_next level.number next.number level.answered step.further) step.placed.number (node_of g next) slot new
+          compared.viewed compared.costs (viewed_then (whole offered step) compared.viewed) under
+          (λ tells volume. on_path_on compared.viewed.image (way_here offered step tells volume)) (bucket_later compared)
+
       compare_names : (e : Evidence) → Viewed mid new
           → NamesBucket g horizon named mid new e ⊎ LookFails g slot mid new (Tampered e)
           → WalkEnds g horizon edge id old new (Err (Tampered e))
@@ -337,10 +381,12 @@ module _ (g : Layout) (horizon edge : ℕ) (id : List ℕ) (old now mid : ViewSt
           → Walks g horizon edge id old new (Err fault)
       compare_fails Failed compared = record {
         viewed = viewed_then (whole offered step) compared.viewed;
+        costs = costs_whole compared;
         ends = rose_from _ _ _ (step.ends.1 ∙ so_far.faults) compared.ends;
       }
       compare_fails (Tampered e) compared = record {
         viewed = viewed_then (whole offered step) compared.viewed;
+        costs = costs_whole compared;
         ends = compare_names e compared.viewed compared.ends;
       }
 
@@ -356,12 +402,9 @@ module _ (g : Layout) (horizon edge : ℕ) (id : List ℕ) (old now mid : ViewSt
           → Walks g horizon edge id old new (Ok (walks.Found slot))
       walk_finds compared =
           let all = viewed_then (whole offered step) compared.viewed in
-          let bucket_now : IsTrue old.base.tells
-          → Holds new.image (node_of g next + nibble (sha256 id) next.number) (Bucket slot (fingerprint_of (sha256 id)))
-          = λ tells. subst (λ (c : ℕ). Holds new.image c (Bucket slot (fingerprint_of (sha256 id)))) bucket_here
-          (holds_on compared.viewed.image (is_named (named_later tells))) in
           record {
             viewed = all;
+            costs = costs_whole compared;
             ends = (
               compared.ends.0,
               compared.ends.1 ∙ step.ends.1 ∙ so_far.faults,
@@ -375,7 +418,7 @@ module _ (g : Layout) (horizon edge : ℕ) (id : List ℕ) (old now mid : ViewSt
                       passed = subst
                           (λ (c : ℕ). PassedTo new.image (sought_in c g id) (root_at g) (node_of g next) next.number)
                           (sym all.cells) (passed_to_on compared.viewed.image (passed_here offered step tells volume));
-                      bucket = bucket_now tells;
+                      bucket = bucket_later compared tells;
                     };
                     alone = λ volume m t.
                         the_found_one
@@ -383,7 +426,7 @@ module _ (g : Layout) (horizon edge : ℕ) (id : List ℕ) (old now mid : ViewSt
                         slot t.body own.body (stands_on all.image t.stands)
                         (held_stands g old.cells new.image slot id own.body (volume_now compared.viewed volume)
                         own.holds)
-                        (bucket_now tells);
+                        (bucket_later compared tells);
                   },
             );
           }
@@ -392,6 +435,8 @@ module _ (g : Layout) (horizon edge : ℕ) (id : List ℕ) (old now mid : ViewSt
       pub walk_on : Compares g horizon named id mid new (Ok false) → WalkSoFar g edge id old new next
       walk_on compared = record {
         viewed = viewed_then (whole offered step) compared.viewed;
+        costs = subst (λ (b : Bool). CostsSoFar g id old new next.number (compared_below next.number b))
+            (sym step.ends.0.1) (costs_on compared);
         faults = compared.ends.1 ∙ step.ends.1 ∙ so_far.faults;
         digest = digest_is offered step;
         placed = placed_on compared.viewed step.placed;
@@ -426,6 +471,7 @@ pub none_at_end : (g : Layout) (horizon edge : ℕ) (id : List ℕ) (old new : V
     → Walks g horizon edge id old new (Ok (walks.End place level)) → LooksUp g horizon edge id old new (Ok None)
 none_at_end g horizon edge id old new place level walk = record {
   viewed = walk.viewed;
+  costs = walk.costs;
   ends = (walk.ends.3, λ tells volume. (walk.ends.4 tells).none volume);
 }
 
@@ -434,5 +480,6 @@ pub none_at_full : (g : Layout) (horizon edge : ℕ) (id : List ℕ) (old new : 
     → Walks g horizon edge id old new (Ok walks.PathFull) → LooksUp g horizon edge id old new (Ok None)
 none_at_full g horizon edge id old new walk = record {
   viewed = walk.viewed;
+  costs = walk.costs;
   ends = (walk.ends.0, λ tells volume. (walk.ends.1 tells).none volume);
 }

@@ -15,6 +15,7 @@ use Rattle.tamper_rules.specs.declared.numbers.TheConstants.{FAKE_BUCKET}
 use Rattle.worm_device.specs.Counts.{Rose}
 use Rattle.worm_device.specs.Views.{ViewState, Viewed}
 use Rattle.document_store.specs.Looks.{IsSame, LookFails}
+use Rattle.identifier_lookup.specs.Costs.{CompareCosts}
 use Rattle.identifier_lookup.specs.declared.candidates.Named.{Named}
 
 -- the bucket stands, and names the slot with the fingerprint of the digest
@@ -51,4 +52,5 @@ CompareEnds g horizon named id old new (Err (Tampered e)) =
 pub record Compares (g : Layout) (horizon : ℕ) (named : Named) (id : List ℕ) (old new : ViewState)
     (result : Result Bool Fault) : Type 0 where
   pub viewed : Viewed old new
+  pub costs : CompareCosts g named.slot old new
   pub ends : CompareEnds g horizon named id old new result

@@ -21,6 +21,7 @@ use Rattle.hash_tree.specs.Levels.{IsLedWithin, IsPlaced, IsReached, node_of}
 use Rattle.hash_tree.specs.Steps.{IsHashRule, IsOpenOf}
 use Rattle.hash_tree.specs.declared.level.Level.{Level}
 use Rattle.hash_tree.specs.declared.path.Open.{Open}
+use Rattle.identifier_lookup.specs.Costs.{WalkCosts}
 use Rattle.identifier_lookup.specs.declared.answers.Walk.{Walk}
 use Rattle.identifier_lookup.specs.declared.answers.Walk.TheVariants.{End, Found, PathFull}
 
@@ -132,6 +133,7 @@ WalkEnds g horizon edge id old new (Err fault) = WalkFails g horizon edge old ne
 pub record Walks (g : Layout) (horizon edge : ℕ) (id : List ℕ) (old new : ViewState) (result : Result Walk Fault)
     : Type 0 where
   pub viewed : Viewed old new
+  pub costs : WalkCosts g id old new
   pub ends : WalkEnds g horizon edge id old new result
 
 -- how a look-up may end, and why
@@ -147,4 +149,5 @@ LookUpEnds g horizon edge id old new (Err fault) = WalkFails g horizon edge old 
 pub record LooksUp (g : Layout) (horizon edge : ℕ) (id : List ℕ) (old new : ViewState)
     (result : Result (Option ℕ) Fault) : Type 0 where
   pub viewed : Viewed old new
+  pub costs : WalkCosts g id old new
   pub ends : LookUpEnds g horizon edge id old new result

@@ -1,6 +1,6 @@
 -- How an ingest ends, by how far it has come.
-use Rattle.std.proofs.Common.{◌≡◌, ◌≤◌, ◌<◌, arith, ℕ, List, Ok, Err, Result, refl, sym, subst, inl, inr}
-use Rattle.std.specs.Prelude.{IsTrue}
+use Rattle.std.proofs.Common.{true, false, ◌≡◌, ◌≤◌, ◌<◌, arith, ℕ, List, Ok, Err, Result, refl, sym, subst, inl, inr}
+use Rattle.std.specs.Prelude.{IsOk, IsTrue}
 use Rattle.cell_types.specs.Layout.{IsLayout}
 use Rattle.cell_types.specs.Refusals.{refusal_of_fault}
 use Rattle.cell_types.specs.declared.refusal.Fault.{Fault}
@@ -15,12 +15,13 @@ use Rattle.worm_device.proofs.Elapsing.{called_self, called_then}
 use Rattle.stored_documents.proofs.Extending.{volume_on}
 use Rattle.recovery_engine.specs.Settling.{HasSettled, SettleEnds, Settles}
 use Rattle.recovery_engine.specs.declared.settling.Ready.{Ready}
+use Rattle.phase_writer.proofs.Phasing.{false_true}
 use Rattle.plan_writer.specs.CrashLaws.{CrashesLeaveWholeSlots}
 use Rattle.plan_writer.specs.PuttingPlans.{PlanEnds, PutsPlan}
 use Rattle.plan_writer.specs.declared.plan.Plan.{Plan}
 use Rattle.ingest_plan.specs.declared.plan.PlannedIndex.{PlannedIndex}
 use Rattle.ingest_engine.specs.Indexing.{PlanForEnds, PlansFor}
-use Rattle.ingest_engine.specs.Ingesting.{ComesTo, IngestEnds, Ingests, IsPlanFor, RoomEnds, SlotsEnd, by_settling, need_with}
+use Rattle.ingest_engine.specs.Ingesting.{ComesTo, IngestEnds, Ingests, IsPlanFor, PutUnfailed, RoomEnds, SlotsEnd, by_settling, need_with}
 use Rattle.ingest_engine.proofs.CrashedIngests.{crashed}
 use Rattle.ingest_engine.proofs.FullLogs.{has_no_slot, has_slot, last_free}
 use Rattle.ingest_engine.proofs.KeptNow.{has_trail_on, is_ingested, none_before}
@@ -35,6 +36,10 @@ abbrev pub planned_behind : {old settled new : DeviceState} {r : Ready} {id body
     → Settles old settled (Ok r) → PlansFor r id body settled new result → HasSettled old new r
 planned_behind {old} {settled} s plans =
     record { settled = settled; settles = s; looked = plans.called; quiet = plans.quiet }
+
+-- a refusal is not Ok
+not_ok : {X : Type 0} → false ≡ true → X
+not_ok okay = absurd (false_true okay)
 
 -- a count that rose from a later state on rose from an earlier one on
 rose_sooner : (a b c : ℕ) → a ≤ b → Rose b c → Rose a c
@@ -106,10 +111,11 @@ module _ (id body : List ℕ) (old new : DeviceState) where
 
   module _ (law : CrashesLeaveWholeSlots) where
     -- an ingest that has come so far, and ends in this way
-    far : (result : Result ℕ Refusal) → Called old new → ComesTo id body old new → IngestEnds id body old new result
-        → Ingests id body old new result
-    far result called comes ends = record {
+    far : (result : Result ℕ Refusal) → (IsOk result → PutUnfailed old new) → Called old new
+        → ComesTo id body old new → IngestEnds id body old new result → Ingests id body old new result
+    far result unfailed called comes ends = record {
       called = called;
+      unfailed = unfailed;
       comes = comes;
       crashes = crashed id body old new law called comes;
       ends = ends;
@@ -117,17 +123,17 @@ module _ (id body : List ℕ) (old new : DeviceState) where
 
     -- nothing was begun
     pub unbegun : new ≡ old → Ingests id body old new (Err NoMemory)
-    unbegun same = far (Err NoMemory) (subst (λ (s : DeviceState). Called old s) (sym same) (called_self old))
+    unbegun same = far (Err NoMemory) not_ok (subst (λ (s : DeviceState). Called old s) (sym same) (called_self old))
         (ComesTo.nothing same) (inl same)
 
     -- settling was ended
     pub unsettled : (refusal : Refusal) → Settles old new (Err refusal) → Ingests id body old new (Err refusal)
-    unsettled refusal s = far (Err refusal) s.called (ComesTo.settling refusal s) (refused refusal s s.ends)
+    unsettled refusal s = far (Err refusal) not_ok s.called (ComesTo.settling refusal s) (refused refusal s s.ends)
 
     -- there was no slot
     pub slotless : (r : Ready) (refusal : Refusal) → Settles old new (Ok r) → SlotsEnd r (Err refusal)
         → Ingests id body old new (Err refusal)
-    slotless r refusal s ends = far (Err refusal) s.called (ComesTo.settled r (just_settled s))
+    slotless r refusal s ends = far (Err refusal) not_ok s.called (ComesTo.settled r (just_settled s))
         (no_slot r refusal (just_settled s) ends)
 
     module _ (settled : DeviceState) (r : Ready) (s : Settles old settled (Ok r))
@@ -135,14 +141,14 @@ module _ (id body : List ℕ) (old new : DeviceState) where
       -- the index was not planned
       pub unplanned : (refusal : Refusal) → PlansFor r id body settled new (Err refusal)
           → Ingests id body old new (Err refusal)
-      unplanned refusal plans = far (Err refusal) (called_then s.called plans.called)
+      unplanned refusal plans = far (Err refusal) not_ok (called_then s.called plans.called)
           (ComesTo.settled r (planned_behind s plans)) (unplanned_ends settled r s slot device refusal plans plans.ends)
 
       -- there was no room
       pub unroomed : (index : PlannedIndex) (need : ℕ) (refusal : Refusal) → need ≡ need_with id body index
           → PlansFor r id body settled new (Ok index) → RoomEnds r need (Err refusal)
           → Ingests id body old new (Err refusal)
-      unroomed index need refusal same plans ends = far (Err refusal) (called_then s.called plans.called)
+      unroomed index need refusal same plans ends = far (Err refusal) not_ok (called_then s.called plans.called)
           (ComesTo.settled r (planned_behind s plans))
           (no_room settled r s slot device index refusal plans (subst (λ (n : ℕ). RoomEnds r n (Err refusal)) same ends))
 
@@ -164,7 +170,7 @@ module _ (id body : List ℕ) (old new : DeviceState) where
     -- and then the plan was not put
     pub unput : (fault : Fault) → PlanEnds r.volume.geometry p r.horizon old looked new (Err fault)
         → Ingests id body old new (Err (refusal_of_fault fault))
-    unput fault ends = far law (Err (refusal_of_fault fault)) called_all comes_to_put (put_refused fault ends)
+    unput fault ends = far law (Err (refusal_of_fault fault)) not_ok called_all comes_to_put (put_refused fault ends)
 
     volume_at : IsTrue old.tells → IsVolume new.cells new.image r.volume.geometry
     volume_at tells =
@@ -172,8 +178,9 @@ module _ (id body : List ℕ) (old new : DeviceState) where
         (volume_on puts.called.image (volume_on has.looked.image (has.settles.ends.1 tells).volume))
 
     -- or it was
-    pub put : (n : ℕ) → PlanEnds r.volume.geometry p r.horizon old looked new (Ok n)
-        → Ingests id body old new (Ok n)
-    put n ends = far law (Ok n) called_all comes_to_put (λ tells.
+    pub put : (n : ℕ) → new.faults ≡ looked.faults
+        → PlanEnds r.volume.geometry p r.horizon old looked new (Ok n) → Ingests id body old new (Ok n)
+    put n none ends = far law (Ok n)
+        (λ okay. record { ready = r; looked = looked; settled = has; unfailed = none }) called_all comes_to_put (λ tells.
         is_ingested n layout has.settles.called tells (has.settles.ends.1 tells).volume puts.called plan (ends.1 tells)
         ends.0 (volume_at tells) (last_free r has slot tells))

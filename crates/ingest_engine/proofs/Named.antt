@@ -19,11 +19,13 @@ use Rattle.recovery_engine.specs.Entries.{target_of}
 use Rattle.recovery_engine.specs.Settling.{HasSettled}
 use Rattle.recovery_engine.specs.declared.settling.Ready.{Ready}
 use Rattle.identifier_lookup.specs.Walks.{IsBlankIn}
+use Rattle.plan_writer.specs.Blank.{IsOfSlot}
+use Rattle.plan_writer.specs.Planned.{reserved_by}
 use Rattle.plan_writer.specs.PuttingPlans.{AsksForBlank, IsFoundByPlan, IsPlanRule}
 use Rattle.plan_writer.specs.declared.plan.Plan.{Plan}
 use Rattle.plan_writer.proofs.PutFrom.{called, ends_2, free_2, volume_2}
 use Rattle.ingest_plan.specs.Planning.{cut_at}
-use Rattle.ingest_engine.specs.Indexing.{IsFoundOnWay}
+use Rattle.ingest_engine.specs.Indexing.{IsFoundOnWay, IsPathRule}
 use Rattle.ingest_engine.specs.Ingesting.{HasSlot, IsInTheWay, IsLogRule, IsNamed, IsPlanFor, by_plan, in_index, need_with}
 use Rattle.ingest_engine.proofs.FullLogs.{has_slot}
 use Rattle.ingest_engine.proofs.Suited.{copies_of, entry}
@@ -50,7 +52,8 @@ module _ {old new : DeviceState} (r : Ready) (slot : r.horizon < r.volume.geomet
     }
 
     -- what was found on the way is named
-    pub named_on_way : {id body : List ℕ} (e : Evidence) → IsFoundOnWay r id has.settled new e
+    pub named_on_way : {id body : List ℕ} (e : Evidence)
+        → IsFoundOnWay (IsPathRule r id body has.settled new) r has.settled new e
         → IsNamed id body old new e
     named_on_way e found =
         in_index r (has_slot r has slot) found.rule (record {
@@ -132,8 +135,26 @@ module _ {id body : List ℕ} {old looked : DeviceState} {r : Ready} {p : Plan} 
       ap cells_for plan.document.bytes,
     )
 
+    -- a cell of the slot or of the plan's reservation
+    own : (cell : ℕ) → IsOfSlot r.horizon (reserved_by p) cell
+        → IsOfSlot r.horizon (record { start = r.edge; length = need_with id body plan.index }) cell
+    own cell (inl log) = inl log
+    own cell (inr within) = inr (record {
+      from = omega (arith, within.from, plan.starts);
+      below = omega (
+        arith,
+        within.below,
+        plan.starts,
+        plan.blocks,
+        ap length plan.journal,
+        plan.suits.document,
+        ap cells_for plan.document.bytes,
+      );
+    })
+
     -- what was found while the plan was put is named
-    pub named_by_plan : {new : DeviceState} → Called looked new → (e : Evidence) → IsFoundByPlan p old looked new e
+    pub named_by_plan : {new : DeviceState} → Called looked new → (e : Evidence)
+        → IsFoundByPlan r.horizon p old looked new e
         → IsNamed id body old new e
     named_by_plan {new} later e found =
         let asks = λ (still : IsStill old.foreign_writes new.foreign_writes).
@@ -150,6 +171,7 @@ module _ {id body : List ℕ} {old looked : DeviceState} {r : Ready} {p : Plan} 
           index = plan.index;
           has = plan.has;
           room = room;
+          own = own e.cell found.own;
           since = later;
           unput = λ still. found.unput still (asks still);
         })

@@ -7,7 +7,7 @@ use Rattle.cell_types.specs.Refusals.{refusal_of_fault}
 use Rattle.cell_types.specs.declared.refusal.Fault.{Fault}
 use Rattle.cell_types.specs.declared.refusal.Fault.TheVariants as faults
 use Rattle.cell_types.specs.declared.refusal.Refusal.{Refusal}
-use Rattle.cell_types.specs.declared.refusal.Refusal.TheVariants.{DeviceFault, NoMemory, Tampered, TooManyTerms}
+use Rattle.cell_types.specs.declared.refusal.Refusal.TheVariants.{DeviceFault, Duplicate, NoMemory, PathFull, Tampered, TooManyTerms}
 use Rattle.worm_device.specs.Calls.{Called}
 use Rattle.worm_device.specs.Counts.{IsStill}
 use Rattle.worm_device.specs.State.{DeviceState}
@@ -23,7 +23,7 @@ use Rattle.identifier_lookup.specs.declared.answers.Walk.{Walk}
 use Rattle.identifier_lookup.specs.declared.answers.Walk.TheVariants as walks
 use Rattle.ingest_plan.specs.Planning.{PlanEnds, PlansIndex}
 use Rattle.ingest_plan.specs.declared.plan.PlannedIndex.{PlannedIndex}
-use Rattle.ingest_engine.specs.Indexing.{EndsPath, PlanForEnds, PlansFor, WalksDevice, WalksOn}
+use Rattle.ingest_engine.specs.Indexing.{EndsPath, PathEnds, PlanForEnds, PlansFor, WalksDevice, WalksOn}
 use Rattle.ingest_engine.specs.declared.indexing.PathEnd.{PathEnd}
 
 -- what a walk says does not depend on the name of the loan
@@ -94,8 +94,23 @@ walk_failed r id entry new (faults.Tampered e) walks = record {
   quiet = walks.quiet;
   ends = λ tells.
       let seen = walks.ends.2 tells in
-      record { rule = inl seen.rule; stands = seen.stands; place = walks.ends.0; broken = seen.broken };
+      record { rule = seen.rule; stands = seen.stands; place = walks.ends.0; broken = seen.broken };
 }
+
+-- the path has no end, or was not walked
+pub path_refused : (r : Ready) (id body : List ℕ) (entry new : DeviceState) (refusal : Refusal)
+    → EndsPath r id entry new (Err refusal) → PlansFor r id body entry new (Err refusal)
+path_refused r id body entry new refusal path =
+    record { called = path.called; quiet = path.quiet; ends = why refusal path.ends }
+  where
+    why : (refusal : Refusal) → PathEnds r id entry new (Err refusal) → PlanForEnds r id body entry new (Err refusal)
+    why (Duplicate n) h = h
+    why PathFull h = h
+    why DeviceFault h = h
+    why (Tampered e) h = λ tells.
+        let found = h tells in
+        record { rule = inl found.rule; stands = found.stands; place = found.place; broken = found.broken }
+    why refusal h = absurd h
 
 module _ (r : Ready) (id body : List ℕ) (entry walked new : DeviceState) (end : PathEnd)
     (path : EndsPath r id entry walked (Ok end)) where
@@ -134,6 +149,7 @@ module _ (r : Ready) (id body : List ℕ) (entry walked new : DeviceState) (end 
                 level = end.level;
                 ends = record { called = path.called; path = path.ends; looked = plans.called; quiet = plans.quiet };
               },
+              named.postings,
             );
             stands = named.stands;
             place = named.place led;

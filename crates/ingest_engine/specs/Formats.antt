@@ -1,5 +1,5 @@
 -- What formatting a device does.
-use Rattle.std.specs.Prelude.{◌≡◌, ◌<◌, ℕ, List, Some, None, Result, Ok, Err, IsTrue}
+use Rattle.std.specs.Prelude.{◌≡◌, ◌<◌, ◌≤◌, ℕ, List, Some, None, Result, Ok, Err, IsOk, IsTrue}
 use Rattle.cell_types.specs.Image.{Image, ChangesOnly, IsUnchanged}
 use Rattle.cell_types.specs.Layout.{Layout, IsLayout}
 use Rattle.cell_types.specs.Records.{record_bytes}
@@ -25,11 +25,11 @@ pub record IsLeastWritten (at : ℕ) (old new : DeviceState) : Type 0 where
   pub stood : IsStill old.foreign_writes new.foreign_writes → old.image at ≡ Some found
   pub least : IsBlankBelow at old.image
 
--- how a look for written cells may end, and why
+-- How a look for written cells may end, and why. Each cell is read.
 abbrev pub LookEnds : DeviceState → DeviceState → Result Unit Refusal → Type 0
 LookEnds old new (Ok _) =
     (IsTrue old.tells → IsBlankBelow old.cells old.image)
-    × (new.faults ≡ old.faults)
+    × (new.faults ≡ old.faults) × (1 ≤ old.cells → Rose old.reads new.reads)
 LookEnds old new (Err DeviceFault) = Rose old.faults new.faults
 LookEnds old new (Err (NotBlank at)) = IsTrue old.tells → IsLeastWritten at old new
 LookEnds old new (Err refusal) = ⊥
@@ -52,8 +52,11 @@ FormatEnds g old new (Err (NotBlank at)) =
     × (IsTrue old.tells → IsStill old.foreign_writes new.foreign_writes → IsUnchanged old.image new.image)
 FormatEnds g old new (Err refusal) = ⊥
 
--- what it means that a device was formatted, or that this was ended
+-- What it means that a device was formatted, or that this was ended. Where it is done the cells were read, and no call of
+-- the device has failed.
 pub record Formats (g : Layout) (old new : DeviceState) (result : Result Unit Refusal) : Type 0 where
   pub called : Called old new
+  pub unfailed : IsOk result → new.faults ≡ old.faults
+  pub read : IsOk result → Rose old.reads new.reads
   pub only : IsStill old.foreign_writes new.foreign_writes → ChangesOnly 0 (volume_cell g) old.image new.image
   pub ends : FormatEnds g old new result

@@ -8,6 +8,7 @@ use Rattle.cell_types.specs.declared.refusal.Refusal.{Refusal}
 use Rattle.cell_types.specs.declared.refusal.Refusal.TheVariants.{DeviceFault, Duplicate, NoMemory, PathFull, Tampered, TooManyTerms}
 use Rattle.stored_documents.specs.Slots.{IsEdge, IsHorizon}
 use Rattle.stored_documents.specs.Volumes.{IsVolume}
+use Rattle.index_paths.specs.Postings.{HasPostings}
 use Rattle.tamper_rules.specs.Rules.{IsBroken, IsPlaceOf}
 use Rattle.term_tags.specs.Listing.{GetsTooMany}
 use Rattle.worm_device.specs.Calls.{Called}
@@ -44,14 +45,16 @@ pub record HasPathEnd (r : Ready) (id : List ℕ) (entry new : DeviceState) : Ty
   pub level : Level
   pub ends : HasWalked r id place level entry walked new
 
--- the rules that are named on the way: those of a walk along the path, and behind its end those of planning
-abbrev pub IsPathRule : Ready → List ℕ → DeviceState → DeviceState → ℕ → Type 0
-IsPathRule r id entry new number = IsWalkRule number ⊎ (IsGrowthRule number × HasPathEnd r id entry new)
+-- the rules that are named on the way: those of a walk along the path, and behind its end, where no list gets too many
+-- tags of the body, those of planning
+abbrev pub IsPathRule : Ready → List ℕ → List ℕ → DeviceState → DeviceState → ℕ → Type 0
+IsPathRule r id body entry new number =
+    IsWalkRule number ⊎ (IsGrowthRule number × HasPathEnd r id entry new × HasPostings r.volume.geometry body)
 
--- Evidence that was found on the way. It stands in a place of its rule. Where nobody else wrote, cell 0 states the volume
--- that was found ready, and its horizon and its edge are such, the rule is broken there.
-pub record IsFoundOnWay (r : Ready) (id : List ℕ) (entry new : DeviceState) (e : Evidence) : Type 0 where
-  pub rule : IsPathRule r id entry new e.rule
+-- Evidence that was found on the way, by one of these rules. It stands in a place of its rule. Where nobody else wrote,
+-- cell 0 states the volume that was found ready, and its horizon and its edge are such, the rule is broken there.
+pub record IsFoundOnWay (IsLookedAt : ℕ → Type 0) (r : Ready) (entry new : DeviceState) (e : Evidence) : Type 0 where
+  pub rule : IsLookedAt e.rule
   pub stands : new.image e.cell ≡ Some e.found
   pub place : IsPlaceOf r.volume.geometry e.rule e.cell
   pub broken : IsStill entry.foreign_writes new.foreign_writes → IsVolume new.cells new.image r.volume.geometry
@@ -70,7 +73,7 @@ PathEnds r id entry new (Ok end) = WalksOn r id entry new (walks.End end.place e
 PathEnds r id entry new (Err (Duplicate n)) = WalksOn r id entry new (walks.Found n)
 PathEnds r id entry new (Err PathFull) = WalksOn r id entry new walks.PathFull
 PathEnds r id entry new (Err DeviceFault) = Rose entry.faults new.faults
-PathEnds r id entry new (Err (Tampered e)) = IsTrue entry.tells → IsFoundOnWay r id entry new e
+PathEnds r id entry new (Err (Tampered e)) = IsTrue entry.tells → IsFoundOnWay IsWalkRule r entry new e
 PathEnds r id entry new (Err refusal) = ⊥
 
 -- such a look changes nothing
@@ -101,7 +104,8 @@ PlanForEnds r id body entry new (Err (Duplicate n)) = WalksOn r id entry new (wa
 PlanForEnds r id body entry new (Err PathFull) = WalksOn r id entry new walks.PathFull
 PlanForEnds r id body entry new (Err (TooManyTerms list count)) = HasTooMany r id body list count entry new
 PlanForEnds r id body entry new (Err DeviceFault) = Rose entry.faults new.faults
-PlanForEnds r id body entry new (Err (Tampered e)) = IsTrue entry.tells → IsFoundOnWay r id entry new e
+PlanForEnds r id body entry new (Err (Tampered e)) =
+    IsTrue entry.tells → IsFoundOnWay (IsPathRule r id body entry new) r entry new e
 PlanForEnds r id body entry new (Err NoMemory) = ⊤
 PlanForEnds r id body entry new (Err refusal) = ⊥
 

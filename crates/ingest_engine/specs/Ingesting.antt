@@ -1,5 +1,5 @@
 -- What it means that a document is ingested, or that this was ended.
-use Rattle.std.specs.Prelude.{◌≡◌, ◌<◌, ◌≤◌, ◌+◌, ◌-◌, ◌⊎◌, ℕ, List, [], ◌∷◌, ◌++◌, length, None, Result, Ok, Err, IsTrue}
+use Rattle.std.specs.Prelude.{◌≡◌, ◌<◌, ◌≤◌, ◌+◌, ◌-◌, ◌⊎◌, ℕ, List, [], ◌∷◌, ◌++◌, length, None, Result, Ok, Err, IsOk, IsTrue}
 use Rattle.cell_types.specs.Image.{Image, Extends, IsUnchanged}
 use Rattle.cell_types.specs.Layout.{Layout, reserve_at, spare_at}
 use Rattle.cell_types.specs.declared.refusal.Evidence.{Evidence}
@@ -18,6 +18,7 @@ use Rattle.document_store.specs.Looks.{HoldsIdentifier}
 use Rattle.recovery_engine.specs.Settling.{HasSettled, IsFound, IsSettlingRule, SettleEnds, Settles}
 use Rattle.recovery_engine.specs.declared.settling.Ready.{Ready}
 use Rattle.identifier_lookup.specs.Walks.{HasTrail, IsFirstOnPath, IsPassedWhole, NoneHasTrail}
+use Rattle.plan_writer.specs.Blank.{IsOfSlot}
 use Rattle.plan_writer.specs.CrashLaws.{IsWholeOrUncommitted}
 use Rattle.plan_writer.specs.Planned.{PlansDocument, Suits}
 use Rattle.plan_writer.specs.PuttingPlans.{PutsPlan}
@@ -159,7 +160,7 @@ abbrev pub IsLogRule : ℕ → Type 0
 IsLogRule number = IsSettlingRule number ⊎ (number ≡ STRAY_CELL)
 
 -- Evidence in the way of the plan, found once the volume was settled and had a free slot, and the document's index was
--- planned, and there was room for both: where nobody else wrote, the volume was only looked at since, so nothing of the
+-- planned, and there was room for both; it is a cell of that slot, or of those that it is to reserve: where nobody else wrote, the volume was only looked at since, so nothing of the
 -- document was put, and the rule was broken there before the command.
 pub record IsInTheWay (id body : List ℕ) (old new : DeviceState) (e : Evidence) : Type 0 where
   pub found : IsFound IsLogRule old new e
@@ -169,6 +170,7 @@ pub record IsInTheWay (id body : List ℕ) (old new : DeviceState) (e : Evidence
   pub index : PlannedIndex
   pub has : HasIndex ready id body index slot.settled.settled looked
   pub room : need_with id body index ≤ ready.volume.geometry.cells - ready.edge
+  pub own : IsOfSlot ready.horizon (record { start = ready.edge; length = need_with id body index }) e.cell
   pub since : Called looked new
   pub unput : IsStill old.foreign_writes new.foreign_writes → IsUnchanged looked.image new.image
 
@@ -177,7 +179,7 @@ pub record IsInTheWay (id body : List ℕ) (old new : DeviceState) (e : Evidence
 pub data IsNamed (id body : List ℕ) (old new : DeviceState) (e : Evidence) : Type 0 where
   by_settling : Settles old new (Err (Tampered e)) → IsFound IsSettlingRule old new e → IsNamed id body old new e
   by_plan : IsInTheWay id body old new e → IsNamed id body old new e
-  in_index : (ready : Ready) (slot : HasSlot old new ready) → IsPathRule ready id slot.settled.settled new e.rule
+  in_index : (ready : Ready) (slot : HasSlot old new ready) → IsPathRule ready id body slot.settled.settled new e.rule
       → IsLicensed old new e → IsNamed id body old new e
 
 -- how an ingest may end, and why
@@ -204,9 +206,19 @@ CrashesLeaveSlots id body old new =
     → (g : Layout) (n : ℕ) → IsVolume old.cells old.image g → IsUnused g old.image n
     → (image : Image) → LeftSince new old.moment image → IsWholeOrUncommitted g n id body image
 
--- what it means that a document is ingested, or that this was ended
+-- No write and no sync has failed: none while the volume was settled, as settling says, and from the look at the cells
+-- that the plan takes on no call has failed. Between the two the device was only read.
+pub record PutUnfailed (old new : DeviceState) : Type 0 where
+  pub ready : Ready
+  pub looked : DeviceState
+  pub settled : HasSettled old looked ready
+  pub unfailed : new.faults ≡ looked.faults
+
+-- What it means that a document is ingested, or that this was ended. Where it is stored no call that writes has failed:
+-- none is tried a second time.
 pub record Ingests (id body : List ℕ) (old new : DeviceState) (result : Result ℕ Refusal) : Type 0 where
   pub called : Called old new
+  pub unfailed : IsOk result → PutUnfailed old new
   pub comes : ComesTo id body old new
   pub crashes : CrashesLeaveSlots id body old new
   pub ends : IngestEnds id body old new result

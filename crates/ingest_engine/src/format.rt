@@ -27,16 +27,12 @@ pub fn format_volume<D: Device>(device: &mut D, slots: u32, lists: u16) -> Resul
         lists,
         cells,
     };
-    let Ok(written) = device.write(0, encode(volume, 0)) else {
-        return Err(Refusal::DeviceFault);
-    };
+    let written = device.write(0, encode(volume, 0))?;
     // Cell 0 was blank a moment ago. Somebody else has written it since, whatever stands there.
     let Written::Done = written else {
         return Err(Refusal::NotBlank(0));
     };
-    let Ok(()) = device.sync() else {
-        return Err(Refusal::DeviceFault);
-    };
+    device.sync()?;
     Ok(())
 }
 
@@ -45,9 +41,7 @@ fn look_for_written_cells<D: Device>(device: &mut D) -> Result<(), Refusal>
     ensures { Looks (D.state device.old) (D.state device.new) result }
 {
     for at in 0..device.cells() {
-        let Ok(found) = device.read(at) else {
-            return Err(Refusal::DeviceFault);
-        };
+        let found = device.read(at)?;
         if found.is_some() {
             return Err(Refusal::NotBlank(at));
         }

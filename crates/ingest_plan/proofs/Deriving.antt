@@ -164,7 +164,7 @@ plans_index g n edge body rows level place start old new result done layout are 
             (h.indexed.stands (told tells) (still_then still) bound behind between lists));
       }
       why (Err (refusals.Tampered e)) h = λ tells.
-          names_cell start done (in_order g None body n rows are) (λ i p is. (key_of_slot g body n rows are i p is).0) inside
+          names_cell body start done are.exist (in_order g None body n rows are) (λ i p is. (key_of_slot g body n rows are i p is).0) inside
           (subst IsTrue (sym over.called.tells) (told tells)) (sym lower) there quiet (h (told tells))
       why (Err refusals.DeviceFault) h =
           omega (arith, h, ap (λ (d : DeviceState). d.faults) begins, ap (λ (d : DeviceState). d.faults) ends)

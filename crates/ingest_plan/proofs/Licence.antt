@@ -9,7 +9,7 @@ use Rattle.stored_documents.specs.Slots.{IsEdge, IsHorizon}
 use Rattle.stored_documents.specs.Volumes.{IsVolume}
 use Rattle.tamper_rules.specs.Rules.{Children, IsBroken, IsPlaceOf}
 use Rattle.tamper_rules.specs.declared.numbers.TheConstants.{FAKE_POSTING}
-use Rattle.index_paths.specs.Postings.{ListedPosting}
+use Rattle.index_paths.specs.Postings.{HasPostings, ListedPosting}
 use Rattle.worm_device.specs.Counts.{IsStill}
 use Rattle.worm_device.specs.State.{DeviceState}
 use Rattle.worm_device.specs.Views.{IsView, ViewState}
@@ -92,12 +92,14 @@ licensed_there {g} {n} {rows} {level} {place} {s} {e} view order slot inside tel
 
 -- So it is on a device that stands below the view.
 pub names_cell : {g : Layout} {n edge : ℕ} {rows : List ListedPosting} {level : Level} {place : Open} {old new : ViewState}
-    {e : Evidence} (start done : DeviceState) → AreInOrder g rows → AreOfSlot n rows → edge ≤ g.cells → IsTrue new.base.tells
+    {e : Evidence} (body : List ℕ) (start done : DeviceState) → HasPostings g body → AreInOrder g rows
+    → AreOfSlot n rows → edge ≤ g.cells → IsTrue new.base.tells
     → start.image ≡ old.lower → done.image ≡ new.lower
     → (IsStill start.foreign_writes done.foreign_writes → IsUnchanged start.image done.image)
-    → NamesBelow g edge rows level place old new e → NamesCell g n edge level start done e
-names_cell {g} {n} {edge} {rows} {level} {place} {old} {new} {e} start done order slot inside tells before there quiet h =
+    → NamesBelow g edge rows level place old new e → NamesCell g n edge level body start done e
+names_cell {g} {n} {edge} {rows} {level} {place} {old} {new} {e} body start done postings order slot inside tells before there quiet h =
     record {
+      postings = postings;
       rule = licence.rule;
       stands = ap (λ (i : Image). i e.cell) there ∙ licence.stands;
       place = λ within. licence.place (subst (λ (i : Image). IsLedWithin g i level.led_by) there within);

@@ -10,7 +10,7 @@ use Rattle.stored_documents.specs.Documents.{Stands}
 use Rattle.stored_documents.specs.Slots.{IsEdge, IsHorizon}
 use Rattle.stored_documents.specs.Volumes.{IsVolume}
 use Rattle.index_paths.specs.Keeping.{IsKept, sought_in}
-use Rattle.index_paths.specs.Postings.{ArePostings, ListedPosting}
+use Rattle.index_paths.specs.Postings.{ArePostings, HasPostings, ListedPosting}
 use Rattle.tamper_rules.specs.Rules.{IsBroken, IsPlaceOf}
 use Rattle.tamper_rules.specs.declared.numbers.TheConstants.{BLOCK_OUT_OF_ORDER, FAKE_POSTING, LOST_POINTER, LOST_CHILD}
 use Rattle.term_tags.specs.Listing.{GetsTooMany}
@@ -85,10 +85,12 @@ abbrev pub IsGrowthRule : ℕ → Type 0
 IsGrowthRule number =
     (number ≡ BLOCK_OUT_OF_ORDER) ⊎ (number ≡ FAKE_POSTING) ⊎ (number ≡ LOST_POINTER) ⊎ (number ≡ LOST_CHILD)
 
--- The licence of evidence. It stands on the device. Where the child cell that led to the level is one of a node, it is
+-- The licence of evidence. No list gets too many tags of the body, and the evidence stands on the device. Where the child cell that led to the level is one of a node, it is
 -- at a place of its rule; and where besides nobody else wrote in the call, cell 0 states this volume, and the slot and
 -- the edge are a horizon and an edge of the image, the rule is broken there.
-pub record NamesCell (g : Layout) (n edge : ℕ) (level : Level) (old new : DeviceState) (e : Evidence) : Type 0 where
+pub record NamesCell (g : Layout) (n edge : ℕ) (level : Level) (body : List ℕ) (old new : DeviceState) (e : Evidence)
+    : Type 0 where
+  pub postings : HasPostings g body
   pub rule : IsGrowthRule e.rule
   pub stands : new.image e.cell ≡ Some e.found
   pub place : IsLedWithin g new.image level.led_by → IsPlaceOf g e.rule e.cell
@@ -102,7 +104,8 @@ abbrev pub PlanEnds : Layout → ℕ → ℕ → Level → Open → List ℕ →
 PlanEnds g n edge level place body old new (Ok p) = IsPlanned g n edge level place body p old new
 PlanEnds g n edge level place body old new (Err (TooManyTerms list count)) =
     GetsTooMany g body list count × (new ≡ old)
-PlanEnds g n edge level place body old new (Err (Tampered e)) = IsTrue old.tells → NamesCell g n edge level old new e
+PlanEnds g n edge level place body old new (Err (Tampered e)) =
+    IsTrue old.tells → NamesCell g n edge level body old new e
 PlanEnds g n edge level place body old new (Err DeviceFault) = Rose old.faults new.faults
 PlanEnds g n edge level place body old new (Err NoMemory) = ⊤
 PlanEnds g n edge level place body old new (Err refusal) = ⊥

@@ -1,5 +1,5 @@
 -- Cells that are put one after another, and phases that follow one another.
-use Rattle.std.proofs.Common.{◌≡◌, ◌≤◌, ◌<◌, ◌+◌, ◌-◌, ◌⊎◌, ℕ, List, Option, Some, None, Result, Ok, Err, refl, sym, ◌∙◌, inl, inr, ⊎_elim, subst, arith}
+use Rattle.std.proofs.Common.{true, false, ◌≡◌, ◌≤◌, ◌<◌, ◌+◌, ◌-◌, ◌⊎◌, ℕ, List, Option, Some, None, Result, Ok, Err, refl, sym, ◌∙◌, inl, inr, ⊎_elim, subst, arith}
 use Rattle.std.specs.Prelude.{IsTrue}
 use Rattle.cell_types.specs.Image.{Image, Extends, Between, IsUnchanged, ChangesOnly}
 use Rattle.cell_types.specs.declared.refusal.Evidence.{Evidence}
@@ -19,6 +19,9 @@ use Rattle.phase_writer.specs.Putting.{IsPut, ChangesBy, IsPutTwice, IsTaken, Pu
 
 none_some : (a : List ℕ) → Some a ≡ None → ⊥
 none_some a e = cc
+
+pub false_true : false ≡ true → ⊥
+false_true e = cc
 
 some_is : (a b : List ℕ) → Some a ≡ Some b → a ≡ b
 some_is a b e = cc
@@ -64,6 +67,7 @@ changes_then {P} {Q} {R} {a} {b} {c} left right grows p q at value h = ⊎_elim
 pub puts_none : (P : Put → Type 0) (s : DeviceState) → ((put : Put) → P put → ⊥) → Puts P s s (Ok tt)
 puts_none P s none = record {
   called = called_self s;
+  unfailed = λ ok. refl;
   only = λ tells still. changes_none P s.image;
   ends = λ tells put p. absurd (none put p);
 }
@@ -85,6 +89,7 @@ module _ {P Q R : Put → Type 0} (left : (put : Put) → P put → R put) (righ
         → Puts R old new (Ok w)
     puts_more covers v w then = record {
       called = called_then first.called then.called;
+      unfailed = λ ok. then.unfailed refl ∙ first.unfailed refl;
       only = only_then (Ok v) then;
       ends = λ tells put r. ⊎_elim
           (λ (p : P put). then.called.image.keeps put.at put.value (first.ends tells put p))
@@ -126,6 +131,7 @@ module _ {P Q R : Put → Type 0} (left : (put : Put) → P put → R put) (righ
     pub puts_ended : (fault : Fault) → Puts Q mid new (Err fault) → Puts R old new (Err fault)
     puts_ended fault then = record {
       called = called_then first.called then.called;
+      unfailed = λ ok. absurd (false_true ok);
       only = only_then (Err fault) then;
       ends = ended fault then.called then.ends;
     }
@@ -135,6 +141,7 @@ pub puts_same : {P R : Put → Type 0} {old new : DeviceState} {result : Result 
     → ((put : Put) → P put → R put) → ((put : Put) → R put → P put) → Puts P old new result → Puts R old new result
 puts_same {P} {R} {old} {new} {result} to back puts = record {
   called = puts.called;
+  unfailed = puts.unfailed;
   only = λ tells still. changes_wider to (puts.only tells still);
   ends = same result puts.ends;
 }
@@ -162,15 +169,21 @@ pub puts_ended_wider : {P R : Put → Type 0} {old new : DeviceState} (wider : (
 puts_ended_wider {P} {R} {old} {new} wider fault p = puts_ended {P = λ put. ⊥} {Q = P} {R = R} (λ put h. absurd h) wider
     tt (puts_none (λ put. ⊥) old (λ put h. h)) fault p
 
--- looks between
+-- looks between change nothing
+pub only_looked : {P : Put → Type 0} {old mid new : DeviceState} (u : Unit {0}) → Puts P old mid (Ok u)
+    → Called mid new → (IsStill mid.foreign_writes new.foreign_writes → IsUnchanged mid.image new.image)
+    → IsTrue old.tells → IsStill old.foreign_writes new.foreign_writes → ChangesBy P old.image new.image
+only_looked u puts called quiet tells still at value h =
+    puts.only tells (still_first puts.called.foreign_writes called.foreign_writes still) at value
+    (sym (quiet (still_second puts.called.foreign_writes called.foreign_writes still) at) ∙ h)
+
 pub puts_looked : {P : Put → Type 0} {old mid new : DeviceState} (u w : Unit {0}) → Puts P old mid (Ok u)
     → Called mid new → (IsStill mid.foreign_writes new.foreign_writes → IsUnchanged mid.image new.image)
-    → Puts P old new (Ok w)
-puts_looked {P} {old} {mid} {new} u w puts called quiet = record {
+    → new.faults ≡ mid.faults → Puts P old new (Ok w)
+puts_looked {P} {old} {mid} {new} u w puts called quiet none = record {
   called = called_then puts.called called;
-  only = λ tells still at value h. puts.only tells (still_first puts.called.foreign_writes called.foreign_writes still)
-      at value
-      (sym (quiet (still_second puts.called.foreign_writes called.foreign_writes still) at) ∙ h);
+  unfailed = λ ok. none ∙ puts.unfailed refl;
+  only = only_looked u puts called quiet;
   ends = λ tells put p. called.image.keeps put.at put.value (puts.ends tells put p);
 }
 
@@ -180,7 +193,8 @@ pub puts_failed : {P : Put → Type 0} {old mid new : DeviceState} (u : Unit {0}
     → Rose mid.faults new.faults → Puts P old new (Err faults.Failed)
 puts_failed {P} {old} {mid} {new} u puts called quiet rose = record {
   called = called_then puts.called called;
-  only = (puts_looked u tt puts called quiet).only;
+  unfailed = λ ok. absurd (false_true ok);
+  only = only_looked u puts called quiet;
   ends = omega (arith, rose, puts.called.faults);
 }
 
@@ -188,7 +202,7 @@ puts_failed {P} {old} {mid} {new} u puts called quiet rose = record {
 pub phase_synced : {P : Put → Type 0} {old mid new : DeviceState} (u v w : Unit {0}) → Puts P old mid (Ok u)
     → Syncs mid new (Ok v) → PutsPhase P old new (Ok w)
 phase_synced {P} {old} {mid} {new} u v w puts sync = record {
-  puts = puts_looked u w puts sync.called sync.only;
+  puts = puts_looked u w puts sync.called sync.only sync.cause;
   sure = λ tells.
       let synced = sync.answer (subst IsTrue (sym puts.called.tells) tells) in
       record {
@@ -227,6 +241,7 @@ pub phase_told : {P R : Put → Type 0} {old new : DeviceState} {result : Result
 phase_told {P} {R} {old} {new} {result} to back phase = record {
   puts = record {
     called = phase.puts.called;
+    unfailed = phase.puts.unfailed;
     only = λ tells. (puts_same (to tells) (back tells) phase.puts).only tells;
     ends = ends result phase.puts;
   };
@@ -380,18 +395,23 @@ module _ (plan : ℕ → Put → Type 0) where
     }
 
     -- looks between phases
+    pub crashes_looked : Called mid new
+        → (IsStill mid.foreign_writes new.foreign_writes → IsUnchanged mid.image new.image)
+        → CrashesLeavePhases plan k old new
+    crashes_looked called quiet = crashes_then k (omega arith) called
+        (λ tells still. changes_same (plan k) mid.image new.image (quiet still))
+
     pub phases_looked : (w : Unit {0}) → Called mid new
         → (IsStill mid.foreign_writes new.foreign_writes → IsUnchanged mid.image new.image)
-        → PutsPhases plan k old new (Ok w)
-    phases_looked w called quiet = record {
-      puts = puts_looked u w first.puts called quiet;
+        → new.faults ≡ mid.faults → PutsPhases plan k old new (Ok w)
+    phases_looked w called quiet none = record {
+      puts = puts_looked u w first.puts called quiet none;
       sure = λ tells. (
         λ put h. called.sure.keeps put.at put.value ((first.sure tells).0 put h),
         λ some. extends_then
             ((first.sure tells).1 some) called.sure,
       );
-      crashes = crashes_then k (omega arith) called
-          (λ tells still. changes_same (plan k) mid.image new.image (quiet still));
+      crashes = crashes_looked called quiet;
     }
 
   -- where not all phases come to be
@@ -550,6 +570,7 @@ pub written_done : (put : Put) (old new : DeviceState) (written : Written)
     → Puts (IsThis put) old new (Ok tt)
 written_done put old new written writes stands = record {
   called = writes.called;
+  unfailed = λ ok. writes.cause;
   only = λ tells still. one put old new (writes.only still);
   ends = λ tells other is. subst (λ (p : Put). new.image p.at ≡ Some p.value) (sym is) (stands tells);
 }

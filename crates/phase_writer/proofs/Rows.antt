@@ -10,6 +10,7 @@ use Rattle.worm_device.specs.declared.device.RowWritten.TheVariants.{Whole, Othe
 use Rattle.phase_writer.specs.declared.put.Blame.TheVariants.{Rule}
 use Rattle.phase_writer.specs.declared.put.Put.{Put}
 use Rattle.phase_writer.specs.Putting.{ChangesBy, IsInRow, Puts}
+use Rattle.phase_writer.proofs.Phasing.{false_true}
 
 some_is : (a b : List ℕ) → Some a ≡ Some b → a ≡ b
 some_is a b e = cc
@@ -34,6 +35,7 @@ module _ (from : ℕ) (cells : List (List ℕ)) (rule : ℕ) where
     pub row_put : WritesRow from cells old new (Ok Whole) → Puts (IsInRow from cells rule) old new (Ok tt)
     row_put writes = record {
       called = writes.called;
+      unfailed = λ ok. writes.cause;
       only = λ tells still. row_changes old.image new.image (writes.only still);
       ends = λ tells put h. ap new.image h.at ∙ writes.answer tells h.place put.value h.value;
     }
@@ -43,6 +45,7 @@ module _ (from : ℕ) (cells : List (List ℕ)) (rule : ℕ) where
         (Err (Tampered (record { rule = rule; cell = cell; found = found })))
     row_taken cell found writes = record {
       called = writes.called;
+      unfailed = λ ok. absurd (false_true ok);
       only = λ tells still. row_changes old.image new.image (writes.only still);
       ends = λ tells.
           let other = writes.answer tells in
@@ -61,6 +64,7 @@ module _ (from : ℕ) (cells : List (List ℕ)) (rule : ℕ) where
         → Puts (IsInRow from cells rule) old new (Err faults.Failed)
     row_unput failed writes = record {
       called = writes.called;
+      unfailed = λ ok. absurd (false_true ok);
       only = λ tells still. row_changes old.image new.image (writes.only still);
       ends = writes.cause;
     }

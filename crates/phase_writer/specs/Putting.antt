@@ -1,5 +1,5 @@
 -- What it means that cells are put onto a device, in phases.
-use Rattle.std.specs.Prelude.{◌≡◌, ◌≢◌, ◌<◌, ◌≤◌, ◌+◌, ◌⊎◌, ℕ, List, slice_get, Some, None, Result, Ok, Err, IsTrue, ⊤}
+use Rattle.std.specs.Prelude.{◌≡◌, ◌≢◌, ◌<◌, ◌≤◌, ◌+◌, ◌⊎◌, ℕ, List, slice_get, Some, None, Result, Ok, Err, IsOk, IsTrue, ⊤}
 use Rattle.cell_types.specs.Image.{Image, Extends}
 use Rattle.cell_types.specs.declared.refusal.Evidence.{Evidence}
 use Rattle.cell_types.specs.declared.refusal.Fault.{Fault}
@@ -71,9 +71,11 @@ PutsEnd P old new (Ok u) = IsTrue old.tells → AreStanding P new.image
 PutsEnd P old new (Err Failed) = Rose old.faults new.faults
 PutsEnd P old new (Err (Tampered e)) = IsTrue old.tells → IsTaken P old new e
 
--- what it means that cells were put, or that this was ended
+-- What it means that cells were put, or that this was ended. Where they were put no call of the device has failed: none
+-- is tried a second time.
 pub record Puts (P : Put → Type 0) (old new : DeviceState) (result : Result Unit Fault) : Type 0 where
   pub called : Called old new
+  pub unfailed : IsOk result → new.faults ≡ old.faults
   pub only : IsTrue old.tells → IsStill old.foreign_writes new.foreign_writes → ChangesBy P old.image new.image
   pub ends : PutsEnd P old new result
 

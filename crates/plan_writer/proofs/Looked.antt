@@ -1,11 +1,11 @@
 -- The phases of a plan, seen from before looks that came first.
-use Rattle.std.proofs.Common.{◌≤◌, ◌+◌, ◌-◌, ℕ, Ok, Err, inl, inr, ⊎_elim, subst, arith}
+use Rattle.std.proofs.Common.{◌≡◌, ◌≤◌, ◌+◌, ◌-◌, ℕ, Ok, Err, inl, inr, ⊎_elim, subst, arith}
 use Rattle.std.specs.Prelude.{Result}
 use Rattle.cell_types.specs.Image.{IsUnchanged}
 use Rattle.cell_types.specs.declared.refusal.Fault.{Fault}
 use Rattle.phase_writer.specs.declared.put.Put.{Put}
 use Rattle.phase_writer.specs.Putting.{LeavesPhases, PutsPhases}
-use Rattle.phase_writer.proofs.Phasing.{changes_same, phases_append, phases_append_ended, phases_looked, phases_none}
+use Rattle.phase_writer.proofs.Phasing.{changes_same, crashes_looked, phases_append, phases_append_ended, phases_looked, phases_none}
 use Rattle.worm_device.specs.Calls.{Called}
 use Rattle.worm_device.specs.Counts.{IsStill}
 use Rattle.worm_device.specs.State.{DeviceState}
@@ -21,9 +21,6 @@ put_by_phases n p old new result phases =
 
 module _ (n : ℕ) (p : Plan) {a b : DeviceState} (ab : Called a b)
     (quiet : IsStill a.foreign_writes b.foreign_writes → IsUnchanged a.image b.image) where
-  none_yet : PutsPhases (ingest_phases n p) 0 a b (Ok tt)
-  none_yet = phases_looked (ingest_phases n p) 0 tt (phases_none (ingest_phases n p) a) tt ab quiet
-
   -- looks alone put nothing
   pub put_by_looks : PutsPlan n p a b
   put_by_looks = record {
@@ -38,7 +35,7 @@ module _ (n : ℕ) (p : Plan) {a b : DeviceState} (ab : Called a b)
           synced = l.synced;
           only = l.only;
         }))
-        (none_yet.crashes tells since image le left);
+        (crashes_looked (ingest_phases n p) 0 tt (phases_none (ingest_phases n p) a) ab quiet tells since image le left);
   }
 
   to : (j : ℕ) (put : Put) → ingest_phases n p j put → ingest_phases n p (0 + j) put
@@ -47,11 +44,15 @@ module _ (n : ℕ) (p : Plan) {a b : DeviceState} (ab : Called a b)
   back : (j : ℕ) (put : Put) → 0 ≤ j → ingest_phases n p j put → ingest_phases n p (j - 0) put
   back j put from h = subst (λ (i : ℕ). ingest_phases n p i put) (omega arith) h
 
-  -- and phases behind them are the plan's
-  pub phases_behind : {c : DeviceState} (result : Result (Unit {0}) Fault)
-      → PutsPhases (ingest_phases n p) INGEST_PHASES b c result
-      → PutsPhases (ingest_phases n p) INGEST_PHASES a c result
-  phases_behind (Ok u) phases =
-      phases_append (ingest_phases n p) (ingest_phases n p) 0 5 to back tt none_yet u u phases
-  phases_behind (Err fault) phases =
-      phases_append_ended (ingest_phases n p) (ingest_phases n p) 0 5 to back tt none_yet fault phases
+  module _ (none : b.faults ≡ a.faults) where
+    none_yet : PutsPhases (ingest_phases n p) 0 a b (Ok tt)
+    none_yet = phases_looked (ingest_phases n p) 0 tt (phases_none (ingest_phases n p) a) tt ab quiet none
+
+    -- and phases behind them are the plan's
+    pub phases_behind : {c : DeviceState} (result : Result (Unit {0}) Fault)
+        → PutsPhases (ingest_phases n p) INGEST_PHASES b c result
+        → PutsPhases (ingest_phases n p) INGEST_PHASES a c result
+    phases_behind (Ok u) phases =
+        phases_append (ingest_phases n p) (ingest_phases n p) 0 5 to back tt none_yet u u phases
+    phases_behind (Err fault) phases =
+        phases_append_ended (ingest_phases n p) (ingest_phases n p) 0 5 to back tt none_yet fault phases

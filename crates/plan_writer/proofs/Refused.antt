@@ -17,7 +17,7 @@ use Rattle.worm_device.specs.Counts.{IsStill}
 use Rattle.worm_device.specs.State.{DeviceState}
 use Rattle.worm_device.proofs.Counting.{still_first, still_second}
 use Rattle.worm_device.proofs.Images.{extends_self}
-use Rattle.plan_writer.specs.Blank.{IsFirstWritten, LooksForSlot, done, outcome, reserved, spare}
+use Rattle.plan_writer.specs.Blank.{IsFirstWritten, IsOfSlot, LooksForSlot, done, outcome, reserved, spare}
 use Rattle.plan_writer.specs.Planned.{Suits, reserved_by}
 use Rattle.plan_writer.specs.PuttingPlans.{IsFoundByPlan, IsPlanRule, PlanEnds}
 use Rattle.plan_writer.specs.declared.plan.Plan.{Plan}
@@ -32,6 +32,14 @@ first_rule (outcome r c) = inr (inl r)
 first_rule (done r c a) = inr (inr (inl r))
 first_rule (spare r c a b) = inr (inr (inr (inr r)))
 first_rule (reserved r w a b c before) = inr (inr (inr (inr r)))
+
+-- it is the slot's own, or one that it is to reserve
+first_own : {image : Image} {n : ℕ} {cells : Reservation} {e : Evidence} → IsFirstWritten image n cells e
+    → IsOfSlot n cells e.cell
+first_own (outcome r c) = inl (omega (arith, c), omega (arith, c))
+first_own (done r c a) = inl (omega (arith, c), omega (arith, c))
+first_own (spare r c a b) = inl (omega (arith, c), omega (arith, c))
+first_own (reserved r w a b c before) = inr w
 
 -- it lies ahead of the log
 first_ahead : (g : Layout) (n : ℕ) (cells : Reservation) (image : Image) (e : Evidence) → n < g.slots
@@ -96,9 +104,10 @@ module _ (p : Plan) {s0 s2 s3 : DeviceState} (r : Ready) (has : HasSettled s0 s2
           (first_where s2.image s0.image r.horizon (reserved_by p) e
           (λ cell none. blank_before (called r has).image none) first))
 
-    found : IsFoundByPlan p s0 s2 s3 e
+    found : IsFoundByPlan r.horizon p s0 s2 s3 e
     found = record {
       rule = first_rule first;
+      own = first_own first;
       licensed = record {
         stands = stands;
         layout = r.volume.geometry;

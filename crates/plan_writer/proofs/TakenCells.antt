@@ -23,7 +23,7 @@ use Rattle.worm_device.specs.Counts.{IsStill}
 use Rattle.worm_device.specs.State.{DeviceState}
 use Rattle.worm_device.specs.Calls.{Called}
 use Rattle.worm_device.proofs.Counting.{still_first, still_second}
-use Rattle.plan_writer.specs.Blank.{IsFree}
+use Rattle.plan_writer.specs.Blank.{IsFree, IsOfSlot}
 use Rattle.plan_writer.specs.Planned.{INGEST_PHASES, IsAskedPut, IsStoredPut, Suits, commit_put, document_from, ingest_phases, journal_from, reserve_put, reserved_by}
 use Rattle.plan_writer.specs.PuttingPlans.{AsksForBlank, IsFoundByPlan, IsPlanRule}
 use Rattle.plan_writer.specs.declared.plan.Plan.{Plan}
@@ -72,16 +72,18 @@ module _ (g : Layout) (n : ℕ) (p : Plan) {s0 s2 s4 : DeviceState} (layout : Is
       (t.taken.stood (still_4 still))
 
   -- so one of the slot's own cells was taken by somebody else
-  own : (number : ℕ) → IsPlanRule number → t.taken.put.blame ≡ Rule number → IsPlaceOf g number t.taken.put.at
+  own : (number : ℕ) → IsPlanRule number → IsOfSlot n (reserved_by p) t.taken.put.at
+      → t.taken.put.blame ≡ Rule number → IsPlaceOf g number t.taken.put.at
       → (IsStill s0.foreign_writes s2.foreign_writes → s2.image t.taken.put.at ≡ None)
       → ((j : ℕ) (other : Put) → ingest_phases n p j other → other.at ≡ t.taken.put.at
       → other.value ≡ t.taken.put.value)
-      → IsFoundByPlan p s0 s2 s4 e
-  own number named blame place blank once =
-      subst (IsFoundByPlan p s0 s2 s4)
+      → IsFoundByPlan n p s0 s2 s4 e
+  own number named here blame place blank once =
+      subst (IsFoundByPlan n p s0 s2 s4)
       (sym (blames t.taken.put.blame number t.taken.put.at t.taken.put.value t.taken.found e t.taken.is blame))
       (record {
         rule = named;
+        own = here;
         licensed = record {
           stands = t.taken.stands;
           layout = g;
@@ -169,12 +171,13 @@ module _ (g : Layout) (n : ℕ) (p : Plan) {s0 s2 s4 : DeviceState} (layout : Is
         }))
         (before_or (target_of t.taken.put.value) p.start)
 
-    target : IsFoundByPlan p s0 s2 s4 e
+    target : IsFoundByPlan n p s0 s2 s4 e
     target =
-        subst (IsFoundByPlan p s0 s2 s4)
+        subst (IsFoundByPlan n p s0 s2 s4)
         (sym (t.taken.is ∙ ap (λ (w : Blame). blamed w t.taken.put.at t.taken.put.value t.taken.found) a.blame))
         (record {
           rule = inr (inr (inr (inl refl)));
+          own = inr (record { from = omega arith; below = omega (arith, within) });
           licensed = record {
             stands = stands;
             layout = g;
@@ -200,15 +203,17 @@ module _ (g : Layout) (n : ℕ) (p : Plan) {s0 s2 s4 : DeviceState} (layout : Is
 
   -- by the phase in which it was
   by_phase : (j : ℕ) → ingest_phases n p j t.taken.put → AreStanding (IsInFirst (ingest_phases n p) j) s4.sure
-      → IsFoundByPlan p s0 s2 s4 e
+      → IsFoundByPlan n p s0 s2 s4 e
   by_phase zero h before =
       let at : t.taken.put.at ≡ reserve_at n = ap (λ (x : Put). x.at) h in
-      own RESERVE_CELL (inl refl) (ap (λ (x : Put). x.blame) h) (ReserveCells, refl, (n, less, at))
+      own RESERVE_CELL (inl refl) (inl (omega (arith, at), omega (arith, at))) (ap (λ (x : Put). x.blame) h) (ReserveCells, refl, (n, less, at))
       (λ still. ap s2.image at ∙ unreserved still)
       (λ i other q here. ap (λ (x : Put). x.value) (reserve_in g n p less suits i other q (here ∙ at)).1
       ∙ sym (ap (λ (x : Put). x.value) h))
   by_phase (suc zero) h before =
-      own STRAY_CELL (inr (inr (inr (inr refl)))) (stored_blame h) (
+      own STRAY_CELL (inr (inr (inr (inr refl))))
+      (inr (record { from = omega (arith, stored_from p t.taken.put h); below = stored_to p t.taken.put h }))
+      (stored_blame h) (
         StrayCells,
         refl,
         inr (inr (
@@ -228,18 +233,18 @@ module _ (g : Layout) (n : ℕ) (p : Plan) {s0 s2 s4 : DeviceState} (layout : Is
           s
   by_phase (suc (suc zero)) h before =
       let at : t.taken.put.at ≡ outcome_at n = ap (λ (x : Put). x.at) h in
-      own OUTCOME_CELL (inr (inl refl)) (ap (λ (x : Put). x.blame) h) (OutcomeCells, refl, (n, less, at))
+      own OUTCOME_CELL (inr (inl refl)) (inl (omega (arith, at), omega (arith, at))) (ap (λ (x : Put). x.blame) h) (OutcomeCells, refl, (n, less, at))
       (λ still. ap s2.image at ∙ free.outcome)
       (λ i other q here. ap (λ (x : Put). x.value) (commit_in g n p less suits i other q (here ∙ at)).1
       ∙ sym (ap (λ (x : Put). x.value) h))
   by_phase (suc (suc (suc zero))) h before = target h before
   by_phase (suc (suc (suc (suc zero)))) h before =
       let at : t.taken.put.at ≡ done_at n = ap (λ (x : Put). x.at) h in
-      own DONE_CELL (inr (inr (inl refl))) (ap (λ (x : Put). x.blame) h) (DoneCells, refl, (n, less, at))
+      own DONE_CELL (inr (inr (inl refl))) (inl (omega (arith, at), omega (arith, at))) (ap (λ (x : Put). x.blame) h) (DoneCells, refl, (n, less, at))
       (λ still. ap s2.image at ∙ free.done)
       (λ i other q here. ap (λ (x : Put). x.value) (done_in g n p less suits i other q (here ∙ at)).1
       ∙ sym (ap (λ (x : Put). x.value) h))
   by_phase (suc (suc (suc (suc (suc j))))) h before = absurd h
 
-  pub taken_found : IsFoundByPlan p s0 s2 s4 e
+  pub taken_found : IsFoundByPlan n p s0 s2 s4 e
   taken_found = by_phase t.phase t.planned t.before

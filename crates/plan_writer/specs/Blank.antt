@@ -1,7 +1,7 @@
 -- What a look for written cells tells: what it needs blank was blank at its entry.
-use Rattle.std.specs.Prelude.{◌≡◌, ◌<◌, ◌≤◌, ◌+◌, ℕ, List, length, slice_get, Option, Some, None, Result, Ok, Err, IsTrue}
+use Rattle.std.specs.Prelude.{◌≡◌, ◌<◌, ◌≤◌, ◌+◌, ◌⊎◌, ℕ, List, length, slice_get, Option, Some, None, Result, Ok, Err, IsTrue}
 use Rattle.cell_types.specs.Image.{Image, IsUnchanged}
-use Rattle.cell_types.specs.Layout.{outcome_at, done_at, spare_at}
+use Rattle.cell_types.specs.Layout.{reserve_at, outcome_at, done_at, spare_at}
 use Rattle.cell_types.specs.declared.refusal.Evidence.{Evidence}
 use Rattle.cell_types.specs.declared.refusal.Fault.{Fault}
 use Rattle.cell_types.specs.declared.refusal.Fault.TheVariants.{Tampered, Failed}
@@ -19,6 +19,10 @@ pub record IsOfCells (cells : Reservation) (cell : ℕ) : Type 0 where
 -- all of them are blank
 abbrev pub AreBlank : Image → Reservation → Type 0
 AreBlank image cells = (cell : ℕ) → IsOfCells cells cell → image cell ≡ None
+
+-- the cell is one of the slot's four, or of those that it reserves
+abbrev pub IsOfSlot : ℕ → Reservation → ℕ → Type 0
+IsOfSlot slot cells cell = ((reserve_at slot ≤ cell) × (cell ≤ spare_at slot)) ⊎ IsOfCells cells cell
 
 -- how a look at one cell may end, and why
 abbrev pub LookEnds : ℕ → ℕ → DeviceState → DeviceState → Result Unit Fault → Type 0

@@ -15,7 +15,7 @@ use Rattle.worm_device.specs.State.{DeviceState}
 use Rattle.phase_writer.specs.Putting.{ChangesBy, CrashesLeavePhases, IsInFirst}
 use Rattle.commit_record.specs.Licences.{IsLicensed}
 use Rattle.recovery_engine.specs.Entries.{target_of}
-use Rattle.plan_writer.specs.Blank.{AreBlank}
+use Rattle.plan_writer.specs.Blank.{AreBlank, IsOfSlot}
 use Rattle.plan_writer.specs.Planned.{INGEST_PHASES, PlansDocument, ingest_phases, reserved_by}
 use Rattle.plan_writer.specs.declared.plan.Plan.{Plan}
 
@@ -53,12 +53,13 @@ IsPlanRule number =
     (number ≡ RESERVE_CELL) ⊎ (number ≡ OUTCOME_CELL) ⊎ (number ≡ DONE_CELL) ⊎ (number ≡ OTHER_TARGET)
     ⊎ (number ≡ STRAY_CELL)
 
--- Evidence that was found while a plan was put, from entry on, seen from before the volume was settled: it names one of
--- these rules, and may be named; and where nobody else wrote, and the journal asked for cells that were blank at entry,
+-- Evidence that was found while a plan was put into slot n, from entry on, seen from before the volume was settled: it
+-- names one of these rules at a cell of the slot or of its reservation, and may be named; and where nobody else wrote, and the journal asked for cells that were blank at entry,
 -- its rule was broken at entry, and before settling, too, and nothing of the plan is put. (Cells that were blank before
 -- settling would not do: it may have carried another journal out into them.)
-pub record IsFoundByPlan (p : Plan) (old entry new : DeviceState) (e : Evidence) : Type 0 where
+pub record IsFoundByPlan (n : ℕ) (p : Plan) (old entry new : DeviceState) (e : Evidence) : Type 0 where
   pub rule : IsPlanRule e.rule
+  pub own : IsOfSlot n (reserved_by p) e.cell
   pub licensed : IsLicensed old new e
   pub at_entry : IsStill old.foreign_writes new.foreign_writes → AsksForBlank p entry.image
       → IsBroken entry.cells entry.image e.rule e.cell
@@ -72,4 +73,4 @@ abbrev pub PlanEnds : Layout → Plan → ℕ → DeviceState → DeviceState �
 PlanEnds g p n old entry new (Ok slot) =
     (slot ≡ n) × (IsTrue old.tells → IsCarriedOut g p n new.cells old.image entry.image new.sure)
 PlanEnds g p n old entry new (Err Failed) = Rose old.faults new.faults
-PlanEnds g p n old entry new (Err (Tampered e)) = IsTrue old.tells → IsFoundByPlan p old entry new e
+PlanEnds g p n old entry new (Err (Tampered e)) = IsTrue old.tells → IsFoundByPlan n p old entry new e

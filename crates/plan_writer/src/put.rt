@@ -1,5 +1,5 @@
 //! A plan, put into the free slot at the horizon of a settled volume.
-ghost use Rattle.std.specs.Prelude.{◌≡◌, ◌<◌};
+ghost use Rattle.std.specs.Prelude.{◌≡◌, ◌<◌, IsOk};
 ghost use Rattle.worm_device.specs.State.{DeviceState};
 ghost use Rattle.recovery_engine.specs.Settling.{HasSettled, LiesInBounds};
 ghost use Rattle.plan_writer.specs.Planned.{Suits};
@@ -12,7 +12,7 @@ use recovery_engine::Ready;
 use worm_device::Device;
 
 /// Puts what is planned into the slot at the horizon of a volume that was settled, and has only been looked at since.
-/// Answers the slot. Takes no memory.
+/// Answers the slot; then no call of the device has failed, since none is tried a second time. Takes no memory.
 ///
 /// # Errors
 ///
@@ -25,6 +25,7 @@ pub fn put_planned<D: Device>(device: &mut D, ready: &Ready, plan: &Plan<'_>) ->
     requires starts { plan.now.start ≡ ready.now.edge }
     requires suits { Suits ready.now.volume.geometry plan.now }
     ensures puts { PutsPlan ready.now.horizon plan.now (D.state device.old) (D.state device.new) }
+    ensures unfailed { IsOk result → (D.state device.new).faults ≡ (D.state device.old).faults }
     ensures ends { (earlier : DeviceState) → HasSettled earlier (D.state device.old) ready.now →
         PlanEnds ready.now.volume.geometry plan.now ready.now.horizon earlier (D.state device.old) (D.state device.new)
         result }

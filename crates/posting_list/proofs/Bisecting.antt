@@ -1,5 +1,5 @@
 -- Bisection finds the tag of a slot that must not be passed.
-use Rattle.std.proofs.Common.{◌≡◌, ◌≢◌, ◌<◌, ◌≤◌, ◌+◌, ◌-◌, ◌*◌, ⊎_elim, ℕ, true, false, List, length, Some, None, Ok, Err, refl, ap, sym, arith, ◌∙◌}
+use Rattle.std.proofs.Common.{◌≡◌, ◌≢◌, ◌<◌, ◌≤◌, ◌+◌, ◌-◌, ◌*◌, ◌/◌, ◌^◌, ⊎_elim, ℕ, zero, suc, true, false, List, length, Some, None, Ok, Err, refl, ap, sym, arith, ◌∙◌}
 use Rattle.std.specs.Prelude.{IsTrue, slice_get}
 use Rattle.std.proofs.lemmas.Bool.{cases_eq, cases_lt}
 use Rattle.byteorder.specs.Endian.{big_number}
@@ -212,3 +212,44 @@ none_left r term slot old new low high so_far past = record {
     λ f. absurd (false_never f),
   );
 }
+
+-- Fewer ordinals than two to some power are left, and so many searches more may be made.
+pub record IsNarrowed (old now : ViewState) (low high : ℕ) : Type 0 where
+  pub more : ℕ
+  pub narrow : high < low + 2 ^ more
+  pub reads : now.base.reads + 4096 * more ≤ old.base.reads + 36864
+
+-- the first search is one of nine
+pub narrowed_first : (old now : ViewState) (last high : ℕ) → last < 256 → high ≡ last + 1
+    → now.base.reads ≤ old.base.reads + 4096 → IsNarrowed old now 1 high
+narrowed_first old now last high small is reads = record {
+  more = 8;
+  narrow = omega (arith, small, is);
+  reads = omega (arith, reads);
+}
+
+twice : (k : ℕ) → 2 ^ suc k ≡ 2 * 2 ^ k
+twice k = grind arith
+
+module _ (old now new : ViewState) (low high : ℕ) (less : low < high) (reads : new.base.reads ≤ now.base.reads + 4096)
+  where
+    -- one search more is left
+    pub reads_more : IsNarrowed old now low high → new.base.reads ≤ old.base.reads + 36864
+    reads_more n = by_more n.more n.narrow n.reads where
+      by_more : (k : ℕ) → high < low + 2 ^ k → now.base.reads + 4096 * k ≤ old.base.reads + 36864
+          → new.base.reads ≤ old.base.reads + 36864
+      by_more zero narrow paid = absurd (omega (arith, narrow, less))
+      by_more (suc k) narrow paid = omega (arith, reads, paid)
+
+    -- and half of the ordinals
+    pub narrowed_more : (from to : ℕ) → IsNarrowed old now low high → to ≤ from + (high - low) / 2
+        → IsNarrowed old new from to
+    narrowed_more from to n half = by_more n.more n.narrow n.reads where
+      by_more : (k : ℕ) → high < low + 2 ^ k → now.base.reads + 4096 * k ≤ old.base.reads + 36864
+          → IsNarrowed old new from to
+      by_more zero narrow paid = absurd (omega (arith, narrow, less))
+      by_more (suc k) narrow paid = record {
+        more = k;
+        narrow = omega (arith, half, narrow, twice k);
+        reads = omega (arith, reads, paid);
+      }

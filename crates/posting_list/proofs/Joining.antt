@@ -1,5 +1,5 @@
 -- What the searches say, of the lists as the join sees them.
-use Rattle.std.proofs.Common.{◌≡◌, ℕ, Bool, List, Option, Some, None, Result, Ok, Err, ◌∷◌, map, ap, refl, sym, subst, ◌∙◌}
+use Rattle.std.proofs.Common.{◌≡◌, ◌<◌, ◌≤◌, ◌+◌, ◌-◌, ◌*◌, ◌^◌, min, arith, ℕ, Bool, List, Option, Some, None, Result, Ok, Err, ◌∷◌, map, ap, refl, sym, subst, ◌∙◌}
 use Rattle.std.specs.Prelude.{slice_get}
 use Rattle.cell_types.specs.declared.refusal.Fault.{Fault}
 use Rattle.cell_types.specs.declared.refusal.Fault.TheVariants.{Tampered, Failed}
@@ -16,6 +16,9 @@ use Rattle.posting_list.specs.States.{counted_lists, row_of, term_row}
 use Rattle.posting_list.specs.Terms.{TermEnds}
 use Rattle.posting_list.specs.declared.reach.Reach.{Reach}
 use Rattle.posting_list.specs.declared.sought_term.SoughtTerm.{SoughtTerm}
+use Rattle.zigzag_join.proofs.Joining.{paid_since}
+use Rattle.posting_list.specs.declared.has_slot.TheConstants.{HAS_READS}
+use Rattle.posting_list.specs.declared.next_slot.TheConstants.{NEXT_READS}
 use Rattle.posting_list.proofs.Owed.{owed_on, vouched_on}
 
 one_term : (terms : List SoughtTerm) (which : ℕ) (a b : SoughtTerm) → slice_get terms which ≡ Some a
@@ -31,9 +34,12 @@ none_owed r terms which s never slot o =
     never o.term (record { size = o.owed.volume.size; there = o.there; list = o.owed.list })
 
 module _ (r : Reach) (terms : List SoughtTerm) (loan : ℕ) (s t : ViewState) (n h i j : ℕ) where
-  -- what every row of reads keeps
-  pub keeps_all : Viewed s t → Keeps (counted_lists r terms loan s n h) (counted_lists r terms loan t i j)
-  keeps_all viewed = record {
+  -- what every row of reads keeps that the asks have paid for
+  pub keeps_all : Viewed s t → n ≤ i → h ≤ j
+      → (i < 2 ^ 64 - 1 → j < 2 ^ 64 - 1
+      → t.base.reads + (NEXT_READS * n + HAS_READS * h) ≤ s.base.reads + (NEXT_READS * i + HAS_READS * j))
+      → Keeps (counted_lists r terms loan s n h) (counted_lists r terms loan t i j)
+  keeps_all viewed more_next more_has pays = record {
     lists = refl;
     made_of = ap (λ (loans : List ℕ). (loan ∷ loans) ∷ row_of r ∷ map term_row terms) viewed.loans;
     viewed = viewed;
@@ -52,7 +58,27 @@ module _ (r : Reach) (terms : List SoughtTerm) (loan : ℕ) (s t : ViewState) (n
           subst (λ (x : Image). HasPosting r there.0 x slot)
               (same_image ((rests_of viewed).shown still)) there.2,
         );
+    next_reads = refl;
+    has_reads = refl;
+    next_asks = more_next;
+    has_asks = more_has;
+    paid = paid_since (counted_lists r terms loan s n h) (counted_lists r terms loan t i j) refl refl more_next
+        more_has (λ counts. pays counts.next counts.has);
   }
+
+  -- one ask for a next slot pays for what it read, where it was counted
+  pub keeps_next : Viewed s t → i ≡ min (n + 1) (2 ^ 64 - 1) → j ≡ h → n < 2 ^ 64
+      → t.base.reads ≤ s.base.reads + NEXT_READS
+      → Keeps (counted_lists r terms loan s n h) (counted_lists r terms loan t i j)
+  keeps_next viewed next has fits reads = keeps_all viewed (omega (arith, next, fits)) (omega (arith, has))
+      (λ counts other. omega (arith, next, has, counts, reads))
+
+  -- and so does one whether a list has a slot
+  pub keeps_has : Viewed s t → i ≡ n → j ≡ min (h + 1) (2 ^ 64 - 1) → h < 2 ^ 64
+      → t.base.reads ≤ s.base.reads + HAS_READS
+      → Keeps (counted_lists r terms loan s n h) (counted_lists r terms loan t i j)
+  keeps_has viewed next has fits reads = keeps_all viewed (omega (arith, next)) (omega (arith, has, fits))
+      (λ other counts. omega (arith, next, has, counts, reads))
 
   fault_ends : (fault : Fault) → FaultSays r s t fault
       → FaultEnds (counted_lists r terms loan s n h) (counted_lists r terms loan t i j) fault

@@ -1,15 +1,18 @@
 -- The rows that lists of terms are made of tell what is read, and the terms.
-use Rattle.std.proofs.Common.{◌≡◌, ℕ, List, [], ◌∷◌, map, Option, Some, None, Result, Ok, Err, refl, ap, sym, subst, ◌∙◌}
+use Rattle.std.proofs.Common.{◌≡◌, ◌<◌, ◌≤◌, ◌+◌, ◌-◌, ◌*◌, ◌^◌, length, arith, ℕ, List, [], ◌∷◌, map, Option, Some, None, Result, Ok, Err, refl, ap, sym, subst, ◌∙◌}
 use Rattle.cell_types.specs.declared.refusal.Fault.{Fault}
 use Rattle.cell_types.specs.declared.refusal.Fault.TheVariants.{Tampered, Failed}
 use Rattle.worm_device.specs.Views.{ViewState}
 use Rattle.zigzag_join.specs.Counts.{GatherCosts, JoinCosts}
+use Rattle.std.proofs.lemmas.Nat.{mul-le}
 use Rattle.zigzag_join.specs.Joins.{JoinEnds}
+use Rattle.zigzag_join.specs.Lists.{Keeps}
+use Rattle.zigzag_join.proofs.Joining.{reads_of}
 use Rattle.std.specs.Global.{Vec}
 use Rattle.cell_types.specs.declared.refusal.Refusal.{Refusal}
 use Rattle.cell_types.specs.declared.refusal.Refusal.TheVariants as refusals
 use Rattle.zigzag_join.specs.Gathering.{GatherEnds}
-use Rattle.posting_list.specs.Joins.{TermsCost, TermsGather, TermsGatherCost, TermsJoin}
+use Rattle.posting_list.specs.Joins.{TermsCost, TermsGather, TermsGatherCost, TermsGatherReads, TermsJoin, gather_reads}
 use Rattle.posting_list.specs.States.{counted_lists, lists_over, row_of, term_row}
 use Rattle.posting_list.specs.declared.reach.Reach.{Reach}
 use Rattle.posting_list.specs.declared.sought_term.SoughtTerm.{SoughtTerm}
@@ -145,3 +148,42 @@ pub gather_costs_these : (r q : Reach) (terms others : List SoughtTerm) (loan na
     → GatherCosts (counted_lists r terms loan s n h) (counted_lists q others name t i j)
     → TermsGatherCost r terms s t n h i j
 gather_costs_these r q terms others loan name s t n h i j costs = record { costs = costs }
+
+-- so many slots of a volume, and so many terms, leave the counts of asks below their last value
+few_asks : (terms slots asks : ℕ) → terms < 2 ^ 32 → slots ≤ 16777216 → asks ≤ terms * (2 * slots + 1)
+    → asks < 2 ^ 64 - 1
+few_asks terms slots asks few most le =
+    omega (arith, le, mul-le terms (2 * slots + 1) (2 ^ 32) 33554433 (omega (arith, few)) (omega (arith, most)))
+
+fewer_asks : (terms slots asks : ℕ) → terms < 2 ^ 32 → slots ≤ 16777216 → asks ≤ terms * slots → asks < 2 ^ 64 - 1
+fewer_asks terms slots asks few most le =
+    omega (arith, le, mul-le terms slots (2 ^ 32) 16777216 (omega (arith, few)) (omega (arith, most)))
+
+all_reads : (terms slots i j : ℕ) → i ≤ terms * (2 * slots + 1) → j ≤ terms * slots
+    → 4099 * i + 36864 * j ≤ gather_reads terms slots
+all_reads terms slots i j next has = omega (arith, next, has, opened terms slots) where
+  opened : (t s : ℕ) → t * (4099 * (2 * s + 1) + 36864 * s) ≡ 4099 * (t * (2 * s + 1)) + 36864 * (t * s)
+  opened t s = grind arith
+
+-- The asks that gathering may make have paid for all that it reads.
+pub gather_reads_these : (r q : Reach) (terms others : List SoughtTerm) (loan name : ℕ) (s t : ViewState) (n h i j : ℕ)
+    → n ≡ 0 → h ≡ 0 → length terms < 2 ^ 32
+    → Keeps (counted_lists r terms loan s n h) (counted_lists q others name t i j)
+    → GatherCosts (counted_lists r terms loan s n h) (counted_lists q others name t i j)
+    → TermsGatherReads r terms s t
+gather_reads_these r q terms others loan name s t n h i j none_next none_has few kept costs = record {
+  reads = λ still which less slots most have.
+      let asks = costs still which less slots have in
+      let next : i ≤ length terms * (2 * length slots + 1) = omega (arith, asks.0, none_next) in
+      let has : j ≤ length terms * length slots = omega (arith, asks.1, none_has) in
+      omega (
+        arith,
+        none_next,
+        none_has,
+        reads_of kept (record {
+          next = few_asks (length terms) (length slots) i few most next;
+          has = fewer_asks (length terms) (length slots) j few most has;
+        }),
+        all_reads (length terms) (length slots) i j next has,
+      );
+}

@@ -1,13 +1,17 @@
 -- What the join of the lists of terms answers.
-use Rattle.std.specs.Prelude.{ℕ, List, Option, Result}
+use Rattle.std.specs.Prelude.{◌≤◌, ◌+◌, ◌*◌, ℕ, List, length, Option, Result}
 use Rattle.std.specs.Global.{Vec}
+use Rattle.cell_types.specs.declared.geometry.TheConstants.{MAX_SLOTS}
 use Rattle.cell_types.specs.declared.refusal.Fault.{Fault}
 use Rattle.cell_types.specs.declared.refusal.Refusal.{Refusal}
+use Rattle.worm_device.specs.Counts.{IsStill}
 use Rattle.worm_device.specs.Views.{ViewState}
-use Rattle.zigzag_join.specs.Counts.{GatherCosts, JoinCosts}
+use Rattle.zigzag_join.specs.Counts.{GatherCosts, HaveAllSlots, JoinCosts}
 use Rattle.zigzag_join.specs.Gathering.{GatherEnds}
 use Rattle.zigzag_join.specs.Joins.{JoinEnds}
 use Rattle.posting_list.specs.States.{counted_lists, lists_over}
+use Rattle.posting_list.specs.declared.has_slot.TheConstants.{HAS_READS}
+use Rattle.posting_list.specs.declared.next_slot.TheConstants.{NEXT_READS}
 use Rattle.posting_list.specs.declared.reach.Reach.{Reach}
 use Rattle.posting_list.specs.declared.sought_term.SoughtTerm.{SoughtTerm}
 
@@ -33,3 +37,14 @@ pub record TermsGatherCost (r : Reach) (terms : List SoughtTerm) (old new : View
     (next_before has_before next_after has_after : ℕ) : Type 0 where
   pub costs : GatherCosts (counted_lists r terms 0 old next_before has_before)
       (counted_lists r terms 0 new next_after has_after)
+
+-- how many reads it may cost to gather what so many terms have in common, where one term's postings are of so many slots
+abbrev pub gather_reads : ℕ → ℕ → ℕ
+gather_reads terms slots = terms * (NEXT_READS * (2 * slots + 1) + HAS_READS * slots)
+
+-- Where nobody else wrote, gathering by lists that were not asked before costs at most so many reads, by the slots of any
+-- one term's postings.
+pub record TermsGatherReads (r : Reach) (terms : List SoughtTerm) (old new : ViewState) : Type 0 where
+  pub reads : IsStill old.base.foreign_writes new.base.foreign_writes → (which : ℕ) → which + 1 ≤ length terms
+      → (slots : List ℕ) → length slots ≤ MAX_SLOTS → HaveAllSlots (lists_over r terms 0 old) which 0 slots
+      → new.base.reads ≤ old.base.reads + gather_reads (length terms) (length slots)

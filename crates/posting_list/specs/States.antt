@@ -6,6 +6,8 @@ use Rattle.posting_list.specs.Naming.{MayName, Shows}
 use Rattle.posting_list.specs.Owing.{Lands, Owes, Vouches}
 use Rattle.posting_list.specs.declared.reach.Reach.{Reach}
 use Rattle.posting_list.specs.declared.sought_term.SoughtTerm.{SoughtTerm}
+use Rattle.posting_list.specs.declared.has_slot.TheConstants.{HAS_READS}
+use Rattle.posting_list.specs.declared.next_slot.TheConstants.{NEXT_READS}
 
 -- what is read, as a row of numbers
 abbrev pub row_of : Reach → List ℕ
@@ -31,6 +33,8 @@ counted_lists r terms loan s next_asks has_asks = record {
   lands = Lands r terms s;
   next_asks = next_asks;
   has_asks = has_asks;
+  next_reads = NEXT_READS;
+  has_reads = HAS_READS;
 }
 
 -- the same before they were asked for anything

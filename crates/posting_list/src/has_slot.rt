@@ -1,9 +1,10 @@
 //! Whether a term's list has a slot.
-ghost use Rattle.std.specs.Prelude.{◌≡◌, ◌<◌, ◌↔◌, IsTrue};
+ghost use Rattle.std.specs.Prelude.{◌≡◌, ◌<◌, ◌≤◌, ◌+◌, ◌↔◌, IsTrue};
 ghost use Rattle.byteorder.specs.Endian.{big_number};
 ghost use Rattle.cell_types.specs.declared.geometry.TheConstants.{MAX_SLOTS};
 ghost use Rattle.posting_list.specs.Keeping.{KeepsFronts};
 ghost use Rattle.posting_list.specs.Searches.{HasSlot, Probes};
+ghost use Rattle.posting_list.specs.declared.has_slot.TheConstants.{HAS_READS};
 
 use crate::next_slot::find;
 use crate::{Reach, SoughtTerm};
@@ -11,6 +12,9 @@ use byteorder::{BigEndian, ByteOrder};
 use cell_types::Fault;
 use jump_block::{Entry, KeptFronts};
 use worm_device::View;
+
+/// How many reads one ask whether a list has a slot may cost: those of nine searches.
+pub const HAS_READS: u64 = 36_864;
 
 /// A tag as a number: these rise as tags do in byte order.
 fn number_of(tag: &[u8; 6]) -> u64
@@ -38,6 +42,7 @@ fn probe<V: View>(
     requires list { list < reach.now.volume.geometry.lists }
     requires kept { KeepsFronts (V.seen view.old) fronts.old }
     ensures kept { KeepsFronts (V.seen view.new) fronts.new }
+    ensures reads { (V.seen view.new).base.reads ≤ (V.seen view.old).base.reads + 4096 }
     ensures probes { Probes reach.now list key (V.seen view.old) (V.seen view.new) result }
 {
     let found = find(view, fronts, reach, list, key)?;
@@ -65,6 +70,7 @@ pub(crate) fn has_slot<V: View>(
     requires slot { slot < MAX_SLOTS }
     requires kept { KeepsFronts (V.seen view.old) fronts.old }
     ensures kept { KeepsFronts (V.seen view.new) fronts.new }
+    ensures reads { (V.seen view.new).base.reads ≤ (V.seen view.old).base.reads + HAS_READS }
     ensures has { HasSlot reach.now term.now slot (V.seen view.old) (V.seen view.new) result }
 {
     let sought = number_of(&term.tag);

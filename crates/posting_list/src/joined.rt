@@ -12,7 +12,7 @@ impl<'a, V: View> TermLists<'a, V> {
     ghost use Rattle.std.specs.Prelude.{◌≡◌, ◌≤◌, length};
     ghost use Rattle.cell_types.specs.declared.geometry.TheConstants.{MAX_SLOTS};
     ghost use Rattle.worm_device.specs.Views.{Viewed};
-    ghost use Rattle.posting_list.specs.Joins.{TermsCost, TermsGather, TermsGatherCost, TermsJoin};
+    ghost use Rattle.posting_list.specs.Joins.{TermsCost, TermsGather, TermsGatherCost, TermsGatherReads, TermsJoin};
     ghost use Rattle.posting_list.specs.Terms.{TermEnds};
 
     /// The next slot at or past one that all of the terms have, `None` where there is none. The view is read alone.
@@ -50,6 +50,8 @@ impl<'a, V: View> TermLists<'a, V> {
             (V.seen self.new.view.now) result }
         ensures costs { TermsGatherCost self.old.reach self.old.sought.now.terms.items (V.seen self.old.view.now)
             (V.seen self.new.view.now) self.old.next_asks self.old.has_asks self.new.next_asks self.new.has_asks }
+        ensures reads { self.old.next_asks ≡ 0 → self.old.has_asks ≡ 0 → TermsGatherReads self.old.reach
+            self.old.sought.now.terms.items (V.seen self.old.view.now) (V.seen self.new.view.now) }
     {
         all_common(alloc, self)
     }

@@ -4,6 +4,7 @@ ghost use Rattle.cell_types.specs.declared.geometry.TheConstants.{MAX_SLOTS};
 ghost use Rattle.jump_index.specs.Searches.{FindsGeq};
 ghost use Rattle.posting_list.specs.Keeping.{KeepsFronts};
 ghost use Rattle.posting_list.specs.Searches.{IsFalsePosting, LooksLive, NextSlot, head_of, says_done, within};
+ghost use Rattle.posting_list.specs.declared.next_slot.TheConstants.{NEXT_READS};
 
 use crate::{Reach, SoughtTerm};
 use cell_types::{Fault, breach};
@@ -12,6 +13,9 @@ use jump_block::{Entry, KeptFronts};
 use jump_index::{Bounds, find_geq_from_kept};
 use tamper_rules::FAKE_POSTING;
 use worm_device::View;
+
+/// How many reads one ask for a next slot may cost: those of a search, 4,096, and three of the slot that it comes to.
+pub const NEXT_READS: u64 = 4_099;
 
 /// The first entry of a list at or past a key. Where the bounds end behind the volume's cells, they end with these.
 pub(crate) fn find<V: View>(
@@ -46,7 +50,8 @@ fn is_done(state: &SlotState) -> bool
 /// Whether the slot is done and lies before the horizon.
 fn is_live<V: View>(view: &mut V, reach: &Reach, slot: u32) -> Result<bool, Fault>
     requires size { reach.now.volume.geometry.cells ≡ (V.seen view.old).cells }
-    ensures { LooksLive reach.now slot (V.seen view.old) (V.seen view.new) result }
+    ensures reads { (V.seen view.new).base.reads ≤ (V.seen view.old).base.reads + 3 }
+    ensures live { LooksLive reach.now slot (V.seen view.old) (V.seen view.new) result }
 {
     if slot >= reach.horizon.min(reach.volume.geometry.slots()) {
         return Ok(false);
@@ -82,6 +87,7 @@ pub(crate) fn next_slot<V: View>(
     requires from { from < MAX_SLOTS }
     requires kept { KeepsFronts (V.seen view.old) fronts.old }
     ensures kept { KeepsFronts (V.seen view.new) fronts.new }
+    ensures reads { (V.seen view.new).base.reads ≤ (V.seen view.old).base.reads + NEXT_READS }
     ensures next { NextSlot reach.now term.now from (V.seen view.old) (V.seen view.new) result }
 {
     let found = find(view, fronts, reach, term.list, 256 * from)?;

@@ -13,13 +13,17 @@ use Rattle.worm_device.specs.Views.{Viewed, seen_directly}
 use Rattle.worm_device.proofs.Resting.{viewed_self, viewed_then}
 use Rattle.word_reader.specs.declared.matcher.Matcher.{Matcher}
 use Rattle.zigzag_join.specs.Gathering.{Rise}
+use Rattle.document_store.specs.Looks.{ReadsOnce}
 use Rattle.document_store.specs.Standing.{HoldsDocument}
-use Rattle.record_query.specs.Among.{AmongEnds, FoundAmong, IsMatchAmong, added}
+use Rattle.record_query.specs.Among.{AmongEnds, IsSlotCost, FoundAmong, IsMatchAmong, ReadsEach, added, row_cost}
 use Rattle.record_query.specs.Finding.{Rises}
 use Rattle.record_query.specs.Matching.{HasNoMatch, IsMatchIn, IsMatcherOf, KeepsTerms, SlotEnds}
 use Rattle.record_query.specs.declared.found.Match.{Match}
 use Rattle.document_store.proofs.Holding.{held_is_one, held_on}
 use Rattle.document_store.proofs.Naming.{fails_from}
+use Rattle.stored_documents.proofs.Extending.{done_on}
+use Rattle.worm_device.proofs.Images.{extends_then}
+use Rattle.record_query.proofs.Costs.{cost_more, cost_within}
 
 -- slots rise on, where the last one is behind the others
 rises_on : (matches : List Match) (last : Match) (from u : ℕ) → Rises from matches
@@ -127,10 +131,23 @@ module _ (g : Layout) (slots : List ℕ) (k : ℕ) (terms : List (List ℕ)) (ol
         (omega arith) (omega arith);
   }
 
+-- what the first k slots cost, each by its own cost
+abbrev pub ReadsFirst : Layout → List ℕ → ℕ → DeviceState → DeviceState → Type 0
+ReadsFirst g slots k old now =
+    IsTrue old.tells → (cost : ℕ → ℕ)
+    → ((i : ℕ) → i < length slots → IsSlotCost g old.image (slice_index slots i) (cost (slice_index slots i)))
+    → now.reads ≤ old.reads + row_cost cost slots k
+
+-- is no more than what all cost
+pub reads_all : (g : Layout) (slots : List ℕ) (k : ℕ) (old now : DeviceState) → ReadsFirst g slots k old now
+    → ReadsEach g slots old now
+reads_all g slots k old now first = λ tells cost each. omega (arith, first tells cost each, cost_within cost slots k)
+
 -- the first k slots were searched
 pub record FoundSoFar (g : Layout) (slots : List ℕ) (k : ℕ) (old now : DeviceState) (m n : Matcher)
     (matches : List Match) : Type 0 where
   pub viewed : Viewed (seen_directly old 0) (seen_directly now 0)
+  pub reads : ReadsFirst g slots k old now
   pub keeps : KeepsTerms m n
   pub faults : (terms : List (List ℕ)) → IsMatcherOf (rule_of g.version) terms m → now.faults ≡ old.faults
   pub found : (terms : List (List ℕ)) → IsMatcherOf (rule_of g.version) terms m → IsTrue old.tells
@@ -140,6 +157,7 @@ pub so_far_none : (g : Layout) (slots : List ℕ) (old : DeviceState) (m : Match
     → FoundSoFar g slots 0 old old m m []
 so_far_none g slots old m = record {
   viewed = viewed_self _;
+  reads = λ tells cost each. omega arith;
   keeps = λ rule terms was. was;
   faults = λ terms was. refl;
   found = λ terms was tells. found_none g slots terms old.image;
@@ -151,7 +169,18 @@ module _ (g : Layout) (slots : List ℕ) (k : ℕ) (old now new : DeviceState) (
   told : IsTrue old.tells → IsTrue now.tells
   told tells = subst IsTrue (sym so_far.viewed.called.tells) tells
 
-  module _ (rise : Rise slots) (inside : k < length slots) where
+  -- what one slot more costs
+  pub reads_more : k < length slots
+      → ReadsOnce g (slice_index slots k) (seen_directly now 0) (seen_directly new 0)
+      → ReadsFirst g slots (k + 1) old new
+  reads_more inside once tells cost each =
+      let c = each k inside in
+      let read = once (told tells) c.start c.reserved c.bytes c.journal
+      (done_on (extends_then so_far.viewed.image viewed.image) c.done) in
+      omega (arith, so_far.reads tells cost each, read, c.most, cost_more cost slots k inside)
+
+  module _ (rise : Rise slots) (inside : k < length slots)
+      (once : ReadsOnce g (slice_index slots k) (seen_directly now 0) (seen_directly new 0)) where
     more : (terms : List (List ℕ)) → IsMatcherOf (rule_of g.version) terms m → (found : Option Match)
         → SlotEnds g (slice_index slots k) terms (seen_directly now 0) (seen_directly new 0) (Ok found)
         → IsTrue old.tells → FoundAmong g slots (k + 1) terms old.image new.image (added found matches)
@@ -173,6 +202,7 @@ module _ (g : Layout) (slots : List ℕ) (k : ℕ) (old now new : DeviceState) (
         → all ≡ added found matches → FoundSoFar g slots (k + 1) old new m o all
     so_far_more o found all keeps ends is = record {
       viewed = viewed_then so_far.viewed viewed;
+      reads = reads_more inside once;
       keeps = λ rule terms was. keeps rule terms (so_far.keeps rule terms was);
       faults = λ terms was.
           same terms found (ends terms (so_far.keeps (rule_of g.version) terms was)) ∙ so_far.faults terms was;

@@ -7,7 +7,7 @@ use Rattle.cell_types.specs.declared.refusal.Refusal.TheVariants as refusals
 use Rattle.worm_device.specs.State.{DeviceState}
 use Rattle.worm_device.specs.Views.{ViewState, seen_directly}
 use Rattle.zigzag_join.specs.Joins.{AllOwe}
-use Rattle.posting_list.specs.Joins.{TermsGather}
+use Rattle.posting_list.specs.Joins.{TermsGather, TermsGatherReads}
 use Rattle.posting_list.specs.Naming.{IsShown}
 use Rattle.posting_list.specs.Owing.{Owes}
 use Rattle.posting_list.specs.States.{lists_over}
@@ -57,9 +57,19 @@ module _ (r : Reach) (terms : List SoughtTerm) (old new : DeviceState) (a b : �
   gathers_by_any (Err refusals.NoMemory) g = record { ends = tt }
   gathers_by_any (Err refusal) g = absurd g.ends
 
+  pub reads_by_any : TermsGatherReads r terms (seen_directly old a) (seen_directly new b)
+      → TermsGatherReads r terms (seen_directly old 0) (seen_directly new 0)
+  reads_by_any g = record { reads = g.reads }
+
 -- the same where the views at entry and at exit are said in another way
 pub gathers_then : {r : Reach} {terms : List SoughtTerm} {old was new now : ViewState} {result : Result (Vec ℕ) Refusal}
     → TermsGather r terms was now result → was ≡ old → now ≡ new → TermsGather r terms old new result
 gathers_then {r} {terms} {old} {was} {new} {now} {result} gathers entry exit =
     subst (λ (v : ViewState). TermsGather r terms v new result) entry
     (subst (λ (v : ViewState). TermsGather r terms was v result) exit gathers)
+
+pub reads_then : {r : Reach} {terms : List SoughtTerm} {old was new now : ViewState} → TermsGatherReads r terms was now
+    → was ≡ old → now ≡ new → TermsGatherReads r terms old new
+reads_then {r} {terms} {old} {was} {new} {now} reads entry exit =
+    subst (λ (v : ViewState). TermsGatherReads r terms v new) entry
+    (subst (λ (v : ViewState). TermsGatherReads r terms was v) exit reads)

@@ -1,9 +1,14 @@
 pub mod Bodies
+pub mod Briefly
+pub mod Costs
 pub mod FoundSoFar
 pub mod Gathered
 pub mod Loans
+pub mod LookedBriefly
 pub mod LookedUp
 pub mod Looking
 pub mod Matched
+pub mod Nearby
+pub mod PathMates
 pub mod Searched
 pub mod WalkedOn

@@ -10,11 +10,13 @@ use Rattle.worm_device.specs.State.{DeviceState}
 use Rattle.worm_device.specs.Views.{Viewed, seen_directly}
 use Rattle.worm_device.proofs.Resting.{rested_since, rests_of}
 use Rattle.commit_record.specs.States.{AsksBelow, Shows}
-use Rattle.document_store.specs.Looks.{BodyEnds, GotPart, LookFails, Names, of_document, of_state}
+use Rattle.document_store.specs.Looks.{BodyEnds, GotPart, LookFails, Names, ReadsOnce, ReadsTwice, of_document, of_state}
 use Rattle.document_store.specs.declared.body.BodyFault.{BodyFault}
 use Rattle.document_store.specs.declared.body.BodyFault.TheVariants.{ReadFault, SinkFault, Tampered}
 use Rattle.cell_types.specs.declared.refusal.Fault.TheVariants as faults
+use Rattle.record_query.specs.Among.{LooksOnce}
 use Rattle.record_query.specs.Matching.{SlotEnds}
+use Rattle.record_query.specs.Reaching.{PutsFromDevice}
 use Rattle.record_query.specs.declared.found.Match.{Match}
 
 module _ (old new : DeviceState) (a b : ℕ) where
@@ -70,12 +72,16 @@ module _ (old new : DeviceState) (a b : ℕ) where
     slot_by_any terms (Err (refusals.Tampered e)) ends = fails ends
     slot_by_any terms (Err refusal) ends = absurd ends
 
+    -- what a look read
+    pub once_by_any : ReadsOnce g n (seen_directly old a) (seen_directly new b) → LooksOnce g n old new
+    once_by_any once = record { reads = once }
+
     got_part : {from to : SinkState} → GotPart g n (seen_directly new b) from to
         → GotPart g n (seen_directly new 0) from to
     got_part q = record { body = q.body; count = q.count; most = q.most; gets = q.gets; holds = q.holds }
 
     -- how a body was put
-    pub body_by_any : (from to : SinkState) (result : Result ℕ BodyFault)
+    body_by_any : (from to : SinkState) (result : Result ℕ BodyFault)
         → BodyEnds g n (seen_directly old a) (seen_directly new b) from to result
         → BodyEnds g n (seen_directly old 0) (seen_directly new 0) from to result
     body_by_any from to (Ok bytes) ends = (
@@ -95,3 +101,14 @@ module _ (old new : DeviceState) (a b : ℕ) where
       ⊎_elim (λ (same : to ≡ from). inl same) (λ part. inr (got_part part)) ends.2,
     )
     body_by_any from to (Err SinkFault) ends = (ends.0, ends.1, got_part ends.2)
+
+    -- and what putting it does
+    pub puts_by_any : (from to : SinkState) (result : Result ℕ BodyFault)
+        → Viewed (seen_directly old a) (seen_directly new b) → ReadsTwice g n (seen_directly old a) (seen_directly new b)
+        → BodyEnds g n (seen_directly old a) (seen_directly new b) from to result
+        → PutsFromDevice g n old new from to result
+    puts_by_any from to result viewed reads ends = record {
+      viewed = viewed_by_any viewed;
+      reads = reads;
+      ends = body_by_any from to result ends;
+    }

@@ -25,11 +25,12 @@ use Rattle.worm_device.proofs.Elapsing.{called_then}
 use Rattle.worm_device.proofs.Images.{extends_then}
 use Rattle.recovery_engine.specs.Settling.{SettleEnds, Settles}
 use Rattle.recovery_engine.specs.declared.settling.Ready.{Ready}
-use Rattle.document_store.specs.Looks.{BodyEnds, GotPart, HoldsBody}
+use Rattle.document_store.specs.Looks.{BodyEnds, GotPart, HoldsBody, ReadsTwice}
 use Rattle.document_store.specs.declared.body.BodyFault.{BodyFault}
 use Rattle.document_store.specs.declared.body.BodyFault.TheVariants as bodies
 use Rattle.document_store.proofs.Holding.{held_is_done, held_is_one, held_on, held_stands}
-use Rattle.identifier_lookup.specs.Walks.{HasTrail, IsFirstOnPath, IsFound, NoneHasTrail}
+use Rattle.identifier_lookup.specs.Costs.{WalkCosts}
+use Rattle.identifier_lookup.specs.Walks.{HasTrail, IsFirstOnPath, IsFound, IsLicensed, NoneHasTrail}
 use Rattle.identifier_lookup.specs.declared.answers.Walk.TheVariants as walks
 use Rattle.identifier_lookup.proofs.Licence.{names_licensed}
 use Rattle.hash_tree.specs.declared.level.Level.{Level}
@@ -37,9 +38,10 @@ use Rattle.hash_tree.specs.declared.path.Open.{Open}
 use Rattle.record_query.specs.Looking.{HasLooked}
 use Rattle.record_query.proofs.Looking.{is_ready, same_since, still_looking, tells_settled, volume_now, looked_more}
 use Rattle.record_query.specs.Finding.{ComesTo}
-use Rattle.record_query.specs.LookingUp.{IsLookedUp, IsThatOf, LookUpEnds, LooksUp, NoneHas, PathEnds, PutsFront, at_place, behind_all, refusal_of_body}
+use Rattle.record_query.specs.LookingUp.{IsLookedUp, IsThatOf, LookUpEnds, LooksUp, NamesLookUpRule, NoneHas, PathEnds, PutsFront, at_place, behind_all, refusal_of_body}
 use Rattle.record_query.specs.Reaching.{WalksOnDevice}
 use Rattle.record_query.specs.declared.found.Found.{Found}
+use Rattle.record_query.proofs.LookedBriefly.{put_briefly, walked_briefly}
 use Rattle.record_query.proofs.Searched.{comes_to_settled, edge_is, reach_is, walked}
 
 -- settling was ended
@@ -52,12 +54,19 @@ module _ (id : List ℕ) (old new : DeviceState) (sink : SinkState) where
   refused (WrongSize stated real) ends = (refl, ends)
   refused refusal ends = absurd ends
 
+  -- the evidence is by a rule of settling
+  refused_rule : (refusal : Refusal) → SettleEnds old new (Err refusal) → NamesLookUpRule old (Err refusal)
+  refused_rule (Tampered e) ends = λ tells. inl (ends tells).rule
+  refused_rule refusal ends = tt
+
   pub look_up_unsettled : (refusal : Refusal) → Settles old new (Err refusal)
       → LooksUp id old new sink sink (Err refusal)
   look_up_unsettled refusal s = record {
     called = s.called;
     comes = ComesTo.settling refusal refl s;
     ends = refused refusal s.ends;
+    rule = refused_rule refusal s.ends;
+    briefly = λ tells settled still mates have. omega (arith, s.again tells settled still);
   }
 
 -- a kept document with the identifier has a hash trail
@@ -105,20 +114,22 @@ module _ (id : List ℕ) (r : Ready) (old settled mid : DeviceState) (s : Settle
       (is_ready before tells).volume) (kept.each d among)
 
   module _ (sink : SinkState) where
-    come : (answer : Result Found Refusal) → LookUpEnds id old mid sink sink answer
-        → LooksUp id old mid sink sink answer
-    come answer ends = record {
+    come : WalkCosts g id (seen_directly settled 0) (seen_directly mid 0) → (answer : Result Found Refusal)
+        → LookUpEnds id old mid sink sink answer → NamesLookUpRule old answer → LooksUp id old mid sink sink answer
+    come costs answer ends rule = record {
       called = called_then s.called seen.called;
       comes = comes_to_settled before;
       ends = ends;
+      rule = rule;
+      briefly = walked_briefly id r old settled mid s seen costs;
     }
 
     -- it was ended
     pub look_up_unwalked : (fault : Fault) → WalksOnDevice r id settled mid (Err fault)
         → LooksUp id old mid sink sink (Err (refusal_of_fault fault))
     look_up_unwalked faults.Failed w =
-        come (Err DeviceFault) (omega (arith, s.called.faults, w.ends), (refl, inl refl))
-    look_up_unwalked (faults.Tampered e) w = come (Err (Tampered e)) (
+        come w.costs (Err DeviceFault) (omega (arith, s.called.faults, w.ends), (refl, inl refl)) tt
+    look_up_unwalked (faults.Tampered e) w = come w.costs (Err (Tampered e)) (
       (refl, inl refl),
       λ tells.
           let licence = w.ends.2 (tells_settled before tells) in (
@@ -132,16 +143,17 @@ module _ (id : List ℕ) (r : Ready) (old settled mid : DeviceState) (s : Settle
                   (reach_is before tells still).horizon (edge_is before tells still);
             },
           ),
-    )
+    ) (λ tells. inr (w.ends.2 (tells_settled before tells)).rule)
 
     none_has : IsTrue old.tells → NoneHasTrail g settled.cells settled.image id → (documents : List Document)
         → Kept settled.cells settled.image documents → NoneHas id documents
     none_has tells none documents kept d among same =
         none d.slot (kept_has_trail id same (is_kept tells documents kept d among))
 
-    absent : (IsTrue old.tells → PathEnds g id mid × NoneHasTrail g settled.cells settled.image id)
+    absent : WalkCosts g id (seen_directly settled 0) (seen_directly mid 0)
+        → (IsTrue old.tells → PathEnds g id mid × NoneHasTrail g settled.cells settled.image id)
         → LooksUp id old mid sink sink (Err Absent)
-    absent ends = come (Err Absent) (
+    absent costs ends = come costs (Err Absent) (
       refl,
       λ tells. record {
         layout = g;
@@ -152,18 +164,18 @@ module _ (id : List ℕ) (r : Ready) (old settled mid : DeviceState) (s : Settle
             (subst (λ (i : Image). Kept settled.cells i documents) (same_since before still)
             (subst (λ (k : ℕ). Kept k mid.image documents) seen.called.cells kept));
       },
-    )
+    ) tt
 
     -- the path ends
     pub look_up_ended : (place : Open) (level : Level) → WalksOnDevice r id settled mid (Ok (walks.End place level))
         → LooksUp id old mid sink sink (Err Absent)
-    look_up_ended place level w = absent (λ tells.
+    look_up_ended place level w = absent w.costs (λ tells.
         let end = w.ends.4 (tells_settled before tells) in
         let volume = (is_ready before tells).volume in
         (at_place place level (end.passed volume) end.blank, end.none volume))
 
     pub look_up_full : WalksOnDevice r id settled mid (Ok walks.PathFull) → LooksUp id old mid sink sink (Err Absent)
-    look_up_full w = absent (λ tells.
+    look_up_full w = absent w.costs (λ tells.
         let full = w.ends.1 (tells_settled before tells) in
         let volume = (is_ready before tells).volume in
         (behind_all (full.passed volume), full.none volume))
@@ -233,47 +245,53 @@ module _ (id : List ℕ) (r : Ready) (old settled mid : DeviceState) (s : Settle
       no_more : (to ≡ from) ⊎ GotPart g n (seen_directly new 0) from to → (to ≡ from) ⊎ PutsFront id old new from to
       no_more got = ⊎_elim (λ (e : to ≡ from). inl e) (λ part. inr (puts_front part)) got
 
-      come_to : (answer : Result Found Refusal) → LookUpEnds id old new from to answer
-          → LooksUp id old new from to answer
-      come_to answer is = record {
+      come_to : ReadsTwice g n (seen_directly mid 0) (seen_directly new 0) → (answer : Result Found Refusal)
+          → LookUpEnds id old new from to answer → NamesLookUpRule old answer → LooksUp id old new from to answer
+      come_to twice answer is rule = record {
         called = called_then (called_then s.called seen.called) viewed.called;
         comes = comes_to_settled after;
         ends = is;
+        rule = rule;
+        briefly = λ tells. put_briefly id r old settled mid s seen w.costs tells n (found tells) new viewed twice;
       }
 
       -- the whole body
-      pub looked_up : (bytes : ℕ)
+      pub looked_up : (bytes : ℕ) → ReadsTwice g n (seen_directly mid 0) (seen_directly new 0)
           → BodyEnds g n (seen_directly mid 0) (seen_directly new 0) from to (Ok bytes)
           → LooksUp id old new from to (Ok (record { slot = n; bytes = bytes }))
-      looked_up bytes put = come_to (Ok (record { slot = n; bytes = bytes })) (record {
+      looked_up bytes twice put = come_to twice (Ok (record { slot = n; bytes = bytes })) (record {
         body = put.2.body;
         first = λ tells. looked_up_is tells put.2.body (put.2.holds (told_new tells));
         bytes_is = put.2.length_is;
         gets = put.2.gets;
         faults = put.1;
-      })
+      }) tt
 
       -- or why it was not put
-      pub look_up_unput : (fault : BodyFault)
+      pub look_up_unput : (fault : BodyFault) → ReadsTwice g n (seen_directly mid 0) (seen_directly new 0)
           → BodyEnds g n (seen_directly mid 0) (seen_directly new 0) from to (Err fault)
           → LooksUp id old new from to (Err (refusal_of_body fault))
-      look_up_unput (bodies.Tampered e) put = come_to (Err (Tampered e)) (
-        (put.1, no_more put.2),
-        λ tells.
-            let licence = names_licensed g r.horizon r.edge n (seen_directly mid 0) (seen_directly new 0) e viewed
-            (put.0.2 (told_mid tells)) in (
-              put.3 (told_mid tells),
-              record {
-                stands = licence.stands;
-                layout = g;
-                volume = volume_now after tells;
-                place = put.0.0;
-                broken = λ still. licence.broken
-                    (still_second seen.called.foreign_writes viewed.called.foreign_writes (still_looking after still))
-                    (volume_now after tells) (reach_is after tells still).horizon (edge_is after tells still);
-              },
-            ),
-      )
-      look_up_unput bodies.ReadFault put =
-          come_to (Err DeviceFault) (omega (arith, s.called.faults, seen.called.faults, put.0), (put.1, no_more put.2))
-      look_up_unput bodies.SinkFault put = come_to (Err SinkFault) (put.1, puts_front put.2)
+      look_up_unput (bodies.Tampered e) twice put =
+          let named : IsTrue old.tells → IsLicensed g r.horizon r.edge (seen_directly mid 0) (seen_directly new 0) e =
+          λ tells. names_licensed g r.horizon r.edge n (seen_directly mid 0) (seen_directly new 0) e viewed
+          (put.0.2 (told_mid tells)) in
+          come_to twice (Err (Tampered e)) (
+            (put.1, no_more put.2),
+            λ tells.
+                let licence = named tells in (
+                  put.3 (told_mid tells),
+                  record {
+                    stands = licence.stands;
+                    layout = g;
+                    volume = volume_now after tells;
+                    place = put.0.0;
+                    broken = λ still. licence.broken
+                        (still_second seen.called.foreign_writes viewed.called.foreign_writes
+                        (still_looking after still))
+                        (volume_now after tells) (reach_is after tells still).horizon (edge_is after tells still);
+                  },
+                ),
+          ) (λ tells. inr (named tells).rule)
+      look_up_unput bodies.ReadFault twice put = come_to twice (Err DeviceFault)
+          (omega (arith, s.called.faults, seen.called.faults, put.0), (put.1, no_more put.2)) tt
+      look_up_unput bodies.SinkFault twice put = come_to twice (Err SinkFault) (put.1, puts_front put.2) tt

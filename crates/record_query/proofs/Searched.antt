@@ -1,5 +1,5 @@
 -- What a search answers, over settling, the lists, and the slots that they have in common.
-use Rattle.std.proofs.Common.{◌≡◌, ◌<◌, ℕ, zero, suc, List, [], ◌∷◌, Result, Some, Ok, Err, inl, inr, refl, sym, map, length, subst, arith}
+use Rattle.std.proofs.Common.{◌≡◌, ◌<◌, ℕ, zero, suc, List, [], ◌∷◌, Result, Some, Ok, Err, inl, inr, refl, sym, map, length, subst, arith, ◌≤◌}
 use Rattle.std.proofs.lemmas.Nat.{mod_below}
 use Rattle.std.proofs.lemmas.List.Elements.{Contains-append_right}
 use Rattle.std.specs.Global.{Vec}
@@ -23,7 +23,7 @@ use Rattle.worm_device.proofs.Elapsing.{called_then}
 use Rattle.zigzag_join.specs.Joins.{AllOwe}
 use Rattle.recovery_engine.specs.Settling.{SettleEnds, Settles}
 use Rattle.recovery_engine.specs.declared.settling.Ready.{Ready}
-use Rattle.posting_list.specs.Joins.{TermsGather}
+use Rattle.posting_list.specs.Joins.{TermsGather, TermsGatherReads}
 use Rattle.posting_list.specs.Laws.{KeptAreOwed}
 use Rattle.posting_list.specs.Naming.{IsReachOf}
 use Rattle.posting_list.specs.States.{lists_over}
@@ -36,10 +36,11 @@ use Rattle.document_store.proofs.Holding.{held_on, held_stands, stands_held}
 use Rattle.identifier_lookup.proofs.Licence.{names_licensed}
 use Rattle.record_query.specs.Looking.{HasLooked}
 use Rattle.record_query.proofs.Looking.{has_settled, is_ready, same_since, still_looking, still_settling, tells_settled, volume_now, looked_from, looked_more}
-use Rattle.record_query.specs.Among.{AmongEnds, FoundAmong}
+use Rattle.record_query.specs.Among.{AmongEnds, FoundAmong, ReadsEach}
 use Rattle.record_query.specs.Finding.{ComesTo, FindEnds, Finds, HasMatch, HasTerms, IsFindRule, NamesFindRule, Searches}
 use Rattle.record_query.specs.Reaching.{reach_of}
 use Rattle.record_query.specs.declared.found.Match.{Match}
+use Rattle.record_query.proofs.Briefly.{briefly_gathered, briefly_searched, briefly_unsettled}
 
 -- the volume was settled, and then looked at
 pub walked : {r : Ready} {old settled new : DeviceState} → Settles old settled (Ok r)
@@ -72,6 +73,7 @@ module _ (terms : List (List ℕ)) (old new : DeviceState) where
     comes = ComesTo.settling refusal refl s;
     ends = refused refusal s.ends;
     rule = refused_rule refusal s.ends;
+    reads = briefly_unsettled terms old new (Err refusal) s;
   }
 
   -- no memory was to be had
@@ -81,6 +83,7 @@ module _ (terms : List (List ℕ)) (old new : DeviceState) where
     comes = comes_to_settled {settled = new} (looked_from s);
     ends = tt;
     rule = tt;
+    reads = briefly_unsettled terms old new (Ok r) s;
   }
 
 -- a body has the terms by the rule of the volume's one layout
@@ -135,6 +138,9 @@ module _ (owed : KeptAreOwed) (terms : List (List ℕ)) (r : Ready) (old settled
   abbrev gathers : Result (Vec ℕ) Refusal → Type 0
   gathers result = TermsGather (reach_of r) these (seen_directly settled 0) (seen_directly mid 0) result
 
+  abbrev gathers_briefly : Type 0
+  gathers_briefly = TermsGatherReads (reach_of r) these (seen_directly settled 0) (seen_directly mid 0)
+
   told : IsTrue old.tells → IsTrue mid.tells
   told tells = subst IsTrue (sym (called_then s.called seen.called).tells) tells
 
@@ -159,12 +165,14 @@ module _ (owed : KeptAreOwed) (terms : List (List ℕ)) (r : Ready) (old settled
   ungathered_rule (Tampered e) g = λ tells. inr (inl (g.ends.0 (told tells)).rule)
   ungathered_rule refusal g = tt
 
-  pub search_ungathered : (refusal : Refusal) → gathers (Err refusal) → Searches terms old mid (Err refusal)
-  search_ungathered refusal g = record {
+  pub search_ungathered : (refusal : Refusal) → gathers (Err refusal) → gathers_briefly
+      → Searches terms old mid (Err refusal)
+  search_ungathered refusal g few = record {
     called = called_then s.called seen.called;
     comes = comes_to_settled before;
     ends = ungathered refusal g;
     rule = ungathered_rule refusal g;
+    reads = briefly_gathered terms r old settled s mid seen few;
   }
 
   module _ (slots : Vec ℕ) (g : gathers (Ok slots)) (new : DeviceState)
@@ -277,10 +285,12 @@ module _ (owed : KeptAreOwed) (terms : List (List ℕ)) (r : Ready) (old settled
 
     -- the slots were searched, or this was ended
     pub searched : (result : Result (Vec Match) Refusal)
-        → AmongEnds r.volume.geometry slots.items terms mid new result → Searches terms old new result
-    searched result ends = record {
+        → AmongEnds r.volume.geometry slots.items terms mid new result → 1 ≤ length terms → gathers_briefly
+        → ReadsEach r.volume.geometry slots.items mid new → Searches terms old new result
+    searched result ends some few each = record {
       called = called_then (called_then s.called seen.called) then.called;
       comes = comes_to_settled after;
       ends = ends_of result ends;
       rule = rule_of_end result ends;
+      reads = briefly_searched terms r old settled s mid seen few some slots g new then each;
     }

@@ -1,5 +1,5 @@
 -- What is found in the slots of a row, between two images of a settled volume.
-use Rattle.std.specs.Prelude.{◌≡◌, ◌<◌, ℕ, List, [], ◌∷◌, ◌++◌, length, slice_index, Contains, Option, Some, None, Result, Ok, Err, IsTrue, ⊤}
+use Rattle.std.specs.Prelude.{◌≡◌, ◌<◌, ◌≤◌, ◌+◌, ℕ, zero, suc, List, [], ◌∷◌, ◌++◌, length, slice_index, Contains, Option, Some, None, Result, Ok, Err, IsTrue, ⊤}
 use Rattle.std.specs.Global.{Vec}
 use Rattle.cell_types.specs.Image.{Image}
 use Rattle.cell_types.specs.Layout.{Layout}
@@ -8,7 +8,8 @@ use Rattle.cell_types.specs.declared.refusal.Refusal.TheVariants.{NoMemory}
 use Rattle.stored_documents.specs.Words.{Matches, rule_of}
 use Rattle.worm_device.specs.State.{DeviceState}
 use Rattle.worm_device.specs.Views.{seen_directly}
-use Rattle.document_store.specs.Looks.{LookRefuses}
+use Rattle.stored_documents.specs.Slots.{IsDone, cells_for}
+use Rattle.document_store.specs.Looks.{LookRefuses, ReadsOnce}
 use Rattle.document_store.specs.Standing.{HoldsDocument}
 use Rattle.record_query.specs.Finding.{HasMatch, Rises}
 use Rattle.record_query.specs.Matching.{IsMatchIn}
@@ -48,3 +49,29 @@ AmongEnds g slots terms old new (Ok matches) =
     IsTrue old.tells → FoundAmong g slots (length slots) terms old.image new.image matches.items
 AmongEnds g slots terms old new (Err NoMemory) = ⊤
 AmongEnds g slots terms old new (Err refusal) = RefusesSlot g old new refusal
+
+-- what reading the documents of the first k slots of a row costs, each slot by its own cost
+abbrev pub row_cost : (ℕ → ℕ) → List ℕ → ℕ → ℕ
+row_cost cost [] k = 0
+row_cost cost (slot ∷ slots) zero = 0
+row_cost cost (slot ∷ slots) (suc k) = cost slot + row_cost cost slots k
+
+-- so many reads are enough for the document of the slot, which is done: its cells, and three of the slot
+pub record IsSlotCost (g : Layout) (image : Image) (slot cost : ℕ) : Type 0 where
+  pub start : ℕ
+  pub reserved : ℕ
+  pub bytes : ℕ
+  pub journal : ℕ
+  pub done : IsDone g image slot start reserved bytes journal
+  pub most : cells_for bytes + 3 ≤ cost
+
+-- A look at a slot reads the cells of its document once at most, and three of the slot.
+pub record LooksOnce (g : Layout) (slot : ℕ) (old new : DeviceState) : Type 0 where
+  pub reads : ReadsOnce g slot (seen_directly old 0) (seen_directly new 0)
+
+-- Going along the slots of a row, which are done, costs what its slots do, whatever is answered.
+abbrev pub ReadsEach : Layout → List ℕ → DeviceState → DeviceState → Type 0
+ReadsEach g slots old new =
+    IsTrue old.tells → (cost : ℕ → ℕ)
+    → ((i : ℕ) → i < length slots → IsSlotCost g old.image (slice_index slots i) (cost (slice_index slots i)))
+    → new.reads ≤ old.reads + row_cost cost slots (length slots)

@@ -1,5 +1,5 @@
 -- What it means that the documents of a volume are searched for words.
-use Rattle.std.specs.Prelude.{◌≡◌, ◌≤◌, ◌+◌, ◌⊎◌, ℕ, List, [], ◌∷◌, length, Contains, Result, Ok, Err, IsTrue, ⊤}
+use Rattle.std.specs.Prelude.{◌≡◌, ◌≤◌, ◌+◌, ◌*◌, ◌⊎◌, ℕ, List, [], ◌∷◌, length, Contains, Result, Ok, Err, IsTrue, ⊤}
 use Rattle.std.specs.Global.{Vec}
 use Rattle.cell_types.specs.Image.{Image}
 use Rattle.cell_types.specs.Layout.{Layout}
@@ -7,9 +7,12 @@ use Rattle.cell_types.specs.declared.refusal.Refusal.{Refusal}
 use Rattle.cell_types.specs.declared.refusal.Refusal.TheVariants.{DeviceFault, NoMemory, NotAVolume, NotFormatted, Tampered, WrongSize}
 use Rattle.commit_record.specs.Licences.{IsLicensed}
 use Rattle.index_paths.specs.Keeping.{Kept}
-use Rattle.stored_documents.specs.Documents.{Document, Stands}
+use Rattle.index_paths.specs.Nearness.{IsCandidate, IsNear}
+use Rattle.stored_documents.specs.Documents.{AreDocuments, Document, Stands, stored_bytes}
+use Rattle.stored_documents.specs.Slots.{cells_for}
 use Rattle.stored_documents.specs.Volumes.{IsVolume}
 use Rattle.stored_documents.specs.Words.{Matches, rule_of}
+use Rattle.tamper_rules.specs.Settling.{Settled}
 use Rattle.tamper_rules.specs.declared.numbers.TheConstants.{BROKEN_DOCUMENT}
 use Rattle.worm_device.specs.Calls.{Called}
 use Rattle.worm_device.specs.Counts.{Rose, IsStill}
@@ -17,6 +20,7 @@ use Rattle.worm_device.specs.State.{DeviceState}
 use Rattle.recovery_engine.specs.Settling.{HasSettled, IsSettlingRule, SettleEnds, Settles}
 use Rattle.recovery_engine.specs.declared.settling.Ready.{Ready}
 use Rattle.posting_list.specs.Naming.{IsListRule}
+use Rattle.record_query.specs.declared.finding.TheConstants.{CELL_READS, FIND_READS, TERM_READS}
 use Rattle.record_query.specs.declared.found.Match.{Match}
 
 -- How far a query has come: settling was ended, and its refusal is the answer; or the volume was settled and then
@@ -88,9 +92,27 @@ NamesFindRule old (Ok matches) = ⊤
 NamesFindRule old (Err (Tampered e)) = IsTrue old.tells → IsFindRule e.rule
 NamesFindRule old (Err refusal) = ⊤
 
+-- those of the documents that are such have so many cells together
+abbrev pub HaveCells : (Document → Type 0) → List Document → ℕ → Type 0
+HaveCells IsSuch [] cells = cells ≡ 0
+HaveCells IsSuch (d ∷ documents) cells =
+    (IsSuch d × ((rest : ℕ) × (cells ≡ cells_for (length (stored_bytes d.id d.body)) + rest)
+    × HaveCells IsSuch documents rest))
+    ⊎ ((IsSuch d → ⊥) × HaveCells IsSuch documents cells)
+
+-- Where the volume was settled before, and nobody else wrote, a search reads no more than its terms, Near and its
+-- candidates ask for, whatever it answers.
+abbrev pub FindsBriefly : List (List ℕ) → DeviceState → DeviceState → Type 0
+FindsBriefly terms old new =
+    IsTrue old.tells → IsStill old.foreign_writes new.foreign_writes → (volume : Settled old.cells old.image)
+    → (documents : List Document) → AreDocuments old.cells old.image documents → (near cells : ℕ)
+    → IsNear volume.layout documents terms near → HaveCells (IsCandidate volume.layout terms) documents cells
+    → new.reads ≤ old.reads + FIND_READS + TERM_READS * (length terms * (near + 1)) + CELL_READS * cells
+
 -- what it means that the documents of a volume are searched for these terms, or that this was ended
 pub record Searches (terms : List (List ℕ)) (old new : DeviceState) (result : Result (Vec Match) Refusal) : Type 0 where
   pub called : Called old new
   pub comes : ComesTo (Vec Match) old new result
   pub ends : FindEnds terms old new result
   pub rule : NamesFindRule old result
+  pub reads : FindsBriefly terms old new

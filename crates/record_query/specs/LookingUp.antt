@@ -1,5 +1,5 @@
 -- What it means that a document is looked up by its identifier.
-use Rattle.std.specs.Prelude.{◌≡◌, ◌≤◌, ◌⊎◌, ℕ, List, length, take, Contains, Result, Ok, Err, IsTrue}
+use Rattle.std.specs.Prelude.{◌≡◌, ◌≤◌, ◌+◌, ◌*◌, ◌⊎◌, ℕ, List, length, take, Contains, Result, Ok, Err, IsTrue, ⊤}
 use Rattle.cell_types.specs.Layout.{Layout}
 use Rattle.cell_types.specs.declared.refusal.Refusal.{Refusal}
 use Rattle.cell_types.specs.declared.refusal.Refusal.TheVariants.{Absent, DeviceFault, NotAVolume, NotFormatted, SinkFault, Tampered, WrongSize}
@@ -7,16 +7,18 @@ use Rattle.commit_record.specs.Licences.{IsLicensed}
 use Rattle.stored_documents.specs.Documents.{Document, Stands}
 use Rattle.stored_documents.specs.Volumes.{IsVolume}
 use Rattle.index_paths.specs.Keeping.{Kept}
+use Rattle.tamper_rules.specs.Settling.{Settled}
 use Rattle.host_ports.specs.Sinks.{Gets, SinkState}
 use Rattle.worm_device.specs.Calls.{Called}
 use Rattle.worm_device.specs.Counts.{IsStill, Rose}
 use Rattle.worm_device.specs.State.{DeviceState}
-use Rattle.recovery_engine.specs.Settling.{SettleEnds}
+use Rattle.recovery_engine.specs.Settling.{IsSettlingRule, SettleEnds}
 use Rattle.document_store.specs.declared.body.BodyFault.{BodyFault}
 use Rattle.document_store.specs.declared.body.BodyFault.TheVariants as bodies
 use Rattle.hash_tree.specs.declared.level.Level.{Level}
 use Rattle.hash_tree.specs.declared.path.Open.{Open}
-use Rattle.identifier_lookup.specs.Walks.{IsBlankIn, IsFirstOnPath, IsPassedUpToPlace, IsPassedWhole}
+use Rattle.identifier_lookup.specs.Costs.{HaveMates, Mate, mate_cells}
+use Rattle.identifier_lookup.specs.Walks.{IsBlankIn, IsFirstOnPath, IsPassedUpToPlace, IsPassedWhole, IsWalkRule}
 use Rattle.record_query.specs.Finding.{ComesTo}
 use Rattle.record_query.specs.declared.found.Found.{Found}
 
@@ -97,12 +99,39 @@ LookUpEnds id old new from to (Err (WrongSize stated real)) =
     (to ≡ from) × SettleEnds old new (Err (WrongSize stated real))
 LookUpEnds id old new from to (Err refusal) = ⊥
 
+-- the rules that a look-up names: those of settling, and those of a walk, by which a document is whole, too
+abbrev pub IsLookUpRule : ℕ → Type 0
+IsLookUpRule number = IsSettlingRule number ⊎ IsWalkRule number
+
+-- where a look-up ends with evidence, this is by one of these rules
+abbrev pub NamesLookUpRule : DeviceState → Result Found Refusal → Type 0
+NamesLookUpRule old (Ok found) = ⊤
+NamesLookUpRule old (Err (Tampered e)) = IsTrue old.tells → IsLookUpRule e.rule
+NamesLookUpRule old (Err refusal) = ⊤
+
+-- so many reads are enough for a look-up, and so many more for each cell of the documents that it may have to read
+abbrev pub LOOK_UP_READS : ℕ
+LOOK_UP_READS = 1024
+
+abbrev pub LOOK_UP_READS_A_CELL : ℕ
+LOOK_UP_READS_A_CELL = 4
+
+-- Where the volume was settled at entry and nobody else wrote, so many reads are enough, whatever is answered: the
+-- documents are those that buckets of the identifier's path with its fingerprint name, one for each bucket.
+abbrev pub LooksUpBriefly : List ℕ → DeviceState → DeviceState → Type 0
+LooksUpBriefly id old new =
+    (settled : Settled old.cells old.image) → IsStill old.foreign_writes new.foreign_writes → (mates : List Mate)
+    → HaveMates settled.layout old.image id mates
+    → new.reads ≤ old.reads + LOOK_UP_READS + LOOK_UP_READS_A_CELL * mate_cells mates
+
 -- what it means that a document is looked up, or that this was ended
 pub record LooksUp (id : List ℕ) (old new : DeviceState) (from to : SinkState) (result : Result Found Refusal)
     : Type 0 where
   pub called : Called old new
   pub comes : ComesTo Found old new result
   pub ends : LookUpEnds id old new from to result
+  pub rule : NamesLookUpRule old result
+  pub briefly : IsTrue old.tells → LooksUpBriefly id old new
 
 -- a fault of putting a body, as a command refuses
 abbrev pub refusal_of_body : BodyFault → Refusal

@@ -1,7 +1,7 @@
 //! The slots that all of the sought terms have, by the index of a settled volume.
 ghost use Rattle.std.specs.Prelude.{◌≡◌, ◌≤◌, length};
 ghost use Rattle.worm_device.specs.Views.{Viewed, seen_directly};
-ghost use Rattle.posting_list.specs.Joins.{TermsGather};
+ghost use Rattle.posting_list.specs.Joins.{TermsGather, TermsGatherReads};
 ghost use Rattle.record_query.specs.Reaching.{reach_of};
 
 use cell_types::{Refusal, Volume};
@@ -22,6 +22,8 @@ pub(crate) fn common_slots<D: Device>(
     ensures viewed { Viewed (seen_directly (D.state device.old) 0) (seen_directly (D.state device.new) 0) }
     ensures gathers { TermsGather (reach_of ready.now) sought.now.terms.items (seen_directly (D.state device.old) 0)
         (seen_directly (D.state device.new) 0) result }
+    ensures reads { TermsGatherReads (reach_of ready.now) sought.now.terms.items
+        (seen_directly (D.state device.old) 0) (seen_directly (D.state device.new) 0) }
 {
     let bounds = Bounds {
         pool: ready.volume.geometry.pool_at(),
@@ -50,6 +52,8 @@ fn common_in<V: View>(
     ensures viewed { Viewed (V.seen view.old) (V.seen view.new) }
     ensures gathers { TermsGather (record { volume = volume; horizon = horizon; bounds = bounds })
         sought.now.terms.items (V.seen view.old) (V.seen view.new) result }
+    ensures reads { TermsGatherReads (record { volume = volume; horizon = horizon; bounds = bounds })
+        sought.now.terms.items (V.seen view.old) (V.seen view.new) }
 {
     let mut lists = TermLists::new(view, sought, volume, horizon, bounds);
     lists.all_common(alloc)

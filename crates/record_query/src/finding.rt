@@ -3,7 +3,7 @@ ghost use Rattle.std.specs.Prelude.{◌≡◌, ◌<◌, ◌≤◌, ℕ, List, If
 ghost use Rattle.stored_documents.specs.Words.{rule_of};
 ghost use Rattle.worm_device.specs.Views.{Viewed, seen_directly};
 ghost use Rattle.zigzag_join.specs.Gathering.{Rise};
-ghost use Rattle.record_query.specs.Among.{AmongEnds, added};
+ghost use Rattle.record_query.specs.Among.{AmongEnds, LooksOnce, ReadsEach, added};
 ghost use Rattle.record_query.specs.Finding.{Searches};
 ghost use Rattle.record_query.specs.Matching.{IsMatcherOf, KeepsTerms, SlotEnds};
 
@@ -17,6 +17,15 @@ use std::alloc::{AllocError, Global};
 use stored_documents::rule_of;
 use word_reader::{Matcher, Term};
 use worm_device::{Device, Direct};
+
+/// What a find reads at most on a settled volume, besides what its terms and its candidates ask for.
+pub const FIND_READS: u64 = 256;
+
+/// What it reads at most for each term, and each document that Near counts and one more.
+pub const TERM_READS: u64 = 49_152;
+
+/// What it reads at most for each cell of a document that is a candidate.
+pub const CELL_READS: u64 = 4;
 
 /// Settles the volume, and answers each document that its index has under all of the terms and that has them, by the
 /// volume's rule of words, by rising slot. The index says which documents are read: each cell of these is read once.
@@ -49,6 +58,7 @@ fn find_among<D: Device>(
     requires rise { Rise slots.now }
     requires size { volume.now.geometry.cells ≤ (D.state device.old).cells }
     ensures viewed { Viewed (seen_directly (D.state device.old) 0) (seen_directly (D.state device.new) 0) }
+    ensures reads { ReadsEach volume.now.geometry slots.now (D.state device.old) (D.state device.new) }
     ensures ends { (terms : List (List ℕ)) → IsMatcherOf (rule_of volume.now.geometry.version) terms matcher.old
         → AmongEnds volume.now.geometry slots.now terms (D.state device.old) (D.state device.new) result }
 {
@@ -70,6 +80,7 @@ fn match_on_device<D: Device>(
 ) -> Result<Option<Match>, Refusal>
     requires size { volume.now.geometry.cells ≤ (D.state device.old).cells }
     ensures viewed { Viewed (seen_directly (D.state device.old) 0) (seen_directly (D.state device.new) 0) }
+    ensures reads { LooksOnce volume.now.geometry slot (D.state device.old) (D.state device.new) }
     ensures matcher { KeepsTerms matcher.old matcher.new }
     ensures ends { (terms : List (List ℕ)) → IsMatcherOf (rule_of volume.now.geometry.version) terms matcher.old
         → SlotEnds volume.now.geometry slot terms (seen_directly (D.state device.old) 0)

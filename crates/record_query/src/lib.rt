@@ -18,8 +18,15 @@
 //! where words are of characters, a find takes memory for one body at a time. A document that no word leads to is not read,
 //! so that one is broken there is left to an audit.
 //!
+//! What a find reads is bounded where the volume was settled and nobody else writes, whatever it answers. Let Near be the
+//! least number, over its T words, of documents that have a posting in that word's list. It makes at most
+//! `256 + 49,152 * T * (Near + 1)` reads, and four for each cell of its candidates: the documents that have the tag of each
+//! word. In the picture, where `hello` and `world` have lists of their own, `find hello world` has Near 1 and the candidate
+//! `a` of one cell: 196,868 reads at most, however many documents there are.
+//!
 //! A look-up goes along the identifier's path alone. It checks its document whole before the first byte goes out, and takes
-//! no memory.
+//! no memory. On a settled volume it makes at most 1,024 reads, and four for each cell of the documents that buckets with
+//! the identifier's fingerprint name on that path.
 //!
 //! Stands on `posting_list` (the slots that words have in common), `identifier_lookup` (the path of an identifier),
 //! `document_store` (reading a document) and `word_reader` (words). Begin with `finding.rt` and `looking_up.rt`;
@@ -32,6 +39,6 @@ mod found;
 mod looking_up;
 mod matching;
 
-pub use finding::find;
+pub use finding::{CELL_READS, FIND_READS, TERM_READS, find};
 pub use found::{Found, Match, Text};
 pub use looking_up::lookup_into;

@@ -1,11 +1,9 @@
 //! A document, by its identifier.
 ghost use Rattle.std.specs.Prelude.{◌≡◌, ◌<◌, ◌≤◌, IsTrue};
 ghost use Rattle.stored_documents.specs.Slots.{IsDoneSlot};
-ghost use Rattle.worm_device.specs.Views.{Viewed, seen_directly};
-ghost use Rattle.document_store.specs.Looks.{BodyEnds};
 ghost use Rattle.hash_tree.specs.Levels.{AreBounds};
 ghost use Rattle.record_query.specs.LookingUp.{LooksUp, refusal_of_body};
-ghost use Rattle.record_query.specs.Reaching.{WalksOnDevice};
+ghost use Rattle.record_query.specs.Reaching.{PutsFromDevice, WalksOnDevice};
 
 use crate::found::Found;
 use cell_types::{Fault, Refusal, Volume};
@@ -71,9 +69,8 @@ fn put_body<D: Device, K: Sink>(
     requires size { volume.now.geometry.cells ≤ (D.state device.old).cells }
     requires done { IsTrue (D.state device.old).tells
         → IsDoneSlot volume.now.geometry (D.state device.old).image slot }
-    ensures viewed { Viewed (seen_directly (D.state device.old) 0) (seen_directly (D.state device.new) 0) }
-    ensures ends { BodyEnds volume.now.geometry slot (seen_directly (D.state device.old) 0)
-        (seen_directly (D.state device.new) 0) (K.state sink.old) (K.state sink.new) result }
+    ensures { PutsFromDevice volume.now.geometry slot (D.state device.old) (D.state device.new) (K.state sink.old)
+        (K.state sink.new) result }
 {
     body_into(&mut Direct::new(device), volume, slot, sink)
 }

@@ -7,7 +7,7 @@ ghost use Rattle.worm_device.specs.Views.{Viewed};
 ghost use Rattle.append_file.specs.Reading.{IsPosition};
 ghost use Rattle.word_reader.specs.Matching.{HasPushed};
 ghost use Rattle.document_store.specs.Heads.{IsHead, id_of};
-ghost use Rattle.document_store.specs.Looks.{IsPartOf, IsStated};
+ghost use Rattle.document_store.specs.Looks.{IsPartOf, IsStated, ReadsOnce};
 ghost use Rattle.record_query.specs.Matching.{IsMatcherOf, KeepsTerms, MatchEnds, PushNextEnds, SeekEnds, SlotEnds, seek_fault_of};
 ghost use Rattle.record_query.specs.declared.matching.SeekFault.TheVariants as seeks;
 
@@ -61,6 +61,7 @@ pub(crate) fn match_in<V: View>(
     requires slot { slot < volume.now.geometry.slots }
     requires size { volume.now.geometry.cells ≤ (V.seen view.old).cells }
     ensures viewed { Viewed (V.seen view.old) (V.seen view.new) }
+    ensures reads { ReadsOnce volume.now.geometry slot (V.seen view.old) (V.seen view.new) }
     ensures matcher { KeepsTerms matcher.old matcher.new }
     ensures ends { (terms : List (List ℕ)) → IsMatcherOf (rule_of volume.now.geometry.version) terms matcher.old
         → SlotEnds volume.now.geometry slot terms (V.seen view.old) (V.seen view.new) result }
@@ -86,6 +87,7 @@ fn match_part<V: View>(
     requires part { IsTrue (V.seen view.old).base.tells
         → IsPartOf geometry.now (V.seen view.old).image part.now.slot part.now }
     ensures viewed { Viewed (V.seen view.old) (V.seen view.new) }
+    ensures reads { (V.seen view.new).base.reads ≤ (V.seen view.old).base.reads + cells_for part.now.bytes }
     ensures matcher { KeepsTerms matcher.old matcher.new }
     ensures ends { (terms : List (List ℕ)) → IsMatcherOf (rule_of geometry.now.version) terms matcher.old
         → SlotEnds geometry.now part.now.slot terms (V.seen view.old) (V.seen view.new) result }
@@ -126,6 +128,7 @@ fn seek<V: View>(
 ) -> Result<Option<Head>, SeekFault>
     requires { start + cells_for bytes ≤ (V.seen view.old).cells }
     ensures viewed { Viewed (V.seen view.old) (V.seen view.new) }
+    ensures reads { (V.seen view.new).base.reads ≤ (V.seen view.old).base.reads + cells_for bytes }
     ensures matcher { KeepsTerms matcher.old matcher.new }
     ensures ends { SeekEnds start bytes (V.seen view.old) (V.seen view.new) matcher.old result }
 {
@@ -159,6 +162,10 @@ fn match_body<V: View>(
     requires head { IsHead (V.seen view.old) start bytes position.old head.now }
     requires inside { start + cells_for bytes ≤ (V.seen view.old).cells }
     ensures viewed { Viewed (V.seen view.old) (V.seen view.new) }
+    ensures is { IsPosition position.new }
+    ensures bytes { position.new.bytes ≡ bytes }
+    ensures reads { (V.seen view.new).base.reads + position.old.read
+        ≤ (V.seen view.old).base.reads + position.new.read }
     ensures matcher { KeepsTerms matcher.old matcher.new }
     ensures ends { MatchEnds start bytes head.now (V.seen view.old) (V.seen view.new) matcher.old result }
 {
@@ -180,6 +187,7 @@ fn push_next<V: View>(
     requires is { IsPosition position.old }
     requires inside { position.old.start + cells_for position.old.bytes ≤ (V.seen view.old).cells }
     ensures is { IsPosition position.new }
+    ensures bytes { position.new.bytes ≡ position.old.bytes }
     ensures viewed { Viewed (V.seen view.old) (V.seen view.new) }
     ensures reads { (V.seen view.new).base.reads + position.old.read
         ≤ (V.seen view.old).base.reads + position.new.read }

@@ -98,11 +98,12 @@ module _ (id : List ℕ) (old new : Ports) (device : IsDevice old.device) (devic
     -- the document is stored where the engine has stored it
     stored_adds : (answer : Result ℕ Refusal) (result : Result Unit Refusal) → Ingests id body old.device new.device answer
         → Tells acknowledgement answer old new result → HasStored result
-        → (n : ℕ) × HasOneMore id body n old.device new.device
+        → (n : ℕ) × HasOneMore id body n old.device new.device × Tells acknowledgement (Ok n) old new result
     stored_adds (Ok n) result ingests tells has = (
       n,
       comes_more id body old.device new.device n device device_new begins.tells begins.alone begins.steady
           (ingests.ends begins.tells) ingests.comes,
+      tells,
     )
     stored_adds (Err refused) (Ok u) ingests tells has = absurd tells
     stored_adds (Err refused) (Err refusals.SinkFault) ingests tells has = absurd

@@ -21,7 +21,7 @@ use Rattle.recovery_engine.specs.declared.settling.Ready.{Ready}
 use Rattle.steady_volumes.specs.Steadiness.{IsLeftWhole, IsSteady, StaysSteady}
 use Rattle.steady_volumes.proofs.LeftWhole.{held_unmoved, left_between, not_blank, settling_keeps, settling_left, stays_steady}
 use Rattle.steady_volumes.proofs.LookedAt.{looking_keeps, looking_steady}
-use Rattle.ingest_engine.specs.Formats.{volume_cell}
+use Rattle.ingest_engine.specs.Formats.{FormatEnds, volume_cell}
 use Rattle.commit_record.specs.Licences.{IsLicensed}
 use Rattle.record_query.specs.Finding.{ComesTo, FindEnds, settled, settling}
 use Rattle.record_query.specs.LookingUp.{LookUpEnds}
@@ -38,7 +38,7 @@ use Rattle.record_top.proofs.HeldAnswers.{find_held, look_up_held}
 use Rattle.record_top.proofs.OneMore.{ingest_adds}
 use Rattle.record_top.proofs.Results.{no_answer, one_refusal, other_refusal}
 use Rattle.record_top.specs.Begins.{BeginsSteady}
-use Rattle.record_top.specs.Steadiness.{AddsNone, LeavesWhole}
+use Rattle.record_top.specs.Steadiness.{AddsNone, IsFormatted, LeavesFormatted, LeavesWhole}
 
 -- a device that nothing was done with stays steady
 module _ (old new : DeviceState) (device : IsDevice old) (steady : IsSteady old) where
@@ -104,12 +104,12 @@ module _ (g : Layout) (old new : DeviceState) (is : IsLayout g) (size : g.cells 
             none-some w.0 (sym first ∙ ap image (sym here.0) ∙ w.1)))
             (look image cell)
 
-    where_written : (value : List ℕ) → image 0 ≡ Some value → IsLeftWhole old image
-    where_written value stands = record {
-      sound = inr (record { after = image; is = unchanged; settled = made.0 });
-      holds = inl (λ documents held. of_after image unchanged
-          (subst (AreDocuments old.cells image) (sym (held_none documents held)) made.1));
-    }
+    -- with the volume cell it is a settled volume without documents
+    made : (value : List ℕ) → image 0 ≡ Some value → Settled old.cells image × AreDocuments old.cells image []
+    made value stands = formatted is volume (λ cell some. ⊎_elim (λ free. free)
+        (λ (w : (v : List ℕ) × (image cell ≡ Some v)).
+        absurd (let here = alone cell w.0 w.1 in omega (arith, some, here.0)))
+        (look image cell))
       where
         volume : IsVolume old.cells image g
         volume = record {
@@ -130,14 +130,15 @@ module _ (g : Layout) (old new : DeviceState) (is : IsLayout g) (size : g.cells 
           size = size;
         }
 
-        made : Settled old.cells image × AreDocuments old.cells image []
-        made = formatted is volume (λ cell some. ⊎_elim (λ free. free)
-            (λ (w : (v : List ℕ) × (image cell ≡ Some v)).
-            absurd (let here = alone cell w.0 w.1 in omega (arith, some, here.0)))
-            (look image cell))
-
+    where_written : (value : List ℕ) → image 0 ≡ Some value → IsLeftWhole old image
+    where_written value stands = record {
+      sound = inr (record { after = image; is = unchanged; settled = (made value stands).0 });
+      holds = inl (λ documents held. of_after image unchanged
+          (subst (AreDocuments old.cells image) (sym (held_none documents held)) (made value stands).1));
+    }
+      where
         unchanged : After old.cells image image
-        unchanged = nothing made.0 (λ cell. refl)
+        unchanged = nothing (made value stands).0 (λ cell. refl)
 
     by_first : IsLeftWhole old image
     by_first = ⊎_elim where_blank (λ (w : (v : List ℕ) × (image 0 ≡ Some v)). where_written w.0 w.1) (look image 0)
@@ -151,6 +152,26 @@ module _ (g : Layout) (old new : DeviceState) (is : IsLayout g) (size : g.cells 
       quiet_steady old new device steady called (same_where w.0 w.1))
       (look old.image 0))
       (steady.each old.image (record { above = device.sure; below = extends_self old.image }))
+
+  -- what is sure stands behind it
+  sure_below : Extends old.sure new.image
+  sure_below = extends_then device.sure called.image
+
+  -- where cell 0 is blank, each cell is
+  blank_all : old.image 0 ≡ None → (cell : ℕ) → old.image cell ≡ None
+  blank_all none_there = ⊎_elim (λ (blank : (cell : ℕ) → old.image cell ≡ None). blank)
+      (λ (sound : Sound old.cells old.image). absurd (not_blank sound.is none_there))
+      (steady.each old.image (record { above = device.sure; below = extends_self old.image }))
+
+  -- once it is done, what stands behind it is a settled volume without documents
+  formatting_made : old.image 0 ≡ None → (value : List ℕ) → new.image 0 ≡ Some value → IsFormatted new
+  formatting_made none_there value stands =
+      let whole = made (blank_all none_there) new.image
+          (record { above = sure_below; below = extends_self new.image }) value stands in
+      record {
+        settled = subst (λ (k : ℕ). Settled k new.image) (sym called.cells) whole.0;
+        none = subst (λ (k : ℕ). AreDocuments k new.image []) (sym called.cells) whole.1;
+      }
 
   -- what stands behind it holds the documents that stood: none where no cell was written
   formatting_keeps : (documents : List Document) → Held old.cells old.image documents
@@ -168,14 +189,6 @@ module _ (g : Layout) (old new : DeviceState) (is : IsLayout g) (size : g.cells 
       subst (λ (i : Image). Held old.cells i documents) (sym (same_where w.0 w.1)) held)
       (look old.image 0)
     where
-      sure_below : Extends old.sure new.image
-      sure_below = extends_then device.sure called.image
-
-      blank_all : old.image 0 ≡ None → (cell : ℕ) → old.image cell ≡ None
-      blank_all none_there = ⊎_elim (λ (blank : (cell : ℕ) → old.image cell ≡ None). blank)
-          (λ (sound : Sound old.cells old.image). absurd (not_blank sound.is none_there))
-          (steady.each old.image (record { above = device.sure; below = extends_self old.image }))
-
       holds_none : ((cell : ℕ) → old.image cell ≡ None) → (l : List Document) → Held old.cells old.image l → l ≡ []
       holds_none blank l (none free is) = is
       holds_none blank l (of_after after a are) = absurd (not_blank a (blank 0))
@@ -214,6 +227,22 @@ module _ (old new : Ports) (device : IsDevice old.device) (device_new : IsDevice
         (format_layout g old new result does.ends);
     no_alarm = λ e is. (subst (FormatCommandEnds g old new) is does.ends).0;
   }
+
+  -- a format that is done has found each cell blank
+  format_leaves : (g : Layout) (result : Result Unit Refusal) → g.cells ≡ old.device.cells → DoesFormat g old new result
+      → LeavesFormatted new result
+  format_leaves g result size does = by_answer result does.ends
+    where
+      done : FormatEnds g old.device new.device (Ok tt) → IsFormatted new.device
+      done ends = formatting_made g old.device new.device ends.0 size device begins.steady does.called
+          (does.only begins.alone)
+          ((ends.2 begins.tells).blank 0 (omega (arith, ends.0.pool, size)))
+          (volume_cell g) (device_new.sure.keeps 0 (volume_cell g) (ends.1 begins.tells))
+
+      by_answer : (r : Result Unit Refusal) → FormatCommandEnds g old new r → LeavesFormatted new r
+      by_answer (Ok u) ends = done ends.0
+      by_answer (Err refusals.SinkFault) ends = done ends.0
+      by_answer (Err refusal) ends = tt
 
   settled_held : (answer : Result Ready Refusal) → Settles old.device new.device answer → (documents : List Document)
       → Held old.device.cells old.device.image documents → Held new.device.cells new.device.image documents
@@ -310,8 +339,10 @@ module _ (old new : Ports) (device : IsDevice old.device) (device_new : IsDevice
   -- whatever was asked for
   pub leaves_whole : (request : Request) (result : Result Unit Refusal) → Does request old new result
       → LeavesWhole request old new result
-  leaves_whole (ToFormat slots lists) result does =
-      format_adds (layout_on old slots lists) result refl does
+  leaves_whole (ToFormat slots lists) result does = (
+    format_adds (layout_on old slots lists) result refl does,
+    format_leaves (layout_on old slots lists) result refl does,
+  )
   leaves_whole (ToIngest id) result does = ingest_adds id old new device device_new begins result does
   leaves_whole (ToFind asked) result does =
       (find_adds asked result does, find_held old new device device_new begins asked result does)

@@ -1,17 +1,17 @@
 -- A command from a steady device on, where nobody else writes: what a crash leaves of it, at whichever moment; which
 -- documents stand behind it; and that a query tells of just those.
-use Rattle.std.specs.Prelude.{None, ◌≡◌, ◌<◌, ◌-◌, ℕ, List, length, Contains, Result, Ok, Err, ⊤}
+use Rattle.std.specs.Prelude.{None, ◌≡◌, ◌<◌, ◌-◌, ℕ, List, [], length, Contains, Result, Ok, Err, ⊤}
 use Rattle.cell_types.specs.Layout.{Layout}
 use Rattle.cell_types.specs.declared.refusal.Evidence.{Evidence}
 use Rattle.cell_types.specs.declared.refusal.Refusal.{Refusal}
-use Rattle.cell_types.specs.declared.refusal.Refusal.TheVariants.{Absent, Full, Tampered}
+use Rattle.cell_types.specs.declared.refusal.Refusal.TheVariants.{Absent, Full, SinkFault, Tampered}
 use Rattle.host_ports.specs.Sources.{Gives}
-use Rattle.stored_documents.specs.Documents.{Document}
+use Rattle.stored_documents.specs.Documents.{AreDocuments, Document}
 use Rattle.stored_documents.specs.Slots.{IsEdge, IsHorizon}
 use Rattle.stored_documents.specs.Volumes.{IsVolume}
 use Rattle.stored_documents.specs.Words.{Matches}
 use Rattle.stored_documents.specs.declared.word_rules.WordRule.TheVariants.{Ascii}
-use Rattle.tamper_rules.specs.Settling.{Held, Sound}
+use Rattle.tamper_rules.specs.Settling.{Held, Settled, Sound}
 use Rattle.volume_growth.specs.Needs.{IsNeed}
 use Rattle.worm_device.specs.State.{DeviceState}
 use Rattle.steady_volumes.specs.Steadiness.{StaysSteady}
@@ -19,9 +19,9 @@ use Rattle.steady_ingests.specs.Steadiness.{HasOneMore, StaysSteadyBy}
 use Rattle.record_query.specs.Finding.{HasMatch, Rises}
 use Rattle.record_query.specs.declared.found.Match.{Match}
 use Rattle.record_top.specs.Commands.{Request, ToFind, ToFormat, ToIngest, ToLookUp, ToRecover}
-use Rattle.record_top.specs.Ingesting.{HasRefused, HasStored}
+use Rattle.record_top.specs.Ingesting.{HasRefused, HasStored, acknowledgement}
 use Rattle.record_top.specs.Finding.{AreTermsOf, find_text}
-use Rattle.record_top.specs.Ports.{Ports, PutsOut}
+use Rattle.record_top.specs.Ports.{Ports, PutsOut, Tells}
 
 -- A crash in the command leaves an image that is blank or sound, with the documents that were sure at entry or those
 -- that stood there. Behind it, whatever it answers, the device is steady and holds the documents that stood at entry; and
@@ -59,6 +59,17 @@ LooksUpHeld id old new (Err Absent) =
     → (d : Document) → Contains documents d → d.id ≡ id → ⊥
 LooksUpHeld id old new (Err refusal) = ⊤
 
+-- the device is a settled volume without documents
+pub record IsFormatted (s : DeviceState) : Type 0 where
+  pub settled : Settled s.cells s.image
+  pub none : AreDocuments s.cells s.image []
+
+-- a format that is done leaves such a volume, also where it could not be told
+abbrev pub LeavesFormatted : Ports → Result Unit Refusal → Type 0
+LeavesFormatted new (Ok u) = IsFormatted new.device
+LeavesFormatted new (Err SinkFault) = IsFormatted new.device
+LeavesFormatted new (Err refusal) = ⊤
+
 -- So much was needed of the sound volume that stood, once it is settled, for the document in its first free slot; and so
 -- many cells are free behind its edge, which are fewer.
 pub record IsExactlyTooMany (id body : List ℕ) (need free : ℕ) (old : DeviceState) : Type 0 where
@@ -75,22 +86,23 @@ pub record IsExactlyTooMany (id body : List ℕ) (need free : ℕ) (old : Device
 
 -- A crash in an ingest leaves an image that is blank or sound, with the documents that were sure at entry, those that
 -- stood there, or these and the new one behind them; the device is steady behind it, and no tampering is named. Where
--- the document is stored, the volume is settled, all of it sure, and has it behind the documents that it held; any
--- refusal but a fault of the device leaves the documents as they were; and where there was no room, the need is exact.
+-- the document is stored, the volume is settled, all of it sure, and has it behind the documents that it held, in the
+-- slot that is acknowledged; any refusal but a fault of the device leaves the documents as they were; and where there was no room, the need is exact.
 -- The body is what the source gave.
 pub record AddsOne (id : List ℕ) (old new : Ports) (result : Result Unit Refusal) : Type 0 where
   pub body : List ℕ
   pub gives : Gives old.source.left new.source.left body
   pub stays : StaysSteadyBy id body old.device new.device
   pub no_alarm : (e : Evidence) → result ≡ Err (Tampered e) → ⊥
-  pub adds : HasStored result → (n : ℕ) × HasOneMore id body n old.device new.device
+  pub adds : HasStored result
+      → (n : ℕ) × HasOneMore id body n old.device new.device × Tells acknowledgement (Ok n) old new result
   pub keeps : HasRefused result → (documents : List Document)
       → Held old.device.cells old.device.image documents → Held new.device.cells new.device.image documents
   pub needs : (need free : ℕ) → result ≡ Err (Full need free) → IsExactlyTooMany id body need free old.device
 
 -- what a command leaves, and of a query what it tells, by what was asked for
 abbrev pub LeavesWhole : Request → Ports → Ports → Result Unit Refusal → Type 0
-LeavesWhole (ToFormat slots lists) old new result = AddsNone old new result
+LeavesWhole (ToFormat slots lists) old new result = AddsNone old new result × LeavesFormatted new result
 LeavesWhole (ToIngest id) old new result = AddsOne id old new result
 LeavesWhole (ToFind asked) old new result = AddsNone old new result × FindsHeld asked old new result
 LeavesWhole (ToLookUp id) old new result = AddsNone old new result × LooksUpHeld id old new result

@@ -14,7 +14,7 @@ use Rattle.phase_writer.specs.declared.put.Put.{Put}
 use Rattle.phase_writer.specs.declared.put.Blame.{Blame}
 use Rattle.phase_writer.specs.declared.put.Blame.TheVariants as blames
 use Rattle.phase_writer.specs.Putting.{Puts, PutsPhase, IsThis}
-use Rattle.phase_writer.proofs.Phasing.{changes_wider, puts_more, puts_ended, puts_looked, phase_ended}
+use Rattle.phase_writer.proofs.Phasing.{false_true, only_looked, changes_wider, puts_more, puts_ended, puts_looked, phase_ended}
 use Rattle.recovery_engine.specs.declared.journal.Journal.{Journal}
 use Rattle.recovery_engine.specs.Journal.{IsEntryOf, IsEntryPut, IsUnfitAt, EntryEnds}
 
@@ -134,9 +134,6 @@ module _ (j : Journal) (k : ℕ) (less : k < j.count) {old mid now : DeviceState
   c0 : Called old now
   c0 = called_then puts.called called
 
-  puts_now : Puts (IsEntryPut old.image j.place k) old now (Ok tt)
-  puts_now = puts_looked tt tt puts called quiet
-
   entry_left : (next : ℕ) → k ≤ next → (put : Put) → IsEntryPut old.image j.place k put
       → IsEntryPut old.image j.place next put
   entry_left next more put h = (h.0, omega (arith, h.1, more), h.2)
@@ -167,17 +164,24 @@ module _ (j : Journal) (k : ℕ) (less : k < j.count) {old mid now : DeviceState
       → PutsPhase (IsEntryPut old.image j.place j.count) old now (Err fault)
   entry_refused Failed ends = phase_ended Failed (record {
     called = c0;
-    only = λ tells still. changes_wider (entry_left j.count (omega (arith, less))) (puts_now.only tells still);
+    unfailed = λ ok. absurd (false_true ok);
+    only = λ tells still. changes_wider (entry_left j.count (omega (arith, less)))
+        (only_looked tt puts called quiet tells still);
     ends = omega (arith, ends, puts.called.faults);
   })
   entry_refused (Tampered e) ends = phase_ended (Tampered e) (record {
     called = c0;
-    only = λ tells still. changes_wider (entry_left j.count (omega (arith, less))) (puts_now.only tells still);
+    unfailed = λ ok. absurd (false_true ok);
+    only = λ tells still. changes_wider (entry_left j.count (omega (arith, less)))
+        (only_looked tt puts called quiet tells still);
     ends = λ tells. absurd (never e tells (ends (subst IsTrue (sym puts.called.tells) tells)));
   })
 
   module _ (put : Put) (fit : IsFit floor j.below put.value) (at : put.at ≡ target_of put.value)
-      (is : IsTrue mid.tells → IsEntryOf now.image j.place k put) where
+      (is : IsTrue mid.tells → IsEntryOf now.image j.place k put) (none : now.faults ≡ mid.faults) where
+    puts_now : Puts (IsEntryPut old.image j.place k) old now (Ok tt)
+    puts_now = puts_looked tt tt puts called quiet none
+
     -- it stood at old
     entry_was : IsTrue old.tells → IsEntryOf old.image j.place k put
     entry_was tells =
@@ -207,6 +211,7 @@ module _ (j : Journal) (k : ℕ) (less : k < j.count) {old mid now : DeviceState
       pub entry_put : Puts (IsThis put) now new (Ok tt) → Puts (IsEntryPut old.image j.place (k + 1)) old new (Ok tt)
       entry_put then = record {
         called = called_then c0 then.called;
+        unfailed = λ ok. then.unfailed refl ∙ puts_now.unfailed refl;
         only = λ tells. (puts_more (entry_left (k + 1) (omega arith)) (entry_right tells (k + 1) (omega arith)) tt
             puts_now (entry_covers tells) tt tt then).only tells;
         ends = λ tells. (puts_more (entry_left (k + 1) (omega arith)) (entry_right tells (k + 1) (omega arith)) tt
@@ -217,12 +222,14 @@ module _ (j : Journal) (k : ℕ) (less : k < j.count) {old mid now : DeviceState
           → PutsPhase (IsEntryPut old.image j.place j.count) old new (Err fault)
       entry_held Failed then = phase_ended Failed (record {
         called = called_then c0 then.called;
+        unfailed = λ ok. absurd (false_true ok);
         only = λ tells. (puts_ended (entry_left j.count (omega (arith, less))) (entry_right tells j.count less) tt
             puts_now Failed then).only tells;
         ends = omega (arith, then.ends, c0.faults);
       })
       entry_held (Tampered e) then = phase_ended (Tampered e) (record {
         called = called_then c0 then.called;
+        unfailed = λ ok. absurd (false_true ok);
         only = λ tells. (puts_ended (entry_left j.count (omega (arith, less))) (entry_right tells j.count less) tt
             puts_now (Tampered e) then).only tells;
         ends = λ tells. (puts_ended (entry_left j.count (omega (arith, less))) (entry_right tells j.count less) tt

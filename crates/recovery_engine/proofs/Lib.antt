@@ -1,9 +1,11 @@
 pub mod CrashedSettling
 pub mod Entries
+pub mod HalfDone
 pub mod InOrder
 pub mod LastCells
 pub mod Licensed
 pub mod Looked
+pub mod OfSettled
 pub mod Rising
 pub mod Settled
 pub mod States

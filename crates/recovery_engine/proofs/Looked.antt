@@ -9,17 +9,21 @@ use Rattle.commit_record.specs.declared.slot.SlotState.{SlotState}
 use Rattle.commit_record.specs.declared.slot.SlotState.TheVariants.{Unused, Reserved, Abandoned, Committed, Done}
 use Rattle.phase_writer.specs.declared.put.Put.{Put}
 use Rattle.phase_writer.specs.Putting.{IsInFirst, LeavesPhases, CrashesLeavePhases, PutsPhases}
-use Rattle.phase_writer.proofs.Phasing.{changes_same, changes_wider, phases_append, phases_append_ended}
+use Rattle.phase_writer.proofs.Phasing.{changes_same, changes_wider, false_true, phases_append, phases_append_ended}
 use Rattle.worm_device.specs.Calls.{Called, Syncs}
-use Rattle.worm_device.specs.Counts.{IsStill}
+use Rattle.worm_device.specs.Counts.{IsStill, Rose}
 use Rattle.worm_device.specs.State.{DeviceState, LeftSince}
 use Rattle.worm_device.specs.declared.device.Failed.{Failed}
 use Rattle.worm_device.proofs.Counting.{still_first, still_second}
 use Rattle.worm_device.proofs.Elapsing.{called_then, elapses_of}
 use Rattle.worm_device.proofs.Images.{extends_self, extends_then, unchanged_then}
 use Rattle.recovery_engine.specs.Ending.{HasJournal, IsFirstEnd, IsLastEnd, end_plan, end_phases, step_of}
-use Rattle.recovery_engine.specs.Settling.{Settles, SettleEnds, LooksBriefly, NamesTarget, EndsByPhases, IsEnding, settle_plan}
+use Rattle.recovery_engine.specs.Settling.{Settles, SettleEnds, LooksBriefly, LooksBrieflyAgain, NamesTarget, EndsByPhases, IsEnding, settle_plan}
 use Rattle.recovery_engine.specs.declared.settling.Step.TheVariants.{Nothing}
+use Rattle.tamper_rules.specs.Settling.{Settled}
+use Rattle.tamper_rules.proofs.Images.{same_image}
+use Rattle.commit_record.specs.States.{IsState}
+use Rattle.recovery_engine.proofs.HalfDone.{settled_is_whole}
 use Rattle.recovery_engine.specs.LastSlot.{IsLast}
 use Rattle.cell_types.specs.Layout.{Layout}
 use Rattle.stored_documents.specs.Slots.{IsHorizon}
@@ -27,9 +31,6 @@ use Rattle.stored_documents.specs.Volumes.{IsVolume}
 use Rattle.stored_documents.proofs.Extending.{horizon_further}
 use Rattle.recovery_engine.proofs.InOrder.{state_further}
 use Rattle.recovery_engine.specs.declared.settling.Ready.{Ready}
-
-pub false_true : false ≡ true → ⊥
-false_true e = cc
 
 true_false : true ≡ false → ⊥
 true_false e = cc
@@ -106,13 +107,14 @@ spared_phases plan k old now quiet crashes tells since image le left = ⊎_elim 
     (crashes since image le left)
 
 pub looked_phases : (plan : ℕ → Put → Type 0) → ((put : Put) → plan 0 put → ⊥) → (old now : DeviceState)
-    → Looked old now → PutsPhases plan 1 old now (Ok tt)
-looked_phases plan none old now looked =
+    → Looked old now → now.faults ≡ old.faults → PutsPhases plan 1 old now (Ok tt)
+looked_phases plan none old now looked unfailed =
     let never : (put : Put) → IsInFirst plan 1 put → ⊥ = λ put h. none put
     (subst (λ (j : ℕ). plan j put) (omega (arith, h.1)) h.2) in
     record {
       puts = record {
         called = looked.called;
+        unfailed = λ okay. unfailed;
         only = λ tells still. changes_same (IsInFirst plan 1) old.image now.image (looked.quiet still);
         ends = λ tells put h. absurd (never put h);
       };
@@ -128,12 +130,15 @@ none_settles image j put h = ⊎_elim
 
 -- settling ends after looks alone
 settled_spared : (old now : DeviceState) (result : Result Ready Refusal) → Called old now
+    → (IsOk result → now.faults ≡ old.faults) → (IsOk result → Rose old.reads now.reads)
     → (IsStill old.foreign_writes now.foreign_writes → IsUnchanged old.image now.image) → CrashesSpare old now
     → (IsOk result → IsTrue old.tells → Extends old.image now.sure) → IfOk result (λ r. r.step ≡ step_of 0 Unused)
     → (IsTrue old.tells → NamesTarget old now result) → SettleEnds old now result → LooksBriefly old now result
-    → Settles old now result
-settled_spared old now result called quiet crashes synced step targets ends reads = record {
+    → (IsTrue old.tells → LooksBrieflyAgain old now) → Settles old now result
+settled_spared old now result called unfailed read quiet crashes synced step targets ends reads again = record {
   called = called;
+  unfailed = unfailed;
+  read = read;
   writes = λ tells. record {
     between = old.image;
     grows = extends_self old.image;
@@ -151,18 +156,24 @@ settled_spared old now result called quiet crashes synced step targets ends read
   ends = ends;
   targets = targets;
   reads = reads;
+  again = again;
 }
 
 pub settled_looked : (old now : DeviceState) (result : Result Ready Refusal) → Looked old now
+    → (IsOk result → now.faults ≡ old.faults) → (IsOk result → Rose old.reads now.reads)
     → IfOk result (λ r. r.step ≡ step_of 0 Unused) → (IsTrue old.tells → NamesTarget old now result)
-    → SettleEnds old now result → LooksBriefly old now result → Settles old now result
-settled_looked old now result looked step targets ends reads = settled_spared old now result looked.called
-    looked.quiet looked.crashes (λ okay tells. looked.synced tells) step targets ends reads
+    → SettleEnds old now result → LooksBriefly old now result → (IsTrue old.tells → LooksBrieflyAgain old now)
+    → Settles old now result
+settled_looked old now result looked unfailed read step targets ends reads again = settled_spared old now result
+    looked.called unfailed read looked.quiet looked.crashes (λ okay tells. looked.synced tells) step targets ends reads
+    again
 
 -- the sync failed
 pub sync_failed : (s0 s1 : DeviceState) (f : Failed) → Syncs s0 s1 (Err f) → Settles s0 s1 (Err DeviceFault)
-sync_failed s0 s1 f sync = settled_spared s0 s1 (Err DeviceFault) sync.called sync.only (spared_call sync.called)
+sync_failed s0 s1 f sync = settled_spared s0 s1 (Err DeviceFault) sync.called (λ okay. absurd (false_true okay))
+    (λ okay. absurd (false_true okay)) sync.only (spared_call sync.called)
     (λ okay tells. absurd (false_true okay)) tt (λ tells. tt) sync.cause tt
+    (λ tells settled still. omega (arith, sync.count))
 
 -- where the step is none, no phase was to be put
 pub none_ended : (n : ℕ) (state : SlotState) → step_of n state ≡ Nothing → end_phases state ≡ 0
@@ -223,21 +234,40 @@ ending_of g n u s0 s2 s3 s5 state next l2 c23 l5 c35 volume horizon last journal
   journal = journal;
 }
 
+-- which is none where the volume was settled, and nobody else wrote
+pub none_to_end : (g : Layout) (n u : ℕ) (s0 s2 s3 s4 : DeviceState) (state : SlotState) → u ≡ n + 1 → Looked s0 s2
+    → Called s2 s3 → Looked s0 s4 → Called s3 s4 → IsVolume s4.cells s4.image g → IsHorizon g s2.image s3.image u
+    → IsLast g s3.image s4.image n state → Settled s0.cells s0.image → IsStill s0.foreign_writes s4.foreign_writes
+    → end_phases state ≡ 0
+none_to_end g n u s0 s2 s3 s4 state next l2 c23 l4 c34 volume horizon last settled still =
+    let same : s4.image ≡ s0.image = same_image (l4.quiet still) in
+    settled_is_whole {cells = s0.cells} {more = s4.cells} g n state settled
+    (subst (λ (i : Image). IsVolume s4.cells i g) same volume)
+    (subst (λ (i : Image). IsHorizon g s0.image i (n + 1)) same
+    (subst (λ (k : ℕ). IsHorizon g s0.image s4.image k) next (horizon_further l2.called.image c34.image horizon)))
+    (subst (λ (i : Image). IsState g s0.image i n state) same
+    (state_further g s3.image s0.image s4.image s4.image n state (extends_then l2.called.image c23.image)
+    (extends_self s4.image) last.is))
+
 -- settling ends after the slot was ended, or not
 pub settled_ended : (n : ℕ) (s0 s4 s5 : DeviceState) (state : SlotState) (ended : Result (Unit {0}) Fault)
-    (result : Result Ready Refusal) → Looked s0 s4
-    → PutsPhases (end_plan s4.image n state) (end_phases state) s4 s5 ended →
+    (result : Result Ready Refusal) → Looked s0 s4 → s4.faults ≡ s0.faults
+    → Rose s0.reads s4.reads → PutsPhases (end_plan s4.image n state) (end_phases state) s4 s5 ended →
     (IsTrue s0.tells → IsEnding s0.cells s0.image s4.image n state)
     → (IsOk result → PutsPhases (end_plan s4.image n state) (end_phases state) s4 s5 (Ok tt))
     → IfOk result (λ r. r.step ≡ step_of n state) → IfOk result (λ r. r.horizon ≡ n + 1)
     → (IsTrue s0.tells → NamesTarget s0 s5 result) → SettleEnds s0 s5 result → LooksBriefly s0 s5 result
-    → Settles s0 s5 result
-settled_ended n s0 s4 s5 state ended result looked phases ending okay step below targets ends reads = record {
+    → (IsTrue s0.tells → LooksBrieflyAgain s0 s5) → Settles s0 s5 result
+settled_ended n s0 s4 s5 state ended result looked unfailed read phases ending okay step below targets ends reads
+    again = record {
   called = called_then looked.called phases.puts.called;
+  unfailed = λ ok. (okay ok).puts.unfailed refl ∙ unfailed;
+  read = λ ok. omega (arith, read, phases.puts.called.reads);
   writes = λ tells. writes ended phases tells;
   ends = ends;
   targets = targets;
   reads = reads;
+  again = again;
 }
   where
     plan : ℕ → Put → Type 0
@@ -247,10 +277,10 @@ settled_ended n s0 s4 s5 state ended result looked phases ending okay step below
         → PutsPhases (settle_plan s4.image n state) (1 + end_phases state) s0 s5 r
     all (Ok tt) p = phases_append (settle_plan s4.image n state) (end_plan s4.image n state) 1 (end_phases state)
         (shift_to s4.image n state) (shift_back s4.image n state) tt
-        (looked_phases (settle_plan s4.image n state) (never_first s4.image n state) s0 s4 looked) tt tt p
+        (looked_phases (settle_plan s4.image n state) (never_first s4.image n state) s0 s4 looked unfailed) tt tt p
     all (Err fault) p = phases_append_ended (settle_plan s4.image n state) (end_plan s4.image n state) 1
         (end_phases state) (shift_to s4.image n state) (shift_back s4.image n state) tt
-        (looked_phases (settle_plan s4.image n state) (never_first s4.image n state) s0 s4 looked) fault p
+        (looked_phases (settle_plan s4.image n state) (never_first s4.image n state) s0 s4 looked unfailed) fault p
 
     writes : (r : Result (Unit {0}) Fault) → PutsPhases (end_plan s4.image n state) (end_phases state) s4 s5 r
         → IsTrue s0.tells → EndsByPhases s0 s5 result

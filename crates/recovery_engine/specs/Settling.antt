@@ -9,6 +9,7 @@ use Rattle.stored_documents.specs.Slots.{Reserves, IsReserved, IsCommitted, IsAb
 use Rattle.stored_documents.specs.Volumes.{Holds, IsVolume, IsWritten, volume_record}
 use Rattle.tamper_rules.specs.Journals.{journal_at}
 use Rattle.tamper_rules.specs.Rules.{IsBroken}
+use Rattle.tamper_rules.specs.Settling.{Settled}
 use Rattle.tamper_rules.specs.declared.numbers.TheConstants.{BROKEN_JOURNAL, OTHER_TARGET}
 use Rattle.worm_device.specs.Calls.{Called}
 use Rattle.worm_device.specs.Counts.{Rose, IsStill}
@@ -155,13 +156,22 @@ abbrev pub LooksBriefly : DeviceState → DeviceState → Result Ready Refusal �
 LooksBriefly old new (Ok r) = r.step ≡ Nothing → new.reads ≤ old.reads + 64
 LooksBriefly old new (Err refusal) = ⊤
 
--- what it means that a volume is settled, or that settling it was ended
+-- where the volume was settled at entry, and nobody else wrote, they are enough whatever is answered
+abbrev pub LooksBrieflyAgain : DeviceState → DeviceState → Type 0
+LooksBrieflyAgain old new =
+    Settled old.cells old.image → IsStill old.foreign_writes new.foreign_writes → new.reads ≤ old.reads + 64
+
+-- What it means that a volume is settled, or that settling it was ended. Where it is settled cell 0 was read, and no call
+-- of the device has failed: none is tried a second time.
 pub record Settles (old new : DeviceState) (result : Result Ready Refusal) : Type 0 where
   pub called : Called old new
+  pub unfailed : IsOk result → new.faults ≡ old.faults
+  pub read : IsOk result → Rose old.reads new.reads
   pub writes : IsTrue old.tells → EndsByPhases old new result
   pub ends : SettleEnds old new result
   pub targets : IsTrue old.tells → NamesTarget old new result
   pub reads : LooksBriefly old new result
+  pub again : IsTrue old.tells → LooksBrieflyAgain old new
 
 -- The volume was settled, and has only been looked at since.
 pub record HasSettled (old new : DeviceState) (r : Ready) : Type 0 where

@@ -1,5 +1,5 @@
 //! How the last slot is ended.
-ghost use Rattle.std.specs.Prelude.{◌≡◌, ◌<◌, ◌≤◌, IsTrue};
+ghost use Rattle.std.specs.Prelude.{◌≡◌, ◌<◌, ◌≤◌, IsOk, IsTrue};
 ghost use Rattle.cell_types.specs.Image.{IsUnchanged};
 ghost use Rattle.commit_record.specs.States.{LiesInPool};
 ghost use Rattle.commit_record.specs.declared.slot.SlotState.TheVariants.{Committed};
@@ -61,6 +61,7 @@ pub fn check_slot<D: Device>(
     ensures quiet { IsStill (D.state device.old).foreign_writes (D.state device.new).foreign_writes →
         IsUnchanged (D.state device.old).image (D.state device.new).image }
     ensures reads { end_phases state.now ≡ 0 → (D.state device.new).reads ≡ (D.state device.old).reads }
+    ensures unfailed { IsOk result → (D.state device.new).faults ≡ (D.state device.old).faults }
     ensures ends { SlotCheckEnds geometry.now slot state.now (D.state device.old) (D.state device.new) result }
 {
     match *state {

@@ -1,5 +1,5 @@
 //! The journal of a committed slot: copies of the cells that it asks to be written.
-ghost use Rattle.std.specs.Prelude.{◌≡◌, ◌<◌, ◌≤◌, ◌+◌, ◌↔◌, ◌^◌, IsTrue};
+ghost use Rattle.std.specs.Prelude.{◌≡◌, ◌<◌, ◌≤◌, ◌+◌, ◌↔◌, ◌^◌, IsOk, IsTrue};
 ghost use Rattle.tamper_rules.specs.Journals.{IsIndexRecord};
 ghost use Rattle.recovery_engine.specs.Entries.{IsCopy, AreEntries, target_of};
 ghost use Rattle.phase_writer.specs.Putting.{PutsPhase};
@@ -56,6 +56,7 @@ fn entry<D: Device>(device: &mut D, journal: &Journal, k: u32, floor: u32) -> Re
     ensures called { Called (D.state device.old) (D.state device.new) }
     ensures quiet { IsStill (D.state device.old).foreign_writes (D.state device.new).foreign_writes →
         IsUnchanged (D.state device.old).image (D.state device.new).image }
+    ensures unfailed { IsOk result → (D.state device.new).faults ≡ (D.state device.old).faults }
     ensures ends { EntryEnds journal.now k floor (D.state device.old) (D.state device.new) result }
 {
     let at = journal.place + k;
@@ -80,6 +81,7 @@ pub fn check_journal<D: Device>(device: &mut D, journal: &Journal) -> Result<(),
     ensures called { Called (D.state device.old) (D.state device.new) }
     ensures quiet { IsStill (D.state device.old).foreign_writes (D.state device.new).foreign_writes →
         IsUnchanged (D.state device.old).image (D.state device.new).image }
+    ensures unfailed { IsOk result → (D.state device.new).faults ≡ (D.state device.old).faults }
     ensures ends { JournalEnds journal.now (D.state device.old) (D.state device.new) result }
 {
     let mut floor = journal.first;

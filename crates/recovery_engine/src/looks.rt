@@ -1,5 +1,5 @@
 //! Looks at a device, as calls on the device itself.
-ghost use Rattle.std.specs.Prelude.{◌≡◌, ◌<◌, ◌≤◌, ◌+◌, ◌↔◌, IfOk, IsErr, IsNone, IsSome, IsTrue, Some};
+ghost use Rattle.std.specs.Prelude.{◌≡◌, ◌<◌, ◌≤◌, ◌+◌, ◌↔◌, IfOk, IsErr, IsNone, IsOk, IsSome, IsTrue, Some};
 ghost use Rattle.cell_types.specs.Image.{IsUnchanged};
 ghost use Rattle.cell_types.specs.Layout.{reserve_at};
 ghost use Rattle.worm_device.specs.Calls.{Called};
@@ -12,7 +12,7 @@ ghost use Rattle.recovery_engine.specs.LastSlot.{LastEnds};
 
 use crate::ordered::last_slot;
 use cell_types::{Cell, Fault, Volume};
-use commit_record::{LogEnd, OpenRefusal, SlotState, end_of_log, open};
+use commit_record::{LogEnd, OpenRefusal, SlotState, end_of_log, volume_of};
 use worm_device::{Device, Direct, Failed};
 
 /// The volume that the device states.
@@ -21,9 +21,11 @@ pub fn open_device<D: Device>(device: &mut D) -> Result<Volume, OpenRefusal>
     ensures quiet { IsStill (D.state device.old).foreign_writes (D.state device.new).foreign_writes →
         IsUnchanged (D.state device.old).image (D.state device.new).image }
     ensures reads { (D.state device.new).reads ≤ (D.state device.old).reads + 1 }
+    ensures read { Rose (D.state device.old).reads (D.state device.new).reads }
     ensures ends { OpenEnds (seen_directly (D.state device.old) 0) (seen_directly (D.state device.new) 0) result }
 {
-    open(&mut Direct::new(device))
+    let found = device.read(0)?;
+    volume_of(found, device.cells())
 }
 
 /// Where the log of the volume on the device ends.
@@ -33,6 +35,7 @@ pub fn log_end_of_device<D: Device>(device: &mut D, volume: &Volume) -> Result<L
     ensures quiet { IsStill (D.state device.old).foreign_writes (D.state device.new).foreign_writes →
         IsUnchanged (D.state device.old).image (D.state device.new).image }
     ensures reads { (D.state device.new).reads ≤ (D.state device.old).reads + 26 }
+    ensures unfailed { IsOk result → (D.state device.new).faults ≡ (D.state device.old).faults }
     ensures within { IfOk result (λ log. log.horizon ≤ volume.now.geometry.slots) }
     ensures none { IfOk result (λ log. IsNone log.last ↔ (log.horizon ≡ 0)) }
     ensures horizon { IsTrue (D.state device.old).tells → IfOk result (λ log.
@@ -59,6 +62,7 @@ pub fn last_slot_of_device<D: Device>(
     ensures quiet { IsStill (D.state device.old).foreign_writes (D.state device.new).foreign_writes →
         IsUnchanged (D.state device.old).image (D.state device.new).image }
     ensures reads { (D.state device.new).reads ≤ (D.state device.old).reads + 5 }
+    ensures unfailed { IsOk result → (D.state device.new).faults ≡ (D.state device.old).faults }
     ensures used { IfOk result (λ state. IsSome (reservation_of state)) }
     ensures ends { LastEnds volume.now.geometry last (seen_directly (D.state device.old) 0)
         (seen_directly (D.state device.new) 0) result }

@@ -1,5 +1,5 @@
 //! The last slot of the log: its state, and that it follows the one before.
-ghost use Rattle.std.specs.Prelude.{◌≡◌, ◌<◌, ◌≤◌, ◌+◌, ◌^◌, ◌↔◌, IfOk, IfSome, IsSome, IsTrue, Some};
+ghost use Rattle.std.specs.Prelude.{◌≡◌, ◌<◌, ◌≤◌, ◌+◌, ◌^◌, ◌↔◌, IfOk, IfSome, IsOk, IsSome, IsTrue, Some};
 ghost use Rattle.cell_types.specs.Layout.{reserve_at};
 ghost use Rattle.worm_device.specs.Views.{Viewed};
 ghost use Rattle.commit_record.specs.Reservations.{reservation_of};
@@ -24,6 +24,7 @@ pub fn last_slot<V: View>(
         (V.seen view.old).image (reserve_at last) ≡ Some reserve }
     ensures viewed { Viewed (V.seen view.old) (V.seen view.new) }
     ensures reads { (V.seen view.new).base.reads ≤ (V.seen view.old).base.reads + 5 }
+    ensures unfailed { IsOk result → (V.seen view.new).base.faults ≡ (V.seen view.old).base.faults }
     ensures used { IfOk result (λ state. IsSome (reservation_of state)) }
     ensures ends { LastEnds volume.now.geometry last (V.seen view.old) (V.seen view.new) result }
 {

@@ -46,7 +46,7 @@ impl Ready {
 
 /// Settles the volume: makes sure what stands, and then gives up the last slot where it is reserved alone, or carries
 /// its journal out and puts its done cell where it is committed. Takes no memory. Where there is nothing to put it
-/// makes at most 64 reads, however many slots are taken.
+/// makes at most 64 reads, however many slots are taken, and whatever it answers.
 ///
 /// # Errors
 ///

@@ -9,7 +9,7 @@ use Rattle.worm_device.proofs.Resting.{viewed_self, viewed_then}
 use Rattle.zigzag_join.specs.Counts.{HaveSlots, JoinCosts}
 use Rattle.zigzag_join.specs.Joins.{AllOwe, HasAgreed, IsTurnAfter}
 use Rattle.zigzag_join.proofs.SlotCounts.{at_least, at_most, passes, times_more, times_on}
-use Rattle.zigzag_join.specs.Lists.{AsksNext, ListsState, Keeps, NextEnds}
+use Rattle.zigzag_join.specs.Lists.{AsksNext, CountsAsks, HasPaid, ListsState, Keeps, NextEnds, paid_reads}
 
 -- calls after calls
 pub keeps_then : {a b c : ListsState} → Keeps a b → Keeps b c → Keeps a c
@@ -24,6 +24,11 @@ keeps_then {a} {b} {c} k l = record {
       let x = k.viewed.called.foreign_writes in
       let y = l.viewed.called.foreign_writes in
       k.landing (still_first x y still) which slot (l.landing (still_second x y still) which slot there);
+  next_reads = l.next_reads ∙ k.next_reads;
+  has_reads = l.has_reads ∙ k.has_reads;
+  next_asks = omega (arith, k.next_asks, l.next_asks);
+  has_asks = omega (arith, k.has_asks, l.has_asks);
+  paid = λ reads next has p. l.paid reads next has (k.paid reads next has p);
 }
 
 pub keeps_self : (a : ListsState) → Keeps a a
@@ -35,7 +40,38 @@ keeps_self a = record {
   vouching = λ which slot v. v;
   naming = λ e may. may;
   landing = λ still which slot there. there;
+  next_reads = refl;
+  has_reads = refl;
+  next_asks = omega arith;
+  has_asks = omega arith;
+  paid = λ reads next has p. p;
 }
+
+-- what was read in calls, the asks in them have paid for
+pub reads_of : {a b : ListsState} → Keeps a b → CountsAsks b
+    → b.view.base.reads + paid_reads a ≤ a.view.base.reads + paid_reads b
+unfolding HasPaid
+reads_of {a} {b} k counts =
+    subst (λ (n : ℕ). b.view.base.reads + (n * a.next_asks + a.has_reads * a.has_asks)
+    ≤ a.view.base.reads + paid_reads b) k.next_reads
+    (subst (λ (n : ℕ). b.view.base.reads + (b.next_reads * a.next_asks + n * a.has_asks)
+    ≤ a.view.base.reads + paid_reads b) k.has_reads
+    (k.paid a.view.base.reads a.next_asks a.has_asks (λ before. omega arith) counts))
+
+-- one call's asks pay for what it read
+pub paid_since : (a b : ListsState) → b.next_reads ≡ a.next_reads → b.has_reads ≡ a.has_reads
+    → a.next_asks ≤ b.next_asks → a.has_asks ≤ b.has_asks
+    → (CountsAsks b → b.view.base.reads + paid_reads a ≤ a.view.base.reads + paid_reads b)
+    → (reads next has : ℕ) → HasPaid reads next has a → HasPaid reads next has b
+unfolding HasPaid
+paid_since a b same_next same_has more_next more_has pays reads next has paid counts =
+    let was = paid (record {
+      next = omega (arith, counts.next, more_next);
+      has = omega (arith, counts.has, more_has);
+    }) in
+    subst (λ (n : ℕ). b.view.base.reads + (n * next + b.has_reads * has) ≤ reads + paid_reads b) (sym same_next)
+    (subst (λ (n : ℕ). b.view.base.reads + (a.next_reads * next + n * has) ≤ reads + paid_reads b) (sym same_has)
+    (omega (arith, was, pays counts)))
 
 -- of so many lists, in turn, the list is one of the last so many before this one
 abbrev pub IsOfLast : ℕ → ℕ → ℕ → ℕ → Type 0

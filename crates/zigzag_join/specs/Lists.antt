@@ -1,5 +1,5 @@
 -- Lists of slots: what they are for contracts, and what their calls answer.
-use Rattle.std.specs.Prelude.{◌≡◌, ◌<◌, ◌≤◌, ◌+◌, ℕ, Bool, List, Option, Some, None, Result, Ok, Err, IsTrue}
+use Rattle.std.specs.Prelude.{◌≡◌, ◌<◌, ◌≤◌, ◌+◌, ◌-◌, ◌*◌, ◌^◌, ℕ, Bool, List, Option, Some, None, Result, Ok, Err, IsTrue}
 use Rattle.cell_types.specs.declared.geometry.TheConstants.{MAX_SLOTS}
 use Rattle.cell_types.specs.declared.refusal.Evidence.{Evidence}
 use Rattle.cell_types.specs.declared.refusal.Fault.{Fault}
@@ -29,9 +29,29 @@ pub record ListsState : Type 1 where
   -- how often a list was asked for its next slot, and how often whether it has one
   pub next_asks : ℕ
   pub has_asks : ℕ
+  -- how many reads of the device below one ask of each kind may cost
+  pub next_reads : ℕ
+  pub has_reads : ℕ
+
+-- how many reads all that was asked so far may have cost
+abbrev pub paid_reads : ListsState → ℕ
+paid_reads s = s.next_reads * s.next_asks + s.has_reads * s.has_asks
+
+-- each count of asks can still rise, so that it is how often was asked
+pub record CountsAsks (s : ListsState) : Type 0 where
+  pub next : s.next_asks < 2 ^ 64 - 1
+  pub has : s.has_asks < 2 ^ 64 - 1
+
+-- Where at some earlier time the device below had counted so many reads, and the lists so many asks of each kind: what
+-- was read since, the asks since have paid for. It is a name that proofs don't look into, so that one call goes after
+-- another with no lemma.
+unfoldable pub HasPaid : ℕ → ℕ → ℕ → ListsState → Type 0
+HasPaid reads next has s =
+    CountsAsks s → s.view.base.reads + (s.next_reads * next + s.has_reads * has) ≤ reads + paid_reads s
 
 -- What every call keeps, and so every row of calls: the lists stay as many and what they are, the view is read alone,
--- and what a list must not pass, vouches for or may name once it does ever after.
+-- and what a list must not pass, vouches for or may name once it does ever after. Counts of asks don't fall. paid says
+-- HasPaid of the counts of old, and of each earlier time on.
 pub record Keeps (old new : ListsState) : Type 0 where
   pub lists : new.lists ≡ old.lists
   pub made_of : new.made_of ≡ old.made_of
@@ -41,6 +61,11 @@ pub record Keeps (old new : ListsState) : Type 0 where
   pub naming : (e : Evidence) → old.may_name e → new.may_name e
   pub landing : IsStill old.view.base.foreign_writes new.view.base.foreign_writes → (which slot : ℕ)
       → new.lands which slot → old.lands which slot
+  pub next_reads : new.next_reads ≡ old.next_reads
+  pub has_reads : new.has_reads ≡ old.has_reads
+  pub next_asks : old.next_asks ≤ new.next_asks
+  pub has_asks : old.has_asks ≤ new.has_asks
+  pub paid : (reads next has : ℕ) → HasPaid reads next has old → HasPaid reads next has new
 
 -- Why there is no answer: a call below failed, or this is evidence that the lists may name, and that they show
 -- where nobody else wrote.

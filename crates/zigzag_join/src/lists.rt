@@ -7,8 +7,8 @@ use cell_types::Fault;
 
 /// Some lists of slots. A slot is a number below 16,777,216; the slot behind the last one may be asked for too.
 pub trait Lists {
-    /// What the lists are, for contracts: which slots they must not pass, for which they vouch, and what they may
-    /// name as evidence.
+    /// What the lists are, for contracts: which slots they must not pass, for which they vouch, what they may name as
+    /// evidence, and how many reads an ask may cost.
     ghost state: { Self → ListsState };
 
     /// How many lists there are.

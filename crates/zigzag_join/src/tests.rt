@@ -50,6 +50,8 @@ impl<'a> Lists for TwoLists<'a> {
       lands = λ which slot. ⊤;
       next_asks = lists.next_asks;
       has_asks = lists.has_asks;
+      next_reads = 0;
+      has_reads = 0;
     } };
 
     fn count(&self) -> u32 {

@@ -17,3 +17,4 @@ returns g c =
     (rw c.in-Some.is at c.in_ok-found.ensures.ends) (g.V.View.seen c.part_has_identifier.new.view)
     (omega (arith, c.if-named-horizon.false))
     c.part_has_identifier.ensures.viewed c.part_has_identifier.result c.part_has_identifier.ensures.ends
+    c.in_ok-found.ensures.reads c.part_has_identifier.ensures.reads

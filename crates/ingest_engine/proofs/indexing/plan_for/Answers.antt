@@ -1,7 +1,14 @@
--- The index was not planned.
+-- The path has no end, or the index was not planned.
 use Rattle.cell_types.proofs.Passed.{handed}
-use Rattle.ingest_engine.proofs.Walked.{unplanned}
+use Rattle.ingest_engine.proofs.Walked.{path_refused, unplanned}
 use Rattle.ingest_engine.proofs.indexing.plan_for.Goals as goal
+
+pub returns-in_err-end : goal.returns-in_err-end
+returns-in_err-end g c =
+    let refusal = c.in_err-end.field-0.0 in
+    rw (handed c.from_residual.result refusal c.from_residual.ensures.1)
+    (path_refused c.args.ready.now c.args.id.now c.args.body.now (g.D.Device.state c.args.device.now)
+    (g.D.Device.state c.path_end.new.device) refusal c.in_err-end.ensures)
 
 pub returns-in_err-index : goal.returns-in_err-index
 returns-in_err-index g c =

@@ -95,5 +95,5 @@ returns g c =
       blocks = refl;
       journal = c.deref-2.ensures.value;
     })
-    c.in_ok-slot.ensures.puts c.in_ok-slot.slot
+    c.in_ok-slot.ensures.puts c.in_ok-slot.slot (c.in_ok-slot.ensures.unfailed refl)
     (c.in_ok-slot.ensures.ends (g.D.Device.state c.args.device.now) has)

@@ -2,7 +2,7 @@
 use Rattle.std.proofs.Common.{rules, ◌+◌, sym, subst, arith, ◌∙◌}
 use Rattle.cell_types.proofs.Passed.{handed}
 use Rattle.posting_list.proofs.Evidence.{false_never}
-use Rattle.posting_list.proofs.Bisecting.{HasSoFar, first_found, first_missing, go_down, go_up, has_fault, has_first, middle_found, middle_missing, none_left}
+use Rattle.posting_list.proofs.Bisecting.{HasSoFar, first_found, first_missing, go_down, go_up, has_fault, has_first, middle_found, middle_missing, narrowed_first, narrowed_more, none_left, reads_more}
 use Rattle.posting_list.proofs.has_slot.has_slot.Goals as goal
 
 -- there is no posting with ordinal 0
@@ -28,6 +28,8 @@ loop-low-init g c = record {
       (g.V.View.seen c.probe.new.view) c.in-Some.first (search rules)
       (rw c.in-Some.is at c.in_ok-first.ensures.probes)
       (λ same. false_never (sym c.if-is_same.false ∙ c.is_same.ensures.1 same)));
+  narrowed = narrowed_first (g.V.View.seen c.args.view.now) (g.V.View.seen c.probe.new.view) c.in-Some.first.last _
+      (search rules) (omega (arith, c.from-high.ensures)) c.probe.ensures.reads;
 }
 
 -- a probe gives no answer
@@ -64,6 +66,9 @@ loop-low-preserved-then-number_of-sought g c = record {
       (rw c.in-Some-found.is at c.in_ok-found.ensures.probes)
       (λ same. false_never (sym c.if-is_same-2.false ∙ c.is_same-in-loop-low.ensures.1 same))
       (omega (arith, c.if-number_of-sought.true, c.number_of.ensures, c.number_of-sought.ensures));
+  narrowed = narrowed_more (g.V.View.seen c.args.view.now) (g.V.View.seen c.loop-low.view)
+      (g.V.View.seen c.probe-in-loop-low.new.view) c.loop-low.low c.loop-low.high c.loop-low-test.true
+      c.probe-in-loop-low.ensures.reads _ _ c.loop-low.invariant.narrowed (omega (arith, c.loop-low-test.true));
 }
 
 -- or a greater one
@@ -76,6 +81,9 @@ loop-low-preserved g c = record {
       (rw c.in-Some-found.is at c.in_ok-found.ensures.probes)
       (λ same. false_never (sym c.if-is_same-2.false ∙ c.is_same-in-loop-low.ensures.1 same))
       (omega (arith, c.if-number_of-sought.false, c.number_of.ensures, c.number_of-sought.ensures));
+  narrowed = narrowed_more (g.V.View.seen c.args.view.now) (g.V.View.seen c.loop-low.view)
+      (g.V.View.seen c.probe-in-loop-low.new.view) c.loop-low.low c.loop-low.high c.loop-low-test.true
+      c.probe-in-loop-low.ensures.reads _ _ c.loop-low.invariant.narrowed (omega (arith, c.loop-low-test.true));
 }
 
 -- no ordinal is left
@@ -84,3 +92,26 @@ returns-clause-has g c =
     none_left c.args.reach.now c.args.term.now c.args.slot (g.V.View.seen c.args.view.now)
     (g.V.View.seen c.loop-low.view) c.loop-low.low c.loop-low.high c.loop-low.invariant.so_far
     (omega (arith, c.loop-low-test.false))
+
+pub returns-in_err-found-clause-reads : goal.returns-in_err-found-clause-reads
+returns-in_err-found-clause-reads g c =
+    reads_more (g.V.View.seen c.args.view.now) (g.V.View.seen c.loop-low.view)
+    (g.V.View.seen c.probe-in-loop-low.new.view) c.loop-low.low c.loop-low.high c.loop-low-test.true
+    c.probe-in-loop-low.ensures.reads c.loop-low.invariant.narrowed
+
+pub returns-in_default-found-clause-reads : goal.returns-in_default-found-clause-reads
+returns-in_default-found-clause-reads g c =
+    reads_more (g.V.View.seen c.args.view.now) (g.V.View.seen c.loop-low.view)
+    (g.V.View.seen c.probe-in-loop-low.new.view) c.loop-low.low c.loop-low.high c.loop-low-test.true
+    c.probe-in-loop-low.ensures.reads c.loop-low.invariant.narrowed
+
+pub returns-then-is_same-2-clause-reads : goal.returns-then-is_same-2-clause-reads
+returns-then-is_same-2-clause-reads g c =
+    reads_more (g.V.View.seen c.args.view.now) (g.V.View.seen c.loop-low.view)
+    (g.V.View.seen c.probe-in-loop-low.new.view) c.loop-low.low c.loop-low.high c.loop-low-test.true
+    c.probe-in-loop-low.ensures.reads c.loop-low.invariant.narrowed
+
+pub returns-clause-reads : goal.returns-clause-reads
+returns-clause-reads g c =
+    let n = c.loop-low.invariant.narrowed in
+    omega (arith, n.reads)

@@ -1,9 +1,9 @@
 -- The loan is not spoken of.
 use Rattle.std.proofs.Common.{ℕ, rules, subst}
 use Rattle.worm_device.specs.Views.{seen_directly}
-use Rattle.posting_list.specs.Joins.{TermsGather}
+use Rattle.posting_list.specs.Joins.{TermsGather, TermsGatherReads}
 use Rattle.record_query.specs.Reaching.{reach_of}
-use Rattle.record_query.proofs.Gathered.{gathers_by_any, gathers_then}
+use Rattle.record_query.proofs.Gathered.{gathers_by_any, gathers_then, reads_by_any, reads_then}
 use Rattle.record_query.proofs.Loans.{viewed_by_any}
 use Rattle.record_query.proofs.common.common_slots.Goals as goal
 
@@ -28,3 +28,18 @@ returns-clause-gathers g c =
     (seen_directly (g.D.Device.state c.common_in.new.view.device.now) c.common_in.new.view.device.ghost_name)
     c.common_in.result) c.pool_at.ensures.at c.common_in.ensures.gathers) in
     gathers_then ends (search rules) (search rules)
+
+pub returns-clause-reads : goal.returns-clause-reads
+returns-clause-reads g c =
+    let reads = reads_by_any (reach_of c.args.ready.now) c.args.sought.now.terms.items
+    (g.D.Device.state c.new.result.device.now) (g.D.Device.state c.common_in.new.view.device.now)
+    c.new.result.device.ghost_name c.common_in.new.view.device.ghost_name
+    (subst (λ (pool : ℕ). TermsGatherReads (record {
+      volume = c.args.ready.now.volume;
+      horizon = c.args.ready.now.horizon;
+      bounds = record { pool = pool; edge = c.args.ready.now.edge };
+    }) c.args.sought.now.terms.items
+    (seen_directly (g.D.Device.state c.new.result.device.now) c.new.result.device.ghost_name)
+    (seen_directly (g.D.Device.state c.common_in.new.view.device.now) c.common_in.new.view.device.ghost_name))
+    c.pool_at.ensures.at c.common_in.ensures.reads) in
+    reads_then reads (search rules) (search rules)

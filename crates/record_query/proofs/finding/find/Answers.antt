@@ -3,9 +3,9 @@ use Rattle.std.proofs.Common.{ℕ, [], List, Err, Ok, subst}
 use Rattle.cell_types.proofs.Passed.{handed}
 use Rattle.cell_types.specs.declared.refusal.Refusal.TheVariants.{NoMemory}
 use Rattle.worm_device.specs.Views.{seen_directly}
-use Rattle.posting_list.specs.Joins.{TermsGather}
+use Rattle.posting_list.specs.Joins.{TermsGather, TermsGatherReads}
 use Rattle.posting_list.specs.declared.sought_term.SoughtTerm.{SoughtTerm}
-use Rattle.record_query.specs.Among.{AmongEnds}
+use Rattle.record_query.specs.Among.{AmongEnds, ReadsEach}
 use Rattle.record_query.specs.Reaching.{reach_of}
 use Rattle.record_query.proofs.Searched.{search_ungathered, search_unsettled, search_unstarted, searched}
 use Rattle.record_query.proofs.finding.find.Goals as goal
@@ -38,7 +38,11 @@ returns-in_err-slots g c =
     (g.D.Device.state c.common_slots.new.device) c.in_ok-ready.ensures c.in_err-slots.ensures.viewed refusal
     (subst (λ (these : List SoughtTerm). TermsGather (reach_of c.in_ok-ready.ready) these
     (seen_directly (g.D.Device.state c.settle.new.device) 0) (seen_directly (g.D.Device.state c.common_slots.new.device) 0)
-    (Err refusal)) c.in_ok-sought.ensures c.in_err-slots.ensures.gathers))
+    (Err refusal)) c.in_ok-sought.ensures c.in_err-slots.ensures.gathers)
+    (subst (λ (these : List SoughtTerm). TermsGatherReads (reach_of c.in_ok-ready.ready) these
+    (seen_directly (g.D.Device.state c.settle.new.device) 0)
+    (seen_directly (g.D.Device.state c.common_slots.new.device) 0)) c.in_ok-sought.ensures
+    c.in_err-slots.ensures.reads))
 
 -- the slots were searched
 pub returns : goal.returns
@@ -57,3 +61,10 @@ returns g c =
       bytes = [];
       pushed = rw (c.rule_of-rule.ensures, c.version.ensures.version) at c.in_ok-matcher.ensures;
     })))
+    c.requires.some
+    (subst (λ (these : List SoughtTerm). TermsGatherReads (reach_of c.in_ok-ready.ready) these
+    (seen_directly (g.D.Device.state c.settle.new.device) 0)
+    (seen_directly (g.D.Device.state c.common_slots.new.device) 0)) c.in_ok-sought.ensures c.in_ok-slots.ensures.reads)
+    (subst (λ (slots : List ℕ). ReadsEach c.in_ok-ready.ready.volume.geometry slots
+    (g.D.Device.state c.common_slots.new.device) (g.D.Device.state c.find_among.new.device)) c.deref.ensures.value
+    c.find_among.ensures.reads)

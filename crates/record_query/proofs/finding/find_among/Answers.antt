@@ -1,8 +1,8 @@
 -- Slot after slot of the row.
-use Rattle.std.proofs.Common.{◌≡◌, ℕ, arith, length, subst}
+use Rattle.std.proofs.Common.{◌≡◌, ◌+◌, ℕ, arith, length, subst}
 use Rattle.cell_types.proofs.Passed.{handed}
 use Rattle.record_query.specs.Among.{FoundAmong}
-use Rattle.record_query.proofs.FoundSoFar.{so_far_ended, so_far_more}
+use Rattle.record_query.proofs.FoundSoFar.{reads_all, reads_more, so_far_ended, so_far_more}
 use Rattle.record_query.proofs.finding.find_among.Goals as goal
 
 -- a slot was not read
@@ -21,7 +21,7 @@ loop-place-preserved g c =
     so_far_more c.args.volume.now.geometry c.args.slots.now c.loop-place.place (g.D.Device.state c.args.device.now)
     (g.D.Device.state c.loop-place.device) (g.D.Device.state c.match_on_device.new.device) c.args.matcher.now
     c.loop-place.matcher c.loop-place.matches.items c.loop-place.invariant c.in_ok-found.ensures.viewed
-    c.requires.rise c.loop-place-test.true
+    c.requires.rise c.loop-place-test.true c.in_ok-found.ensures.reads.reads
     c.match_on_device.new.matcher c.in_ok-found.found c.keep.new.matches.items c.in_ok-found.ensures.matcher
     c.in_ok-found.ensures.ends c.in_ok-keep.ensures
 
@@ -33,3 +33,26 @@ returns-clause-ends g c = λ terms was tells.
     subst (λ (u : ℕ). FoundAmong c.args.volume.now.geometry c.args.slots.now u terms
     (g.D.Device.state c.args.device.now).image (g.D.Device.state c.loop-place.device).image
     c.loop-place.matches.items) at_end (c.loop-place.invariant.found terms was tells)
+
+pub returns-in_err-found-clause-reads : goal.returns-in_err-found-clause-reads
+returns-in_err-found-clause-reads g c =
+    reads_all c.args.volume.now.geometry c.args.slots.now (c.loop-place.place + 1) (g.D.Device.state c.args.device.now)
+    (g.D.Device.state c.match_on_device.new.device)
+    (reads_more c.args.volume.now.geometry c.args.slots.now c.loop-place.place (g.D.Device.state c.args.device.now)
+    (g.D.Device.state c.loop-place.device) (g.D.Device.state c.match_on_device.new.device) c.args.matcher.now
+    c.loop-place.matcher c.loop-place.matches.items c.loop-place.invariant c.in_err-found.ensures.viewed
+    c.loop-place-test.true c.in_err-found.ensures.reads.reads)
+
+pub returns-in_err-keep-clause-reads : goal.returns-in_err-keep-clause-reads
+returns-in_err-keep-clause-reads g c =
+    reads_all c.args.volume.now.geometry c.args.slots.now (c.loop-place.place + 1) (g.D.Device.state c.args.device.now)
+    (g.D.Device.state c.match_on_device.new.device)
+    (reads_more c.args.volume.now.geometry c.args.slots.now c.loop-place.place (g.D.Device.state c.args.device.now)
+    (g.D.Device.state c.loop-place.device) (g.D.Device.state c.match_on_device.new.device) c.args.matcher.now
+    c.loop-place.matcher c.loop-place.matches.items c.loop-place.invariant c.in_ok-found.ensures.viewed
+    c.loop-place-test.true c.in_ok-found.ensures.reads.reads)
+
+pub returns-clause-reads : goal.returns-clause-reads
+returns-clause-reads g c =
+    reads_all c.args.volume.now.geometry c.args.slots.now c.loop-place.place (g.D.Device.state c.args.device.now)
+    (g.D.Device.state c.loop-place.device) c.loop-place.invariant.reads

@@ -1,6 +1,6 @@
 -- The loan is not spoken of.
 use Rattle.std.proofs.Common.{rules}
-use Rattle.record_query.proofs.Loans.{slot_by_any, viewed_by_any}
+use Rattle.record_query.proofs.Loans.{once_by_any, slot_by_any, viewed_by_any}
 use Rattle.record_query.proofs.finding.match_on_device.Goals as goal
 
 pub returns-clause-viewed : goal.returns-clause-viewed
@@ -16,3 +16,10 @@ returns-clause-ends g c = λ terms was.
     c.new.result.device.ghost_name c.match_in.new.view.device.ghost_name c.args.volume.now.geometry c.args.slot terms
     c.match_in.result (c.match_in.ensures.ends terms was) in
     search (rules, ends)
+
+pub returns-clause-reads : goal.returns-clause-reads
+returns-clause-reads g c =
+    let reads = once_by_any (g.D.Device.state c.new.result.device.now) (g.D.Device.state c.match_in.new.view.device.now)
+    c.new.result.device.ghost_name c.match_in.new.view.device.ghost_name c.args.volume.now.geometry c.args.slot
+    c.match_in.ensures.reads in
+    search (rules, reads)

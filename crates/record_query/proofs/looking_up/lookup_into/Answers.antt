@@ -73,7 +73,7 @@ returns-in-Ok g c =
     (subst (λ (w : Walk). WalksOnDevice c.in_ok-ready.ready c.args.id.now settled mid (Ok w)) c.in-Found.is
     c.in_ok-walked.ensures)
     (g.D.Device.state c.put_body.new.device) (g.K.Sink.state c.args.sink.now) (g.K.Sink.state c.put_body.new.sink)
-    c.in-Ok.ensures.viewed c.in-Ok.bytes c.in-Ok.ensures.ends
+    c.in-Ok.ensures.viewed c.in-Ok.bytes c.in-Ok.ensures.reads c.in-Ok.ensures.ends
 
 -- or not
 pub returns-in-Err : goal.returns-in-Err
@@ -88,4 +88,4 @@ returns-in-Err g c =
     (subst (λ (w : Walk). WalksOnDevice c.in_ok-ready.ready c.args.id.now settled mid (Ok w)) c.in-Found.is
     c.in_ok-walked.ensures)
     (g.D.Device.state c.put_body.new.device) (g.K.Sink.state c.args.sink.now) (g.K.Sink.state c.put_body.new.sink)
-    c.in-Err.ensures.viewed c.in-Err.fault c.in-Err.ensures.ends)
+    c.in-Err.ensures.viewed c.in-Err.fault c.in-Err.ensures.reads c.in-Err.ensures.ends)

@@ -1,5 +1,5 @@
 -- One journal cell after another.
-use Rattle.std.proofs.Common.{◌≡◌, ℕ, subst, arith, Ok}
+use Rattle.std.proofs.Common.{◌≡◌, ℕ, refl, subst, arith, Ok}
 use Rattle.phase_writer.specs.Putting.{Puts}
 use Rattle.cell_types.proofs.Passed.{handed}
 use Rattle.phase_writer.proofs.Phasing.{phase_synced}
@@ -20,18 +20,18 @@ returns-in_err-put_cell g c =
     c.from_residual-in_err-put_cell.ensures.1)
     (entry_held c.args.journal.now c.loop-k.k (omega arith) c.loop-k.invariant.puts c.requires.entries
     c.entry.ensures.called c.entry.ensures.quiet c.loop-k.floor c.loop-k.invariant.checked
-    c.in_ok-put.put c.in_ok-put.ensures.ends.0 c.in_ok-put.ensures.ends.1 c.in_ok-put.ensures.ends.2
+    c.in_ok-put.put c.in_ok-put.ensures.ends.0 c.in_ok-put.ensures.ends.1 c.in_ok-put.ensures.ends.2 (c.in_ok-put.ensures.unfailed refl)
     c.in_err-put_cell.field-0.0 c.in_err-put_cell.ensures)
 
 pub loop-k-preserved : goal.loop-k-preserved
 loop-k-preserved g c = record {
   puts = entry_put c.args.journal.now c.loop-k.k (omega arith) c.loop-k.invariant.puts c.requires.entries
       c.entry.ensures.called c.entry.ensures.quiet c.loop-k.floor c.loop-k.invariant.checked
-      c.in_ok-put.put c.in_ok-put.ensures.ends.0 c.in_ok-put.ensures.ends.1 c.in_ok-put.ensures.ends.2
+      c.in_ok-put.put c.in_ok-put.ensures.ends.0 c.in_ok-put.ensures.ends.1 c.in_ok-put.ensures.ends.2 (c.in_ok-put.ensures.unfailed refl)
       c.in_ok-put_cell.ensures;
   checked = entry_checked c.args.journal.now c.loop-k.k (omega arith) c.loop-k.invariant.puts c.requires.entries
       c.entry.ensures.called c.entry.ensures.quiet c.loop-k.floor c.loop-k.invariant.checked
-      c.in_ok-put.put c.in_ok-put.ensures.ends.0 c.in_ok-put.ensures.ends.1 c.in_ok-put.ensures.ends.2;
+      c.in_ok-put.put c.in_ok-put.ensures.ends.0 c.in_ok-put.ensures.ends.1 c.in_ok-put.ensures.ends.2 (c.in_ok-put.ensures.unfailed refl);
 }
 
 pub returns : goal.returns

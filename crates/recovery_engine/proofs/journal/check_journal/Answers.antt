@@ -1,5 +1,5 @@
 -- One journal cell after another.
-use Rattle.std.proofs.Common.{◌+◌, refl, sym, subst}
+use Rattle.std.proofs.Common.{◌+◌, refl, sym, ◌∙◌, subst}
 use Rattle.std.specs.Prelude.{IsTrue}
 use Rattle.worm_device.proofs.Counting.{still_first, still_second}
 use Rattle.worm_device.proofs.Elapsing.{called_then}
@@ -14,6 +14,7 @@ loop-k-preserved g c =
     let new = g.D.Device.state c.entry.new.device in
     record {
       called = called_then inv.called c.entry.ensures.called;
+      unfailed = c.in_ok-put.ensures.unfailed refl ∙ inv.unfailed;
       quiet = λ still. unchanged_then (inv.quiet
           (still_first inv.called.foreign_writes c.entry.ensures.called.foreign_writes still))
           (c.entry.ensures.quiet (still_second inv.called.foreign_writes c.entry.ensures.called.foreign_writes still));

@@ -1,5 +1,5 @@
 -- The journal cells before this turn's are entries.
-use Rattle.std.specs.Prelude.{IsTrue}
+use Rattle.std.specs.Prelude.{◌≡◌, IsTrue}
 use Rattle.cell_types.specs.Image.{IsUnchanged}
 use Rattle.worm_device.specs.Calls.{Called}
 use Rattle.worm_device.specs.Counts.{IsStill}
@@ -12,6 +12,7 @@ invariant-loop-k g l =
     let now = g.D.Device.state l.device in
     record {
       called : Called old now;
+      unfailed : now.faults ≡ old.faults;
       quiet : IsStill old.foreign_writes now.foreign_writes → IsUnchanged old.image now.image;
       checked : IsTrue old.tells → CheckedTo l.journal.first now.image l.journal.place l.journal.below l.k l.floor;
     }

@@ -1,7 +1,8 @@
 -- What the search for a slot says, of the lists.
-use Rattle.std.proofs.Common.{◌%◌}
+use Rattle.std.proofs.Common.{◌%◌, arith, refl, rules}
+use Rattle.worm_device.proofs.Resting.{viewed_self}
 use Rattle.posting_list.proofs.Evidence.{false_never}
-use Rattle.posting_list.proofs.Joining.{has_ends, keeps_all, none_owed}
+use Rattle.posting_list.proofs.Joining.{has_ends, keeps_has, none_owed}
 use Rattle.posting_list.proofs.Landing.{keep_each_on}
 use Rattle.posting_list.proofs.joined.TermListsLists.has.Goals as goal
 
@@ -13,11 +14,18 @@ returns-in_default-clause-ends g c = (
   λ f. absurd (false_never f),
 )
 
+pub returns-in_default-clause-kept : goal.returns-in_default-clause-kept
+returns-in_default-clause-kept g c =
+    let seen = g.V.View.seen c.args.self.now.view.now in
+    keeps_has c.args.self.now.reach c.args.self.now.sought.now.terms.items c.args.self.now.view.ghost_name seen seen
+    _ _ _ _ (viewed_self seen) refl (search rules) (search rules) (omega arith)
+
 pub returns-clause-kept : goal.returns-clause-kept
 returns-clause-kept g c =
-    keeps_all c.args.self.now.reach c.args.self.now.sought.now.terms.items c.args.self.now.view.ghost_name
+    keeps_has c.args.self.now.reach c.args.self.now.sought.now.terms.items c.args.self.now.view.ghost_name
     (g.V.View.seen c.args.self.now.view.now)
-    (g.V.View.seen c.has_slot.new.view) _ _ _ _ c.has_slot.ensures.has.viewed
+    (g.V.View.seen c.has_slot.new.view) _ _ _ _ c.has_slot.ensures.has.viewed refl (search rules) (search rules)
+    c.has_slot.ensures.reads
 
 pub returns-clause-ends : goal.returns-clause-ends
 returns-clause-ends g c =

@@ -1,6 +1,7 @@
 -- What the search for the next slot says, of the lists.
-use Rattle.std.proofs.Common.{◌%◌}
-use Rattle.posting_list.proofs.Joining.{keeps_all, next_ends, none_owed}
+use Rattle.std.proofs.Common.{◌%◌, arith, refl, rules}
+use Rattle.worm_device.proofs.Resting.{viewed_self}
+use Rattle.posting_list.proofs.Joining.{keeps_next, next_ends, none_owed}
 use Rattle.posting_list.proofs.Landing.{keep_each_on}
 use Rattle.posting_list.proofs.joined.TermListsLists.next.Goals as goal
 
@@ -10,11 +11,24 @@ returns-in_default-clause-ends g c = λ slot owed past.
     none_owed c.args.self.now.reach c.args.self.now.sought.now.terms.items c.args.which
     (g.V.View.seen c.args.self.now.view.now) c.in_default.ensures slot owed
 
+pub returns-then-from-ge-MAX_SLOTS-clause-kept : goal.returns-then-from-ge-MAX_SLOTS-clause-kept
+returns-then-from-ge-MAX_SLOTS-clause-kept g c =
+    let seen = g.V.View.seen c.args.self.now.view.now in
+    keeps_next c.args.self.now.reach c.args.self.now.sought.now.terms.items c.args.self.now.view.ghost_name seen seen
+    _ _ _ _ (viewed_self seen) (search rules) refl (search rules) (omega arith)
+
+pub returns-in_default-clause-kept : goal.returns-in_default-clause-kept
+returns-in_default-clause-kept g c =
+    let seen = g.V.View.seen c.args.self.now.view.now in
+    keeps_next c.args.self.now.reach c.args.self.now.sought.now.terms.items c.args.self.now.view.ghost_name seen seen
+    _ _ _ _ (viewed_self seen) (search rules) refl (search rules) (omega arith)
+
 pub returns-clause-kept : goal.returns-clause-kept
 returns-clause-kept g c =
-    keeps_all c.args.self.now.reach c.args.self.now.sought.now.terms.items c.args.self.now.view.ghost_name
+    keeps_next c.args.self.now.reach c.args.self.now.sought.now.terms.items c.args.self.now.view.ghost_name
     (g.V.View.seen c.args.self.now.view.now)
-    (g.V.View.seen c.next_slot.new.view) _ _ _ _ c.next_slot.ensures.next.viewed
+    (g.V.View.seen c.next_slot.new.view) _ _ _ _ c.next_slot.ensures.next.viewed (search rules) refl (search rules)
+    c.next_slot.ensures.reads
 
 pub returns-clause-ends : goal.returns-clause-ends
 returns-clause-ends g c =

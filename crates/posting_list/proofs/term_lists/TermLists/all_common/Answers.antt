@@ -1,5 +1,6 @@
 -- The lists are made of the same at the end.
-use Rattle.posting_list.proofs.Rows.{gather_costs_these, gathers_these}
+use Rattle.std.proofs.Common.{rules}
+use Rattle.posting_list.proofs.Rows.{gather_costs_these, gather_reads_these, gathers_these}
 use Rattle.posting_list.proofs.term_lists.TermLists.all_common.Goals as goal
 
 pub returns-clause-gathers : goal.returns-clause-gathers
@@ -20,3 +21,12 @@ returns-clause-costs g c =
     (g.V.View.seen c.all_common.new.lists.view.now) c.args.self.now.next_asks
     c.args.self.now.has_asks c.all_common.new.lists.next_asks c.all_common.new.lists.has_asks
     c.all_common.ensures.costs
+
+pub returns-clause-reads : goal.returns-clause-reads
+returns-clause-reads g c = λ none_next none_has.
+    gather_reads_these c.args.self.now.reach c.all_common.new.lists.reach c.args.self.now.sought.now.terms.items
+    c.all_common.new.lists.sought.now.terms.items c.args.self.now.view.ghost_name
+    c.all_common.new.lists.view.ghost_name (g.V.View.seen c.args.self.now.view.now)
+    (g.V.View.seen c.all_common.new.lists.view.now) c.args.self.now.next_asks
+    c.args.self.now.has_asks c.all_common.new.lists.next_asks c.all_common.new.lists.has_asks none_next none_has
+    (search rules) c.all_common.ensures.kept c.all_common.ensures.costs

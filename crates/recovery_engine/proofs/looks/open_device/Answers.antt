@@ -1,7 +1,0 @@
--- Where nobody else wrote, a look changes nothing.
-use Rattle.std.proofs.Common.{rules}
-use Rattle.worm_device.proofs.Resting.{rests_of}
-use Rattle.recovery_engine.proofs.looks.open_device.Goals as goal
-
-pub returns-clause-quiet : goal.returns-clause-quiet
-returns-clause-quiet g c = let r = (rests_of c.open.ensures.viewed).shown in search (rules, r)
