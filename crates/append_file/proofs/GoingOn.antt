@@ -1,31 +1,24 @@
--- How a position goes on, byte by byte and cell by cell.
-use Rattle.std.proofs.Common.{false, ◌≡◌, ◌<◌, ◌≤◌, ◌+◌, ◌-◌, ◌*◌, ◌⊎◌, min, ℕ, List, [], ◌∷◌, ◌++◌, length, take, drop, Some, sym, ap, ◌∙◌, inl, inr, subst, ⊎_elim, arith, slice_index, suc}
+-- How a position goes on, byte by byte.
+use Rattle.std.proofs.Common.{false, ◌≡◌, ◌<◌, ◌≤◌, ◌+◌, ◌-◌, ◌*◌, ◌⊎◌, ℕ, List, [], ◌∷◌, ◌++◌, length, take, drop, Some, sym, ap, ◌∙◌, inl, inr, subst, ⊎_elim, arith, slice_index, suc}
 use Rattle.std.proofs.Math.ListN.{get_or, get_or-append}
 use Rattle.std.proofs.Math.Seq.{drop-append_seam, drop-cons, get_or-append_right}
 use Rattle.std.proofs.lemmas.List.{append_assoc, append-nil, get_or-take, length-take, length-take-le, length-drop, length-append, take_all, take-append-le, drop-append-le, drop_all}
 use Rattle.std.proofs.lemmas.Bool.{cases_lt}
 use Rattle.std.specs.Prelude.{IsTrue, Option, None, Result, Ok, Err, unwrap_or}
 use Rattle.cell_types.specs.Bytes.{AreBytes}
-use Rattle.cell_types.specs.Contents.{content_bytes, IsContentCell}
-use Rattle.cell_types.proofs.ContentCells.{contents_one}
+use Rattle.cell_types.specs.Contents.{content_bytes}
 use Rattle.cell_types.specs.declared.held_bytes.Content.{Content}
 use Rattle.stored_documents.specs.Documents.{content_at}
 use Rattle.stored_documents.specs.Slots.{cells_for}
 use Rattle.worm_device.specs.Views.{ViewState, Viewed}
 use Rattle.append_file.specs.Pieces.{IsBrokenAt, IsPiece, PieceEnds, held_bytes}
-use Rattle.append_file.specs.Reading.{ByteEnds, CellEnds, HasBroken, IsFront, IsPosition, HasRead, NextEnds, ended, left_over, all_given, one_given, first_given}
+use Rattle.append_file.specs.Reading.{ByteEnds, HasBroken, IsFront, IsPosition, HasRead, NextEnds, ended, left_over, one_given, first_given}
 use Rattle.append_file.specs.declared.piece.ContentFault.{ContentFault}
 use Rattle.append_file.specs.declared.piece.ContentFault.TheVariants.{Broken, ReadFault}
 use Rattle.append_file.specs.declared.position.Position.{Position}
 
 some_is : (a b : List ℕ) → Some a ≡ Some b → a ≡ b
 some_is a b e = cc
-
--- a cell that holds a piece of another length is no content cell of its place
-pub other_length : (cell held piece : List ℕ) (bytes k n : ℕ) → 15 * k < bytes → IsContentCell held cell → length held ≡ n → (n ≡ min 15 (bytes - 15 * k) → ⊥) → IsPiece bytes k piece → Some cell ≡ Some (content_bytes piece) → ⊥
-other_length cell held piece bytes k n below is count differs p e =
-    let one : held ≡ piece = contents_one held piece cell is (record { some = omega (arith, p.length_is, below); most = omega (arith, p.length_is); fits = p.fits; same = some_is _ _ e }) in
-    differs (sym count ∙ ap length one ∙ p.length_is)
 
 cons_at : (xs : List ℕ) (i : ℕ) → i < length xs → drop i xs ≡ get_or xs i 0 ∷ drop (i + 1) xs
 cons_at xs i less = let e : suc i ≡ i + 1 = omega arith in subst (λ (n : ℕ). drop i xs ≡ get_or xs i 0 ∷ drop n xs) e (drop-cons xs i 0 less)
@@ -102,33 +95,6 @@ module _ (v : ViewState) (start bytes : ℕ) (p : Position) (given : List ℕ) (
         front = λ tells. subst (IsFront w.image start (p.read + 1)) moved (front tells);
       })
 
-  -- all bytes of the next cell
-  pub all_on : (w : ViewState) → Viewed v w → p.held.length ≤ p.given → 15 * p.read < bytes → (held : Content) → PieceEnds p.start p.bytes p.read v w (Ok held)
-      → (new : Position) → new ≡ all_given held p → HasRead w start bytes new (given ++ held_bytes held)
-  all_on w viewed all below held ends new new_is =
-      let piece = held_bytes held in
-      let here : IsPiece bytes p.read piece = subst (λ (b : ℕ). IsPiece b p.read piece) h.bytes_is ends.2 in
-      let empty : left_over p ≡ [] = drop_all p.given (held_bytes p.held) (omega (arith, all, length-take p.held.length p.held.bytes)) in
-      let full : length given ≡ 15 * p.read = omega (arith, h.count, ap length empty, below) in
-      let none : left_over (all_given held p) ≡ [] = drop_all held.length piece (omega (arith, length-take held.length held.bytes)) in
-      let rest : given ++ left_over p ≡ given = ap (λ (l : List ℕ). given ++ l) empty ∙ append-nil given in
-      let front : IsTrue w.base.tells → IsFront w.image start (p.read + 1) (given ++ piece) = λ tells.
-      let told : IsTrue v.base.tells = subst IsTrue viewed.called.tells tells in
-      let before : IsFront v.image start p.read given = subst (IsFront v.image start p.read) rest (h.front told) in record {
-        fits = append_fits given piece before.fits here.fits;
-        spells = λ k less. ⊎_elim
-            (λ (earlier : k < p.read). viewed.image.keeps (start + k) _ (before.spells k earlier) ∙ ap Some (content_stays given piece k (omega (arith, full, earlier))))
-            (λ (now : k ≡ p.read). ap w.image (omega (arith, now, h.start_is)) ∙ ends.3 told ∙ ap Some (sym (content_last given piece p.read full (omega (arith, here.length_is))) ∙ ap (content_at (given ++ piece)) (sym now)))
-            (below_or_at k p.read less);
-      } in
-      subst (λ (q : Position). HasRead w start bytes q (given ++ piece)) (sym new_is) (record {
-        start_is = h.start_is;
-        bytes_is = h.bytes_is;
-        going = h.going;
-        count = omega (arith, full, ap length none, here.length_is, below, length-append given piece);
-        front = λ tells. subst (IsFront w.image start (p.read + 1)) (sym (append-nil (given ++ piece)) ∙ ap (λ (l : List ℕ). (given ++ piece) ++ l) (sym none)) (front tells);
-      })
-
 module _ (v w : ViewState) (old new : Position) where
   -- a broken cell of the part that was read
   broken_of : (start bytes : ℕ) (given : List ℕ) → HasRead v start bytes old given
@@ -145,13 +111,6 @@ module _ (v w : ViewState) (old new : Position) where
       → PieceEnds old.start old.bytes old.read v w (Err fault) → NextEnds v w old new (Some (Err fault))
   byte_fails going over less Broken ends = (going, over, ends.0, λ tells. (less, ends.1 tells))
   byte_fails going over less ReadFault ends = (going, over, ends)
-
-  -- for whoever asks for all its bytes
-  pub cell_fails : old.read < cells_for old.bytes → (fault : ContentFault)
-      → PieceEnds old.start old.bytes old.read v w (Err fault) → CellEnds v w old new (Err fault)
-  cell_fails less Broken ends =
-      (ends.0, λ start bytes given h some tells. broken_of start bytes given h (old.read, less, ends.1 tells))
-  cell_fails less ReadFault ends = ends
 
   -- where one more byte is asked for, there is one or a cell is broken
   pub byte_ends : (asked : Option (Result ℕ ContentFault)) → NextEnds v w old new asked

@@ -1,3 +1,4 @@
 pub mod CellsSoFar
 pub mod GoingOn
+pub mod RowsOn
 pub mod Spelled

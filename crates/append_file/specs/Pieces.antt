@@ -1,5 +1,5 @@
 -- The cells of a document part, each by its place.
-use Rattle.std.specs.Prelude.{◌≡◌, ◌+◌, ◌-◌, ◌*◌, min, ℕ, List, length, take, Some, Result, Ok, Err, IsTrue}
+use Rattle.std.specs.Prelude.{◌≡◌, ◌+◌, ◌-◌, ◌*◌, min, ℕ, List, length, take, Option, Some, Result, Ok, Err, IsTrue}
 use Rattle.cell_types.specs.Bytes.{AreBytes}
 use Rattle.cell_types.specs.Contents.{content_bytes}
 use Rattle.cell_types.specs.Image.{Image}
@@ -14,14 +14,23 @@ pub record IsPiece (bytes k : ℕ) (piece : List ℕ) : Type 0 where
   pub length_is : length piece ≡ min 15 (bytes - 15 * k)
   pub fits : AreBytes piece
 
+-- what was found at place k, in a part of so many bytes, is blank or no content cell of its place
+abbrev pub IsNoPiece : ℕ → ℕ → Option (List ℕ) → Type 0
+IsNoPiece bytes k found = (piece : List ℕ) → IsPiece bytes k piece → found ≡ Some (content_bytes piece) → ⊥
+
 -- the cell of place k, in a part of so many bytes from start on, is blank or no content cell of its place
 abbrev pub IsBrokenAt : Image → ℕ → ℕ → ℕ → Type 0
-IsBrokenAt image start bytes k =
-    (piece : List ℕ) → IsPiece bytes k piece → image (start + k) ≡ Some (content_bytes piece) → ⊥
+IsBrokenAt image start bytes k = IsNoPiece bytes k (image (start + k))
 
 -- the bytes that are held
 abbrev pub held_bytes : Content → List ℕ
 held_bytes held = take held.length held.bytes
+
+-- what was found at place k, in a part of so many bytes, is the content cell of the bytes that are held
+pub record HoldsPiece (bytes k : ℕ) (found : Option (List ℕ)) (held : Content) : Type 0 where
+  pub count : held.length ≡ min 15 (bytes - 15 * k)
+  pub piece : IsPiece bytes k (held_bytes held)
+  pub is : found ≡ Some (content_bytes (held_bytes held))
 
 -- how reading a cell may end, and why: no fault is counted but where the read failed
 abbrev pub PieceEnds : ℕ → ℕ → ℕ → ViewState → ViewState → Result Content ContentFault → Type 0

@@ -1,5 +1,5 @@
 -- What was read of a document part.
-use Rattle.std.specs.Prelude.{◌≡◌, ◌<◌, ◌≤◌, ◌+◌, ◌*◌, min, ℕ, false, true, List, [], ◌∷◌, ◌++◌, length, drop, replicate, Option, Some, None, Result, Ok, Err, IsTrue}
+use Rattle.std.specs.Prelude.{◌≡◌, ◌<◌, ◌≤◌, ◌+◌, ◌*◌, min, ℕ, false, true, List, [], ◌∷◌, ◌++◌, length, take, drop, replicate, Option, Some, None, Result, Ok, Err, IsTrue}
 use Rattle.cell_types.specs.Bytes.{AreBytes}
 use Rattle.cell_types.specs.Image.{Image}
 use Rattle.cell_types.specs.declared.held_bytes.Content.{Content}
@@ -54,15 +54,26 @@ first_given held p = record {
   over = p.over;
 }
 
--- after all bytes of a cell that was read
-abbrev pub all_given : Content → Position → Position
-all_given held p = record {
+-- after all bytes of so many cells, where all of those before were given
+abbrev pub row_given : ℕ → Position → Position
+row_given cells p = record {
   start = p.start;
   bytes = p.bytes;
-  read = p.read + 1;
-  held = held;
-  given = held.length;
+  read = p.read + cells;
+  held = p.held;
+  given = p.given;
   over = p.over;
+}
+
+-- after a fault in so many cells
+abbrev pub ended_behind : ℕ → Position → Position
+ended_behind cells p = record {
+  start = p.start;
+  bytes = p.bytes;
+  read = p.read + cells;
+  held = p.held;
+  given = p.given;
+  over = true;
 }
 
 -- after a fault
@@ -124,14 +135,15 @@ ByteEnds v w old new (Err Broken) =
     → IsTrue v.base.tells → HasBroken w.image start bytes)
 ByteEnds v w old new (Err ReadFault) = Rose v.base.faults w.base.faults
 
--- how asking for the next cell of a part that has one more may end, and why
-abbrev pub CellEnds : ViewState → ViewState → Position → Position → Result Content ContentFault → Type 0
-CellEnds v w old new (Ok held) =
-    (w.base.faults ≡ v.base.faults) × (1 ≤ held.length) × (held.length ≤ 15)
+-- How asking for the next cells of a part that has one more byte may end, and why. Their bytes stand in the buffer. A
+-- cell that is found broken was so before.
+abbrev pub CellsEnd : ViewState → ViewState → Position → Position → List ℕ → Result ℕ ContentFault → Type 0
+CellsEnd v w old new into (Ok n) =
+    (w.base.faults ≡ v.base.faults) × (1 ≤ n) × (length (take n into) ≡ n)
     × ((start bytes : ℕ) (given : List ℕ) → HasRead v start bytes old given
-    → HasRead w start bytes new (given ++ held_bytes held))
-CellEnds v w old new (Err Broken) =
+    → HasRead w start bytes new (given ++ take n into))
+CellsEnd v w old new into (Err Broken) =
     (w.base.faults ≡ v.base.faults)
     × ((start bytes : ℕ) (given : List ℕ) → HasRead v start bytes old given → length given < bytes
-    → IsTrue v.base.tells → HasBroken w.image start bytes)
-CellEnds v w old new (Err ReadFault) = Rose v.base.faults w.base.faults
+    → IsTrue v.base.tells → HasBroken v.image start bytes)
+CellsEnd v w old new into (Err ReadFault) = Rose v.base.faults w.base.faults

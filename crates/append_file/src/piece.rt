@@ -1,11 +1,11 @@
 //! One cell of a document part.
-ghost use Rattle.std.specs.Prelude.{◌≡◌, ◌<◌, ◌≤◌, ◌+◌, ◌*◌};
-ghost use Rattle.append_file.specs.Pieces.{PieceEnds};
+ghost use Rattle.std.specs.Prelude.{◌≡◌, ◌<◌, ◌≤◌, ◌+◌, ◌*◌, IfSome, IfNone};
+ghost use Rattle.append_file.specs.Pieces.{HoldsPiece, IsNoPiece, PieceEnds};
 ghost use Rattle.append_file.specs.declared.piece.ContentFault.TheVariants as content_faults;
 ghost use Rattle.worm_device.specs.Views.{Viewed};
 
 use crate::CONTENT_BYTES;
-use cell_types::{Content, content_of};
+use cell_types::{Cell, Content, content_of};
 use worm_device::{Failed, View};
 
 /// Why bytes of a document are not read.
@@ -25,6 +25,21 @@ impl From<Failed> for ContentFault {
     }
 }
 
+/// What a cell that was found at this place holds, if it is whole: 15 bytes of a part of so many, and those that are
+/// left in the last cell.
+pub(crate) fn piece_in(found: Option<Cell>, bytes: u32, place: u32) -> Option<Content>
+    requires place { 15 * place < bytes }
+    ensures some { IfSome result (HoldsPiece bytes place found) }
+    ensures none { IfNone result (IsNoPiece bytes place found) }
+{
+    let cell = found?;
+    let held = content_of(cell)?;
+    if u32::from(held.length) != CONTENT_BYTES.min(bytes - CONTENT_BYTES * place) {
+        return None;
+    }
+    Some(held)
+}
+
 /// The bytes that the cell of this place holds, places from 0, in a part of so many bytes in the cells from start on:
 /// 15 bytes, and those that are left in the last cell. It makes one read at most.
 pub fn read_piece<V: View>(
@@ -41,14 +56,9 @@ pub fn read_piece<V: View>(
 {
     // That its cells are fewer than 2 to the 32 is known to those who ask.
     let _cells = view.cells();
-    let Some(cell) = view.read(start + place)? else {
+    let found = view.read(start + place)?;
+    let Some(held) = piece_in(found, bytes, place) else {
         return Err(ContentFault::Broken);
     };
-    let Some(held) = content_of(cell) else {
-        return Err(ContentFault::Broken);
-    };
-    if u32::from(held.length) != CONTENT_BYTES.min(bytes - CONTENT_BYTES * place) {
-        return Err(ContentFault::Broken);
-    }
     Ok(held)
 }

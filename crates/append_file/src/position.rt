@@ -1,11 +1,12 @@
 //! How far a document part was read.
 ghost use Rattle.std.specs.Prelude.{◌≡◌, ◌<◌, ◌≤◌, ◌+◌, ◌↔◌, [], IsTrue, slice_index};
-ghost use Rattle.append_file.specs.Reading.{ByteEnds, CellEnds, HasRead, IsPosition, NextEnds, all_given, at_start, ended, first_given, one_given};
+ghost use Rattle.append_file.specs.Reading.{ByteEnds, CellsEnd, HasRead, IsPosition, NextEnds, at_start, ended, ended_behind, first_given, one_given, row_given};
 ghost use Rattle.stored_documents.specs.Slots as slots;
 ghost use Rattle.worm_device.specs.Views.{ViewState, Viewed};
 
 use crate::cells_for;
 use crate::piece::{ContentFault, read_piece};
+use crate::row::{ROW_BYTES, ROW_CELLS, read_cells};
 use cell_types::Content;
 use worm_device::View;
 
@@ -77,14 +78,21 @@ impl Position {
         held.bytes[0]
     }
 
-    /// Gives all bytes of a cell that was read.
-    fn give_all(&mut self, held: Content)
-        requires { self.old.read < self.old.bytes }
-        ensures { self.new ≡ all_given held self.old }
+    /// Gives all bytes of so many cells, where all of those before were given.
+    fn pass(&mut self, cells: u32)
+        requires { self.old.read + cells ≤ self.old.bytes }
+        ensures { self.new ≡ row_given cells self.old }
     {
-        self.held = held;
-        self.given = held.length;
-        self.read += 1;
+        self.read += cells;
+    }
+
+    /// There was a fault in so many cells that were read.
+    fn end_behind(&mut self, cells: u32)
+        requires { self.old.read + cells ≤ self.old.bytes }
+        ensures { self.new ≡ ended_behind cells self.old }
+    {
+        self.read += cells;
+        self.over = true;
     }
 
     /// There was a fault.
@@ -92,8 +100,7 @@ impl Position {
         requires { self.old.read < self.old.bytes }
         ensures { self.new ≡ ended self.old }
     {
-        self.read += 1;
-        self.over = true;
+        self.end_behind(1);
     }
 }
 
@@ -143,30 +150,44 @@ pub fn read_byte<V: View>(view: &mut V, position: &mut Position) -> Result<u8, C
     next_byte(view, position).unwrap_or(Err(ContentFault::Broken))
 }
 
-/// What the next cell holds of a part that has one more byte, where all bytes of the cell before were given. It makes
-/// one read at most, and each cell is read once.
-pub fn next_cell<V: View>(view: &mut V, position: &mut Position) -> Result<Content, ContentFault>
+/// What the next cells hold of a part that has one more byte, where all bytes of the cell before were given: sixteen
+/// cells, or as many as are left. Their bytes stand one behind another in the buffer, and the answer is how many. It
+/// reads the cells in one call, each of them once.
+pub fn next_cells<V: View>(
+    view: &mut V,
+    position: &mut Position,
+    into: &mut [u8; ROW_BYTES],
+) -> Result<usize, ContentFault>
     requires is { IsPosition position.old }
     requires given { position.old.held.length ≤ position.old.given }
     requires inside { position.old.start + slots.cells_for position.old.bytes ≤ (V.seen view.old).cells }
     ensures is { IsPosition position.new }
+    ensures spent { position.new.held.length ≤ position.new.given }
     ensures start { position.new.start ≡ position.old.start }
     ensures bytes { position.new.bytes ≡ position.old.bytes }
     ensures viewed { Viewed (V.seen view.old) (V.seen view.new) }
     ensures reads { (V.seen view.new).base.reads + position.old.read
         ≤ (V.seen view.old).base.reads + position.new.read }
-    ensures ends { CellEnds (V.seen view.old) (V.seen view.new) position.old position.new result }
+    ensures ends { CellsEnd (V.seen view.old) (V.seen view.new) position.old position.new into.new result }
 {
-    if cells_for(position.bytes) == position.read {
+    let count = ROW_CELLS.min(cells_for(position.bytes) - position.read);
+    if count == 0 {
         return Err(ContentFault::Broken);
     }
-    match read_piece(view, position.start, position.bytes, position.read) {
-        Ok(held) => {
-            position.give_all(held);
-            Ok(held)
+    match read_cells(
+        view,
+        position.start,
+        position.bytes,
+        position.read,
+        count,
+        into,
+    ) {
+        Ok(length) => {
+            position.pass(count);
+            Ok(length)
         }
         Err(fault) => {
-            position.end();
+            position.end_behind(count);
             Err(fault)
         }
     }

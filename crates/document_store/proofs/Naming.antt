@@ -20,7 +20,7 @@ use Rattle.commit_record.specs.declared.slot.SlotState.TheVariants.{Unused, Rese
 use Rattle.document_store.specs.Heads.{SpellsNone}
 use Rattle.document_store.specs.Looks.{IsPartOf, IsUndone, LookFails, Names, PartEnds, commit_breach, of_document, of_state}
 use Rattle.document_store.specs.declared.part.Part.{Part}
-use Rattle.document_store.proofs.Holding.{held_on, none_is_held, part_is_done, part_on}
+use Rattle.document_store.proofs.Holding.{has_document_on, held_on, none_is_held, part_is_done, part_on}
 
 -- a state that was seen between two images was seen between any that lie further apart
 pub state_further : (g : Layout) {before before' after after' : Image} (n : ℕ) → Extends before' before
@@ -108,12 +108,12 @@ pub commit_is_place : (g : Layout) (n rule cell : ℕ) → n < g.slots → rule 
     → IsPlaceOf g rule cell
 commit_is_place g n rule cell less is at = (Documents, is, (n, less, at))
 
--- the commit cell of a slot whose part holds no document
-pub names_commit : (g : Layout) (old new : ViewState) (part : Part) → Viewed old new → part.slot < g.slots
+-- the commit cell of a slot whose part held no document before
+pub names_commit_before : (g : Layout) (old new : ViewState) (part : Part) → Viewed old new → part.slot < g.slots
     → new.base.faults ≡ old.base.faults → (IsTrue old.base.tells → IsPartOf g old.image part.slot part)
-    → (IsTrue old.base.tells → SpellsNone new.image part.start part.bytes)
+    → (IsTrue old.base.tells → SpellsNone old.image part.start part.bytes)
     → LookFails g part.slot old new (commit_breach part)
-names_commit g old new part viewed less same is none = (
+names_commit_before g old new part viewed less same is none = (
   commit_is_place g part.slot BROKEN_DOCUMENT (outcome_at part.slot) less refl refl,
   same,
   λ tells.
@@ -124,9 +124,22 @@ names_commit g old new part viewed less same is none = (
         cell = refl;
         found = outcome.stands ∙ ap Some outcome.is.same;
         done = part_is_done on;
-        none = λ id body h. none_is_held g new.image part.slot part on (none tells) id body (held_on viewed.image h);
+        none = none_is_held g old.image part.slot part (is tells) (none tells);
       }),
 )
+
+-- what spells no document spelled none before
+pub spelled_none : {old new : Image} {start bytes : ℕ} → Extends old new → SpellsNone new start bytes
+    → SpellsNone old start bytes
+spelled_none grows none d = none (has_document_on grows d)
+
+-- the commit cell of a slot whose part holds no document
+pub names_commit : (g : Layout) (old new : ViewState) (part : Part) → Viewed old new → part.slot < g.slots
+    → new.base.faults ≡ old.base.faults → (IsTrue old.base.tells → IsPartOf g old.image part.slot part)
+    → (IsTrue old.base.tells → SpellsNone new.image part.start part.bytes)
+    → LookFails g part.slot old new (commit_breach part)
+names_commit g old new part viewed less same is none =
+    names_commit_before g old new part viewed less same is (λ tells. spelled_none viewed.image (none tells))
 
 -- a slot that was done is not seen undone
 pub not_undone : (g : Layout) (n : ℕ) (old new : ViewState) (e : Evidence) → n < g.slots

@@ -1,20 +1,26 @@
 -- A body, read while its words are sought.
-use Rattle.std.proofs.Common.{◌<◌, ◌≤◌, ◌+◌, ◌∙◌, ℕ, Bool, List, [], ◌++◌, Ok, Err, arith}
+use Rattle.std.proofs.Common.{◌≡◌, ◌<◌, ◌≤◌, ◌+◌, ◌∙◌, ℕ, Bool, List, [], ◌++◌, Ok, Err, arith, subst, sym}
 use Rattle.std.proofs.lemmas.List.{length-append}
+use Rattle.std.specs.Prelude.{IsTrue}
+use Rattle.cell_types.specs.Contents.{content_bytes}
+use Rattle.cell_types.specs.Image.{Image, Extends}
+use Rattle.stored_documents.specs.Documents.{stored_bytes}
 use Rattle.stored_documents.specs.declared.word_rules.WordRule.{WordRule}
 use Rattle.worm_device.specs.Views.{ViewState, Viewed}
-use Rattle.append_file.specs.Reading.{IsPosition, ByteEnds, CellEnds}
+use Rattle.append_file.specs.Reading.{IsPosition, ByteEnds, CellsEnd, HasBroken}
 use Rattle.append_file.specs.declared.position.Position.{Position}
 use Rattle.word_reader.specs.Matching.{FinishEnds, HasPushed}
 use Rattle.word_reader.specs.declared.matcher.Matcher.{Matcher}
 use Rattle.append_file.specs.declared.piece.ContentFault.{ContentFault}
 use Rattle.append_file.specs.declared.piece.ContentFault.TheVariants.{Broken, ReadFault}
-use Rattle.document_store.specs.Heads.{IsHead, id_of}
+use Rattle.document_store.specs.Heads.{FaultEnds, IsHead, id_of}
 use Rattle.document_store.specs.declared.head.Head.{Head}
 use Rattle.record_query.specs.Matching.{HasSought, KeepsTerms, PushNextEnds, Pushes, SeekFails, seek_fault_of}
 use Rattle.record_query.specs.declared.matching.SeekFault.{SeekFault}
 use Rattle.record_query.specs.declared.matching.SeekFault.TheVariants as seeks
-use Rattle.document_store.proofs.SoFar.{body_add, body_left, body_none, body_whole, fault_on, BodySoFar}
+use Rattle.document_store.proofs.SoFar.{body_add, body_left, body_none, body_whole, BodySoFar}
+use Rattle.document_store.proofs.Naming.{spelled_none}
+use Rattle.document_store.proofs.Parsing.{none_broken}
 
 -- so many bytes of the body were read, and pushed
 pub record MatchSoFar (old now : ViewState) (start bytes : ℕ) (p q : Position) (h : Head) (m n : Matcher) (k : ℕ)
@@ -52,27 +58,56 @@ match_within old now start bytes p q h m n k head so_far =
     let count = so_far.read.read.count in
     omega (arith, head.count, so_far.read.is_length, count, length-append (id_of h) so_far.read.body)
 
--- the next bytes were not read, or not pushed
-pub next_unread : (v w : ViewState) (p q : Position) (m n : Matcher) (fault : ContentFault)
-    → ByteEnds v w p q (Err fault) → PushNextEnds v w p q m n (Err (seek_fault_of fault))
-next_unread v w p q m n Broken ends = ends
-next_unread v w p q m n ReadFault ends = ends
+-- a cell that is broken now was so before
+broken_earlier : (a b : Image) (start bytes : ℕ) → Extends a b → HasBroken b start bytes → HasBroken a start bytes
+broken_earlier a b start bytes grows (k, less, broken) =
+    (k, less, λ piece is stood. broken piece is (grows.keeps (start + k) (content_bytes piece) stood))
 
-pub cell_unread : (v w : ViewState) (p q : Position) (m n : Matcher) (fault : ContentFault)
-    → CellEnds v w p q (Err fault) → PushNextEnds v w p q m n (Err (seek_fault_of fault))
-cell_unread v w p q m n Broken ends = ends
-cell_unread v w p q m n ReadFault ends = ends
+-- the next bytes were not read, or not pushed
+pub next_unread : (v w : ViewState) (p q : Position) (m n : Matcher) (fault : ContentFault) → Viewed v w
+    → ByteEnds v w p q (Err fault) → PushNextEnds v w p q m n (Err (seek_fault_of fault))
+next_unread v w p q m n Broken viewed ends = (
+  ends.0,
+  λ start bytes given h less tells.
+      broken_earlier v.image w.image start bytes viewed.image (ends.1 start bytes given h less tells),
+)
+next_unread v w p q m n ReadFault viewed ends = ends
+
+pub row_unread : (v w : ViewState) (p q : Position) (m n : Matcher) (into : List ℕ) (fault : ContentFault)
+    → CellsEnd v w p q into (Err fault) → PushNextEnds v w p q m n (Err (seek_fault_of fault))
+row_unread v w p q m n into Broken ends = ends
+row_unread v w p q m n into ReadFault ends = ends
 
 pub unpushed : (old now new : ViewState) (start bytes : ℕ) (p q r : Position) (h : Head) (m n o : Matcher) (k : ℕ)
     (fault : SeekFault) → IsHead old start bytes p h → MatchSoFar old now start bytes p q h m n k → k < h.body_length
     → PushNextEnds now new q r n o (Err fault) → SeekFails start bytes old new fault
-unpushed old now new start bytes p q r h m n o k seeks.Broken head so_far less ends =
-    fault_on start bytes old now new q r _ Broken so_far.read.viewed so_far.read.faults so_far.read.read
-    (body_left old now start bytes p q h k head so_far.read less) ends
+unpushed old now new start bytes p q r h m n o k seeks.Broken head so_far less ends = (
+  ends.0 ∙ so_far.read.faults,
+  λ tells. spelled_none so_far.read.viewed.image
+      (none_broken now.image start bytes
+      (ends.1 start bytes (stored_bytes (id_of h) so_far.read.body) so_far.read.read
+      (body_left old now start bytes p q h k head so_far.read less)
+      (subst IsTrue (sym so_far.read.viewed.called.tells) tells))),
+)
 unpushed old now new start bytes p q r h m n o k seeks.ReadFault head so_far less ends =
-    fault_on start bytes old now new q r _ ReadFault so_far.read.viewed so_far.read.faults so_far.read.read
-    (body_left old now start bytes p q h k head so_far.read less) ends
+    omega (arith, so_far.read.faults, ends)
 unpushed old now new start bytes p q r h m n o k seeks.NoMemory head so_far less ends = ends ∙ so_far.read.faults
+
+-- what stands before the body was not read
+pub head_unread : (start bytes : ℕ) (old new : ViewState) (fault : ContentFault) → Viewed old new
+    → FaultEnds start bytes old new fault → SeekFails start bytes old new (seek_fault_of fault)
+head_unread start bytes old new Broken viewed ends = (ends.0, λ tells. spelled_none viewed.image (ends.1 tells))
+head_unread start bytes old new ReadFault viewed ends = ends
+
+-- seeking ended without an answer, after a row of reads that did not fail
+pub seek_later : (start bytes : ℕ) (old mid new : ViewState) (fault : SeekFault) → Viewed old mid
+    → mid.base.faults ≡ old.base.faults → SeekFails start bytes mid new fault → SeekFails start bytes old new fault
+seek_later start bytes old mid new seeks.Broken before same ends = (
+  ends.0 ∙ same,
+  λ tells. spelled_none before.image (ends.1 (subst IsTrue (sym before.called.tells) tells)),
+)
+seek_later start bytes old mid new seeks.ReadFault before same ends = omega (arith, same, ends)
+seek_later start bytes old mid new seeks.NoMemory before same ends = ends ∙ same
 
 -- all of them were
 pub match_whole : (old now : ViewState) (start bytes : ℕ) (p q : Position) (h : Head) (m n : Matcher) (matched : Bool)

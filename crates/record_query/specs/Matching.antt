@@ -1,19 +1,20 @@
 -- How a slot's document is read while words are sought in it.
-use Rattle.std.specs.Prelude.{◌≡◌, ◌≤◌, ◌↔◌, ℕ, Bool, List, [], ◌++◌, length, Option, Some, None, Result, Ok, Err, IsTrue}
+use Rattle.std.specs.Prelude.{◌≡◌, ◌<◌, ◌≤◌, ◌↔◌, ℕ, Bool, List, [], ◌++◌, length, Option, Some, None, Result, Ok, Err, IsTrue}
 use Rattle.cell_types.specs.Image.{Image}
 use Rattle.cell_types.specs.Layout.{Layout}
 use Rattle.cell_types.specs.declared.refusal.Refusal.{Refusal}
 use Rattle.cell_types.specs.declared.refusal.Refusal.TheVariants.{NoMemory}
 use Rattle.stored_documents.specs.Words.{Matches, rule_of}
 use Rattle.stored_documents.specs.declared.word_rules.WordRule.{WordRule}
+use Rattle.worm_device.specs.Counts.{Rose}
 use Rattle.worm_device.specs.Views.{ViewState}
 use Rattle.append_file.specs.declared.piece.ContentFault.{ContentFault}
 use Rattle.append_file.specs.declared.piece.ContentFault.TheVariants as contents
-use Rattle.append_file.specs.Reading.{ByteEnds, HasRead}
+use Rattle.append_file.specs.Reading.{HasBroken, HasRead}
 use Rattle.append_file.specs.declared.position.Position.{Position}
 use Rattle.word_reader.specs.Matching.{HasPushed, PushEnds}
 use Rattle.word_reader.specs.declared.matcher.Matcher.{Matcher}
-use Rattle.document_store.specs.Heads.{FaultEnds, HasBody, IsWhole}
+use Rattle.document_store.specs.Heads.{HasBody, IsWhole, SpellsNone}
 use Rattle.document_store.specs.Looks.{LookRefuses}
 use Rattle.document_store.specs.Standing.{HoldsDocument}
 use Rattle.document_store.specs.declared.head.Head.{Head}
@@ -43,10 +44,11 @@ abbrev pub seek_fault_of : ContentFault → SeekFault
 seek_fault_of contents.Broken = seeks.Broken
 seek_fault_of contents.ReadFault = seeks.ReadFault
 
--- how seeking words in a document ends without an answer
+-- how seeking words in a document ends without an answer: a part that is broken held no document before
 abbrev pub SeekFails : ℕ → ℕ → ViewState → ViewState → SeekFault → Type 0
-SeekFails start bytes old new seeks.Broken = FaultEnds start bytes old new contents.Broken
-SeekFails start bytes old new seeks.ReadFault = FaultEnds start bytes old new contents.ReadFault
+SeekFails start bytes old new seeks.Broken =
+    (new.base.faults ≡ old.base.faults) × (IsTrue old.base.tells → SpellsNone old.image start bytes)
+SeekFails start bytes old new seeks.ReadFault = Rose old.base.faults new.base.faults
 SeekFails start bytes old new seeks.NoMemory = new.base.faults ≡ old.base.faults
 
 -- these many bytes, the next ones of a part, were read and pushed
@@ -59,12 +61,16 @@ pub record Pushes (v w : ViewState) (p q : Position) (m n : Matcher) (count : �
       → HasRead w start bytes q (given ++ piece)
   pub pushed : PushEnds m n piece (Ok tt)
 
--- how reading and pushing the next bytes of a part that has one more may end, and why
+-- How reading and pushing the next bytes of a part that has one more may end, and why. A cell that is found broken was
+-- so before.
 abbrev pub PushNextEnds
     : ViewState → ViewState → Position → Position → Matcher → Matcher → Result ℕ SeekFault → Type 0
 PushNextEnds v w p q m n (Ok count) = Pushes v w p q m n count
-PushNextEnds v w p q m n (Err seeks.Broken) = ByteEnds v w p q (Err contents.Broken)
-PushNextEnds v w p q m n (Err seeks.ReadFault) = ByteEnds v w p q (Err contents.ReadFault)
+PushNextEnds v w p q m n (Err seeks.Broken) =
+    (w.base.faults ≡ v.base.faults)
+    × ((start bytes : ℕ) (given : List ℕ) → HasRead v start bytes p given → length given < bytes
+    → IsTrue v.base.tells → HasBroken v.image start bytes)
+PushNextEnds v w p q m n (Err seeks.ReadFault) = Rose v.base.faults w.base.faults
 PushNextEnds v w p q m n (Err seeks.NoMemory) = w.base.faults ≡ v.base.faults
 
 -- how reading the body behind a head with a matcher may end, and why

@@ -14,7 +14,8 @@ ghost use Rattle.record_query.specs.declared.matching.SeekFault.TheVariants as s
 use crate::found::{Match, Text};
 use cell_types::{Geometry, NoMemory, Refusal, Volume};
 use document_store::{
-    ContentFault, Head, Part, Position, name_commit, next_cell, read_byte, read_head, slot_part,
+    ContentFault, Head, Part, Position, ROW_BYTES, name_commit, next_cells, read_byte, read_head,
+    slot_part,
 };
 use std::alloc::{AllocError, Global};
 use word_reader::Matcher;
@@ -178,7 +179,7 @@ fn match_body<V: View>(
 }
 
 /// Reads the next bytes of a part that has one more, pushes them, and answers how many they are: the next byte of a cell
-/// that was begun, or else a whole cell.
+/// that was begun, or else a row of whole cells.
 fn push_next<V: View>(
     view: &mut V,
     position: &mut Position,
@@ -200,7 +201,8 @@ fn push_next<V: View>(
         matcher.push(byte)?;
         return Ok(1);
     }
-    let cell = next_cell(view, position)?;
-    matcher.push_all(&cell.bytes[..usize::from(cell.length)])?;
-    Ok(u32::from(cell.length))
+    let mut row = [0; ROW_BYTES];
+    let count = next_cells(view, position, &mut row)?;
+    matcher.push_all(&row[..count])?;
+    Ok(count as u32)
 }

@@ -6,7 +6,7 @@ use Rattle.cell_types.specs.declared.refusal.Refusal.TheVariants.{NoMemory}
 use Rattle.document_store.specs.Looks.{commit_breach}
 use Rattle.document_store.specs.declared.head.Head.{Head}
 use Rattle.record_query.specs.Matching.{SeekEnds, SeekFails}
-use Rattle.document_store.proofs.Naming.{names_commit}
+use Rattle.document_store.proofs.Naming.{names_commit_before}
 use Rattle.record_query.proofs.Matched.{found_match, no_match, refused}
 use Rattle.record_query.proofs.matching.match_part.Goals as goal
 
@@ -35,7 +35,7 @@ returns-in-Err-Broken-clause-ends g c = λ terms was.
     rw c.from.ensures
     (rw c.name_commit.ensures
     (refused layout part.slot terms old new (commit_breach part)
-    (names_commit layout old new part c.in-Err-Broken.ensures.viewed c.requires.slot broken.0 c.requires.part broken.1)))
+    (names_commit_before layout old new part c.in-Err-Broken.ensures.viewed c.requires.slot broken.0 c.requires.part broken.1)))
 
 -- a document without the terms
 pub returns-in_default-clause-ends : goal.returns-in_default-clause-ends

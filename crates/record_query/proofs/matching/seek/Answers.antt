@@ -2,11 +2,21 @@
 use Rattle.std.proofs.Common.{◌≡◌, false, true, [], sym, ◌∙◌}
 use Rattle.worm_device.proofs.Resting.{viewed_then}
 use Rattle.document_store.specs.Heads.{id_of}
+use Rattle.cell_types.proofs.Passed.{handed}
+use Rattle.record_query.proofs.Bodies.{seek_later}
 use Rattle.record_query.proofs.matching.seek.Goals as goal
 
 -- the body was not read
 pub returns-in_err-matched-clause-viewed : goal.returns-in_err-matched-clause-viewed
 returns-in_err-matched-clause-viewed g c = viewed_then c.in_ok-head.ensures.viewed c.in_err-matched.ensures.viewed
+
+pub returns-in_err-matched-clause-ends : goal.returns-in_err-matched-clause-ends
+returns-in_err-matched-clause-ends g c =
+    rw (handed c.from_residual-in_err-matched.result c.in_err-matched.field-0.0
+    c.from_residual-in_err-matched.ensures.1)
+    (seek_later c.args.start c.args.bytes (g.V.View.seen c.args.view.now) (g.V.View.seen c.read_head.new.view)
+    (g.V.View.seen c.match_body.new.view) c.in_err-matched.field-0.0 c.in_ok-head.ensures.viewed
+    c.in_ok-head.ensures.ends.0 c.in_err-matched.ensures.ends)
 
 -- a document with the terms
 pub returns-then-matched-clause-viewed : goal.returns-then-matched-clause-viewed

@@ -1,0 +1,68 @@
+//! Neighbouring cells of a document part, read as a row.
+ghost use Rattle.std.specs.Prelude.{◌≡◌, ◌≤◌, ◌+◌, IfNone, IfSome, length, take};
+ghost use Rattle.append_file.specs.Rows.{HasNoPiece, HoldsRow, RowEnds};
+ghost use Rattle.append_file.specs.declared.row.TheConstants.{ROW_CELLS};
+ghost use Rattle.stored_documents.specs.Slots as slots;
+ghost use Rattle.worm_device.specs.Views.{Viewed};
+
+use crate::CONTENT_BYTES;
+use crate::piece::{ContentFault, piece_in};
+use cell_types::Cell;
+use worm_device::View;
+
+/// How many cells are read at once, at most.
+pub(crate) const ROW_CELLS: u32 = 16;
+
+/// How many bytes of a document they hold, at most.
+pub const ROW_BYTES: usize = 240;
+
+/// Reads so many cells of a part of so many bytes in the cells from start on, those from this place on, in one call. Puts
+/// their bytes one behind another, and answers how many.
+pub(crate) fn read_cells<V: View>(
+    view: &mut V,
+    start: u32,
+    bytes: u32,
+    place: u32,
+    count: u32,
+    into: &mut [u8; ROW_BYTES],
+) -> Result<usize, ContentFault>
+    requires few { count ≤ ROW_CELLS }
+    requires places { place + count ≤ slots.cells_for bytes }
+    requires inside { start + slots.cells_for bytes ≤ (V.seen view.old).cells }
+    ensures viewed { Viewed (V.seen view.old) (V.seen view.new) }
+    ensures reads { (V.seen view.new).base.reads ≤ (V.seen view.old).base.reads + count }
+    ensures ends { RowEnds start bytes place count (V.seen view.old) (V.seen view.new) into.new result }
+{
+    // That its cells are fewer than 2 to the 32 is known to those who ask.
+    let _cells = view.cells();
+    let mut found = [None; ROW_CELLS as usize];
+    let row = &mut found[..count as usize];
+    view.read_row(start + place, row)?;
+    let Some(length) = copy_row(bytes, place, row, into) else {
+        return Err(ContentFault::Broken);
+    };
+    Ok(length)
+}
+
+/// Puts the bytes of a row of cells one behind another, and answers how many, if each cell is whole. The first of them
+/// has this place, in a part of so many bytes.
+fn copy_row(
+    bytes: u32,
+    place: u32,
+    row: &[Option<Cell>],
+    into: &mut [u8; ROW_BYTES],
+) -> Option<usize>
+    requires few { length row.now ≤ ROW_CELLS }
+    requires places { place + length row.now ≤ slots.cells_for bytes }
+    ensures some { IfSome result (λ n. HoldsRow bytes place row.now (take n into.new)) }
+    ensures count { IfSome result (λ n. length (take n into.new) ≡ n) }
+    ensures none { IfNone result (HasNoPiece bytes place row.now) }
+{
+    let mut length = 0;
+    for k in 0..row.len() {
+        let held = piece_in(row[k], bytes, place + k as u32)?;
+        into[length..length + CONTENT_BYTES as usize].copy_from_slice(&held.bytes);
+        length += usize::from(held.length);
+    }
+    Some(length)
+}
