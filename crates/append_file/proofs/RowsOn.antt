@@ -1,23 +1,24 @@
 -- How a row of cells goes on, cell by cell, and how a position goes on behind it.
-use Rattle.std.proofs.Common.{◌≡◌, ◌<◌, ◌≤◌, ◌+◌, ◌-◌, ◌*◌, ◌⊎◌, min, ℕ, List, [], ◌++◌, length, take, drop, slice_get, slice_index, Option, Some, None, Ok, Err, Result, refl, sym, ap, ◌∙◌, ⊎_elim, subst, arith}
+use Rattle.std.proofs.Common.{◌≡◌, ◌<◌, ◌≤◌, ◌+◌, ◌-◌, ◌*◌, ◌⊎◌, min, ℕ, List, [], ◌++◌, length, take, drop, slice_get, slice_index, Option, Some, None, Ok, Err, refl, sym, ap, ◌∙◌, ⊎_elim, subst, arith}
 use Rattle.std.proofs.Math.ListN.{get_or-eq_default}
 use Rattle.std.proofs.Math.Seq.{drop-append_seam, take-append-add}
 use Rattle.std.proofs.lemmas.Bool.{cases_lt}
-use Rattle.std.proofs.lemmas.List.{append-nil, drop-drop, drop_all, length-append, length-take, length-take-le, take-take}
+use Rattle.std.proofs.lemmas.List.{append-nil, drop-drop, drop_all, get_or-drop, length-append, length-drop, length-take, length-take-le, take-take, take_all}
 use Rattle.std.proofs.lemmas.Option.{slice_get_within}
 use Rattle.std.proofs.lemmas.Slice.{take-put_mid}
 use Rattle.std.specs.Prelude.{IsTrue}
-use Rattle.cell_types.specs.Bytes.{AreBytes}
+use Rattle.cell_types.specs.Bytes.{AreBytes, IsCell}
 use Rattle.cell_types.specs.Contents.{content_bytes}
 use Rattle.cell_types.specs.Image.{Image, Extends}
+use Rattle.cell_types.proofs.ContentCells.{full_cell}
 use Rattle.cell_types.specs.declared.held_bytes.Content.{Content}
 use Rattle.stored_documents.specs.Documents.{content_at}
 use Rattle.stored_documents.specs.Slots.{cells_for}
 use Rattle.worm_device.specs.ReadRows.{IsFoundBetween, ViewReadsRow}
 use Rattle.worm_device.specs.Views.{ViewState, Viewed}
-use Rattle.append_file.specs.Pieces.{HoldsPiece, IsNoPiece, IsPiece, held_bytes}
-use Rattle.append_file.specs.Reading.{CellsEnd, HasBroken, HasRead, IsFront, left_over, row_given}
-use Rattle.append_file.specs.Rows.{HasNoPiece, HoldsRow, RowEnds}
+use Rattle.append_file.specs.Pieces.{HoldsPiece, IsNoPiece, held_bytes}
+use Rattle.append_file.specs.Reading.{NextRowEnds, HasBroken, HasRead, IsFront, IsPosition, left_over, rest_given, row_given}
+use Rattle.append_file.specs.Rows.{HasNoPiece, HoldsRow, PutsPiece, RowReadEnds}
 use Rattle.append_file.specs.declared.piece.ContentFault.{ContentFault}
 use Rattle.append_file.specs.declared.piece.ContentFault.TheVariants.{Broken, ReadFault}
 use Rattle.append_file.specs.declared.position.Position.{Position}
@@ -77,32 +78,64 @@ row_none bytes place into row = record {
   each = λ j less. absurd (omega (arith, less));
 }
 
--- one cell more
-pub row_more : (bytes place k n : ℕ) (into : List ℕ) (row : List (Option (List ℕ))) → RowSoFar bytes place k n into row
-    → 15 * (place + k) < bytes → (found : Option (List ℕ)) → slice_get row k ≡ Some found → (held : Content)
-    → HoldsPiece bytes (place + k) found held → (part : ℕ) (after : List ℕ) → n ≤ length into
-    → length held.bytes ≡ 15 → after ≡ held.bytes
-    → RowSoFar bytes place (k + 1) (n + held.length) (put_mid n part into after) row
-row_more bytes place k n into row so_far below found there held holds part after within fifteen copied =
+-- a cell whose bytes are put behind those of whole cells
+pub puts_held : (bytes place at part : ℕ) (found : Option (List ℕ)) (cell into after : List ℕ) (held : Content)
+    → found ≡ Some cell → HoldsPiece bytes place (Some cell) held → at ≤ length into → length held.bytes ≡ 15 → after ≡ held.bytes
+    → PutsPiece bytes place found at into (put_mid at part into after) held.length
+puts_held bytes place at part found cell into after held is holds within fifteen copied =
     let few : held.length ≤ 15 = omega (arith, holds.count) in
-    let piece = held_bytes held in
-    let long : length piece ≡ held.length = length-take-le held.length held.bytes (omega (arith, fifteen, few)) in
-    let full : length (take n into) ≡ 15 * k = omega (arith, so_far.count, so_far.length_is, below) in
-    let both : take (n + held.length) (put_mid n part into after) ≡ take n into ++ piece =
-    subst (λ (l : List ℕ). take (n + held.length) (put_mid n part into l) ≡ take n into ++ piece) (sym copied)
-    (buffer_more n held.length part into held.bytes within fifteen few) in
     record {
-      most = omega (arith, so_far.most, few);
-      count = ap length both ∙ omega (arith, length-append (take n into) piece, so_far.count, long);
-      length_is = omega (arith, so_far.count, full, holds.count, below);
-      fits = subst AreBytes (sym both) (append_fits (take n into) piece so_far.fits holds.piece.fits);
-      each = λ j less. subst (λ (l : List ℕ). slice_get row j ≡ Some (Some (content_at l j))) (sym both)
+      piece = held_bytes held;
+      is = holds.piece;
+      held = is ∙ holds.is;
+      count = sym (length-take-le held.length held.bytes (omega (arith, fifteen, few)));
+      put = subst (λ (l : List ℕ). take (at + held.length) (put_mid at part into l) ≡ take at into ++ held_bytes held)
+          (sym copied) (buffer_more at held.length part into held.bytes within fifteen few);
+    }
+
+-- a full cell holds what stands behind its first byte
+pub puts_full : (bytes place at part : ℕ) (found : Option (List ℕ)) (cell into after : List ℕ) → found ≡ Some cell
+    → IsCell cell → slice_index cell 0 ≡ 31
+    → 15 ≤ bytes - 15 * place → at ≤ length into → after ≡ take 15 (drop 1 cell)
+    → PutsPiece bytes place found at into (put_mid at part into after) 15
+puts_full bytes place at part found cell into after same is kind long within copied =
+    let fifteen : length (drop 1 cell) ≡ 15 = omega (arith, length-drop 1 cell, is.sixteen) in
+    let all : take 15 (drop 1 cell) ≡ drop 1 cell = take_all 15 (drop 1 cell) (omega (arith, fifteen)) in
+    record {
+      piece = drop 1 cell;
+      is = record {
+        length_is = omega (arith, fifteen, long);
+        fits = record { each = λ i. rw (get_or-drop 1 cell i 0) (is.fits.each (1 + i)) };
+      };
+      held = same ∙ ap (λ (c : List ℕ). Some c) (full_cell cell (drop 1 cell) is (sym all) kind
+          ∙ ap (λ (l : List ℕ). content_bytes l) all);
+      count = sym fifteen;
+      put = subst (λ (l : List ℕ). take (at + 15) (put_mid at part into l) ≡ take at into ++ drop 1 cell)
+          (sym (copied ∙ all)) (buffer_more at 15 part into (drop 1 cell) within fifteen (omega arith)
+          ∙ ap (λ (l : List ℕ). take at into ++ l) all);
+    }
+
+-- one cell more
+pub row_more : (bytes place k n : ℕ) (into after : List ℕ) (row : List (Option (List ℕ)))
+    → RowSoFar bytes place k n into row → 15 * (place + k) < bytes → (found : Option (List ℕ))
+    → slice_get row k ≡ Some found → (more : ℕ) → PutsPiece bytes (place + k) found n into after more
+    → RowSoFar bytes place (k + 1) (n + more) after row
+row_more bytes place k n into after row so_far below found there more puts =
+    let piece = puts.piece in
+    let few : length piece ≤ 15 = omega (arith, puts.is.length_is) in
+    let full : length (take n into) ≡ 15 * k = omega (arith, so_far.count, so_far.length_is, below) in
+    record {
+      most = omega (arith, so_far.most, puts.count, few);
+      count = ap length puts.put ∙ omega (arith, length-append (take n into) piece, so_far.count, puts.count);
+      length_is = omega (arith, so_far.count, full, puts.count, puts.is.length_is, below);
+      fits = subst AreBytes (sym puts.put) (append_fits (take n into) piece so_far.fits puts.is.fits);
+      each = λ j less. subst (λ (l : List ℕ). slice_get row j ≡ Some (Some (content_at l j))) (sym puts.put)
           (⊎_elim
           (λ (earlier : j < k). so_far.each j earlier
           ∙ ap (λ (c : List ℕ). Some (Some c)) (content_stays (take n into) piece j (omega (arith, full, earlier))))
           (λ (now : j ≡ k). ap (slice_get row) now ∙ there
-          ∙ ap (λ (f : Option (List ℕ)). Some f) (holds.is
-          ∙ ap (λ (c : List ℕ). Some c) (sym (content_last (take n into) piece k full (omega (arith, long, few)))
+          ∙ ap (λ (f : Option (List ℕ)). Some f) (puts.held
+          ∙ ap (λ (c : List ℕ). Some c) (sym (content_last (take n into) piece k full few)
           ∙ ap (content_at (take n into ++ piece)) (sym now))))
           (below_or_at j k less));
     }
@@ -126,7 +159,7 @@ module _ (start bytes place count : ℕ) (old new : ViewState) {room row : List 
 
   -- its cells hold what they were found to hold
   pub row_held : (n : ℕ) → length (take n into) ≡ n → HoldsRow bytes place row (take n into)
-      → RowEnds start bytes place count old new into (Ok n)
+      → RowReadEnds start bytes place count old new into (Ok n)
   row_held n long holds = (
     reads.cause,
     long,
@@ -139,7 +172,7 @@ module _ (start bytes place count : ℕ) (old new : ViewState) {room row : List 
   )
 
   -- or one of them was broken before
-  pub row_broken : HasNoPiece bytes place row → RowEnds start bytes place count old new into (Err Broken)
+  pub row_broken : HasNoPiece bytes place row → RowReadEnds start bytes place count old new into (Err Broken)
   row_broken (k, found, there, none) = (
     reads.cause,
     λ tells. (
@@ -189,10 +222,45 @@ row_on v w start bytes p given h viewed all below count row long holds =
       front = λ tells. subst (IsFront w.image start (p.read + count)) (sym behind) (front tells);
     }
 
+-- what is held and was not given yet comes behind what was
+pub rest_ends : (v w : ViewState) (old new : Position) (into : List ℕ) (n : ℕ) → v ≡ w → IsPosition old
+    → old.given < old.held.length → n + old.given ≡ old.held.length → take n into ≡ left_over old
+    → new ≡ rest_given old → NextRowEnds v w old new into (Ok n)
+rest_ends v w old new into n same is less count rest new_is = (
+  ap (λ (s : ViewState). s.base.faults) (sym same),
+  omega (arith, less, count),
+  long,
+  λ start bytes given h.
+      let none : left_over (rest_given old) ≡ [] =
+      drop_all old.held.length (held_bytes old.held) (omega (arith, length-take old.held.length old.held.bytes)) in
+      let moved : given ++ left_over old ≡ (given ++ take n into) ++ left_over (rest_given old) =
+      ap (λ (l : List ℕ). given ++ l) (sym rest)
+      ∙ sym (append-nil (given ++ take n into))
+      ∙ ap (λ (l : List ℕ). (given ++ take n into) ++ l) (sym none) in
+      subst (λ (s : ViewState). HasRead s start bytes new (given ++ take n into)) same
+      (subst (λ (q : Position). HasRead v start bytes q (given ++ take n into)) (sym new_is) (record {
+        start_is = h.start_is;
+        bytes_is = h.bytes_is;
+        going = h.going;
+        count = omega (arith, h.count, ap length none, ap length rest, length-append given (take n into));
+        front = λ tells. subst (IsFront v.image start old.read) moved (h.front tells);
+      })),
+)
+  where
+    long : length (take n into) ≡ n
+    long = ap length rest
+        ∙ omega (
+          arith,
+          count,
+          is.room,
+          length-drop old.given (held_bytes old.held),
+          length-take old.held.length old.held.bytes,
+        )
+
 -- and for whoever asks for all its bytes
 pub row_ends : (v w : ViewState) (old new : Position) (into : List ℕ) (count n : ℕ) → Viewed v w
     → old.held.length ≤ old.given → 1 ≤ count → old.read + count ≤ cells_for old.bytes → new ≡ row_given count old
-    → RowEnds old.start old.bytes old.read count v w into (Ok n) → CellsEnd v w old new into (Ok n)
+    → RowReadEnds old.start old.bytes old.read count v w into (Ok n) → NextRowEnds v w old new into (Ok n)
 row_ends v w old new into count n viewed all some within new_is ends = (
   ends.0,
   omega (arith, ends.2, some, within),
@@ -207,7 +275,7 @@ row_ends v w old new into count n viewed all some within new_is ends = (
 )
 
 pub row_end_fails : (v w : ViewState) (old new : Position) (into : List ℕ) (count : ℕ) (fault : ContentFault)
-    → RowEnds old.start old.bytes old.read count v w into (Err fault) → CellsEnd v w old new into (Err fault)
+    → RowReadEnds old.start old.bytes old.read count v w into (Err fault) → NextRowEnds v w old new into (Err fault)
 row_end_fails v w old new into count Broken ends = (
   ends.0,
   λ start bytes given h some tells.

@@ -54,6 +54,17 @@ first_given held p = record {
   over = p.over;
 }
 
+-- after all bytes that are held
+abbrev pub rest_given : Position → Position
+rest_given p = record {
+  start = p.start;
+  bytes = p.bytes;
+  read = p.read;
+  held = p.held;
+  given = p.held.length;
+  over = p.over;
+}
+
 -- after all bytes of so many cells, where all of those before were given
 abbrev pub row_given : ℕ → Position → Position
 row_given cells p = record {
@@ -135,15 +146,15 @@ ByteEnds v w old new (Err Broken) =
     → IsTrue v.base.tells → HasBroken w.image start bytes)
 ByteEnds v w old new (Err ReadFault) = Rose v.base.faults w.base.faults
 
--- How asking for the next cells of a part that has one more byte may end, and why. Their bytes stand in the buffer. A
--- cell that is found broken was so before.
-abbrev pub CellsEnd : ViewState → ViewState → Position → Position → List ℕ → Result ℕ ContentFault → Type 0
-CellsEnd v w old new into (Ok n) =
+-- How asking for the next bytes of a part that has one more may end, and why: so many stand in the buffer. A cell that is
+-- found broken was so before.
+abbrev pub NextRowEnds : ViewState → ViewState → Position → Position → List ℕ → Result ℕ ContentFault → Type 0
+NextRowEnds v w old new into (Ok n) =
     (w.base.faults ≡ v.base.faults) × (1 ≤ n) × (length (take n into) ≡ n)
     × ((start bytes : ℕ) (given : List ℕ) → HasRead v start bytes old given
     → HasRead w start bytes new (given ++ take n into))
-CellsEnd v w old new into (Err Broken) =
+NextRowEnds v w old new into (Err Broken) =
     (w.base.faults ≡ v.base.faults)
     × ((start bytes : ℕ) (given : List ℕ) → HasRead v start bytes old given → length given < bytes
     → IsTrue v.base.tells → HasBroken v.image start bytes)
-CellsEnd v w old new into (Err ReadFault) = Rose v.base.faults w.base.faults
+NextRowEnds v w old new into (Err ReadFault) = Rose v.base.faults w.base.faults

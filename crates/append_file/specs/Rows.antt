@@ -1,11 +1,12 @@
 -- The cells of a document part, several at once. They are read one after another while somebody else may write: what
 -- was found written stands at the end, and what was found blank was so before.
-use Rattle.std.specs.Prelude.{◌≡◌, ◌<◌, ◌+◌, ◌-◌, ◌*◌, min, ℕ, List, length, slice_get, take, Option, Some, Result, Ok, Err, IsTrue}
+use Rattle.std.specs.Prelude.{◌≡◌, ◌<◌, ◌+◌, ◌-◌, ◌*◌, min, ℕ, List, ◌++◌, length, slice_get, take, Option, Some, Result, Ok, Err, IsTrue}
 use Rattle.cell_types.specs.Bytes.{AreBytes}
+use Rattle.cell_types.specs.Contents.{content_bytes}
 use Rattle.stored_documents.specs.Documents.{content_at}
 use Rattle.worm_device.specs.Counts.{Rose}
 use Rattle.worm_device.specs.Views.{ViewState}
-use Rattle.append_file.specs.Pieces.{IsNoPiece}
+use Rattle.append_file.specs.Pieces.{IsNoPiece, IsPiece}
 use Rattle.append_file.specs.Reading.{HasBroken, IsFront}
 use Rattle.append_file.specs.declared.piece.ContentFault.{ContentFault}
 use Rattle.append_file.specs.declared.piece.ContentFault.TheVariants.{Broken, ReadFault}
@@ -17,16 +18,24 @@ pub record HoldsRow (bytes place : ℕ) (row : List (Option (List ℕ))) (held :
   pub fits : AreBytes held
   pub each : (k : ℕ) → k < length row → slice_get row k ≡ Some (Some (content_at held k))
 
+-- So many bytes were put into a buffer, from this one on: a cell that was found at place k is the content cell of them.
+pub record PutsPiece (bytes k : ℕ) (found : Option (List ℕ)) (at : ℕ) (old new : List ℕ) (n : ℕ) : Type 0 where
+  pub piece : List ℕ
+  pub is : IsPiece bytes k piece
+  pub held : found ≡ Some (content_bytes piece)
+  pub count : n ≡ length piece
+  pub put : take (at + n) new ≡ take at old ++ piece
+
 -- some cell of a row that was found is blank or no content cell of its place
 abbrev pub HasNoPiece : ℕ → ℕ → List (Option (List ℕ)) → Type 0
 HasNoPiece bytes place row =
     (k : ℕ) × (found : Option (List ℕ)) × (slice_get row k ≡ Some found) × IsNoPiece bytes (place + k) found
 
 -- how reading so many cells of a part may end, and why: so many bytes stand in the buffer, and the cells hold them
-abbrev pub RowEnds : ℕ → ℕ → ℕ → ℕ → ViewState → ViewState → List ℕ → Result ℕ ContentFault → Type 0
-RowEnds start bytes place count old new into (Ok n) =
+abbrev pub RowReadEnds : ℕ → ℕ → ℕ → ℕ → ViewState → ViewState → List ℕ → Result ℕ ContentFault → Type 0
+RowReadEnds start bytes place count old new into (Ok n) =
     (new.base.faults ≡ old.base.faults) × (length (take n into) ≡ n) × (n ≡ min (15 * count) (bytes - 15 * place))
     × (IsTrue old.base.tells → IsFront new.image (start + place) count (take n into))
-RowEnds start bytes place count old new into (Err Broken) =
+RowReadEnds start bytes place count old new into (Err Broken) =
     (new.base.faults ≡ old.base.faults) × (IsTrue old.base.tells → HasBroken old.image start bytes)
-RowEnds start bytes place count old new into (Err ReadFault) = Rose old.base.faults new.base.faults
+RowReadEnds start bytes place count old new into (Err ReadFault) = Rose old.base.faults new.base.faults

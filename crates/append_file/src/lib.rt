@@ -9,9 +9,9 @@
 //!
 //! `content_cells` makes the three cells of the bytes. A `Reader` gives the bytes again, one after another: it reads
 //! cell 600 when it is asked for b0, cell 601 for b15, cell 602 for b30, each once, and after b30 there is none.
-//! `next_byte` does the same over a `Position`, for a caller that reads several parts over one view. Behind the last byte
-//! of a cell `next_cells` gives those of the next sixteen cells, which it reads in one call: here all 31 of the part, from
-//! its start on.
+//! `next_byte` does the same over a `Position`, for a caller that reads several parts over one view. `next_row` gives
+//! more at once: what is left of a cell that was begun, or else the next sixteen cells, which it reads in one call; here
+//! all 31 bytes of the part, from its start on.
 //!
 //! No cell is trusted. A cell that is blank, that is no content cell, or that holds another number of bytes than its
 //! place asks for, is `Broken`; a read that failed is a `ReadFault`, and a count of faults rose. After either a reader
@@ -31,6 +31,6 @@ mod tests;
 
 pub use cells::{CONTENT_BYTES, cells_for, content_cells, push_content};
 pub use piece::{ContentFault, read_piece};
-pub use position::{Position, next_byte, next_cells, read_byte};
+pub use position::{Position, next_byte, next_row, read_byte};
 pub use reader::Reader;
 pub use row::ROW_BYTES;

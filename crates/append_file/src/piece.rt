@@ -1,5 +1,5 @@
 //! One cell of a document part.
-ghost use Rattle.std.specs.Prelude.{◌≡◌, ◌<◌, ◌≤◌, ◌+◌, ◌*◌, IfSome, IfNone};
+ghost use Rattle.std.specs.Prelude.{◌≡◌, ◌<◌, ◌≤◌, ◌+◌, ◌*◌, IfSome, IfNone, Some};
 ghost use Rattle.append_file.specs.Pieces.{HoldsPiece, IsNoPiece, PieceEnds};
 ghost use Rattle.append_file.specs.declared.piece.ContentFault.TheVariants as content_faults;
 ghost use Rattle.worm_device.specs.Views.{Viewed};
@@ -27,12 +27,11 @@ impl From<Failed> for ContentFault {
 
 /// What a cell that was found at this place holds, if it is whole: 15 bytes of a part of so many, and those that are
 /// left in the last cell.
-pub(crate) fn piece_in(found: Option<Cell>, bytes: u32, place: u32) -> Option<Content>
+pub(crate) fn piece_in(cell: Cell, bytes: u32, place: u32) -> Option<Content>
     requires place { 15 * place < bytes }
-    ensures some { IfSome result (HoldsPiece bytes place found) }
-    ensures none { IfNone result (IsNoPiece bytes place found) }
+    ensures some { IfSome result (HoldsPiece bytes place (Some cell)) }
+    ensures none { IfNone result (IsNoPiece bytes place (Some cell)) }
 {
-    let cell = found?;
     let held = content_of(cell)?;
     if u32::from(held.length) != CONTENT_BYTES.min(bytes - CONTENT_BYTES * place) {
         return None;
@@ -56,8 +55,10 @@ pub fn read_piece<V: View>(
 {
     // That its cells are fewer than 2 to the 32 is known to those who ask.
     let _cells = view.cells();
-    let found = view.read(start + place)?;
-    let Some(held) = piece_in(found, bytes, place) else {
+    let Some(cell) = view.read(start + place)? else {
+        return Err(ContentFault::Broken);
+    };
+    let Some(held) = piece_in(cell, bytes, place) else {
         return Err(ContentFault::Broken);
     };
     Ok(held)

@@ -1,6 +1,6 @@
 //! How far a document part was read.
-ghost use Rattle.std.specs.Prelude.{◌≡◌, ◌<◌, ◌≤◌, ◌+◌, ◌↔◌, [], IsTrue, slice_index};
-ghost use Rattle.append_file.specs.Reading.{ByteEnds, CellsEnd, HasRead, IsPosition, NextEnds, at_start, ended, ended_behind, first_given, one_given, row_given};
+ghost use Rattle.std.specs.Prelude.{◌≡◌, ◌<◌, ◌≤◌, ◌+◌, [], slice_index, take};
+ghost use Rattle.append_file.specs.Reading.{ByteEnds, NextRowEnds, HasRead, IsPosition, NextEnds, at_start, ended, ended_behind, first_given, left_over, one_given, rest_given, row_given};
 ghost use Rattle.stored_documents.specs.Slots as slots;
 ghost use Rattle.worm_device.specs.Views.{ViewState, Viewed};
 
@@ -47,13 +47,6 @@ impl Position {
         }
     }
 
-    /// Whether all bytes of the cell that was read last were given.
-    pub fn is_spent(&self) -> bool
-        ensures { IsTrue result ↔ (self.now.held.length ≤ self.now.given) }
-    {
-        self.given >= self.held.length
-    }
-
     /// Gives a byte that is held.
     fn give(&mut self) -> u8
         requires some { self.old.given < self.old.held.length }
@@ -76,6 +69,21 @@ impl Position {
         self.given = 1;
         self.read += 1;
         held.bytes[0]
+    }
+
+    /// Gives the bytes that are held and were not given yet, and answers how many.
+    fn give_rest(&mut self, into: &mut [u8; ROW_BYTES]) -> usize
+        requires some { self.old.given < self.old.held.length }
+        requires most { self.old.held.length ≤ 15 }
+        ensures count { result + self.old.given ≡ self.old.held.length }
+        ensures rest { take result into.new ≡ left_over self.old }
+        ensures all { self.new ≡ rest_given self.old }
+    {
+        let from = usize::from(self.given);
+        let to = usize::from(self.held.length);
+        into[..to - from].copy_from_slice(&self.held.bytes[from..to]);
+        self.given = self.held.length;
+        to - from
     }
 
     /// Gives all bytes of so many cells, where all of those before were given.
@@ -150,26 +158,26 @@ pub fn read_byte<V: View>(view: &mut V, position: &mut Position) -> Result<u8, C
     next_byte(view, position).unwrap_or(Err(ContentFault::Broken))
 }
 
-/// What the next cells hold of a part that has one more byte, where all bytes of the cell before were given: sixteen
-/// cells, or as many as are left. Their bytes stand one behind another in the buffer, and the answer is how many. It
-/// reads the cells in one call, each of them once.
-pub fn next_cells<V: View>(
+/// The next bytes of a part that has one more, and how many they are: what is left of a cell that was begun, or else
+/// what the next sixteen cells hold, or as many as there are. It reads these in one call, each of them once.
+pub fn next_row<V: View>(
     view: &mut V,
     position: &mut Position,
     into: &mut [u8; ROW_BYTES],
 ) -> Result<usize, ContentFault>
     requires is { IsPosition position.old }
-    requires given { position.old.held.length ≤ position.old.given }
     requires inside { position.old.start + slots.cells_for position.old.bytes ≤ (V.seen view.old).cells }
     ensures is { IsPosition position.new }
-    ensures spent { position.new.held.length ≤ position.new.given }
     ensures start { position.new.start ≡ position.old.start }
     ensures bytes { position.new.bytes ≡ position.old.bytes }
     ensures viewed { Viewed (V.seen view.old) (V.seen view.new) }
     ensures reads { (V.seen view.new).base.reads + position.old.read
         ≤ (V.seen view.old).base.reads + position.new.read }
-    ensures ends { CellsEnd (V.seen view.old) (V.seen view.new) position.old position.new into.new result }
+    ensures ends { NextRowEnds (V.seen view.old) (V.seen view.new) position.old position.new into.new result }
 {
+    if position.given < position.held.length {
+        return Ok(position.give_rest(into));
+    }
     let count = ROW_CELLS.min(cells_for(position.bytes) - position.read);
     if count == 0 {
         return Err(ContentFault::Broken);

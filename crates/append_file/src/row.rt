@@ -1,7 +1,8 @@
 //! Neighbouring cells of a document part, read as a row.
-ghost use Rattle.std.specs.Prelude.{◌≡◌, ◌≤◌, ◌+◌, IfNone, IfSome, length, take};
-ghost use Rattle.append_file.specs.Rows.{HasNoPiece, HoldsRow, RowEnds};
-ghost use Rattle.append_file.specs.declared.row.TheConstants.{ROW_CELLS};
+ghost use Rattle.std.specs.Prelude.{◌≡◌, ◌<◌, ◌≤◌, ◌+◌, ◌*◌, IfNone, IfSome, length, take};
+ghost use Rattle.append_file.specs.Pieces.{IsNoPiece};
+ghost use Rattle.append_file.specs.Rows.{HasNoPiece, HoldsRow, PutsPiece, RowReadEnds};
+ghost use Rattle.append_file.specs.declared.row.TheConstants.{ROW_BYTES, ROW_CELLS};
 ghost use Rattle.stored_documents.specs.Slots as slots;
 ghost use Rattle.worm_device.specs.Views.{Viewed};
 
@@ -15,6 +16,9 @@ pub(crate) const ROW_CELLS: u32 = 16;
 
 /// How many bytes of a document they hold, at most.
 pub const ROW_BYTES: usize = 240;
+
+/// The first byte of a content cell of fifteen bytes.
+const FULL_CELL: u8 = 31;
 
 /// Reads so many cells of a part of so many bytes in the cells from start on, those from this place on, in one call. Puts
 /// their bytes one behind another, and answers how many.
@@ -31,7 +35,7 @@ pub(crate) fn read_cells<V: View>(
     requires inside { start + slots.cells_for bytes ≤ (V.seen view.old).cells }
     ensures viewed { Viewed (V.seen view.old) (V.seen view.new) }
     ensures reads { (V.seen view.new).base.reads ≤ (V.seen view.old).base.reads + count }
-    ensures ends { RowEnds start bytes place count (V.seen view.old) (V.seen view.new) into.new result }
+    ensures ends { RowReadEnds start bytes place count (V.seen view.old) (V.seen view.new) into.new result }
 {
     // That its cells are fewer than 2 to the 32 is known to those who ask.
     let _cells = view.cells();
@@ -60,9 +64,34 @@ fn copy_row(
 {
     let mut length = 0;
     for k in 0..row.len() {
-        let held = piece_in(row[k], bytes, place + k as u32)?;
-        into[length..length + CONTENT_BYTES as usize].copy_from_slice(&held.bytes);
-        length += usize::from(held.length);
+        length += put_piece(row[k], bytes, place + k as u32, length, into)?;
     }
     Some(length)
+}
+
+/// Puts the bytes of a cell that was found at this place into the buffer, from this byte on, and answers how many, if the
+/// cell is whole.
+fn put_piece(
+    found: Option<Cell>,
+    bytes: u32,
+    place: u32,
+    at: usize,
+    into: &mut [u8; ROW_BYTES],
+) -> Option<usize>
+    requires place { 15 * place < bytes }
+    requires room { at + 15 ≤ ROW_BYTES }
+    ensures some { IfSome result (PutsPiece bytes place found at into.old into.new) }
+    ensures none { IfNone result (IsNoPiece bytes place found) }
+{
+    let cell = found?;
+    let all = cell.bytes();
+    let room = &mut into[at..at + CONTENT_BYTES as usize];
+    // Nearly all cells of a part are full, and there is nothing more to check in them.
+    if all[0] == FULL_CELL && bytes - CONTENT_BYTES * place >= CONTENT_BYTES {
+        room.copy_from_slice(&all[1..]);
+        return Some(CONTENT_BYTES as usize);
+    }
+    let held = piece_in(cell, bytes, place)?;
+    room.copy_from_slice(&held.bytes);
+    Some(usize::from(held.length))
 }

@@ -3,7 +3,7 @@ ghost use Rattle.std.specs.Prelude.{◌≡◌, ◌≤◌, ◌+◌};
 ghost use Rattle.cell_types.specs.declared.geometry.TheConstants.{MAX_CELLS};
 ghost use Rattle.stored_documents.specs.Slots as slots;
 
-use crate::{ContentFault, Position, ROW_BYTES, Reader, cells_for, content_cells, next_cells};
+use crate::{ContentFault, Position, ROW_BYTES, Reader, cells_for, content_cells, next_row};
 use cell_types::{Cell, content};
 use std::alloc::{AllocError, Global};
 use std::test::Fail;
@@ -106,7 +106,7 @@ fn read_rows<V: View>(
         if given.len() == bytes as usize {
             return Ok((given, rows, None));
         }
-        match next_cells(view, &mut position, &mut buffer) {
+        match next_row(view, &mut position, &mut buffer) {
             Ok(count) => {
                 given.extend_from_slice(&buffer[..count])?;
                 rows.push(count)?;

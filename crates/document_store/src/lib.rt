@@ -13,8 +13,8 @@
 //! is said of the image at its exit, and what it found missing was so at its entry.
 //!
 //! The calls on a slot ask that it is done. Whoever walks along slots asks `slot_part` first, which says where the
-//! document of a done slot lies, and then asks `part_has_identifier`, or reads it by `read_head`, `read_byte` and
-//! `next_cells`; `name_commit` names the commit cell of one that is broken.
+//! document of a done slot lies, and then asks `part_has_identifier`, or reads it by `read_head` and `next_row`;
+//! `name_commit` names the commit cell of one that is broken.
 //!
 //! Stands on `append_file` (bytes of cells), `commit_record` (states of slots) and `host_ports` (a sink for a body).
 //! Begin with `part.rt`; specs/Standing.antt says what it means to hold a document, and specs/Looks.antt how each call
@@ -31,7 +31,7 @@ mod putting;
 #[cfg(test)]
 mod tests;
 
-pub use append_file::{ContentFault, Position, ROW_BYTES, next_cells, read_byte};
+pub use append_file::{ContentFault, Position, ROW_BYTES, next_row};
 pub use body::{BodyFault, body_into};
 pub use checked::{Stored, check};
 pub use head::{Head, read_document, read_head};

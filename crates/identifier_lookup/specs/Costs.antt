@@ -4,10 +4,11 @@ use Rattle.sha2.specs.Sha256.{sha256}
 use Rattle.cell_types.specs.Image.{Image}
 use Rattle.cell_types.specs.Layout.{Layout}
 use Rattle.cell_types.specs.declared.record_cell.RecordCell.TheVariants.{Bucket}
-use Rattle.stored_documents.specs.Documents.{Document, Stands, stored_bytes}
+use Rattle.stored_documents.specs.Documents.{Document, stored_bytes}
 use Rattle.stored_documents.specs.Slots.{IsDone, cells_for}
 use Rattle.stored_documents.specs.Volumes.{Holds, IsVolume}
 use Rattle.index_paths.specs.HashPaths.{fingerprint_of, nibble}
+use Rattle.index_paths.specs.Nearness.{IsPathMate}
 use Rattle.index_paths.specs.Nodes.{IsOnPath}
 use Rattle.worm_device.specs.Views.{ViewState}
 
@@ -72,18 +73,12 @@ pub record Mate : Type 0 where
   pub bucket : ℕ
   pub document : Document
 
--- The bucket is on the path of the identifier and has its fingerprint, and the document stands in the slot that it names.
-pub record IsMate (g : Layout) (image : Image) (id : List ℕ) (mate : Mate) : Type 0 where
-  pub stands : Stands g.cells image mate.document.slot mate.document.id mate.document.body
-  pub level : ℕ
-  pub node : ℕ
-  pub on_path : IsOnPath g image (sha256 id) level node
-  pub at : mate.bucket ≡ node + nibble (sha256 id) level
-  pub bucket : Holds image mate.bucket (Bucket mate.document.slot (fingerprint_of (sha256 id)))
-
--- these have each of them, whatever else they have
+-- These have each document that a look-up of the identifier may have to read, once for each bucket that names its slot,
+-- whatever else they have.
 abbrev pub HaveMates : Layout → Image → List ℕ → List Mate → Type 0
-HaveMates g image id mates = (mate : Mate) → IsMate g image id mate → Contains mates mate
+HaveMates g image id mates =
+    (d : Document) → (m : IsPathMate g image id d)
+    → Contains mates (record { bucket = m.node + nibble (sha256 id) m.level; document = d })
 
 -- how many cells a document has
 abbrev pub cells_of_document : Document → ℕ

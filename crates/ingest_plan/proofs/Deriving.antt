@@ -23,13 +23,13 @@ use Rattle.worm_device.specs.State.{DeviceState}
 use Rattle.worm_device.specs.Views.{IsView, ViewState}
 use Rattle.hash_tree.specs.declared.level.Level.{Level}
 use Rattle.hash_tree.specs.declared.path.Open.{Open}
-use Rattle.tree_growth.specs.Readiness.{blank_of}
-use Rattle.index_growth.specs.Counts.{HasCells}
-use Rattle.index_growth.specs.Indexes.{IndexEnds, IndexStandsAtCost, Indexes, IsIndexed}
-use Rattle.index_growth.specs.Journal.{IsJournal}
-use Rattle.index_growth.specs.Standing.{HasKeysBetween, ListsStand}
-use Rattle.index_growth.proofs.Counting.{count_is_one, none_planned}
-use Rattle.index_growth.proofs.Granted.{StaysQuiet}
+use Rattle.hash_insertion.specs.Readiness.{blank_of}
+use Rattle.ingest_plan.specs.Counts.{HasCells}
+use Rattle.ingest_plan.specs.Indexes.{IndexEnds, IndexStandsAtCost, Indexes, IsIndexed}
+use Rattle.ingest_plan.specs.Journal.{IsJournal}
+use Rattle.ingest_plan.specs.Standing.{HasKeysBetween, ListsStand}
+use Rattle.ingest_plan.proofs.Counting.{count_is_one, none_planned}
+use Rattle.ingest_plan.proofs.Granted.{StaysQuiet}
 use Rattle.ingest_plan.specs.Over.{IsPlannedOver, OverEnds, PlansOver}
 use Rattle.ingest_plan.specs.Planning.{KeepsDocument, PlanEnds, PlansIndex, StandsAtCost, cut_at, laid_over}
 use Rattle.ingest_plan.specs.declared.plan.PlannedIndex.{PlannedIndex}

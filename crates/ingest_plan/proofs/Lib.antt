@@ -1,3 +1,11 @@
+pub mod Counting
 pub mod Deriving
+pub mod Granted
+pub mod Indexing
+pub mod Journals
 pub mod Licence
+pub mod Licensing
+pub mod Others
 pub mod Postings
+pub mod RowSteps
+pub mod Standing

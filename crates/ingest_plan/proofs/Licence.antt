@@ -18,13 +18,13 @@ use Rattle.hash_tree.specs.Levels.{IsChildPlace, IsLedWithin}
 use Rattle.hash_tree.specs.declared.level.ChildCell.{ChildCell}
 use Rattle.hash_tree.specs.declared.level.Level.{Level}
 use Rattle.hash_tree.specs.declared.path.Open.{Open}
-use Rattle.list_growth.specs.Evidence.{AreInTheirPlaces, IsInItsPlace, IsLicensedBelow, NothingBelowPlans, ShowsBelow, bad_entry, bad_pointer, late, of_list, of_new, of_tree}
-use Rattle.list_growth.proofs.Licence.{licensed}
-use Rattle.tree_growth.specs.Inserting.{IsTaken}
-use Rattle.tree_growth.specs.Laws.{LiesByOwner, in_block, in_new, in_node}
-use Rattle.tree_growth.proofs.Licence as tree
-use Rattle.index_growth.specs.Indexes.{IsNamed, in_list, in_tree}
-use Rattle.index_growth.specs.Rows.{AreInOrder}
+use Rattle.jump_insertion.specs.Evidence.{AreInTheirPlaces, IsInItsPlace, IsLicensedBelow, NothingBelowPlans, ShowsBelow, bad_entry, bad_pointer, late, of_list, of_new, of_tree}
+use Rattle.jump_insertion.proofs.Licence.{licensed}
+use Rattle.hash_insertion.specs.Inserting.{IsTaken}
+use Rattle.hash_insertion.specs.Laws.{LiesByOwner, in_block, in_new, in_node}
+use Rattle.hash_insertion.proofs.Licence as tree
+use Rattle.ingest_plan.specs.Indexes.{IsNamed, in_list, in_tree}
+use Rattle.ingest_plan.specs.Rows.{AreInOrder}
 use Rattle.ingest_plan.specs.Over.{NamesBelow}
 use Rattle.ingest_plan.specs.Planning.{IsGrowthRule, NamesCell}
 

@@ -11,7 +11,7 @@ use Rattle.index_paths.specs.Blocks.{PostingFields}
 use Rattle.cell_types.specs.Layout.{Layout}
 use Rattle.stored_documents.specs.Words.{AreWords, rule_of}
 use Rattle.term_tags.specs.Listing.{GivesListed}
-use Rattle.index_growth.specs.Rows.{AreInOrder}
+use Rattle.ingest_plan.specs.Rows.{AreInOrder}
 
 no_stamp : (seconds : ℕ) → None ≡ Some seconds → ⊥
 no_stamp seconds e = cc

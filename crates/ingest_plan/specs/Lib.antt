@@ -1,2 +1,9 @@
+pub mod Counts
+pub mod Granting
+pub mod Indexes
+pub mod Journal
+pub mod Licensing
 pub mod Over
 pub mod Planning
+pub mod Rows
+pub mod Standing

@@ -11,8 +11,8 @@ use Rattle.worm_device.specs.Counts.{IsStill, Rose}
 use Rattle.worm_device.specs.Views.{IsView, ViewState}
 use Rattle.hash_tree.specs.declared.level.Level.{Level}
 use Rattle.hash_tree.specs.declared.path.Open.{Open}
-use Rattle.index_growth.specs.Indexes.{IsIndexed, IsNamed}
-use Rattle.index_growth.specs.Licensing.{IsLicensable}
+use Rattle.ingest_plan.specs.Indexes.{IsIndexed, IsNamed}
+use Rattle.ingest_plan.specs.Licensing.{IsLicensable}
 use Rattle.ingest_plan.specs.Planning.{IsJournalBefore}
 use Rattle.ingest_plan.specs.declared.plan.PlannedIndex.{PlannedIndex}
 

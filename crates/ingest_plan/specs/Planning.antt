@@ -21,11 +21,11 @@ use Rattle.worm_device.specs.State.{DeviceState}
 use Rattle.hash_tree.specs.Levels.{IsLedWithin}
 use Rattle.hash_tree.specs.declared.level.Level.{Level}
 use Rattle.hash_tree.specs.declared.path.Open.{Open}
-use Rattle.tree_growth.specs.Readiness.{PassedDown, blank_of, cost_of}
-use Rattle.index_growth.specs.Granting.{GivesWhatIsLedTo}
-use Rattle.index_growth.specs.Indexes.{IsIndexCell}
-use Rattle.index_growth.specs.Journal.{IsJournal}
-use Rattle.index_growth.specs.Standing.{HasKeysBetween, IndexStands, ListsStand}
+use Rattle.hash_insertion.specs.Readiness.{PassedDown, blank_of, cost_of}
+use Rattle.ingest_plan.specs.Granting.{GivesWhatIsLedTo}
+use Rattle.ingest_plan.specs.Indexes.{IsIndexCell}
+use Rattle.ingest_plan.specs.Journal.{IsJournal}
+use Rattle.ingest_plan.specs.Standing.{HasKeysBetween, IndexStands, ListsStand}
 use Rattle.ingest_plan.specs.declared.plan.PlannedIndex.{PlannedIndex}
 
 -- The journal copies index cells alone, which lie from the first list on and before this cell.

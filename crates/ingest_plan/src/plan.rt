@@ -4,15 +4,15 @@ ghost use Rattle.cell_types.specs.Layout.{pool_at};
 ghost use Rattle.cell_types.specs.declared.geometry.TheConstants.{MAX_CELLS, MAX_SLOTS};
 ghost use Rattle.hash_tree.specs.Levels.{IsLed, IsWithin};
 ghost use Rattle.hash_tree.specs.Steps.{IsOpenOf};
-ghost use Rattle.index_growth.specs.Rows.{AreInOrder};
+ghost use Rattle.ingest_plan.specs.Rows.{AreInOrder};
 ghost use Rattle.ingest_plan.specs.Over.{PlansOver};
 ghost use Rattle.ingest_plan.specs.Planning.{PlansIndex};
 ghost use Rattle.worm_device.specs.Overlays.{of_overlay};
 
+use crate::{copies_of, insert_document};
 use cell_pool::Pool;
 use cell_types::{Cell, Refusal, Volume};
 use hash_tree::{Level, Open};
-use index_growth::{copies_of, insert_document};
 use std::alloc::Global;
 use stored_documents::rule_of;
 use term_tags::{ListedPosting, document_postings};

@@ -2,12 +2,10 @@
 use Rattle.std.proofs.Common.{◌≡◌, ◌<◌, ◌≤◌, ◌+◌, ◌∙◌, ℕ, Bool, List, [], ◌++◌, Ok, Err, arith, subst, sym}
 use Rattle.std.proofs.lemmas.List.{length-append}
 use Rattle.std.specs.Prelude.{IsTrue}
-use Rattle.cell_types.specs.Contents.{content_bytes}
-use Rattle.cell_types.specs.Image.{Image, Extends}
 use Rattle.stored_documents.specs.Documents.{stored_bytes}
 use Rattle.stored_documents.specs.declared.word_rules.WordRule.{WordRule}
 use Rattle.worm_device.specs.Views.{ViewState, Viewed}
-use Rattle.append_file.specs.Reading.{IsPosition, ByteEnds, CellsEnd, HasBroken}
+use Rattle.append_file.specs.Reading.{IsPosition, NextRowEnds}
 use Rattle.append_file.specs.declared.position.Position.{Position}
 use Rattle.word_reader.specs.Matching.{FinishEnds, HasPushed}
 use Rattle.word_reader.specs.declared.matcher.Matcher.{Matcher}
@@ -58,23 +56,9 @@ match_within old now start bytes p q h m n k head so_far =
     let count = so_far.read.read.count in
     omega (arith, head.count, so_far.read.is_length, count, length-append (id_of h) so_far.read.body)
 
--- a cell that is broken now was so before
-broken_earlier : (a b : Image) (start bytes : ℕ) → Extends a b → HasBroken b start bytes → HasBroken a start bytes
-broken_earlier a b start bytes grows (k, less, broken) =
-    (k, less, λ piece is stood. broken piece is (grows.keeps (start + k) (content_bytes piece) stood))
-
 -- the next bytes were not read, or not pushed
-pub next_unread : (v w : ViewState) (p q : Position) (m n : Matcher) (fault : ContentFault) → Viewed v w
-    → ByteEnds v w p q (Err fault) → PushNextEnds v w p q m n (Err (seek_fault_of fault))
-next_unread v w p q m n Broken viewed ends = (
-  ends.0,
-  λ start bytes given h less tells.
-      broken_earlier v.image w.image start bytes viewed.image (ends.1 start bytes given h less tells),
-)
-next_unread v w p q m n ReadFault viewed ends = ends
-
 pub row_unread : (v w : ViewState) (p q : Position) (m n : Matcher) (into : List ℕ) (fault : ContentFault)
-    → CellsEnd v w p q into (Err fault) → PushNextEnds v w p q m n (Err (seek_fault_of fault))
+    → NextRowEnds v w p q into (Err fault) → PushNextEnds v w p q m n (Err (seek_fault_of fault))
 row_unread v w p q m n into Broken ends = ends
 row_unread v w p q m n into ReadFault ends = ends
 

@@ -8,6 +8,7 @@ pub mod LookedBriefly
 pub mod LookedUp
 pub mod Looking
 pub mod Matched
+pub mod MatesExist
 pub mod Nearby
 pub mod PathMates
 pub mod Searched

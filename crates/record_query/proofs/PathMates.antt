@@ -6,31 +6,32 @@ use Rattle.sha2.specs.Sha256.{sha256}
 use Rattle.cell_types.specs.Image.{Image}
 use Rattle.cell_types.specs.Layout.{IsLayout, Layout, outcome_at}
 use Rattle.cell_types.specs.declared.record_cell.RecordCell.TheVariants.{Bucket, Commit}
-use Rattle.stored_documents.specs.Documents.{Stands, stored_bytes}
+use Rattle.stored_documents.specs.Documents.{Document, Stands, stored_bytes}
 use Rattle.stored_documents.specs.Slots.{IsDone, cells_for}
 use Rattle.stored_documents.specs.Volumes.{Holds}
 use Rattle.stored_documents.proofs.Holding.{one_record_holds}
 use Rattle.stored_documents.proofs.OneDocument.{commits}
 use Rattle.index_paths.specs.HashPaths.{fingerprint_of, nibble}
+use Rattle.index_paths.specs.Nearness.{IsPathMate}
 use Rattle.index_paths.specs.Nodes as nodes
 use Rattle.index_paths.specs.Nodes.{IsNode, IsOnPath}
 use Rattle.tamper_rules.specs.Rules.{BucketRule, Buckets}
 use Rattle.tamper_rules.specs.Settling.{IsSettled}
 use Rattle.tamper_rules.proofs.Settled.{some_edge, some_horizon}
-use Rattle.volume_growth.specs.TreeShapes.{IsWellRooted}
-use Rattle.volume_growth.proofs.SettledShapes.{settled_rooted}
-use Rattle.volume_growth.proofs.TreeShapes.{one_level}
-use Rattle.identifier_lookup.specs.Costs.{AreCellsOf, Comparison, Fall, HasDocumentCells, IsComparison, IsMate, Mate, cells_in, cells_of_document, mate_cells}
+use Rattle.ingest_laws.specs.TreeShapes.{IsWellRooted}
+use Rattle.ingest_laws.proofs.SettledShapes.{settled_rooted}
+use Rattle.ingest_laws.proofs.TreeShapes.{one_level}
+use Rattle.identifier_lookup.specs.Costs.{AreCellsOf, Comparison, Fall, HasDocumentCells, HaveMates, IsComparison, Mate, cells_in, cells_of_document, mate_cells}
 use Rattle.identifier_lookup.proofs.Licence.{half_byte}
 
 -- one of a list with one more
-one_or_rest : {X : Type 0} (x first : X) (xs : List X) → Contains (first ∷ xs) x → (first ≡ x) ⊎ Contains xs x
+pub one_or_rest : {X : Type 0} (x first : X) (xs : List X) → Contains (first ∷ xs) x → (first ≡ x) ⊎ Contains xs x
 one_or_rest {X} x first xs among = by_place among.0 among.1 among.2 where
   by_place : (k : ℕ) → k < suc (length xs) → get_or (first ∷ xs) k x ≡ x → (first ≡ x) ⊎ Contains xs x
   by_place zero less is = inl is
   by_place (suc k) less is = inr (k, omega (arith, less), is)
 
-further : {X : Type 0} (x first : X) (xs : List X) → Contains xs x → Contains (first ∷ xs) x
+pub further : {X : Type 0} (x first : X) (xs : List X) → Contains xs x → Contains (first ∷ xs) x
 further x first xs among = (suc among.0, omega (arith, among.1), among.2)
 
 -- what is left of mates once one of them is taken away: all others
@@ -80,15 +81,18 @@ level_below below (first ∷ cs) fall c among = ⊎_elim
 
 -- the mate of a comparison: its bucket, and a document that has at least as many cells as were read
 pub record MateOf (g : Layout) (image : Image) (id : List ℕ) (c : Comparison) : Type 0 where
-  pub mate : Mate
-  pub is : IsMate g image id mate
-  pub at : mate.bucket ≡ c.node + nibble (sha256 id) c.level
-  pub cells : c.cells ≤ cells_of_document mate.document
+  pub document : Document
+  pub is : IsPathMate g image id document
+  pub at : is.node + nibble (sha256 id) is.level ≡ c.node + nibble (sha256 id) c.level
+  pub cells : c.cells ≤ cells_of_document document
 
-slots_are : (a b : ℕ) (f h : List ℕ) → Bucket a f ≡ Bucket b h → a ≡ b
+abbrev the_mate : {g : Layout} {image : Image} {id : List ℕ} {c : Comparison} → MateOf g image id c → Mate
+the_mate {id = id} m = record { bucket = m.is.node + nibble (sha256 id) m.is.level; document = m.document }
+
+pub slots_are : (a b : ℕ) (f h : List ℕ) → Bucket a f ≡ Bucket b h → a ≡ b
 slots_are a b f h e = cc
 
-node_on : {g : Layout} {image : Image} (id : List ℕ) {v node : ℕ} → IsOnPath g image (sha256 id) v node
+pub node_on : {g : Layout} {image : Image} (id : List ℕ) {v node : ℕ} → IsOnPath g image (sha256 id) v node
     → IsNode g image v node
 node_on id (nodes.IsOnPath.root v node is at) = nodes.IsNode.root v node is at
 node_on id (nodes.IsOnPath.under v node u above is rest less child from to) =
@@ -142,13 +146,12 @@ module _ (g : Layout) (image : Image) (id : List ℕ) (layout : IsLayout g) (set
       let stands : Stands g.cells image c.slot t.id t.body =
       subst (λ (n : ℕ). Stands g.cells image n t.id t.body) slot t.stands in
       record {
-        mate = record { bucket = at; document = record { slot = c.slot; id = t.id; body = t.body } };
+        document = record { slot = c.slot; id = t.id; body = t.body };
         is = record {
           stands = stands;
           level = c.level;
           node = c.node;
           on_path = is.on_path;
-          at = refl;
           bucket = is.bucket;
         };
         at = refl;
@@ -157,20 +160,20 @@ module _ (g : Layout) (image : Image) (id : List ℕ) (layout : IsLayout g) (set
 
   -- a comparison and its mate, which is one of these
   abbrev IsMet : List Mate → Comparison → Type 0
-  IsMet mates c = IsComparison g image id c × ((m : MateOf g image id c) × Contains mates m.mate)
+  IsMet mates c = IsComparison g image id c × ((m : MateOf g image id c) × Contains mates (the_mate m))
 
   met_within : (below : ℕ) (cs : List Comparison) (mates : List Mate) → Fall below cs
       → ((c : Comparison) → Contains cs c → IsMet mates c) → sum_by cells_in cs ≤ mate_cells mates
   met_within below [] mates fall each = omega arith
   met_within below (first ∷ cs) mates fall each =
       let here = each first (zero, omega arith, refl) in
-      let left = leaves mates here.1.0.mate here.1.1 in
+      let left = leaves mates (the_mate here.1.0) here.1.1 in
       let rest = met_within first.level cs left.rest fall.1 (λ c among.
       let there = each c (further c first cs among) in (
         there.0,
         (
           there.1.0,
-          left.others there.1.0.mate there.1.1 (λ same. apart first.level first.node c.level c.node
+          left.others (the_mate there.1.0) there.1.1 (λ same. apart first.level first.node c.level c.node
               here.0.on_path there.0.on_path (level_below first.level cs fall.1 c among)
               (sym here.1.0.at ∙ ap (λ (m : Mate). m.bucket) (sym same) ∙ there.1.0.at)),
         ),
@@ -180,17 +183,17 @@ module _ (g : Layout) (image : Image) (id : List ℕ) (layout : IsLayout g) (set
   -- so what is compared along a path is not more than its mates have
   pub compared_within : (cs : List Comparison) (mates : List Mate) → Fall 64 cs
       → ((c : Comparison) → Contains cs c → IsComparison g image id c)
-      → ((mate : Mate) → IsMate g image id mate → Contains mates mate) → sum_by cells_in cs ≤ mate_cells mates
+      → HaveMates g image id mates → sum_by cells_in cs ≤ mate_cells mates
   compared_within cs mates fall each have = met_within 64 cs mates fall (λ c among.
       let is = each c among in
       let mate = mate_of c is in
-      (is, (mate, have mate.mate mate.is)))
+      (is, (mate, have mate.document mate.is)))
 
   -- nor is the document of one bucket
   pub one_within : (mates : List Mate) (level node n bytes : ℕ)
       → IsOnPath g image (sha256 id) level node
       → Holds image (node + nibble (sha256 id) level) (Bucket n (fingerprint_of (sha256 id)))
-      → ((mate : Mate) → IsMate g image id mate → Contains mates mate)
+      → HaveMates g image id mates
       → (start reserved journal : ℕ) → IsDone g image n start reserved bytes journal
       → cells_for bytes ≤ mate_cells mates
   one_within mates level node n bytes on_path bucket have start reserved journal done =
@@ -208,5 +211,5 @@ module _ (g : Layout) (image : Image) (id : List ℕ) (layout : IsLayout g) (set
         });
       } in
       let mate = mate_of c is in
-      let left = leaves mates mate.mate (have mate.mate mate.is) in
+      let left = leaves mates (the_mate mate) (have mate.document mate.is) in
       omega (arith, mate.cells, left.cells)

@@ -1,5 +1,6 @@
 pub mod Among
 pub mod Finding
+pub mod Laws
 pub mod Looking
 pub mod LookingUp
 pub mod Matching

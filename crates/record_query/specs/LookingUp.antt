@@ -109,15 +109,15 @@ NamesLookUpRule old (Ok found) = ⊤
 NamesLookUpRule old (Err (Tampered e)) = IsTrue old.tells → IsLookUpRule e.rule
 NamesLookUpRule old (Err refusal) = ⊤
 
--- so many reads are enough for a look-up, and so many more for each cell of the documents that it may have to read
+-- the reads of a look-up: so many, and so many more for each cell of the documents that it may have to read
 abbrev pub LOOK_UP_READS : ℕ
 LOOK_UP_READS = 1024
 
 abbrev pub LOOK_UP_READS_A_CELL : ℕ
 LOOK_UP_READS_A_CELL = 4
 
--- Where the volume was settled at entry and nobody else wrote, so many reads are enough, whatever is answered: the
--- documents are those that buckets of the identifier's path with its fingerprint name, one for each bucket.
+-- Where the volume was settled at entry and nobody else wrote, so many are enough, whatever is answered. The documents
+-- are those that buckets with the identifier's fingerprint name on its path, each once for each bucket that names it.
 abbrev pub LooksUpBriefly : List ℕ → DeviceState → DeviceState → Type 0
 LooksUpBriefly id old new =
     (settled : Settled old.cells old.image) → IsStill old.foreign_writes new.foreign_writes → (mates : List Mate)

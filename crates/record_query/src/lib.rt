@@ -36,9 +36,11 @@
 mod common;
 mod finding;
 mod found;
+mod laws;
 mod looking_up;
 mod matching;
 
 pub use finding::{CELL_READS, FIND_READS, TERM_READS, find};
 pub use found::{Found, Match, Text};
+pub use laws::a_path_has_mates;
 pub use looking_up::lookup_into;

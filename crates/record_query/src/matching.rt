@@ -14,8 +14,7 @@ ghost use Rattle.record_query.specs.declared.matching.SeekFault.TheVariants as s
 use crate::found::{Match, Text};
 use cell_types::{Geometry, NoMemory, Refusal, Volume};
 use document_store::{
-    ContentFault, Head, Part, Position, ROW_BYTES, name_commit, next_cells, read_byte, read_head,
-    slot_part,
+    ContentFault, Head, Part, Position, ROW_BYTES, name_commit, next_row, read_head, slot_part,
 };
 use std::alloc::{AllocError, Global};
 use word_reader::Matcher;
@@ -178,8 +177,7 @@ fn match_body<V: View>(
     Ok(matched)
 }
 
-/// Reads the next bytes of a part that has one more, pushes them, and answers how many they are: the next byte of a cell
-/// that was begun, or else a row of whole cells.
+/// Reads the next bytes of a part that has one more, pushes them, and answers how many they are.
 fn push_next<V: View>(
     view: &mut V,
     position: &mut Position,
@@ -196,13 +194,8 @@ fn push_next<V: View>(
     ensures ends { PushNextEnds (V.seen view.old) (V.seen view.new) position.old position.new matcher.old matcher.new
         result }
 {
-    if !position.is_spent() {
-        let byte = read_byte(view, position)?;
-        matcher.push(byte)?;
-        return Ok(1);
-    }
     let mut row = [0; ROW_BYTES];
-    let count = next_cells(view, position, &mut row)?;
+    let count = next_row(view, position, &mut row)?;
     matcher.push_all(&row[..count])?;
     Ok(count as u32)
 }

@@ -8,8 +8,8 @@ use Rattle.worm_device.specs.Counts.{IsStill}
 use Rattle.worm_device.specs.State.{DeviceState, IsDevice}
 use Rattle.commit_record.specs.Licences.{IsLicensed}
 use Rattle.recovery_engine.specs.Settling.{Settles}
-use Rattle.steady_volumes.specs.Steadiness.{IsSteady}
-use Rattle.steady_volumes.proofs.Alarms.{looked_unbroken, settling_named}
+use Rattle.settling_laws.specs.Steadiness.{IsSteady}
+use Rattle.settling_laws.proofs.Alarms.{looked_unbroken, settling_named}
 use Rattle.record_query.specs.Finding.{ComesTo, settled, settling}
 use Rattle.record_top.proofs.Results.{one_refusal}
 

@@ -17,7 +17,7 @@ use Rattle.tamper_rules.proofs.GivenUp.{one_layout}
 use Rattle.tamper_rules.proofs.Settled.{taken_to}
 use Rattle.index_paths.specs.Postings.{AreTags}
 use Rattle.index_paths.proofs.Tags.{tags_one}
-use Rattle.volume_growth.specs.Needs.{IsNeed}
+use Rattle.ingest_laws.specs.Needs.{IsNeed}
 use Rattle.worm_device.specs.Calls.{Called}
 use Rattle.worm_device.specs.State.{IsDevice}
 use Rattle.worm_device.proofs.Counting.{rose_or_still, still_first, still_second}
@@ -25,9 +25,9 @@ use Rattle.commit_record.specs.Licences.{IsLicensed}
 use Rattle.document_store.proofs.Holding.{held_stands}
 use Rattle.recovery_engine.specs.Settling.{HasSettled, Settles}
 use Rattle.recovery_engine.specs.declared.settling.Ready.{Ready}
-use Rattle.steady_volumes.proofs.Alarms.{looked_unbroken, settling_named}
-use Rattle.steady_volumes.proofs.LookedAt.{looked_ends}
-use Rattle.steady_ingests.proofs.WellPlanned as planned
+use Rattle.settling_laws.proofs.Alarms.{looked_unbroken, settling_named}
+use Rattle.settling_laws.proofs.LookedAt.{looked_ends}
+use Rattle.crash_laws.proofs.WellPlanned as planned
 use Rattle.identifier_lookup.specs.Walks.{IsPassedWhole}
 use Rattle.plan_writer.proofs.PutFrom.{volume_2}
 use Rattle.ingest_engine.specs.Ingesting.{HasFullPath, HasNoRoom, HasNoSlot, HasSlot, IngestEnds, IsNamed, IsTaken, IsTooMany, by_plan, by_settling, in_index}

@@ -15,8 +15,8 @@ use Rattle.tamper_rules.specs.Settling.{Held, Settled}
 use Rattle.worm_device.specs.State.{DeviceState, IsDevice}
 use Rattle.recovery_engine.specs.Settling.{HasSettled, Settles}
 use Rattle.recovery_engine.specs.declared.settling.Ready.{Ready}
-use Rattle.steady_volumes.proofs.LeftWhole.{documents_after}
-use Rattle.steady_volumes.proofs.LookedAt.{looked_ends, looked_sound}
+use Rattle.settling_laws.proofs.LeftWhole.{documents_after}
+use Rattle.settling_laws.proofs.LookedAt.{looked_ends, looked_sound}
 use Rattle.record_query.specs.Finding.{ComesTo, Finds, Searches, settled, settling}
 use Rattle.record_query.specs.LookingUp.{LookUpEnds, LooksUp}
 use Rattle.record_query.specs.declared.found.Found.{Found}

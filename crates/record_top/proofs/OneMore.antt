@@ -10,18 +10,18 @@ use Rattle.stored_documents.specs.Documents.{Document}
 use Rattle.stored_documents.specs.Slots.{IsEdge, IsHorizon}
 use Rattle.stored_documents.specs.Volumes.{IsVolume}
 use Rattle.tamper_rules.specs.Settling.{Held}
-use Rattle.volume_growth.specs.Needs.{IsNeed}
+use Rattle.ingest_laws.specs.Needs.{IsNeed}
 use Rattle.worm_device.specs.State.{DeviceState, IsDevice}
 use Rattle.plan_writer.proofs.PutFrom.{volume_2}
 use Rattle.ingest_engine.specs.Ingesting.{HasNoRoom, IngestEnds, Ingests}
-use Rattle.steady_volumes.proofs.LeftWhole.{held_unmoved}
-use Rattle.steady_ingests.specs.Steadiness.{HasOneMore}
-use Rattle.steady_ingests.proofs.AddsOne.{comes_more}
-use Rattle.steady_ingests.proofs.Alarms.{none_named}
-use Rattle.steady_ingests.proofs.Kept.{refused_keeps}
-use Rattle.steady_ingests.proofs.LeftByIngest.{nothing_done}
-use Rattle.steady_ingests.proofs.Steady.{comes_steady}
-use Rattle.steady_ingests.proofs.WellPlanned as planned
+use Rattle.settling_laws.proofs.LeftWhole.{held_unmoved}
+use Rattle.crash_laws.specs.Steadiness.{HasOneMore}
+use Rattle.crash_laws.proofs.AddsOne.{comes_more}
+use Rattle.crash_laws.proofs.Alarms.{none_named}
+use Rattle.crash_laws.proofs.Kept.{refused_keeps}
+use Rattle.crash_laws.proofs.LeftByIngest.{nothing_done}
+use Rattle.crash_laws.proofs.Steady.{comes_steady}
+use Rattle.crash_laws.proofs.WellPlanned as planned
 use Rattle.record_top.specs.Begins.{BeginsSteady}
 use Rattle.record_top.specs.Ingesting.{DoesIngest, HasRefused, HasStored, acknowledgement, misnamed, untaken, taken}
 use Rattle.record_top.specs.Ports.{Ports, Tells}

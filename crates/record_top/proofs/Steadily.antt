@@ -18,9 +18,9 @@ use Rattle.worm_device.proofs.Elapsing.{elapses_of}
 use Rattle.worm_device.proofs.Images.{extends_self, extends_then}
 use Rattle.recovery_engine.specs.Settling.{Settles}
 use Rattle.recovery_engine.specs.declared.settling.Ready.{Ready}
-use Rattle.steady_volumes.specs.Steadiness.{IsLeftWhole, IsSteady, StaysSteady}
-use Rattle.steady_volumes.proofs.LeftWhole.{held_unmoved, left_between, not_blank, settling_keeps, settling_left, stays_steady}
-use Rattle.steady_volumes.proofs.LookedAt.{looking_keeps, looking_steady}
+use Rattle.settling_laws.specs.Steadiness.{IsLeftWhole, IsSteady, StaysSteady}
+use Rattle.settling_laws.proofs.LeftWhole.{held_unmoved, left_between, not_blank, settling_keeps, settling_left, stays_steady}
+use Rattle.settling_laws.proofs.LookedAt.{looking_keeps, looking_steady}
 use Rattle.ingest_engine.specs.Formats.{FormatEnds, volume_cell}
 use Rattle.commit_record.specs.Licences.{IsLicensed}
 use Rattle.record_query.specs.Finding.{ComesTo, FindEnds, settled, settling}
@@ -167,7 +167,7 @@ module _ (g : Layout) (old new : DeviceState) (is : IsLayout g) (size : g.cells 
   formatting_made : old.image 0 ≡ None → (value : List ℕ) → new.image 0 ≡ Some value → IsFormatted new
   formatting_made none_there value stands =
       let whole = made (blank_all none_there) new.image
-          (record { above = sure_below; below = extends_self new.image }) value stands in
+      (record { above = sure_below; below = extends_self new.image }) value stands in
       record {
         settled = subst (λ (k : ℕ). Settled k new.image) (sym called.cells) whole.0;
         none = subst (λ (k : ℕ). AreDocuments k new.image []) (sym called.cells) whole.1;

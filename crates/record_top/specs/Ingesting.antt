@@ -9,7 +9,7 @@ use Rattle.stored_documents.specs.Slots.{IsEdge, IsHorizon, IsUnused}
 use Rattle.stored_documents.specs.Volumes.{IsVolume}
 use Rattle.index_paths.specs.Postings.{HasPostings}
 use Rattle.tamper_rules.specs.Settling.{Sound}
-use Rattle.volume_growth.specs.Needs.{IsNeed}
+use Rattle.ingest_laws.specs.Needs.{IsNeed}
 use Rattle.worm_device.specs.Counts.{IsStill}
 use Rattle.identifier_lookup.specs.Walks.{IsPassedWhole}
 use Rattle.ingest_engine.specs.Ingesting.{Ingests}

@@ -9,7 +9,7 @@ use Rattle.worm_device.specs.State.{DeviceState}
 use Rattle.recovery_engine.specs.Settling.{IsSettlingRule, Settles}
 use Rattle.recovery_engine.specs.declared.settling.Ready.{Ready}
 use Rattle.recovery_engine.specs.declared.settling.Step.{Step}
-use Rattle.steady_volumes.specs.Steadiness.{EndsAs}
+use Rattle.settling_laws.specs.Steadiness.{EndsAs}
 use Rattle.recovery_engine.specs.declared.settling.Step.TheVariants.{Nothing, Abandoned, Completed}
 use Rattle.record_top.specs.Ports.{Ports, Tells}
 use Rattle.record_top.specs.WholeLogs.{HasWholeLog}

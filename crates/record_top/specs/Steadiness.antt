@@ -12,10 +12,10 @@ use Rattle.stored_documents.specs.Volumes.{IsVolume}
 use Rattle.stored_documents.specs.Words.{Matches}
 use Rattle.stored_documents.specs.declared.word_rules.WordRule.TheVariants.{Ascii}
 use Rattle.tamper_rules.specs.Settling.{Held, Settled, Sound}
-use Rattle.volume_growth.specs.Needs.{IsNeed}
+use Rattle.ingest_laws.specs.Needs.{IsNeed}
 use Rattle.worm_device.specs.State.{DeviceState}
-use Rattle.steady_volumes.specs.Steadiness.{StaysSteady}
-use Rattle.steady_ingests.specs.Steadiness.{HasOneMore, StaysSteadyBy}
+use Rattle.settling_laws.specs.Steadiness.{StaysSteady}
+use Rattle.crash_laws.specs.Steadiness.{HasOneMore, StaysSteadyBy}
 use Rattle.record_query.specs.Finding.{HasMatch, Rises}
 use Rattle.record_query.specs.declared.found.Match.{Match}
 use Rattle.record_top.specs.Commands.{Request, ToFind, ToFormat, ToIngest, ToLookUp, ToRecover}

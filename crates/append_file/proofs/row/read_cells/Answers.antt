@@ -1,8 +1,5 @@
 -- What was found in the row.
-use Rattle.std.proofs.Common.{Option, subst, length, take}
-use Rattle.std.specs.Prelude.{IfNone, IfSome}
 use Rattle.std.proofs.lemmas.List.{length-take-le}
-use Rattle.append_file.specs.Rows.{HasNoPiece, HoldsRow}
 use Rattle.append_file.proofs.RowsOn.{row_broken, row_held}
 use Rattle.append_file.proofs.row.read_cells.Goals as goal
 

@@ -1,4 +1,4 @@
--- The position is in its part, behind whole cells, and the part in the view.
+-- The position is in its part, and the part in the view.
 use Rattle.std.proofs.Common.{◌≡◌, ◌≤◌, ◌+◌}
 use Rattle.append_file.specs.Reading.{IsPosition}
 use Rattle.stored_documents.specs.Slots.{cells_for}
@@ -7,5 +7,4 @@ use Rattle.append_file.proofs.tests.read_rows.Given as goal
 abbrev pub invariant-loop : goal.invariant-loop
 invariant-loop g l =
     IsPosition l.position
-    × (l.position.held.length ≤ l.position.given)
     × (l.position.start + cells_for l.position.bytes ≤ (g.V.View.seen l.view).cells)

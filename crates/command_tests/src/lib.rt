@@ -1,0 +1,16 @@
+//! Tests of commands: what each does, what a crash leaves of it, and what the next ones make of that.
+//!
+//! They run `record_top::run` over devices in memory, by `test_volumes`, whose decoder reads what stands afterwards
+//! and shares nothing with the crates. `commands` has each command with its answers; `rows` an ingest with its index,
+//! cell by cell; `sweeps` all cuts of an ingest and of `recover`, with crashes that keep each subset of what was not
+//! sure; and `journals` a slot whose journal was written by hand.
+#![tactic(auto)]
+
+#[cfg(test)]
+mod commands;
+#[cfg(test)]
+mod journals;
+#[cfg(test)]
+mod rows;
+#[cfg(test)]
+mod sweeps;

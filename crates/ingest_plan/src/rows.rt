@@ -1,0 +1,80 @@
+//! A row of postings.
+ghost use Rattle.std.specs.Prelude.{◌≡◌, ◌<◌, ◌≤◌, ◌+◌, ◌*◌, ◌%◌, ◌⊎◌, ℕ, None, IsTrue, length};
+ghost use Rattle.cell_pool.specs.Grants.{TakesFront, room_of};
+ghost use Rattle.cell_types.specs.Layout.{all_lists, list_at, pool_at};
+ghost use Rattle.ingest_plan.specs.Rows.{AreInOrder, AreUntouched, InsertsRow};
+ghost use Rattle.jump_insertion.specs.Inserting.{InsertsPosting};
+ghost use Rattle.jump_insertion.specs.Readiness.{IsReady};
+ghost use Rattle.worm_device.specs.Overlays.{of_overlay};
+
+use cell_pool::Pool;
+use cell_types::Geometry;
+use jump_block::Entry;
+use jump_insertion::{NewEntry, insert};
+use planned_cells::GrowthFault;
+use term_tags::ListedPosting;
+use worm_device::{Overlay, View};
+
+/// Inserts the postings of a slot's document, by list and key, each into its list.
+///
+/// Afterwards each of them has a trail, and what is planned is what was planned before, these postings, and pointers.
+/// After a refusal what was planned is given up.
+pub fn insert_postings<V: View>(
+    overlay: &mut Overlay<'_, V>,
+    pool: &mut Pool,
+    geometry: &Geometry,
+    rows: &[ListedPosting],
+) -> Result<(), GrowthFault>
+    requires order { AreInOrder geometry.now rows.now }
+    requires floor { pool_at geometry.now ≤ (of_overlay V.seen overlay.old).fresh }
+    requires fresh { (of_overlay V.seen overlay.old).fresh ≤ pool.old.next }
+    requires room { 256 * length rows.now ≤ room_of pool.old }
+    requires free { (cell : ℕ) → pool.old.next ≤ cell → (of_overlay V.seen overlay.old).planned cell ≡ None }
+    requires untouched { IsTrue (of_overlay V.seen overlay.old).base.tells →
+        AreUntouched geometry.now (of_overlay V.seen overlay.old) }
+    ensures from { pool.old.next ≤ pool.new.next }
+    ensures to { pool.new.next ≤ pool.old.next + 256 * length rows.now }
+    ensures end { pool.new.end ≡ pool.old.end }
+    ensures inserts { InsertsRow geometry.now rows.now pool.old.next pool.new.next
+        (of_overlay V.seen overlay.old) (of_overlay V.seen overlay.new) result }
+{
+    for row in rows {
+        insert_one(overlay, pool, geometry, row)?;
+    }
+    Ok(())
+}
+
+/// Inserts one posting into its list.
+fn insert_one<V: View>(
+    overlay: &mut Overlay<'_, V>,
+    pool: &mut Pool,
+    geometry: &Geometry,
+    row: &ListedPosting,
+) -> Result<Entry, GrowthFault>
+    requires list { row.now.list < all_lists geometry.now }
+    requires key { row.now.posting.key % 256 ≤ row.now.posting.last }
+    requires floor { pool_at geometry.now ≤ (of_overlay V.seen overlay.old).fresh }
+    requires fresh { (of_overlay V.seen overlay.old).fresh ≤ pool.old.next }
+    requires room { 256 ≤ room_of pool.old }
+    requires free { (cell : ℕ) → pool.old.next ≤ cell → (of_overlay V.seen overlay.old).planned cell ≡ None }
+    requires ready { IsTrue (of_overlay V.seen overlay.old).base.tells →
+        IsReady (of_overlay V.seen overlay.old) (list_at geometry.now row.now.list) (pool_at geometry.now) pool.old.next
+        row.now.posting.key }
+    ensures pool { (pool.new ≡ pool.old) ⊎ TakesFront pool.old pool.new 256 pool.old.next }
+    ensures inserts { InsertsPosting (list_at geometry.now row.now.list) (pool_at geometry.now)
+        pool.old.next pool.new.next row.now.posting
+        (of_overlay V.seen overlay.old) (of_overlay V.seen overlay.new) result }
+{
+    let entry = NewEntry {
+        key: row.key(),
+        last: row.last(),
+        tag: row.tag(),
+    };
+    insert(
+        overlay,
+        pool,
+        geometry.list_at(row.list()),
+        geometry.pool_at(),
+        entry,
+    )
+}

@@ -1,0 +1,593 @@
+-- Where a posting goes: into a block with a blank place, or behind a full block, with a pointer to it there.
+use Rattle.std.proofs.Common.{◌≡◌, ◌≢◌, ◌<◌, ◌≤◌, ◌+◌, ◌*◌, ◌^◌, ◌⊎◌, ⊎_elim, inl, inr, ℕ, Option, Some, None, Result, Ok, Err, refl, ap, sym, subst, arith, ◌∙◌}
+use Rattle.std.specs.Prelude.{IsTrue}
+use Rattle.std.proofs.lemmas.Option.{none-some}
+use Rattle.cell_types.specs.Image.{Image, Extends}
+use Rattle.cell_types.specs.declared.record_cell.RecordCell.TheVariants.{Jump}
+use Rattle.cell_types.specs.declared.refusal.Fault.TheVariants.{Tampered, Failed}
+use Rattle.cell_types.specs.declared.refusal.Fault as fault
+use Rattle.stored_documents.specs.Volumes.{Holds}
+use Rattle.stored_documents.proofs.Extending.{holds_on}
+use Rattle.index_paths.specs.Blocks.{PostingFields, posting_record, InFront, at_the_start, behind, InSpan, Hop, here, on, pointer_at}
+use Rattle.index_paths.specs.Nodes.{AreApart}
+use Rattle.index_paths.proofs.Fronts.{front_on}
+use Rattle.worm_device.specs.Views.{ViewState, Viewed, IsView}
+use Rattle.worm_device.specs.declared.owner.Owner.{Owner}
+use Rattle.worm_device.proofs.Elapsing.{called_then}
+use Rattle.worm_device.proofs.Images.{extends_then, extends_self}
+use Rattle.worm_device.proofs.Resting.{rests_of, viewed_then}
+use Rattle.jump_block.specs.Fronts.{FirstEnds}
+use Rattle.jump_block.specs.Spans.{IsSpan}
+use Rattle.jump_block.specs.declared.known_front.Front.TheVariants.{Open}
+use Rattle.jump_block.specs.declared.spans.Span.{Span}
+use Rattle.jump_block.proofs.Knowing.{key_on}
+use Rattle.jump_block.specs.Pointing.{HasFull, HasPointer}
+use Rattle.jump_block.specs.Pointing.{HasKeyIn}
+use Rattle.jump_block.proofs.OneBlock.{none_from_blank}
+use Rattle.planned_cells.specs.declared.fault.GrowthFault.{GrowthFault}
+use Rattle.planned_cells.specs.declared.fault.GrowthFault.TheVariants.{Fault, NoMemory}
+use Rattle.jump_insertion.specs.Hopping.{IsAt, IsSpot, FaultEnds}
+use Rattle.jump_insertion.specs.Placing.{PlacesPosting}
+use Rattle.jump_insertion.specs.Planning.{PutsRecord, PutsBoth}
+use Rattle.jump_insertion.specs.Readiness.{IsOwnBlock, IsReached, is_new, a_posting, a_pointer, IsReady}
+use Rattle.jump_insertion.specs.declared.entries.Spot.{Spot}
+use Rattle.jump_insertion.proofs.Growing.{next_front}
+use Rattle.jump_insertion.proofs.Naming.{fault_then, full_at_most}
+use Rattle.jump_insertion.proofs.Readying.{ready_viewed, ready_same, ready_put, own_block_same, own_block_viewed, own_block_put, reached_viewed, reached_as, apart_from_head}
+use Rattle.jump_insertion.proofs.Showing.{blank_is_free, adding_extends, called_on, quiet_on, quiet_then, same_extends}
+
+pub span_holds : {l k : ℕ} {s : Span} → IsSpan l s → s.low ≤ k → k < s.high → InSpan l s.level s.digit k
+span_holds is low high = record {
+  levels = is.levels;
+  some = is.some;
+  digits = is.digits;
+  low = omega (arith, is.low, low);
+  high = omega (arith, is.low, is.high, high);
+}
+
+-- what a hop to a block is, whose front has a key of the span
+hop_to : (image : Image) (floor to block l target : ℕ) (p : PostingFields) (s : Span) → HasFull image block l
+    → IsSpan l s
+    → s.low ≤ p.key → p.key < s.high → HasPointer image block s.level s.digit target → floor ≤ target
+    → target + 256 ≤ to → HasKeyIn image target s.low s.high → Hop image floor to block p.key target
+hop_to image floor to block l target p s full is low high led from inside has =
+    let P : ℕ → ℕ → Type 0 = λ n k. InSpan n s.level s.digit k in
+    record {
+      greatest = full.p;
+      full = full.in_front;
+      level = s.level;
+      digit = s.digit;
+      span = subst (λ n. P n p.key) (sym full.same) (span_holds is low high);
+      jump = led;
+      inside_from = from;
+      inside_to = inside;
+      place = has.place;
+      some = has.p;
+      in_front = has.in_front;
+      in_places = has.in_places;
+      in_span = subst (λ n. P n has.p.key) (sym full.same) (span_holds is has.from has.below);
+    }
+
+-- a full block has its greatest key
+full_has_key : {image : Image} {block l low bound : ℕ} → HasFull image block l → low ≤ l → l < bound
+    → HasKeyIn image block low bound
+full_has_key full low bound = record {
+  place = 127;
+  p = full.p;
+  in_places = omega arith;
+  in_front = full.in_front;
+  from = omega (arith, full.same, low);
+  below = omega (arith, full.same, bound);
+}
+
+pub places_differ : (target block place level digit : ℕ) → AreApart target 256 block 256 → place < 128 → level < 8
+    → 1 ≤ digit → digit ≤ 15 → target + place ≡ pointer_at block level digit → ⊥
+places_differ target block place level digit apart below levels some digits is = ⊎_elim
+    (λ before. omega (arith, before, below, levels, some, digits, is))
+    (λ behind. omega (arith, behind, below, levels, some, digits, is))
+    apart
+
+-- the posting goes to a blank place of the block
+pub into_open : (head floor next block low bound place : ℕ) (greatest : Option ℕ) (p : PostingFields)
+    (old mid new : ViewState) → IsView mid → head + 256 ≤ floor → (block ≡ head) ⊎ (floor ≤ block)
+    → low ≤ p.key → p.key < bound → block + 256 ≤ next → Viewed old mid
+    → FirstEnds p.key block old mid (Ok (Open place greatest))
+    → (IsTrue old.base.tells → IsAt old head floor next p.key block)
+    → PutsRecord (block + place) (posting_record p) (record { head = head; base = block }) mid new (Ok tt)
+    → PlacesPosting head floor next block p low bound old new (Ok (Some (record { block = block; place = place })))
+into_open head floor next block low bound place greatest p old mid new view before lies from below inside viewed read
+    is_at put = record {
+      called = called_on viewed.called put.base;
+      cells = put.cells ∙ viewed.cells;
+      fresh = put.fresh ∙ viewed.fresh;
+      loans = put.loans ∙ viewed.loans;
+      lower = extends_then viewed.lower (same_extends mid.lower new.lower put.lower);
+      quiet = quiet_on viewed put.base;
+      ends = λ tells.
+          let open_ = read.1 tells in
+          let blank : mid.image (block + place) ≡ None = open_.0 in
+          let grown : Extends mid.image new.image = adding_extends (λ c differ. (put.others c differ).0) blank in
+          let there : InFront new.image block place p = next_front new.image block place p
+          (λ before h. let q = open_.1.last before h in (q.0, front_on grown q.1, q.2)) put.ends.shown in
+          let at_old = is_at tells in
+          record {
+            shown = extends_then viewed.image grown;
+            trail = here block place refl read.0 there;
+            has = record { place = place; p = p; in_places = read.0; in_front = there; from = from; below = below };
+            ready = λ key less.
+                ready_put mid new head floor next next p.key key (block + place) block
+                (record { head = head; base = block }) refl refl
+                (λ c differ. (put.others c differ).2) put.ends.for_whom (view.unowned (block + place) put.ends.free)
+                grown (same_extends mid.lower new.lower put.lower) put.fresh (omega arith) (omega (arith, read.0))
+                (ready_viewed viewed head floor next p.key at_old.ready) (omega arith) (omega (arith, less)) inside
+                (apart_from_head before lies) (own_block_viewed viewed head block at_old.own_block)
+                (reached_viewed viewed head floor block at_old.reached) (a_posting place p refl read.0 there less);
+          };
+    }
+
+-- the block that leads on to the posting is full, and its pointer for it was blank
+pub record IsHome (old : ViewState) (head floor next block l : ℕ) (p : PostingFields) (s : Span)
+    (low bound : ℕ) : Type 0 where
+  pub is : IsSpan l s
+  pub span_from : s.low ≤ p.key
+  pub span_to : p.key < s.high
+  pub from : low ≤ l
+  pub less : l < p.key
+  pub below : p.key < bound
+  pub before : head + 256 ≤ floor
+  pub lies : (block ≡ head) ⊎ (floor ≤ block)
+  pub inside : block + 256 ≤ next
+  pub view : IsView old
+  pub at : IsTrue old.base.tells → IsAt old head floor next p.key block
+  pub full : IsTrue old.base.tells → HasFull old.image block l
+  pub blank : IsTrue old.base.tells → old.image (pointer_at block s.level s.digit) ≡ None
+
+-- the posting may go to this place
+pub record IsTarget (mid : ViewState) (head floor next to key home : ℕ) (spot : Spot) : Type 0 where
+  pub from : floor ≤ spot.block
+  pub inside : spot.block + 256 ≤ to
+  pub in_places : spot.place < 128
+  pub more : next ≤ to
+  pub view : IsView mid
+  pub told : IsTrue mid.base.tells → IsSpot mid head floor key home spot.block spot.place
+
+-- a state that shows this image over this one
+abbrev pub with_image : ViewState → Image → Image → ViewState
+with_image s image lower = record {
+  cells = s.cells;
+  image = image;
+  planned = s.planned;
+  owners = s.owners;
+  lower = lower;
+  fresh = s.fresh;
+  base = s.base;
+  loans = s.loans;
+}
+
+-- a front of another block than the pointer's stays as it is
+front_past : (image new : Image) (target block level digit : ℕ) {place : ℕ} {q : PostingFields}
+    → AreApart target 256 block 256
+    → place < 128 → level < 8 → 1 ≤ digit → digit ≤ 15
+    → ((c : ℕ) → c ≢ pointer_at block level digit → new c ≡ image c) → InFront image target place q
+    → InFront new target place q
+front_past image new target block level digit apart below levels some digits others (at_the_start i p is holds) =
+    at_the_start i p is (record {
+      cell = holds.cell;
+      stands = others (target + i) (λ e. places_differ target block i level digit apart below levels some digits e)
+          ∙ holds.stands;
+      is = holds.is;
+    })
+front_past image new target block level digit apart below levels some digits others
+    (behind i j p r is rest less holds) =
+    behind i j p r is (front_past image new target block level digit apart
+    (omega (arith, is, below)) levels some digits others rest) less (record {
+      cell = holds.cell;
+      stands = others (target + i) (λ e. places_differ target block i level digit apart below levels some digits e)
+          ∙ holds.stands;
+      is = holds.is;
+    })
+
+span_key : {image : Image} {target l : ℕ} {s : Span} → IsSpan l s → HasKeyIn image target s.low s.high
+    → HasKeyIn image target (l + s.digit * 16 ^ s.level) (l + s.digit * 16 ^ s.level + 16 ^ s.level)
+span_key is has = record {
+  place = has.place;
+  p = has.p;
+  in_places = has.in_places;
+  in_front = has.in_front;
+  from = omega (arith, has.from, is.low);
+  below = omega (arith, has.below, is.high, is.low);
+}
+
+-- what is written or planned behind a full block
+module _ (head floor next to block l : ℕ) (p : PostingFields) (s : Span) (low bound : ℕ) (old mid new : ViewState)
+    (spot : Spot)
+    (home : IsHome old head floor next block l p s low bound)
+    (target : IsTarget mid head floor next to p.key block spot)
+    (viewed : Viewed old mid) where
+  -- the target is another block
+  pub spot_apart : IsTrue old.base.tells → AreApart spot.block 256 block 256
+  spot_apart tells =
+      let there = target.told (subst IsTrue (sym viewed.called.tells) tells) in
+      let full_mid = key_on viewed.image (home.full tells) in
+      ⊎_elim
+      (λ (same : spot.block ≡ block). absurd (omega (
+        arith,
+        none_from_blank mid.image block spot.place 127 full_mid.p
+            (subst (λ b. mid.image (b + spot.place) ≡ None) same there.blank) full_mid.in_front,
+        target.in_places,
+      )))
+      (λ apart. apart)
+      there.apart
+
+  pub spot_differs : IsTrue old.base.tells → spot.block + spot.place ≢ pointer_at block s.level s.digit
+  spot_differs tells = λ e.
+      places_differ spot.block block spot.place s.level s.digit
+      (spot_apart tells) target.in_places home.is.levels home.is.some home.is.digits e
+
+  pub spot_free : IsTrue old.base.tells → mid.planned (spot.block + spot.place) ≡ None
+  spot_free tells = blank_is_free mid target.view (spot.block + spot.place)
+      (target.told (subst IsTrue (sym viewed.called.tells) tells)).blank
+
+  pub pointer_free : IsTrue old.base.tells → mid.planned (pointer_at block s.level s.digit) ≡ None
+  pointer_free tells = ap (λ (f : Image). f (pointer_at block s.level s.digit)) viewed.planned
+      ∙ blank_is_free old home.view (pointer_at block s.level s.digit) (home.blank tells)
+
+  module _ (put_at : ViewState) (owner home_owner : Owner) (is_head : owner.head ≡ head)
+      (is_base : owner.base ≡ spot.block)
+      (is_home_head : home_owner.head ≡ head) (is_home_base : home_owner.base ≡ block)
+      (put : PutsRecord (spot.block + spot.place) (posting_record p) owner mid put_at (Ok tt))
+      (led : PutsRecord (pointer_at block s.level s.digit) (Jump spot.block) home_owner put_at new (Ok tt))
+      (tells : IsTrue old.base.tells) where
+    there : IsSpot mid head floor p.key block spot.block spot.place
+    there = target.told (subst IsTrue (sym viewed.called.tells) tells)
+
+    at_old : IsAt old head floor next p.key block
+    at_old = home.at tells
+
+    grown : Extends old.image new.image
+    grown = record {
+      keeps = λ c v h.
+          let at_mid = viewed.image.keeps c v h in
+          let not_pointer : c ≢ pointer_at block s.level s.digit =
+          λ e. none-some v (sym (home.blank tells) ∙ ap old.image (sym e) ∙ h) in
+          let not_at : c ≢ spot.block + spot.place =
+          λ e. none-some v (sym there.blank ∙ ap mid.image (sym e) ∙ at_mid) in
+          (led.others c not_pointer).0 ∙ (put.others c not_at).0 ∙ at_mid;
+    }
+
+    holds_new : Holds new.image (spot.block + spot.place) (posting_record p)
+    holds_new = record {
+      cell = put.ends.shown.cell;
+      stands = (led.others (spot.block + spot.place) (spot_differs tells)).0 ∙ put.ends.shown.stands;
+      is = put.ends.shown.is;
+    }
+
+    -- the posting is in the target's front
+    into : InFront new.image spot.block spot.place p
+    into =
+        let front_kept : Extends mid.image put_at.image = adding_extends (λ c d. (put.others c d).0) there.blank in
+        next_front new.image spot.block spot.place p
+        (λ before h.
+        let q = there.rises before h in (
+          q.0,
+          front_past put_at.image new.image spot.block block s.level s.digit (spot_apart tells)
+              (omega (arith, h, target.in_places)) home.is.levels home.is.some home.is.digits
+              (λ c d. (led.others c d).0) (front_on front_kept q.1),
+          q.2,
+        ))
+        holds_new
+
+    has : HasKeyIn new.image spot.block s.low s.high
+    has = record {
+      place = spot.place;
+      p = p;
+      in_places = target.in_places;
+      in_front = into;
+      from = home.span_from;
+      below = home.span_to;
+    }
+
+    full_new : HasFull new.image block l
+    full_new = key_on grown (home.full tells)
+
+    lower_mid : Extends mid.lower new.lower
+    lower_mid = same_extends mid.lower new.lower (led.lower ∙ put.lower)
+
+    -- The states that lead from what was shown at first to what is shown in the end: nobody's cell that was written
+    -- meanwhile below a planned one counts.
+    abbrev first : ViewState
+    first = with_image mid old.image mid.lower
+
+    abbrev second : ViewState
+    second = with_image put_at new.image new.lower
+
+    ready_first : IsReady first head floor next p.key
+    ready_first = ready_same old first head floor next p.key
+        (extends_self old.image) viewed.lower viewed.fresh viewed.owners at_old.ready
+
+    own_target : IsOwnBlock first head spot.block
+    own_target = record { inside = there.own_block.inside; apart = there.own_block.apart }
+
+    own_home : IsOwnBlock first head block
+    own_home = own_block_same old first head floor next p.key
+        (extends_self old.image) viewed.lower viewed.fresh viewed.owners block at_old.own_block
+
+    ready_second : (key : ℕ) → p.key < key → IsReady second head floor to key
+    ready_second key greater =
+        ready_put first second head floor next to p.key key (spot.block + spot.place) spot.block owner is_head is_base
+        (λ c d. (put.others c d).2) put.ends.for_whom (target.view.unowned (spot.block + spot.place) put.ends.free)
+        grown lower_mid put.fresh (omega arith) (omega (arith, target.in_places)) ready_first target.more
+        (omega (arith, greater)) target.inside
+        (apart_from_head home.before (inr target.from)) own_target
+        (reached_as mid first head floor (extends_self mid.lower) refl spot.block there.reached)
+        (a_posting spot.place p refl target.in_places into greater)
+
+    own_second : (key : ℕ) → p.key < key → IsOwnBlock second head block
+    own_second key greater =
+        own_block_put first second head floor next to p.key key
+        (spot.block + spot.place) spot.block owner is_head is_base
+        (λ c d. (put.others c d).2) put.ends.for_whom (target.view.unowned (spot.block + spot.place) put.ends.free)
+        grown lower_mid put.fresh (omega arith) (omega (arith, target.in_places)) block
+        (inr (spot_apart tells)) own_home
+
+    reached_second : IsReached second head floor block
+    reached_second = reached_as old second head floor (extends_then viewed.lower lower_mid)
+        (put.fresh ∙ viewed.fresh) block at_old.reached
+
+    pub placed_ready : (key : ℕ) → p.key < key → IsReady new head floor to key
+    placed_ready key greater =
+        ready_put second new head floor to to key key
+        (pointer_at block s.level s.digit) block home_owner is_home_head is_home_base
+        (λ c d. (led.others c d).2) led.ends.for_whom (unowned_pointer led.ends.free)
+        (extends_self new.image) (extends_self new.lower) led.fresh (omega arith)
+        (omega (arith, home.is.levels, home.is.digits))
+        (ready_second key greater) (omega arith) (omega arith) (omega (arith, home.inside, target.more))
+        (apart_from_head home.before home.lies) (own_second key greater) reached_second
+        (a_pointer s.level s.digit spot.block l (spot.block + spot.place) owner
+        (record { levels = home.is.levels; some = home.is.some; digits = home.is.digits }) refl led.ends.shown
+        target.from target.inside
+        full_new (span_key home.is has)
+        ((led.others (spot.block + spot.place) (spot_differs tells)).2 ∙ put.ends.for_whom) is_head is_base)
+      where
+        unowned_pointer : put_at.planned (pointer_at block s.level s.digit) ≡ None
+            → put_at.owners (pointer_at block s.level s.digit) ≡ None
+        unowned_pointer free =
+            let other : pointer_at block s.level s.digit ≢ spot.block + spot.place = λ e. spot_differs tells (sym e) in
+            (put.others (pointer_at block s.level s.digit) other).2
+            ∙ target.view.unowned (pointer_at block s.level s.digit) (pointer_free tells)
+
+    pub placed_hop : Hop new.image floor to block p.key spot.block
+    placed_hop = hop_to new.image floor to block l spot.block p s full_new home.is home.span_from home.span_to
+        led.ends.shown target.from target.inside has
+
+    pub placed_grown : Extends old.image new.image
+    placed_grown = grown
+
+    pub placed_into : InFront new.image spot.block spot.place p
+    placed_into = into
+
+    pub placed_key : HasKeyIn new.image block low bound
+    placed_key = full_has_key full_new home.from (omega (arith, home.less, home.below))
+
+  -- the call that plans both
+  pub both_places : (result : Result (Option Spot) GrowthFault)
+      → PutsBoth spot (pointer_at block s.level s.digit) p (record { head = head; base = spot.block })
+      (record { head = head; base = block }) mid new result
+      → PlacesPosting head floor to block p low bound old new result
+  both_places (Ok (Some found)) both = record {
+    called = called_on viewed.called both.base;
+    cells = both.cells ∙ viewed.cells;
+    fresh = both.fresh ∙ viewed.fresh;
+    loans = both.loans ∙ viewed.loans;
+    lower = extends_then viewed.lower (same_extends mid.lower new.lower both.lower);
+    quiet = quiet_on viewed both.base;
+    ends = λ tells.
+        let two = both.ends.1 in
+        let owner : Owner = record { head = head; base = spot.block } in
+        let home_owner : Owner = record { head = head; base = block } in
+        let there = target.told (subst IsTrue (sym viewed.called.tells) tells) in
+        record {
+          shown = placed_grown two.mid owner home_owner refl refl refl refl two.posting two.jump tells;
+          trail = on block spot.block
+              (placed_hop two.mid owner home_owner refl refl refl refl two.posting two.jump tells)
+              (here spot.block spot.place (ap (λ (x : Spot). x.block + x.place) both.ends.0) target.in_places
+              (placed_into two.mid owner home_owner refl refl refl refl two.posting two.jump tells));
+          has = placed_key two.mid owner home_owner refl refl refl refl two.posting two.jump tells;
+          ready = placed_ready two.mid owner home_owner refl refl refl refl two.posting two.jump tells;
+        };
+  }
+  both_places (Ok None) both = absurd both.ends
+  both_places (Err (Fault Failed)) both = absurd both.ends
+  both_places (Err (Fault (Tampered e))) both = record {
+    called = called_on viewed.called both.base;
+    cells = both.cells ∙ viewed.cells;
+    fresh = both.fresh ∙ viewed.fresh;
+    loans = both.loans ∙ viewed.loans;
+    lower = extends_then viewed.lower (same_extends mid.lower new.lower both.lower);
+    quiet = quiet_on viewed both.base;
+    ends = (
+      λ tells. absurd (both.ends (spot_free tells) (pointer_free tells) (spot_differs tells)),
+      λ tells. absurd (both.ends (spot_free tells) (pointer_free tells) (spot_differs tells)),
+    );
+  }
+  both_places (Err NoMemory) both = record {
+    called = called_on viewed.called both.base;
+    cells = both.cells ∙ viewed.cells;
+    fresh = both.fresh ∙ viewed.fresh;
+    loans = both.loans ∙ viewed.loans;
+    lower = extends_then viewed.lower (same_extends mid.lower new.lower both.lower);
+    quiet = quiet_on viewed both.base;
+    ends = tt;
+  }
+
+-- a new block is one to go to
+pub new_spot : (s : ViewState) → IsView s → (head floor next key block : ℕ) → IsReady s head floor next key
+    → s.fresh ≤ next
+    → ((cell : ℕ) → next ≤ cell → s.planned cell ≡ None) → block + 256 ≤ next → IsSpot s head floor key block next 0
+new_spot s view head floor next key block ready fresh free before = record {
+  own_block = record {
+    inside = λ cell owner is from to. absurd (none-some owner (sym (view.unowned cell (free cell from)) ∙ is));
+    apart = λ cell owner is same. inr (inl (ready.inside cell owner is same).2);
+  };
+  reached = is_new fresh;
+  apart = inr (inr before);
+  blank = view.beyond (next + 0) (free (next + 0) (omega arith)) (omega (arith, fresh));
+  rises = λ before h. absurd (omega (arith, h));
+}
+
+-- the posting went behind the target
+pub into_target : (head floor to block l low bound target : ℕ) (p : PostingFields) (s : Span) (old mid new : ViewState)
+    (spot : Spot) → low ≤ l → l < p.key → p.key < bound → IsSpan l s → s.low ≤ p.key → p.key < s.high
+    → floor ≤ target → target + 256 ≤ to → Viewed old mid → (IsTrue old.base.tells → HasFull mid.image block l)
+    → (IsTrue old.base.tells → HasPointer mid.image block s.level s.digit target)
+    → PlacesPosting head floor to target p s.low s.high mid new (Ok (Some spot))
+    → PlacesPosting head floor to block p low bound old new (Ok (Some spot))
+into_target head floor to block l low bound target p s old mid new spot from less below is span_from span_to
+    inside_from inside_to viewed full led placed = record {
+      called = called_then viewed.called placed.called;
+      cells = placed.cells ∙ viewed.cells;
+      fresh = placed.fresh ∙ viewed.fresh;
+      loans = placed.loans ∙ viewed.loans;
+      lower = extends_then viewed.lower placed.lower;
+      quiet = quiet_then viewed placed.called placed.quiet;
+      ends = λ tells.
+          let done = placed.ends (subst IsTrue (sym viewed.called.tells) tells) in
+          let full_new = key_on done.shown (full tells) in
+          record {
+            shown = extends_then viewed.image done.shown;
+            trail = on block target
+                (hop_to new.image floor to block l target p s full_new is span_from span_to
+                (holds_on done.shown (led tells)) inside_from inside_to done.has)
+                done.trail;
+            has = full_has_key full_new from (omega (arith, less, below));
+            ready = done.ready;
+          };
+    }
+
+-- an insertion after reads
+pub place_then : (head floor to block : ℕ) (p : PostingFields) (low bound : ℕ) (old mid new : ViewState)
+    → Viewed old mid
+    → (result : Result (Option Spot) GrowthFault) → PlacesPosting head floor to block p low bound mid new result
+    → PlacesPosting head floor to block p low bound old new result
+place_then head floor to block p low bound old mid new viewed (Ok (Some spot)) placed = record {
+  called = called_then viewed.called placed.called;
+  cells = placed.cells ∙ viewed.cells;
+  fresh = placed.fresh ∙ viewed.fresh;
+  loans = placed.loans ∙ viewed.loans;
+  lower = extends_then viewed.lower placed.lower;
+  quiet = quiet_then viewed placed.called placed.quiet;
+  ends = λ tells.
+      let done = placed.ends (subst IsTrue (sym viewed.called.tells) tells) in
+      record { shown = extends_then viewed.image done.shown; trail = done.trail; has = done.has; ready = done.ready };
+}
+place_then head floor to block p low bound old mid new viewed (Ok None) placed = record {
+  called = called_then viewed.called placed.called;
+  cells = placed.cells ∙ viewed.cells;
+  fresh = placed.fresh ∙ viewed.fresh;
+  loans = placed.loans ∙ viewed.loans;
+  lower = extends_then viewed.lower placed.lower;
+  quiet = quiet_then viewed placed.called placed.quiet;
+  ends = (viewed_then viewed placed.ends.0, λ tells. placed.ends.1 (subst IsTrue (sym viewed.called.tells) tells));
+}
+place_then head floor to block p low bound old mid new viewed (Err (Fault fault)) placed = record {
+  called = called_then viewed.called placed.called;
+  cells = placed.cells ∙ viewed.cells;
+  fresh = placed.fresh ∙ viewed.fresh;
+  loans = placed.loans ∙ viewed.loans;
+  lower = extends_then viewed.lower placed.lower;
+  quiet = quiet_then viewed placed.called placed.quiet;
+  ends = (
+    fault_then head floor p.key old mid new viewed fault placed.ends.0,
+    λ tells. viewed_then viewed (placed.ends.1 (subst IsTrue (sym viewed.called.tells) tells)),
+  );
+}
+place_then head floor to block p low bound old mid new viewed (Err NoMemory) placed = record {
+  called = called_then viewed.called placed.called;
+  cells = placed.cells ∙ viewed.cells;
+  fresh = placed.fresh ∙ viewed.fresh;
+  loans = placed.loans ∙ viewed.loans;
+  lower = extends_then viewed.lower placed.lower;
+  quiet = quiet_then viewed placed.called placed.quiet;
+  ends = tt;
+}
+
+-- a refusal behind the target is one behind the block
+pub refused_behind : (head floor to block target a b : ℕ) (p : PostingFields) (low bound : ℕ) (old new : ViewState)
+    (fault : GrowthFault)
+    → PlacesPosting head floor to target p a b old new (Err fault)
+    → PlacesPosting head floor to block p low bound old new (Err fault)
+refused_behind head floor to block target a b p low bound old new (Fault fault) placed = record {
+  called = placed.called;
+  cells = placed.cells;
+  fresh = placed.fresh;
+  loans = placed.loans;
+  lower = placed.lower;
+  quiet = placed.quiet;
+  ends = placed.ends;
+}
+refused_behind head floor to block target a b p low bound old new NoMemory placed = record {
+  called = placed.called;
+  cells = placed.cells;
+  fresh = placed.fresh;
+  loans = placed.loans;
+  lower = placed.lower;
+  quiet = placed.quiet;
+  ends = placed.ends;
+}
+
+-- a fault of the reads
+pub read_fault : (head floor to block : ℕ) (p : PostingFields) (low bound : ℕ) (old new : ViewState) (f : fault.Fault)
+    → Viewed old new
+    → FaultEnds head floor p.key old new f → PlacesPosting head floor to block p low bound old new (Err (Fault f))
+read_fault head floor to block p low bound old new f viewed ends = record {
+  called = viewed.called;
+  cells = viewed.cells;
+  fresh = viewed.fresh;
+  loans = viewed.loans;
+  lower = viewed.lower;
+  quiet = (rests_of viewed).below;
+  ends = (ends, λ tells. viewed);
+}
+
+-- the block has no key of the span
+pub no_key_here : (head floor to block l : ℕ) (p : PostingFields) (low bound : ℕ) (old new : ViewState) → Viewed old new
+    → (IsTrue old.base.tells → HasFull new.image block l) → l < low
+    → PlacesPosting head floor to block p low bound old new (Ok None)
+no_key_here head floor to block l p low bound old new viewed full less = record {
+  called = viewed.called;
+  cells = viewed.cells;
+  fresh = viewed.fresh;
+  loans = viewed.loans;
+  lower = viewed.lower;
+  quiet = (rests_of viewed).below;
+  ends = (viewed, λ tells place q below front. omega (arith, full_at_most (full tells) place q below front, less));
+}
+
+-- the cell of the posting was planned already, which a view that tells does not show as blank
+pub one_refused : (head floor to block at : ℕ) (p : PostingFields) (low bound : ℕ) (old mid new : ViewState)
+    (owner : Owner)
+    (fault : GrowthFault) → Viewed old mid → (IsTrue old.base.tells → mid.planned at ≡ None)
+    → PutsRecord at (posting_record p) owner mid new (Err fault)
+    → PlacesPosting head floor to block p low bound old new (Err fault)
+one_refused head floor to block at p low bound old mid new owner (Fault Failed) viewed free put = absurd put.ends
+one_refused head floor to block at p low bound old mid new owner (Fault (Tampered e)) viewed free put = record {
+  called = called_on viewed.called put.base;
+  cells = put.cells ∙ viewed.cells;
+  fresh = put.fresh ∙ viewed.fresh;
+  loans = put.loans ∙ viewed.loans;
+  lower = extends_then viewed.lower (same_extends mid.lower new.lower put.lower);
+  quiet = quiet_on viewed put.base;
+  ends = (
+    λ tells. absurd (none-some e.found (sym (free tells) ∙ put.ends.planned)),
+    λ tells. absurd (none-some e.found (sym (free tells) ∙ put.ends.planned)),
+  );
+}
+one_refused head floor to block at p low bound old mid new owner NoMemory viewed free put = record {
+  called = called_on viewed.called put.base;
+  cells = put.cells ∙ viewed.cells;
+  fresh = put.fresh ∙ viewed.fresh;
+  loans = put.loans ∙ viewed.loans;
+  lower = extends_then viewed.lower (same_extends mid.lower new.lower put.lower);
+  quiet = quiet_on viewed put.base;
+  ends = tt;
+}

@@ -1,0 +1,8 @@
+-- The law, for all images.
+use Rattle.std.proofs.Common.{arith}
+use Rattle.index_paths.proofs.Trails.{trail_on, trail_wider}
+use Rattle.jump_insertion.proofs.readiness.trails_go_on.Goals as goal
+
+pub returns : goal.returns
+returns c = λ old new floor to later at p head extends more trail.
+    trail_wider floor later (omega arith) more (trail_on extends trail)

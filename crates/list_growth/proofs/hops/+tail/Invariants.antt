@@ -1,5 +1,0 @@
--- The level falls at every hop.
-use Rattle.list_growth.proofs.hops.+tail.Given as goal
-
-abbrev pub decreases-tail : goal.decreases-tail
-decreases-tail g l = l.level

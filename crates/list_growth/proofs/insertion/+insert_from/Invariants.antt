@@ -1,5 +1,0 @@
--- The level falls at every hop.
-use Rattle.list_growth.proofs.insertion.+insert_from.Given as goal
-
-abbrev pub decreases-insert_from : goal.decreases-insert_from
-decreases-insert_from g l = l.within.level

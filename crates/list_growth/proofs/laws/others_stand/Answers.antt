@@ -1,8 +1,0 @@
--- The law, for all images.
-use Rattle.list_growth.proofs.KeptTrails.{grown}
-use Rattle.list_growth.proofs.Others.{stands_aside}
-use Rattle.list_growth.proofs.laws.others_stand.Goals as goal
-
-pub returns : goal.returns
-returns c = λ old new floor next to head other cost p w roomy grows v apart.
-    stands_aside (grown w roomy grows) roomy v apart

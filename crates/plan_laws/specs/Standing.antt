@@ -1,0 +1,58 @@
+-- What a settled volume has for the next document's index, and what that leaves.
+use Rattle.std.specs.Prelude.{◌≡◌, ◌<◌, ◌≤◌, ◌*◌, ℕ, List, Some, None}
+use Rattle.cell_types.specs.Bytes.{AreBytes}
+use Rattle.cell_types.specs.Image.{Image}
+use Rattle.cell_types.specs.Layout.{Layout, IsLayout, list_at, pool_at, all_lists}
+use Rattle.stored_documents.specs.Slots.{IsEdge, IsHorizon}
+use Rattle.stored_documents.specs.Volumes.{IsWritten}
+use Rattle.index_paths.specs.Blocks.{Leads}
+use Rattle.index_paths.specs.Nodes.{AreApart, IsNode}
+use Rattle.index_paths.specs.Postings.{ListedPosting}
+use Rattle.tamper_rules.specs.Settling.{IsSettled}
+use Rattle.ingest_laws.specs.TreeShapes.{IsWellRooted}
+use Rattle.hash_tree.specs.Levels.{IsReached}
+use Rattle.hash_tree.specs.Steps.{IsOpenOf}
+use Rattle.hash_tree.specs.declared.level.Level.{Level}
+use Rattle.hash_tree.specs.declared.path.Open.{Open}
+use Rattle.hash_insertion.specs.Readiness.{blank_of}
+use Rattle.ingest_plan.specs.Standing.{IndexStands, ListsStand}
+
+-- The tree has its shape, with nodes before this cell, and no node meets a block of a list.
+pub record TreeStands (g : Layout) (image : Image) (next : ℕ) : Type 0 where
+  pub rooted : IsWellRooted g image next
+  pub apart : (v node l block : ℕ) → IsNode g image v node → l < all_lists g
+      → Leads image (pool_at g) next block (list_at g l) → AreApart node 32 block 256
+
+-- The lists and the tree stand as they should, with blocks and nodes before this cell and keys below each list's bound.
+pub record IndexesStand (g : Layout) (image : Image) (next : ℕ) (bound : ℕ → ℕ) : Type 0 where
+  pub lists : ListsStand g image next bound
+  pub tree : TreeStands g image next
+
+-- the bounds of the lists of words below a slot: no key of an earlier slot is as great
+abbrev pub below_slot : ℕ → ℕ → ℕ
+below_slot n = λ (l : ℕ). 256 * n
+
+-- in a settled image they do, before the edge and with keys of slots below the horizon
+abbrev pub SettledIndexesStand : Type 0
+SettledIndexesStand =
+    (g : Layout) (image : Image) (edge n : ℕ) → IsLayout g → IsSettled g image → IsEdge g image image edge
+    → IsHorizon g image image n → n < g.slots → IndexesStand g image edge (below_slot n)
+
+-- The place is the end of a path of the image's tree: it is one of the level's node, which is a node of the tree; its
+-- blank cell is blank, and a bucket above it is written.
+pub record EndsPath (g : Layout) (image : Image) (level : Level) (place : Open) : Type 0 where
+  pub digest : AreBytes level.digest
+  pub number : level.number < 64
+  pub open_at : IsOpenOf g level place
+  pub node : IsReached g image level
+  pub blank : image (blank_of place) ≡ None
+  pub bucket : (child : ℕ) → place.child ≡ Some child → IsWritten image place.bucket
+
+-- where they stand before slot n's index is planned, at the end of a path and within the device, they do so behind it,
+-- with keys below the bounds that the index leaves
+abbrev pub IndexKeepsStanding : Type 0
+IndexKeepsStanding =
+    (g : Layout) (n : ℕ) (bound behind : ℕ → ℕ) (rows : List ListedPosting) (level : Level) (place : Open) (from to : ℕ)
+    (old new : Image)
+    → pool_at g ≤ from → to ≤ g.cells → IndexesStand g old from bound → EndsPath g old level place
+    → IndexStands g n behind rows level place from to old new → IndexesStand g new to behind

@@ -1,5 +1,0 @@
-pub mod BehindBucket
-pub mod BehindRow
-pub mod ListsAside
-pub mod SettledLists
-pub mod SettledTrees

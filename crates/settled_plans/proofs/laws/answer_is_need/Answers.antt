@@ -1,8 +1,0 @@
--- The law, for all states of a device.
-use Rattle.settled_plans.proofs.Needed.{needed}
-use Rattle.settled_plans.proofs.laws.answer_is_need.Goals as goal
-
-pub returns : goal.returns
-returns c = λ g n edge id body level place made old new tells still layout settled horizon slot begins ends digest
-    passed is.
-    needed tells still layout settled horizon slot begins ends digest passed is

@@ -1,6 +1,0 @@
--- The law, for all images.
-use Rattle.settled_plans.proofs.Well.{well}
-use Rattle.settled_plans.proofs.laws.plan_is_well.Goals as goal
-
-pub returns : goal.returns
-returns c = λ g old laid p rows level place to planned h. well h

@@ -1,7 +1,0 @@
--- The law is a lemma.
-use Rattle.steady_ingests.proofs.AddsOne.{comes_more}
-use Rattle.steady_ingests.proofs.laws.ingest_adds_one.Goals as goal
-
-pub returns : goal.returns
-returns c = λ id body old new n device device_new tells ingests still steady.
-    comes_more id body old new n device device_new tells still steady (ingests.ends tells) ingests.comes

@@ -1,7 +1,0 @@
--- The law is a lemma.
-use Rattle.steady_ingests.proofs.Alarms.{none_named}
-use Rattle.steady_ingests.proofs.laws.ingest_names_none.Goals as goal
-
-pub returns : goal.returns
-returns c = λ id body old new e device device_new tells ingests still steady.
-    none_named old new e device device_new tells still steady (ingests.ends tells)

@@ -1,7 +1,0 @@
--- The law is a lemma.
-use Rattle.steady_ingests.proofs.Steady.{comes_steady}
-use Rattle.steady_ingests.proofs.laws.ingest_stays_steady.Goals as goal
-
-pub returns : goal.returns
-returns c = λ id body old new result device device_new tells ingests still steady.
-    comes_steady id body old new device device_new tells still steady ingests.comes

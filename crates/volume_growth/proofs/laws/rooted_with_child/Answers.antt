@@ -1,6 +1,0 @@
--- The law, for all images.
-use Rattle.volume_growth.proofs.TreeShapes.{rooted_with_child}
-use Rattle.volume_growth.proofs.laws.rooted_with_child.Goals as goal
-
-pub returns : goal.returns
-returns c = λ g old new to v node x target w n xs less a child bucket fresh pool inside blank. rooted_with_child w n xs less a child bucket fresh pool inside blank

@@ -1,6 +1,0 @@
--- The law, for all images.
-use Rattle.volume_growth.proofs.SettledShapes.{settled_listed}
-use Rattle.volume_growth.proofs.laws.settled_listed.Goals as goal
-
-pub returns : goal.returns
-returns c = λ g image at l layout s e list. settled_listed layout s e list

@@ -1,6 +1,0 @@
--- The law, for all images.
-use Rattle.volume_growth.proofs.ListShapes.{well_apart}
-use Rattle.volume_growth.proofs.laws.well_apart.Goals as goal
-
-pub returns : goal.returns
-returns c = λ old new from to head w e same. well_apart w e same
