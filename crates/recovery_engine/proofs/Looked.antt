@@ -260,15 +260,15 @@ pub settled_ended : (n : ℕ) (s0 s4 s5 : DeviceState) (state : SlotState) (ende
     → (IsTrue s0.tells → LooksBrieflyAgain s0 s5) → Settles s0 s5 result
 settled_ended n s0 s4 s5 state ended result looked unfailed read phases ending okay step below targets ends reads
     again = record {
-  called = called_then looked.called phases.puts.called;
-  unfailed = λ ok. (okay ok).puts.unfailed refl ∙ unfailed;
-  read = λ ok. omega (arith, read, phases.puts.called.reads);
-  writes = λ tells. writes ended phases tells;
-  ends = ends;
-  targets = targets;
-  reads = reads;
-  again = again;
-}
+      called = called_then looked.called phases.puts.called;
+      unfailed = λ ok. (okay ok).puts.unfailed refl ∙ unfailed;
+      read = λ ok. omega (arith, read, phases.puts.called.reads);
+      writes = λ tells. writes ended phases tells;
+      ends = ends;
+      targets = targets;
+      reads = reads;
+      again = again;
+    }
   where
     plan : ℕ → Put → Type 0
     plan = settle_plan s4.image n state

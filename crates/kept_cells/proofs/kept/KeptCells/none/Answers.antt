@@ -1,0 +1,6 @@
+-- Nothing is kept.
+use Rattle.kept_cells.proofs.OneMore.{shown_empty}
+use Rattle.kept_cells.proofs.kept.KeptCells.none.Goals as goal
+
+pub returns-clause-blank : goal.returns-clause-blank
+returns-clause-blank c = shown_empty c.new.result.items c.new.ensures.items

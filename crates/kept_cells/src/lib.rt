@@ -1,0 +1,36 @@
+//! The cells of a device, read once in rising order and kept in memory.
+//!
+//! Who judges a whole volume asks for each cell many times, and in no order. A device is fast in rising order alone. So
+//! its cells are read once, and asked for in memory from then on: there no read fails, nobody else writes, and each
+//! question is one of a value.
+//!
+//! Only written cells are kept, by rising numbers, and for each page of 256 cells how many of them stand before it. Of
+//! the volume of 1,000 cells that holds the document `a` eleven are written:
+//!
+//!     place     0  1  2  3  4   5   6   7    8    9    10
+//!     number    0  4  5  6  36  37  560 580  581  582  583
+//!     starts    page 0: 0    page 1: 6    page 2: 6    page 3: 11
+//!
+//! `at(560)` is of page 2, so it stands at one of the places 6 to 10, and bisection finds it at 6; `at(300)` is of page
+//! 1, of which nothing was written. That costs 20 bytes a written cell and 4 bytes a page, and no bytes more for a blank
+//! cell: 1,000,000 cells of which 650,000 are written take 13 MB, and 2^31 blank ones 32 MB. A `Vec` that grows may hold
+//! twice as much. A question takes 8 halvings at most.
+//!
+//! What is kept lies between what stood when the reading began and what stands at its end, and is both where nobody else
+//! wrote.
+//!
+//! Stands on `worm_device`. Begin with `keeping.rt`; specs/Kept.antt says what is kept.
+#![tactic(auto)]
+
+mod asking;
+mod growing;
+mod keeping;
+mod kept;
+mod shown;
+#[cfg(test)]
+mod tests;
+mod written;
+
+pub use keeping::keep_cells;
+pub use kept::KeptCells;
+pub use shown::Shown;

@@ -1,0 +1,7 @@
+-- The slots below this turn's have ended.
+use Rattle.kept_cells.specs.Kept.{image_of}
+use Rattle.log_audit.proofs.LogSoFar.{LogSoFar}
+use Rattle.log_audit.proofs.log.log_of.Given as goal
+
+abbrev pub invariant-loop-slot : goal.invariant-loop-slot
+invariant-loop-slot l = LogSoFar l.geometry (image_of l.kept) l.slot l.slots.items l.edge

@@ -1,0 +1,42 @@
+-- What a check of a rule finds: the least written cell at which it is broken, or none.
+use Rattle.std.specs.Prelude.{◌≡◌, ◌<◌, ℕ, Option, Some, None, ⊤}
+use Rattle.cell_types.specs.Image.{Image}
+use Rattle.cell_types.specs.Layout.{Layout}
+use Rattle.cell_types.specs.declared.refusal.Evidence.{Evidence}
+use Rattle.cell_types.specs.declared.refusal.Refusal.{Refusal}
+use Rattle.cell_types.specs.declared.refusal.Refusal.TheVariants.{Tampered, NoMemory}
+use Rattle.stored_documents.specs.Volumes.{IsWritten}
+use Rattle.tamper_rules.specs.Rules.{Rule, IsMet, IsPlace, number_of}
+
+-- the rule is kept at each written cell
+abbrev pub IsMetAll : Layout → Image → Rule → Type 0
+IsMetAll g image rule = (cell : ℕ) → IsWritten image cell → IsMet g image rule cell
+
+-- The evidence names the rule, stands in one of its places, and is the least written cell at which it is broken.
+pub record IsLeast (g : Layout) (image : Image) (rule : Rule) (e : Evidence) : Type 0 where
+  pub number : e.rule ≡ number_of rule
+  pub place : IsPlace g rule e.cell
+  pub stands : image e.cell ≡ Some e.found
+  pub not_met : IsMet g image rule e.cell → ⊥
+  pub below : (cell : ℕ) → cell < e.cell → IsWritten image cell → IsMet g image rule cell
+
+-- what a check of the rule answers
+abbrev pub Finds : Layout → Image → Rule → Option Evidence → Type 0
+Finds g image rule None = IsMetAll g image rule
+Finds g image rule (Some e) = IsLeast g image rule e
+
+-- each rule of a lower number is kept at each written cell
+abbrev pub AreMetBelow : Layout → Image → ℕ → Type 0
+AreMetBelow g image number = (rule : Rule) → number_of rule < number → IsMetAll g image rule
+
+-- The evidence names the least rule that is broken, and that rule's least cell.
+pub record IsFirst (g : Layout) (image : Image) (e : Evidence) : Type 0 where
+  pub rule : Rule
+  pub least : IsLeast g image rule e
+  pub lower : AreMetBelow g image (number_of rule)
+
+-- why the checks of rules stop
+abbrev pub Stops : Layout → Image → Refusal → Type 0
+Stops g image (Tampered e) = IsFirst g image e
+Stops g image NoMemory = ⊤
+Stops g image other = ⊥

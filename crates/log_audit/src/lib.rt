@@ -1,0 +1,41 @@
+//! Whether the log of a volume keeps its rules, and which of its slots have ended.
+//!
+//! This is the first part of an audit, over cells that were read once and are kept: each rule is a question of a value.
+//! A rule speaks of each written cell of its places, and the answer is the least of these cells at which it is broken, or
+//! none where it is kept at each of them:
+//!
+//!     rule 1    reserve cells, 4, 8, 12, ..    begins where the slot before ends, which is abandoned or done
+//!     rule 2    outcome cells, 5, 9, 13, ..    abandon, or a commit that fits, with a stamp where the volume has stamps
+//!     rule 3    done cells,    6, 10, 14, ..   names its slot, behind a commit cell
+//!
+//! Of a volume of 8 slots that holds one document, where somebody else has written an abandon cell into cell 9:
+//!
+//!     rule 1    cell 4 reserves 580, 4 cells, where the pool begins     kept
+//!     rule 2    cell 5 is a commit cell of 4 cells, as are reserved     kept there
+//!               cell 9 is written, and cell 8 is blank                  broken: rule 2 at cell 9
+//!
+//! Where the three rules are kept, the slots whose reserve cell is written are a row from slot 0 on, each but the last
+//! has ended, and their reservations follow one another up to the edge. The **log** is that row in memory, 20 bytes a
+//! slot, as the other rules need it: `log.at(0)` is done with 580, 4 cells, 13 bytes and a journal of 3, and the edge is
+//! 584. A last slot that has not ended is no broken rule; it is named by its reserve cell, since an audit settles the
+//! volume first, and then such a slot is somebody else's.
+//!
+//! `specs/Findings.antt` says what a check of any rule finds, and the crates that check the others use its words.
+//!
+//! Stands on `kept_cells` and `commit_record`. Begin with `checking.rt`.
+#![tactic(auto)]
+
+mod broken;
+mod checking;
+mod ended;
+mod log;
+mod looks;
+mod slot_rules;
+#[cfg(test)]
+mod tests;
+
+pub use broken::{first_broken_done, first_broken_outcome, first_broken_reserve};
+pub use checking::check_log;
+pub use ended::{EndedSlot, ended_slot};
+pub use log::{Log, log_of};
+pub use looks::{record_at, reservation};

@@ -1,0 +1,43 @@
+//! Looks at kept cells.
+ghost use Rattle.std.specs.Prelude.{◌≡◌, ◌<◌, ◌+◌, ◌≤◌, ℕ, Some, IfSome, IfNone};
+ghost use Rattle.cell_types.specs.declared.record_cell.RecordCell.{RecordCell};
+ghost use Rattle.cell_types.specs.declared.geometry.TheConstants.{MAX_CELLS};
+ghost use Rattle.stored_documents.specs.Slots.{Reserves};
+ghost use Rattle.stored_documents.specs.Volumes.{Holds};
+ghost use Rattle.kept_cells.specs.Kept.{image_of};
+
+use cell_types::{Geometry, RecordCell, decode};
+use commit_record::Reservation;
+use kept_cells::KeptCells;
+
+/// The record that stands in a cell, if one does that is well-formed there.
+pub fn record_at(kept: &KeptCells, at: u32) -> Option<RecordCell>
+    ensures some { IfSome result (λ held. Holds (image_of kept.now) at held) }
+    ensures none { IfNone result ((held : RecordCell) → Holds (image_of kept.now) at held → ⊥) }
+    ensures one { (held : RecordCell) → Holds (image_of kept.now) at held → result ≡ Some held }
+{
+    let Some(cell) = kept.at(at) else {
+        return None;
+    };
+    decode(cell, at)
+}
+
+/// The cells that a slot reserves, where they lie in the pool.
+pub fn reservation(kept: &KeptCells, geometry: &Geometry, slot: u32) -> Option<Reservation>
+    requires { slot < geometry.now.slots }
+    ensures some { IfSome result (λ r. Reserves geometry.now (image_of kept.now) slot r.start r.length) }
+    ensures most { IfSome result (λ r. r.start + r.length ≤ MAX_CELLS) }
+    ensures none { IfNone result ((start length : ℕ) → Reserves geometry.now (image_of kept.now) slot start length → ⊥) }
+{
+    let Some(held) = record_at(kept, geometry.reserve_at(slot)) else {
+        return None;
+    };
+    let RecordCell::Reserve { start, length } = held else {
+        return None;
+    };
+    let cells = geometry.cells();
+    if start < geometry.pool_at() || cells < start || cells - start < length {
+        return None;
+    }
+    Some(Reservation { start, length })
+}
