@@ -42,29 +42,31 @@ fn write_front(device: &mut MemoryDevice, block: u32, keys: &[u32])
     }
 }
 
+fn span_of(level: u8, digit: u8, low: u64, high: u64) -> Span {
+    Span {
+        level,
+        digit,
+        low,
+        high,
+    }
+}
+
 #[test]
 fn the_span_of_a_key_follows_from_its_distance(rt: HostRuntime) -> Result<(), Fail> {
-    for (greatest_key, key, level, digit, low, high) in [
-        (10, 11, 0, 1, 11, 12),
-        (10, 25, 0, 15, 25, 26),
-        (10, 26, 1, 1, 26, 42),
-        (10, 265, 1, 15, 250, 266),
-        (10, 266, 2, 1, 266, 522),
-        (127, 130, 0, 3, 130, 131),
-        (32512, 32768, 2, 1, 32768, 33024),
-        (32512, 33023, 2, 1, 32768, 33024),
-        (32512, 33024, 2, 2, 33024, 33280),
-        (32512, 33279, 2, 2, 33024, 33280),
-        (0, 4_294_967_295, 7, 15, 4_026_531_840, 4_294_967_296),
-    ] {
-        let is = Span {
-            level,
-            digit,
-            low,
-            high,
-        };
-        assert_eq!(rt; span(greatest_key, key), is);
-    }
+    assert_eq!(rt; span(10, 11), span_of(0, 1, 11, 12));
+    assert_eq!(rt; span(10, 25), span_of(0, 15, 25, 26));
+    assert_eq!(rt; span(10, 26), span_of(1, 1, 26, 42));
+    assert_eq!(rt; span(10, 265), span_of(1, 15, 250, 266));
+    assert_eq!(rt; span(10, 266), span_of(2, 1, 266, 522));
+    assert_eq!(rt; span(127, 130), span_of(0, 3, 130, 131));
+    let next_document = span_of(2, 1, 32768, 33024);
+    assert_eq!(rt; span(32512, 32768), next_document);
+    assert_eq!(rt; span(32512, 33023), next_document);
+    let one_further = span_of(2, 2, 33024, 33280);
+    assert_eq!(rt; span(32512, 33024), one_further);
+    assert_eq!(rt; span(32512, 33279), one_further);
+    let last_key = span_of(7, 15, 4_026_531_840, 4_294_967_296);
+    assert_eq!(rt; span(0, 4_294_967_295), last_key);
     Ok(())
 }
 
