@@ -58,6 +58,7 @@ impl<'a> Lists for TwoLists<'a> {
         2
     }
 
+    #[tactic(auto, unfolding(crate::specs::Lists::HasPaid))]
     fn next(&mut self, which: u32, from: u32) -> Result<Option<u32>, Fault> {
         self.next_asks = self.next_asks.saturating_add(1);
         for slot in self.of(which) {
@@ -68,6 +69,7 @@ impl<'a> Lists for TwoLists<'a> {
         Ok(None)
     }
 
+    #[tactic(auto, unfolding(crate::specs::Lists::HasPaid))]
     fn has(&mut self, which: u32, slot: u32) -> Result<bool, Fault> {
         self.has_asks = self.has_asks.saturating_add(1);
         if which == 1 && self.denied == Some(slot) {
