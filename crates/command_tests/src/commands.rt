@@ -119,11 +119,37 @@ fn format_has_no_room_for_its_cell(rt: HostRuntime) -> Result<(), Fail> {
 }
 
 #[test]
+fn an_audit_tells_how_many_slots_and_cells_there_are(rt: HostRuntime) -> Result<(), Fail> {
+    let alloc = rt.alloc();
+    let mut device = formatted(alloc, 1_000, 64)?;
+    for (words, body, want) in [
+        ("audit", "", "sound: 0 done, 0 abandoned, 1 written cells\n"),
+        ("ingest|a", "hello world", "acknowledged 0\n"),
+        (
+            "audit",
+            "",
+            "sound: 1 done, 0 abandoned, 11 written cells\n",
+        ),
+        ("ingest|b", "", "acknowledged 1\n"),
+        (
+            "audit",
+            "",
+            "sound: 2 done, 0 abandoned, 17 written cells\n",
+        ),
+    ] {
+        let (outcome, put) = outcome_of(alloc, words, &mut device, body.as_bytes())?;
+        assert_eq!(rt; outcome, Ok(()), "{words}");
+        assert_eq!(rt; put.as_slice(), want.as_bytes(), "{words}");
+    }
+    Ok(())
+}
+
+#[test]
 fn words_that_are_no_command_are_usage(rt: HostRuntime) -> Result<(), Fail> {
     let alloc = rt.alloc();
     let mut device = formatted(alloc, 1_000, 64)?;
     for words in [
-        "audit",
+        "audit|a",
         "ingest",
         "",
         "ingest|a|b",

@@ -2,7 +2,6 @@
 use Rattle.std.proofs.Common.{◌∙◌, ℕ, List, Result, Ok, Err, sym, subst, inl, inr, arith}
 use Rattle.std.specs.Prelude.{IsTrue}
 use Rattle.cell_types.specs.Image.{IsUnchanged}
-use Rattle.cell_types.specs.Layout.{Layout}
 use Rattle.cell_types.specs.Refusals.{refusal_of_fault}
 use Rattle.cell_types.specs.declared.refusal.Fault.{Fault}
 use Rattle.cell_types.specs.declared.refusal.Fault.TheVariants as faults
@@ -18,6 +17,7 @@ use Rattle.worm_device.proofs.Resting.{rests_of}
 use Rattle.hash_tree.specs.Levels.{IsLedWithin}
 use Rattle.hash_tree.proofs.Growing.{led_within_on}
 use Rattle.recovery_engine.specs.declared.settling.Ready.{Ready}
+use Rattle.identifier_lookup.proofs.Loaned.{any_loan}
 use Rattle.identifier_lookup.specs.Walks.{WalkEnds}
 use Rattle.identifier_lookup.specs.declared.answers.Walk.{Walk}
 use Rattle.identifier_lookup.specs.declared.answers.Walk.TheVariants as walks
@@ -25,41 +25,6 @@ use Rattle.ingest_plan.specs.Planning.{PlanEnds, PlansIndex}
 use Rattle.ingest_plan.specs.declared.plan.PlannedIndex.{PlannedIndex}
 use Rattle.ingest_engine.specs.Indexing.{EndsPath, PathEnds, PlanForEnds, PlansFor, WalksDevice, WalksOn}
 use Rattle.ingest_engine.specs.declared.indexing.PathEnd.{PathEnd}
-
--- what a walk says does not depend on the name of the loan
-pub any_loan : (g : Layout) (horizon edge : ℕ) (id : List ℕ) (old new : DeviceState) (lent back : ℕ) (result : Result Walk Fault)
-    → WalkEnds g horizon edge id (seen_directly old lent) (seen_directly new back) result
-    → WalkEnds g horizon edge id (seen_directly old 0) (seen_directly new 0) result
-any_loan g horizon edge id old new lent back (Ok (walks.Found n)) h = (
-  h.0,
-  h.1,
-  λ tells. let found = h.2 tells in record { holds = found.holds; first = found.first; alone = found.alone },
-)
-any_loan g horizon edge id old new lent back (Ok (walks.End place level)) h = (
-  h.0,
-  record { number = h.1.number; within = h.1.within; led = h.1.led },
-  h.2,
-  h.3,
-  λ tells.
-      let end = h.4 tells in
-      record {
-        blank = end.blank;
-        reached = end.reached;
-        led_within = end.led_within;
-        passed = end.passed;
-        none = end.none;
-      },
-)
-any_loan g horizon edge id old new lent back (Ok walks.PathFull) h = (
-  h.0,
-  λ tells. let full = h.1 tells in record { passed = full.passed; none = full.none },
-)
-any_loan g horizon edge id old new lent back (Err faults.Failed) h = h
-any_loan g horizon edge id old new lent back (Err (faults.Tampered e)) h = (
-  h.0,
-  h.1,
-  λ tells. let seen = h.2 tells in record { rule = seen.rule; stands = seen.stands; broken = seen.broken },
-)
 
 -- a walk over a loan of the device is one on the device
 pub device_walks : (r : Ready) (id : List ℕ) {entry new : DeviceState} {lent back : ℕ}

@@ -1,3 +1,4 @@
 pub mod Finding
 pub mod OneMore
 pub mod KeptSoFar
+pub mod Rowed

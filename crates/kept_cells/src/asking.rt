@@ -78,7 +78,7 @@ fn held_between(rows: &[WrittenCell], from: usize, to: usize, number: u32) -> Op
 }
 
 /// The written cell at a place.
-fn row_at(rows: &[WrittenCell], place: usize) -> Option<WrittenCell>
+pub(crate) fn row_at(rows: &[WrittenCell], place: usize) -> Option<WrittenCell>
     ensures { result ≡ slice_get rows.now place }
 {
     match rows.get(place) {

@@ -26,6 +26,7 @@ mod asking;
 mod growing;
 mod keeping;
 mod kept;
+mod rows;
 mod shown;
 #[cfg(test)]
 mod tests;
@@ -34,3 +35,4 @@ mod written;
 pub use keeping::keep_cells;
 pub use kept::KeptCells;
 pub use shown::Shown;
+pub use written::WrittenCell;

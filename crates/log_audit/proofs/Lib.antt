@@ -1,8 +1,12 @@
 pub mod Beginning
 pub mod Deciding
+pub mod Edges
 pub mod Families
+pub mod Holders
 pub mod LogSoFar
 pub mod Logged
 pub mod Numbers
 pub mod Outcomes
+pub mod Parts
 pub mod Stopping
+pub mod Storing

@@ -1,2 +1,5 @@
 pub mod Findings
+pub mod Least
 pub mod Logs
+pub mod Owning
+pub mod Stored

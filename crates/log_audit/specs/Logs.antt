@@ -23,6 +23,11 @@ abbrev pub HasRoom : EndedSlot → Type 0
 HasRoom (Abandoned start length) = start + length ≤ MAX_CELLS
 HasRoom (Done start length bytes journal) = (start + length ≤ MAX_CELLS) × (cells_for bytes + journal ≤ length)
 
+-- where the cells that it reserves begin
+abbrev pub start_of : EndedSlot → ℕ
+start_of (Abandoned start length) = start
+start_of (Done start length bytes journal) = start
+
 -- the cell behind those that it reserves
 abbrev pub end_of : EndedSlot → ℕ
 end_of (Abandoned start length) = start + length

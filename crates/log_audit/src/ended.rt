@@ -6,7 +6,7 @@ ghost use Rattle.cell_types.specs.declared.record_cell.RecordCell.TheVariants.{D
 ghost use Rattle.stored_documents.specs.Slots.{HasEnded, IsStamped, cells_for};
 ghost use Rattle.stored_documents.specs.Volumes.{Holds};
 ghost use Rattle.kept_cells.specs.Kept.{image_of};
-ghost use Rattle.log_audit.specs.Logs.{IsEnded, HasRoom, end_of};
+ghost use Rattle.log_audit.specs.Logs.{IsEnded, HasRoom, start_of, end_of};
 
 use crate::looks::{record_at, reservation};
 use cell_types::{Geometry, RecordCell, STAMPED_VERSION};
@@ -32,6 +32,16 @@ pub enum EndedSlot {
 }
 
 impl EndedSlot {
+    /// The first cell that it reserves.
+    pub fn start(&self) -> u32
+        ensures { result ≡ start_of self.now }
+    {
+        match *self {
+            EndedSlot::Abandoned { start, .. } => start,
+            EndedSlot::Done { start, .. } => start,
+        }
+    }
+
     /// The cell behind those that it reserves.
     pub fn end(&self) -> u32
         requires { HasRoom self.now }

@@ -20,7 +20,13 @@
 //! 584. A last slot that has not ended is no broken rule; it is named by its reserve cell, since an audit settles the
 //! volume first, and then such a slot is somebody else's.
 //!
-//! `specs/Findings.antt` says what a check of any rule finds, and the crates that check the others use its words.
+//! Once the log is made, the slots that hold documents are those that are done, and each of them is live: `stored_slot`
+//! of slot 0 has its journal at 581 and its document at 580, and `owner_of` a cell is the slot in whose blocks it lies,
+//! which here is none of any cell.
+//!
+//! `specs/Findings.antt` says what a check of any rule finds, and the crates that check the others use its words. Some
+//! rules ask the same of each of many blocks or nodes, which may meet and come in any order: `lower_of` joins what was
+//! found at one with what was found at the next, and `specs/Least.antt` says why the last of them is the least of all.
 //!
 //! Stands on `kept_cells` and `commit_record`. Begin with `checking.rt`.
 #![tactic(auto)]
@@ -28,14 +34,22 @@
 mod broken;
 mod checking;
 mod ended;
+mod laws;
 mod log;
 mod looks;
+mod lower;
+mod owning;
 mod slot_rules;
+mod stored;
 #[cfg(test)]
 mod tests;
 
 pub use broken::{first_broken_done, first_broken_outcome, first_broken_reserve};
 pub use checking::check_log;
 pub use ended::{EndedSlot, ended_slot};
+pub use laws::stored_slots_are_live;
 pub use log::{Log, log_of};
 pub use looks::{record_at, reservation};
+pub use lower::lower_of;
+pub use owning::owner_of;
+pub use stored::{StoredSlot, stored_slot};

@@ -23,7 +23,7 @@ use Rattle.worm_device.specs.Views.{Viewed, seen_directly}
 use Rattle.worm_device.proofs.Counting.{still_second}
 use Rattle.worm_device.proofs.Elapsing.{called_then}
 use Rattle.worm_device.proofs.Images.{extends_then}
-use Rattle.recovery_engine.specs.Settling.{SettleEnds, Settles}
+use Rattle.recovery_engine.specs.Settling.{SettleEnds, Settles, SettlesFirst}
 use Rattle.recovery_engine.specs.declared.settling.Ready.{Ready}
 use Rattle.document_store.specs.Looks.{BodyEnds, GotPart, HoldsBody, ReadsTwice}
 use Rattle.document_store.specs.declared.body.BodyFault.{BodyFault}
@@ -37,7 +37,6 @@ use Rattle.hash_tree.specs.declared.level.Level.{Level}
 use Rattle.hash_tree.specs.declared.path.Open.{Open}
 use Rattle.record_query.specs.Looking.{HasLooked}
 use Rattle.record_query.proofs.Looking.{is_ready, same_since, still_looking, tells_settled, volume_now, looked_more}
-use Rattle.record_query.specs.Finding.{ComesTo}
 use Rattle.record_query.specs.LookingUp.{IsLookedUp, IsThatOf, LookUpEnds, LooksUp, NamesLookUpRule, NoneHas, PathEnds, PutsFront, at_place, behind_all, refusal_of_body}
 use Rattle.record_query.specs.Reaching.{WalksOnDevice}
 use Rattle.record_query.specs.declared.found.Found.{Found}
@@ -63,7 +62,7 @@ module _ (id : List ℕ) (old new : DeviceState) (sink : SinkState) where
       → LooksUp id old new sink sink (Err refusal)
   look_up_unsettled refusal s = record {
     called = s.called;
-    comes = ComesTo.settling refusal refl s;
+    comes = SettlesFirst.settling refusal refl s;
     ends = refused refusal s.ends;
     rule = refused_rule refusal s.ends;
     briefly = λ tells settled still mates have. omega (arith, s.again tells settled still);

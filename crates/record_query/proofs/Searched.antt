@@ -21,7 +21,7 @@ use Rattle.worm_device.specs.Views.{Viewed, seen_directly}
 use Rattle.worm_device.proofs.Counting.{still_second}
 use Rattle.worm_device.proofs.Elapsing.{called_then}
 use Rattle.zigzag_join.specs.Joins.{AllOwe}
-use Rattle.recovery_engine.specs.Settling.{SettleEnds, Settles}
+use Rattle.recovery_engine.specs.Settling.{SettleEnds, Settles, SettlesFirst}
 use Rattle.recovery_engine.specs.declared.settling.Ready.{Ready}
 use Rattle.posting_list.specs.Joins.{TermsGather, TermsGatherReads}
 use Rattle.posting_list.specs.Laws.{KeptAreOwed}
@@ -37,7 +37,7 @@ use Rattle.identifier_lookup.proofs.Licence.{names_licensed}
 use Rattle.record_query.specs.Looking.{HasLooked}
 use Rattle.record_query.proofs.Looking.{has_settled, is_ready, same_since, still_looking, still_settling, tells_settled, volume_now, looked_from, looked_more}
 use Rattle.record_query.specs.Among.{AmongEnds, FoundAmong, ReadsEach}
-use Rattle.record_query.specs.Finding.{ComesTo, FindEnds, Finds, HasMatch, HasTerms, IsFindRule, NamesFindRule, Searches}
+use Rattle.record_query.specs.Finding.{FindEnds, Finds, HasMatch, HasTerms, IsFindRule, NamesFindRule, Searches}
 use Rattle.record_query.specs.Reaching.{reach_of}
 use Rattle.record_query.specs.declared.found.Match.{Match}
 use Rattle.record_query.proofs.Briefly.{briefly_gathered, briefly_searched, briefly_unsettled}
@@ -49,8 +49,8 @@ walked s viewed = looked_more (looked_from s) viewed
 
 -- so a query has come far
 pub comes_to_settled : {X : Type 0} {result : Result X Refusal} {r : Ready} {old settled new : DeviceState}
-    → HasLooked r old settled new → ComesTo X old new result
-comes_to_settled {X} {result} {r} w = ComesTo.settled r (has_settled w)
+    → HasLooked r old settled new → SettlesFirst X old new result
+comes_to_settled {X} {result} {r} w = SettlesFirst.settled r (has_settled w)
 
 -- settling was ended
 module _ (terms : List (List ℕ)) (old new : DeviceState) where
@@ -70,7 +70,7 @@ module _ (terms : List (List ℕ)) (old new : DeviceState) where
   pub search_unsettled : (refusal : Refusal) → Settles old new (Err refusal) → Searches terms old new (Err refusal)
   search_unsettled refusal s = record {
     called = s.called;
-    comes = ComesTo.settling refusal refl s;
+    comes = SettlesFirst.settling refusal refl s;
     ends = refused refusal s.ends;
     rule = refused_rule refusal s.ends;
     reads = briefly_unsettled terms old new (Err refusal) s;

@@ -17,17 +17,10 @@ use Rattle.tamper_rules.specs.declared.numbers.TheConstants.{BROKEN_DOCUMENT}
 use Rattle.worm_device.specs.Calls.{Called}
 use Rattle.worm_device.specs.Counts.{Rose, IsStill}
 use Rattle.worm_device.specs.State.{DeviceState}
-use Rattle.recovery_engine.specs.Settling.{HasSettled, IsSettlingRule, SettleEnds, Settles}
-use Rattle.recovery_engine.specs.declared.settling.Ready.{Ready}
+use Rattle.recovery_engine.specs.Settling.{IsSettlingRule, SettleEnds, Settles, SettlesFirst}
 use Rattle.posting_list.specs.Naming.{IsListRule}
 use Rattle.record_query.specs.declared.finding.TheConstants.{CELL_READS, FIND_READS, TERM_READS}
 use Rattle.record_query.specs.declared.found.Match.{Match}
-
--- How far a query has come: settling was ended, and its refusal is the answer; or the volume was settled and then
--- looked at alone, whatever is answered.
-pub data ComesTo (X : Type 0) (old new : DeviceState) (result : Result X Refusal) : Type 0 where
-  settling : (refusal : Refusal) → result ≡ Err refusal → Settles old new (Err refusal) → ComesTo X old new result
-  settled : (r : Ready) → HasSettled old new r → ComesTo X old new result
 
 -- one of the matches tells of this document
 pub record HasMatch (matches : List Match) (n : ℕ) (id body : List ℕ) : Type 0 where
@@ -112,7 +105,7 @@ FindsBriefly terms old new =
 -- what it means that the documents of a volume are searched for these terms, or that this was ended
 pub record Searches (terms : List (List ℕ)) (old new : DeviceState) (result : Result (Vec Match) Refusal) : Type 0 where
   pub called : Called old new
-  pub comes : ComesTo (Vec Match) old new result
+  pub comes : SettlesFirst (Vec Match) old new result
   pub ends : FindEnds terms old new result
   pub rule : NamesFindRule old result
   pub reads : FindsBriefly terms old new

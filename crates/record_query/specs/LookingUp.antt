@@ -12,14 +12,13 @@ use Rattle.host_ports.specs.Sinks.{Gets, SinkState}
 use Rattle.worm_device.specs.Calls.{Called}
 use Rattle.worm_device.specs.Counts.{IsStill, Rose}
 use Rattle.worm_device.specs.State.{DeviceState}
-use Rattle.recovery_engine.specs.Settling.{IsSettlingRule, SettleEnds}
+use Rattle.recovery_engine.specs.Settling.{IsSettlingRule, SettleEnds, SettlesFirst}
 use Rattle.document_store.specs.declared.body.BodyFault.{BodyFault}
 use Rattle.document_store.specs.declared.body.BodyFault.TheVariants as bodies
 use Rattle.hash_tree.specs.declared.level.Level.{Level}
 use Rattle.hash_tree.specs.declared.path.Open.{Open}
 use Rattle.identifier_lookup.specs.Costs.{HaveMates, Mate, mate_cells}
 use Rattle.identifier_lookup.specs.Walks.{IsBlankIn, IsFirstOnPath, IsPassedUpToPlace, IsPassedWhole, IsWalkRule}
-use Rattle.record_query.specs.Finding.{ComesTo}
 use Rattle.record_query.specs.declared.found.Found.{Found}
 
 -- slot n stands with this identifier and body, and is the first on the identifier's path: each bucket above is passed
@@ -128,7 +127,7 @@ LooksUpBriefly id old new =
 pub record LooksUp (id : List ℕ) (old new : DeviceState) (from to : SinkState) (result : Result Found Refusal)
     : Type 0 where
   pub called : Called old new
-  pub comes : ComesTo Found old new result
+  pub comes : SettlesFirst Found old new result
   pub ends : LookUpEnds id old new from to result
   pub rule : NamesLookUpRule old result
   pub briefly : IsTrue old.tells → LooksUpBriefly id old new

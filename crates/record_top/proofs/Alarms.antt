@@ -7,10 +7,9 @@ use Rattle.cell_types.specs.declared.refusal.Refusal.TheVariants.{Tampered}
 use Rattle.worm_device.specs.Counts.{IsStill}
 use Rattle.worm_device.specs.State.{DeviceState, IsDevice}
 use Rattle.commit_record.specs.Licences.{IsLicensed}
-use Rattle.recovery_engine.specs.Settling.{Settles}
+use Rattle.recovery_engine.specs.Settling.{Settles, SettlesFirst, settled, settling}
 use Rattle.settling_laws.specs.Steadiness.{IsSteady}
 use Rattle.settling_laws.proofs.Alarms.{looked_unbroken, settling_named}
-use Rattle.record_query.specs.Finding.{ComesTo, settled, settling}
 use Rattle.record_top.proofs.Results.{one_refusal}
 
 module _ (old new : DeviceState) (device : IsDevice old) (tells : IsTrue old.tells)
@@ -19,7 +18,7 @@ module _ (old new : DeviceState) (device : IsDevice old) (tells : IsTrue old.tel
   settling_alarms refusal e settles same = settling_named old new e device tells
       (subst (λ (r : Refusal). Settles old new (Err r)) same settles) alone steady
 
-  pub query_alarms : {X : Type 0} {answer : Result X Refusal} → IsDevice new → ComesTo X old new answer
+  pub query_alarms : {X : Type 0} {answer : Result X Refusal} → IsDevice new → SettlesFirst X old new answer
       → (e : Evidence) → answer ≡ Err (Tampered e) → IsLicensed old new e → ⊥
   query_alarms {X} {answer} device_new (settling refusal is settles) e named found =
       settling_alarms refusal e settles (one_refusal answer refusal (Tampered e) is named)

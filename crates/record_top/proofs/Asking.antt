@@ -6,9 +6,10 @@ use Rattle.cell_types.specs.declared.refusal.Refusal.{Refusal}
 use Rattle.cell_types.specs.declared.refusal.Refusal.TheVariants.{Usage}
 use Rattle.worm_device.specs.Calls.{Called}
 use Rattle.worm_device.specs.State.{IsDevice}
-use Rattle.record_top.specs.Commands.{Asks, Does, IsAnswered, IsUnhindered, Request, ToFind, ToFormat, ToIngest, ToLookUp, ToRecover}
+use Rattle.record_top.specs.Commands.{Asks, Does, IsAnswered, IsUnhindered, Request, ToAudit, ToFind, ToFormat, ToIngest, ToLookUp, ToRecover}
 use Rattle.record_top.specs.Ports.{Ports}
 use Rattle.record_top.specs.Words.{digits_value}
+use Rattle.record_top.proofs.Audits.{audit_completes, audit_is_used}
 use Rattle.record_top.proofs.Completing.{format_completes, ingest_completes, recover_completes}
 use Rattle.record_top.proofs.Ending.{ingest_called, ingest_is_used, recover_is_used}
 use Rattle.record_top.proofs.Finds.{find_called, find_completes, find_is_used}
@@ -30,6 +31,10 @@ to_recover : List (List ℕ) → Option Request
 to_recover [] = Some ToRecover
 to_recover _ = None
 
+to_audit : List (List ℕ) → Option Request
+to_audit [] = Some ToAudit
+to_audit _ = None
+
 -- what the words could ask for, by the first of them
 read : List (List ℕ) → Option Request
 read [] = None
@@ -38,10 +43,11 @@ read (command ∷ words) =
     (cond (bytes_eq command (codes "ingest")) (to_ingest words)
     (cond (bytes_eq command (codes "find")) (Some (ToFind words))
     (cond (bytes_eq command (codes "lookup")) (to_look_up words)
-    (cond (bytes_eq command (codes "recover")) (to_recover words) None))))
+    (cond (bytes_eq command (codes "recover")) (to_recover words)
+    (cond (bytes_eq command (codes "audit")) (to_audit words) None)))))
 
 asks_reads : (words : List (List ℕ)) (request : Request) → Asks words request → read words ≡ Some request
-unfolding read to_format to_ingest to_look_up to_recover
+unfolding read to_format to_ingest to_look_up to_recover to_audit
 asks_reads words (ToFormat slots lists) asks =
     ap read asks.asked ∙ ap (λ (n : ℕ). Some (ToFormat n (digits_value asks.second))) (sym asks.slots_word.number.value)
     ∙ ap (λ (n : ℕ). Some (ToFormat slots n)) (sym asks.lists_word.number.value)
@@ -49,6 +55,7 @@ asks_reads words (ToIngest id) asks = ap read asks.asked
 asks_reads words (ToFind asked) asks = ap read asks.asked_is
 asks_reads words (ToLookUp id) asks = ap read asks.asked
 asks_reads words ToRecover asks = ap read asks
+asks_reads words ToAudit asks = ap read asks
 
 some_is : (a b : Request) → Some a ≡ Some b → a ≡ b
 some_is a b e = cc
@@ -66,6 +73,7 @@ module _ (old new : Ports) where
   called_of (ToFind asked) result does = find_called asked old new result does
   called_of (ToLookUp id) result does = look_up_called id old new result does
   called_of ToRecover result does = does.settles.called
+  called_of ToAudit result does = does.audits.called
 
   -- what is done never ends with `Usage`
   pub is_used : (request : Request) → Does request old new (Err Usage) → ⊥
@@ -74,6 +82,7 @@ module _ (old new : Ports) where
   is_used (ToFind asked) does = find_is_used asked old new does
   is_used (ToLookUp id) does = look_up_is_used id old new does
   is_used ToRecover does = recover_is_used old new does.answer does.settles does.tells
+  is_used ToAudit does = audit_is_used old new does
 
   -- where nothing keeps it from being done, it is, or ends for the one cause that is left
   pub completes : IsDevice old.device → IsDevice new.device → (request : Request) (result : Result Unit Refusal)
@@ -87,3 +96,4 @@ module _ (old new : Ports) where
       device_new result does
   completes device device_new ToRecover result does free =
       recover_completes free.0 old new free.1 device result does.answer does.settles does.tells
+  completes device device_new ToAudit result does free = audit_completes free.0 old new free.1 device device_new result does

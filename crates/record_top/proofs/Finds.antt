@@ -12,8 +12,8 @@ use Rattle.worm_device.specs.Calls.{Called}
 use Rattle.worm_device.specs.State.{IsDevice}
 use Rattle.worm_device.proofs.Counting.{rose_or_still}
 use Rattle.worm_device.proofs.Elapsing.{called_self}
-use Rattle.recovery_engine.specs.Settling.{IsSettlingRule}
-use Rattle.record_query.specs.Finding.{ComesTo, FindEnds, Searches}
+use Rattle.recovery_engine.specs.Settling.{IsSettlingRule, SettlesFirst}
+use Rattle.record_query.specs.Finding.{FindEnds, Searches}
 use Rattle.record_query.specs.declared.found.Match.{Match}
 use Rattle.record_top.specs.Finding.{AreTermsOf, DoesFind, IsFirstBadWord, IsReadyToFind, TermsEnd, found_text, misworded, searched, unread}
 use Rattle.record_top.specs.Ports.{Ports, IsOkOrNoMemory, TellsFromMemory}
@@ -64,7 +64,7 @@ module _ (asked : List (List ℕ)) (g : Layout) (old new : Ports) (ready : IsRea
   settling = settling_steady ready.log
 
   module _ (terms : List (List ℕ)) (called : Called old.device new.device) where
-    searches_whole : (refusal : Refusal) → ComesTo (Vec Match) old.device new.device (Err refusal)
+    searches_whole : (refusal : Refusal) → SettlesFirst (Vec Match) old.device new.device (Err refusal)
         → FindEnds terms old.device new.device (Err refusal) → IsOkOrNoMemory (Err refusal)
     searches_whole refusals.NoMemory comes ends = tt
     searches_whole refusals.DeviceFault comes ends = rose_or_still _ _ ends ready.log.no_fault

@@ -13,11 +13,11 @@ use Rattle.tamper_rules.proofs.Settled.{taken_below, written}
 use Rattle.std.specs.Prelude.{Contains}
 use Rattle.tamper_rules.specs.Settling.{Held, Settled}
 use Rattle.worm_device.specs.State.{DeviceState, IsDevice}
-use Rattle.recovery_engine.specs.Settling.{HasSettled, Settles}
+use Rattle.recovery_engine.specs.Settling.{HasSettled, Settles, SettlesFirst, settled, settling}
 use Rattle.recovery_engine.specs.declared.settling.Ready.{Ready}
 use Rattle.settling_laws.proofs.LeftWhole.{documents_after}
 use Rattle.settling_laws.proofs.LookedAt.{looked_ends, looked_sound}
-use Rattle.record_query.specs.Finding.{ComesTo, Finds, Searches, settled, settling}
+use Rattle.record_query.specs.Finding.{Finds, Searches}
 use Rattle.record_query.specs.LookingUp.{LookUpEnds, LooksUp}
 use Rattle.record_query.specs.declared.found.Found.{Found}
 use Rattle.record_query.specs.declared.found.Match.{Match}
@@ -85,7 +85,7 @@ module _ (old new : Ports) (device : IsDevice old.device) (device_new : IsDevice
     (begins : BeginsSteady old.device new.device) where
   module _ {X : Type 0} (a : X) (documents : List Document)
       (held : Held old.device.cells old.device.image documents) where
-    stand_now : (answer : Result X Refusal) → answer ≡ Ok a → ComesTo X old.device new.device answer
+    stand_now : (answer : Result X Refusal) → answer ≡ Ok a → SettlesFirst X old.device new.device answer
         → Settled new.device.cells new.device.image × AreDocuments new.device.cells new.device.image documents
     stand_now answer ok (settling refusal is settles) = absurd (no_answer answer a refusal ok is)
     stand_now answer ok (settled r has) = (
@@ -131,7 +131,7 @@ module _ (old new : Ports) (device : IsDevice old.device) (device_new : IsDevice
 
   -- nothing is absent by settling
   absent_settled : {answer : Result Found Refusal} → answer ≡ Err refusals.Absent
-      → ComesTo Found old.device new.device answer → (r : Ready) × HasSettled old.device new.device r
+      → SettlesFirst Found old.device new.device answer → (r : Ready) × HasSettled old.device new.device r
   absent_settled {answer} absent (settling refusal is settles) =
       let same : refusal ≡ refusals.Absent = one_refusal answer refusal refusals.Absent is absent in
       absurd (subst (λ (x : Refusal). Settles old.device new.device (Err x)) same settles).ends

@@ -1,5 +1,6 @@
 pub mod Alarms
 pub mod Asking
+pub mod Audits
 pub mod ByBytes
 pub mod Completing
 pub mod Ending
@@ -11,6 +12,7 @@ pub mod MatchLines
 pub mod OneMore
 pub mod Options
 pub mod Pieces
+pub mod Reports
 pub mod Results
 pub mod Steadily
 pub mod Taken

@@ -8,8 +8,7 @@ use Rattle.worm_device.specs.Calls.{Called}
 use Rattle.worm_device.specs.State.{IsDevice}
 use Rattle.worm_device.proofs.Counting.{rose_or_still}
 use Rattle.worm_device.proofs.Elapsing.{called_self}
-use Rattle.recovery_engine.specs.Settling.{IsSettlingRule}
-use Rattle.record_query.specs.Finding.{ComesTo}
+use Rattle.recovery_engine.specs.Settling.{IsSettlingRule, SettlesFirst}
 use Rattle.record_query.specs.LookingUp.{LookUpEnds, LooksUp}
 use Rattle.record_query.specs.declared.found.Found.{Found}
 use Rattle.record_top.specs.LookingUp.{Answers, DoesLookUp, IsReadyToLookUp, looked, misnamed}
@@ -45,7 +44,7 @@ module _ (id : List ℕ) (g : Layout) (old new : Ports) (ready : IsReadyToLookUp
   settling = settling_steady ready.log
 
   module _ (called : Called old.device new.device) where
-    looks_whole : (refusal : Refusal) → ComesTo Found old.device new.device (Err refusal)
+    looks_whole : (refusal : Refusal) → SettlesFirst Found old.device new.device (Err refusal)
         → LookUpEnds id old.device new.device old.sink new.sink (Err refusal) → IsOkOrAbsent (Err refusal)
     looks_whole refusals.Absent comes ends = tt
     looks_whole refusals.DeviceFault comes ends = rose_or_still _ _ ends.0 ready.log.no_fault

@@ -16,18 +16,22 @@ use Rattle.worm_device.specs.Calls.{Called}
 use Rattle.worm_device.specs.State.{DeviceState, IsDevice}
 use Rattle.worm_device.proofs.Elapsing.{elapses_of}
 use Rattle.worm_device.proofs.Images.{extends_self, extends_then}
-use Rattle.recovery_engine.specs.Settling.{Settles}
+use Rattle.recovery_engine.specs.Settling.{Settles, SettlesFirst, settled, settling}
 use Rattle.recovery_engine.specs.declared.settling.Ready.{Ready}
 use Rattle.settling_laws.specs.Steadiness.{IsLeftWhole, IsSteady, StaysSteady}
 use Rattle.settling_laws.proofs.LeftWhole.{held_unmoved, left_between, not_blank, settling_keeps, settling_left, stays_steady}
 use Rattle.settling_laws.proofs.LookedAt.{looking_keeps, looking_steady}
 use Rattle.ingest_engine.specs.Formats.{FormatEnds, volume_cell}
 use Rattle.commit_record.specs.Licences.{IsLicensed}
-use Rattle.record_query.specs.Finding.{ComesTo, FindEnds, settled, settling}
+use Rattle.record_query.specs.Finding.{FindEnds}
 use Rattle.record_query.specs.LookingUp.{LookUpEnds}
 use Rattle.record_query.specs.declared.found.Found.{Found}
 use Rattle.record_query.specs.declared.found.Match.{Match}
-use Rattle.record_top.specs.Commands.{Does, Request, ToFind, ToFormat, ToIngest, ToLookUp, ToRecover, layout_on}
+use Rattle.volume_audit.specs.Audits.{SettlesThenAudits}
+use Rattle.volume_audit.specs.declared.report.AuditReport.{AuditReport}
+use Rattle.volume_audit.proofs.Comes.{licensed, settles_first}
+use Rattle.record_top.specs.Auditing.{DoesAudit, report_text}
+use Rattle.record_top.specs.Commands.{Does, Request, ToAudit, ToFind, ToFormat, ToIngest, ToLookUp, ToRecover, layout_on}
 use Rattle.record_top.specs.Finding.{DoesFind, found_text, misworded, searched, unread}
 use Rattle.record_top.specs.Formatting.{DoesFormat, FormatCommandEnds}
 use Rattle.record_top.specs.LookingUp.{Answers, DoesLookUp, looked, misnamed}
@@ -266,7 +270,7 @@ module _ (old new : Ports) (device : IsDevice old.device) (device_new : IsDevice
           begins.steady refused e settles (sym tells.0)
 
   -- queries settle, and then look alone
-  query_stays : {X : Type 0} {answer : Result X Refusal} → ComesTo X old.device new.device answer
+  query_stays : {X : Type 0} {answer : Result X Refusal} → SettlesFirst X old.device new.device answer
       → StaysSteady old.device new.device
   query_stays (settling refusal is settles) = stays_steady old.device new.device device begins.steady
       settles.called.cells
@@ -274,12 +278,12 @@ module _ (old new : Ports) (device : IsDevice old.device) (device_new : IsDevice
   query_stays (settled r has) =
       looking_steady old.device new.device r begins.tells has begins.alone device device_new begins.steady
 
-  query_names : {X : Type 0} {answer : Result X Refusal} → ComesTo X old.device new.device answer → (e : Evidence)
+  query_names : {X : Type 0} {answer : Result X Refusal} → SettlesFirst X old.device new.device answer → (e : Evidence)
       → answer ≡ Err (refusals.Tampered e) → IsLicensed old.device new.device e → ⊥
   query_names comes e named found =
       query_alarms old.device new.device device begins.tells begins.alone begins.steady device_new comes e named found
 
-  query_keeps : {X : Type 0} {answer : Result X Refusal} → ComesTo X old.device new.device answer
+  query_keeps : {X : Type 0} {answer : Result X Refusal} → SettlesFirst X old.device new.device answer
       → (documents : List Document) → Held old.device.cells old.device.image documents
       → Held new.device.cells new.device.image documents
   query_keeps (settling refusal is settles) documents held = settled_held (Err refusal) settles documents held
@@ -305,7 +309,7 @@ module _ (old new : Ports) (device : IsDevice old.device) (device_new : IsDevice
         (subst (TellsFromMemory found_text answer old new) named tells);
   }
     where
-      told : (a : Result (Vec Match) Refusal) → ComesTo (Vec Match) old.device new.device a
+      told : (a : Result (Vec Match) Refusal) → SettlesFirst (Vec Match) old.device new.device a
           → FindEnds terms old.device new.device a → (e : Evidence)
           → TellsFromMemory found_text a old new (Err (refusals.Tampered e)) → ⊥
       told (Ok matches) comes ends e tells = tells
@@ -324,7 +328,7 @@ module _ (old new : Ports) (device : IsDevice old.device) (device_new : IsDevice
     no_alarm = λ e named. told answer looks.comes looks.ends e (subst (Answers answer) named answers);
   }
     where
-      told : (a : Result Found Refusal) → ComesTo Found old.device new.device a
+      told : (a : Result Found Refusal) → SettlesFirst Found old.device new.device a
           → LookUpEnds id old.device new.device old.sink new.sink a → (e : Evidence)
           → Answers a (Err (refusals.Tampered e)) → ⊥
       told (Ok found) comes ends e answered = no_answer (Err (refusals.Tampered e)) tt (refusals.Tampered e)
@@ -335,6 +339,19 @@ module _ (old new : Ports) (device : IsDevice old.device) (device_new : IsDevice
           query_names comes e (ap Err (sym same))
           (((subst (λ (r : Refusal). LookUpEnds id old.device new.device old.sink new.sink (Err r)) (sym same) ends).1
           begins.tells).1)
+
+  audit_adds : (result : Result Unit Refusal) → DoesAudit old new result → AddsNone old new result
+  audit_adds result does = record {
+    stays = query_stays (settles_first does.audits.comes);
+    keeps = query_keeps (settles_first does.audits.comes);
+    no_alarm = λ e named. told does.answer does.audits.comes e (subst (TellsFromMemory report_text does.answer old new) named does.tells);
+  }
+    where
+      told : (a : Result AuditReport Refusal) → SettlesThenAudits old.device new.device a → (e : Evidence)
+          → TellsFromMemory report_text a old new (Err (refusals.Tampered e)) → ⊥
+      told (Ok report) comes e tells = tells
+      told (Err refused) comes e tells = query_names (settles_first comes) e (ap Err (sym tells.0))
+          (licensed e (subst (λ (r : Refusal). SettlesThenAudits old.device new.device (Err r)) (sym tells.0) comes) begins.tells)
 
   -- whatever was asked for
   pub leaves_whole : (request : Request) (result : Result Unit Refusal) → Does request old new result
@@ -349,3 +366,4 @@ module _ (old new : Ports) (device : IsDevice old.device) (device_new : IsDevice
   leaves_whole (ToLookUp id) result does =
       (look_up_adds id result does, look_up_held old new device device_new begins id result does)
   leaves_whole ToRecover result does = recover_adds result does
+  leaves_whole ToAudit result does = audit_adds result does

@@ -4,6 +4,7 @@ use Rattle.std.specs.Prelude.{ℕ, List, Result, map}
 use Rattle.std.specs.String.{string_bytes}
 use Rattle.cell_types.specs.Layout.{Layout}
 use Rattle.cell_types.specs.declared.refusal.Refusal.{Refusal}
+use Rattle.record_top.specs.Auditing.{AsksToAudit, DoesAudit, IsReadyToAudit}
 use Rattle.record_top.specs.Finding.{AsksToFind, DoesFind, IsReadyToFind}
 use Rattle.record_top.specs.Formatting.{AsksToFormat, DoesFormat, IsReadyToFormat}
 use Rattle.record_top.specs.Ingesting.{AsksToIngest, DoesIngest, IsReadyToIngest}
@@ -11,7 +12,7 @@ use Rattle.record_top.specs.LookingUp.{AsksToLookUp, DoesLookUp, IsReadyToLookUp
 use Rattle.record_top.specs.Ports.{IsOkAlone, IsOkOrAbsent, IsOkOrNoMemory, Ports}
 use Rattle.record_top.specs.Recovering.{AsksToRecover, DoesRecover, IsReadyToRecover}
 use Rattle.record_top.specs.declared.words.Command.{Command}
-use Rattle.record_top.specs.declared.words.Command.TheVariants.{Find, Format, Ingest, LookUp, Recover}
+use Rattle.record_top.specs.declared.words.Command.TheVariants.{Audit, Find, Format, Ingest, LookUp, Recover}
 
 -- what may be asked for, with what is given
 pub data Request : Type 0 where
@@ -20,6 +21,7 @@ pub data Request : Type 0 where
   ToFind : (asked : List (List ℕ)) → Request
   ToLookUp : (id : List ℕ) → Request
   ToRecover : Request
+  ToAudit : Request
 
 -- the request that a command stands for
 abbrev pub request_of : Command → Request
@@ -28,6 +30,7 @@ request_of (Ingest id) = ToIngest id.now
 request_of (Find asked) = ToFind (map string_bytes asked.now)
 request_of (LookUp id) = ToLookUp id.now
 request_of Recover = ToRecover
+request_of Audit = ToAudit
 
 -- the words ask for this
 abbrev pub Asks : List (List ℕ) → Request → Type 0
@@ -36,6 +39,7 @@ Asks words (ToIngest id) = AsksToIngest words id
 Asks words (ToFind asked) = AsksToFind words asked
 Asks words (ToLookUp id) = AsksToLookUp words id
 Asks words ToRecover = AsksToRecover words
+Asks words ToAudit = AsksToAudit words
 
 -- the words ask for nothing
 abbrev pub AsksNothing : List (List ℕ) → Type 0
@@ -56,6 +60,7 @@ Does (ToIngest id) old new result = DoesIngest id old new result
 Does (ToFind asked) old new result = DoesFind asked old new result
 Does (ToLookUp id) old new result = DoesLookUp id old new result
 Does ToRecover old new result = DoesRecover old new result
+Does ToAudit old new result = DoesAudit old new result
 
 -- nothing hinders this
 abbrev pub IsUnhindered : Request → Ports → Ports → Type 0
@@ -65,6 +70,7 @@ IsUnhindered (ToIngest id) old new =
 IsUnhindered (ToFind asked) old new = (g : Layout) × IsReadyToFind asked g old new
 IsUnhindered (ToLookUp id) old new = (g : Layout) × IsReadyToLookUp id g old new
 IsUnhindered ToRecover old new = (g : Layout) × IsReadyToRecover g old new
+IsUnhindered ToAudit old new = (g : Layout) × IsReadyToAudit g old new
 
 -- What is answered where nothing hinders this: it is done; or, where memory is taken, none was to be had; or, where a
 -- document is looked up, none has the identifier.
@@ -74,3 +80,4 @@ IsAnswered (ToIngest id) result = IsOkOrNoMemory result
 IsAnswered (ToFind asked) result = IsOkOrNoMemory result
 IsAnswered (ToLookUp id) result = IsOkOrAbsent result
 IsAnswered ToRecover result = IsOkAlone result
+IsAnswered ToAudit result = IsOkOrNoMemory result

@@ -1,3 +1,4 @@
+pub mod Auditing
 pub mod Begins
 pub mod Commands
 pub mod Finding

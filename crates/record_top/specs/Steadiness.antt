@@ -18,7 +18,7 @@ use Rattle.settling_laws.specs.Steadiness.{StaysSteady}
 use Rattle.crash_laws.specs.Steadiness.{HasOneMore, StaysSteadyBy}
 use Rattle.record_query.specs.Finding.{HasMatch, Rises}
 use Rattle.record_query.specs.declared.found.Match.{Match}
-use Rattle.record_top.specs.Commands.{Request, ToFind, ToFormat, ToIngest, ToLookUp, ToRecover}
+use Rattle.record_top.specs.Commands.{Request, ToAudit, ToFind, ToFormat, ToIngest, ToLookUp, ToRecover}
 use Rattle.record_top.specs.Ingesting.{HasRefused, HasStored, acknowledgement}
 use Rattle.record_top.specs.Finding.{AreTermsOf, find_text}
 use Rattle.record_top.specs.Ports.{Ports, PutsOut, Tells}
@@ -107,3 +107,4 @@ LeavesWhole (ToIngest id) old new result = AddsOne id old new result
 LeavesWhole (ToFind asked) old new result = AddsNone old new result × FindsHeld asked old new result
 LeavesWhole (ToLookUp id) old new result = AddsNone old new result × LooksUpHeld id old new result
 LeavesWhole ToRecover old new result = AddsNone old new result
+LeavesWhole ToAudit old new result = AddsNone old new result

@@ -7,6 +7,7 @@ ghost use Rattle.record_top.specs.Commands.{Asks, AsksNothing, Does, IsAnswered,
 ghost use Rattle.record_top.specs.Ports.{ports_of};
 ghost use Rattle.record_top.specs.Steadiness.{LeavesWhole};
 
+use crate::audit::audit_volume;
 use crate::find::find_documents;
 use crate::format::format_device;
 use crate::ingest::ingest_body;
@@ -79,5 +80,6 @@ fn carry_out<D: Device, S: Source, K: Sink>(
         Command::Find { words } => find_documents(alloc, words, device, source, sink),
         Command::LookUp { id } => look_up_document(id, device, source, sink),
         Command::Recover => recover_device(device, source, sink),
+        Command::Audit => audit_volume(alloc, device, source, sink),
     }
 }

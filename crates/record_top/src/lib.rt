@@ -8,6 +8,7 @@
 //!                                                                                  1 found
 //!     lookup a        looks for the document, and puts out its body                hello world
 //!     recover         settles the volume                                           nothing to settle
+//!     audit           checks each rule at each written cell      sound: 1 done, 0 abandoned, 11 written cells
 //!
 //! A `find` makes its text before the first byte goes out, and a `lookup` checks the document whole before that.
 //! Whatever keeps a command from being done is a refusal that names its cause. And where nobody else writes, whatever a
@@ -19,11 +20,13 @@
 //! own there and here, and one arm in `command.rt`.
 //!
 //! Stands on `ingest_engine` and `recovery_engine`, which write, on `record_query`, which searches and looks up, on
+//! `volume_audit`, on
 //! `settling_laws` and `crash_laws`, and on `host_ports`. Begin with `command.rt`; specs/Commands.antt says which
 //! commands there are, and leads to what each does; specs/Steadiness.antt says what a crash leaves of it, and which
 //! documents stand behind it.
 #![tactic(auto)]
 
+mod audit;
 mod body;
 mod command;
 mod find;

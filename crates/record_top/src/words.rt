@@ -1,6 +1,7 @@
 //! The words of a command, read in place.
 ghost use Rattle.std.specs.Prelude.{◌≡◌, ◌≢◌, ◌<◌, ◌≤◌, ◌↔◌, ℕ, List, map, length, slice_index, IsTrue, IfSome, IfNone};
 ghost use Rattle.std.specs.String.{string_bytes};
+ghost use Rattle.record_top.specs.Auditing.{AsksToAudit};
 ghost use Rattle.record_top.specs.Commands.{Asks, AsksNothing, request_of};
 ghost use Rattle.record_top.specs.Finding.{AsksToFind};
 ghost use Rattle.record_top.specs.Formatting.{AsksToFormat};
@@ -30,6 +31,8 @@ pub enum Command<'a> {
     LookUp { id: &'a [u8] },
     /// Settle the volume.
     Recover,
+    /// Say whether the volume keeps its rules.
+    Audit,
 }
 
 /// The command that the words ask for.
@@ -49,7 +52,10 @@ pub fn command_of(words: &[String]) -> Option<Command<'_>>
     if let Some(command) = look_up_of(words) {
         return Some(command);
     }
-    recover_of(words)
+    if let Some(command) = recover_of(words) {
+        return Some(command);
+    }
+    audit_of(words)
 }
 
 /// The command `format`, where the words are this and two numbers in range.
@@ -135,6 +141,20 @@ fn recover_of(words: &[String]) -> Option<Command<'_>>
         return None;
     }
     Some(Command::Recover)
+}
+
+/// The command `audit`, where the words are this alone.
+fn audit_of(words: &[String]) -> Option<Command<'_>>
+    ensures some { IfSome result (λ command. Asks (map string_bytes words.now) (request_of command)) }
+    ensures none { IfNone result (AsksToAudit (map string_bytes words.now) → ⊥) }
+{
+    let [command] = words else {
+        return None;
+    };
+    if command.as_str() != "audit" {
+        return None;
+    }
+    Some(Command::Audit)
 }
 
 /// The number that the word stands for, where it is 1 to 10 digits and the number from 1 to the most.

@@ -179,3 +179,9 @@ pub record HasSettled (old new : DeviceState) (r : Ready) : Type 0 where
   pub settles : Settles old settled (Ok r)
   pub looked : Called settled new
   pub quiet : IsStill settled.foreign_writes new.foreign_writes → IsUnchanged settled.image new.image
+
+-- What a call does that settles first and then looks alone: settling was ended, and its refusal is the answer; or the
+-- volume was settled and then looked at, whatever is answered.
+pub data SettlesFirst (X : Type 0) (old new : DeviceState) (result : Result X Refusal) : Type 0 where
+  settling : (refusal : Refusal) → result ≡ Err refusal → Settles old new (Err refusal) → SettlesFirst X old new result
+  settled : (r : Ready) → HasSettled old new r → SettlesFirst X old new result

@@ -6,6 +6,7 @@
 //!     worm volume.img find paid 4711
 //!     worm volume.img lookup invoice-4711 > invoice.txt
 //!     worm volume.img recover
+//!     worm volume.img audit
 //!
 //! IMAGE is the path of a file that exists; a new device is a file of zeros. Where IMAGE is `-`, the device is one
 //! in memory that holds a small volume, so what is stored there is gone when the program ends. No other IMAGE begins

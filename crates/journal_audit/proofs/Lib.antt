@@ -1,0 +1,6 @@
+pub mod Going
+pub mod Indexing
+pub mod Ordering
+pub mod Reading
+pub mod Redoing
+pub mod Stating

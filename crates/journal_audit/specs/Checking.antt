@@ -1,0 +1,11 @@
+-- What a check of several rules finds.
+use Rattle.std.specs.Prelude.{ℕ, Option, Some, None}
+use Rattle.cell_types.specs.Image.{Image}
+use Rattle.cell_types.specs.Layout.{Layout}
+use Rattle.cell_types.specs.declared.refusal.Evidence.{Evidence}
+use Rattle.log_audit.specs.Findings.{AreMetBelow, IsFirst}
+
+-- the first rule that is broken, and its first cell; or none, and each rule below this number is kept
+abbrev pub FindsFirst : Layout → Image → ℕ → Option Evidence → Type 0
+FindsFirst g image number None = AreMetBelow g image number
+FindsFirst g image number (Some e) = IsFirst g image e

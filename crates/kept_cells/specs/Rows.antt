@@ -1,0 +1,17 @@
+-- The written cells that are kept, one after another.
+use Rattle.std.specs.Prelude.{◌≡◌, ◌<◌, ℕ, List, slice_get, Some}
+use Rattle.kept_cells.specs.Cells.{shown_by, AreRising}
+use Rattle.kept_cells.specs.declared.kept.KeptCells.{KeptCells}
+use Rattle.kept_cells.specs.declared.written.WrittenCell.{WrittenCell}
+
+-- the written cells by rising numbers
+abbrev pub rows_of : KeptCells → List WrittenCell
+rows_of kept = kept.rows.items
+
+-- Their numbers rise and lie below the count, the image shows each of them, and each cell that it shows is one of them.
+pub record AreRows (count : ℕ) (rows : List WrittenCell) : Type 0 where
+  pub rising : AreRising rows
+  pub inside : (k : ℕ) (row : WrittenCell) → slice_get rows k ≡ Some row → row.number < count
+  pub each : (k : ℕ) (row : WrittenCell) → slice_get rows k ≡ Some row → shown_by rows row.number ≡ Some row.cell
+  pub all : (number : ℕ) (value : List ℕ) → shown_by rows number ≡ Some value
+      → (k : ℕ) × (row : WrittenCell) × (slice_get rows k ≡ Some row) × (row.number ≡ number)

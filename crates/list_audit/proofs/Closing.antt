@@ -1,0 +1,193 @@
+-- The blocks of all lists, closed under their pointers.
+use Rattle.std.proofs.Common.{◌≡◌, ◌<◌, ◌≤◌, ◌+◌, ◌-◌, ◌*◌, ◌/◌, ◌%◌, ◌⊎◌, ⊎_elim, ℕ, List, [], length, get_or, Some, None, refl, sym, ◌∙◌, subst, arith}
+use Rattle.std.specs.Prelude.{slice_get}
+use Rattle.std.proofs.lemmas.Bool.{cases_order}
+use Rattle.std.proofs.lemmas.Option.{slice_get_within, none-some, slice_get-get_or}
+use Rattle.cell_types.specs.Image.{Image}
+use Rattle.cell_types.specs.Layout.{Layout, IsLayout, all_lists, list_at, pool_at}
+use Rattle.cell_types.specs.declared.record_cell.RecordCell.TheVariants.{Jump}
+use Rattle.stored_documents.proofs.Holding.{one_record_holds}
+use Rattle.index_paths.specs.Blocks.{Leads, arrived, onwards}
+use Rattle.index_paths.specs.Nodes.{IsBlockOf}
+use Rattle.list_audit.specs.Blocks.{IsAmong, AreOnce, AreListBlocks, PointsTo, Adds, LeadsAmong, AreClosedBelow}
+use Rattle.list_audit.specs.declared.listed.ListBlock.{ListBlock}
+
+earlier_or_last : (k n : ℕ) → k < n + 1 → (k < n) ⊎ (k ≡ n)
+earlier_or_last k n h = grind arith
+
+-- what is among the blocks is among more
+pub among_more : {l block : ℕ} {old new : List ListBlock} → Adds l block old new → (m other : ℕ) → IsAmong old m other → IsAmong new m other
+among_more adds m other a = record { place = a.place; one = a.one; there = adds.keeps a.place a.one a.there; list = a.list; is = a.is }
+
+-- the first block of a list is one of its
+pub first_is : (g : Layout) (image : Image) (l : ℕ) → l < all_lists g → IsBlockOf g image l (list_at g l)
+first_is g image l less = record { list = less; leads = arrived (list_at g l) refl }
+
+-- the first blocks of the lists below n were found
+pub record AreFirstBelow (g : Layout) (n : ℕ) (blocks : List ListBlock) : Type 0 where
+  pub reached : (i : ℕ) (b : ListBlock) → slice_get blocks i ≡ Some b → (b.list < all_lists g) × (b.block ≡ list_at g b.list)
+  pub firsts : (l : ℕ) → l < n → IsAmong blocks l (list_at g l)
+
+pub no_first : (g : Layout) (blocks : List ListBlock) → blocks ≡ [] → AreFirstBelow g 0 blocks
+no_first g blocks none = subst (AreFirstBelow g 0) (sym none) (record {
+  reached = λ i b there. absurd (omega (arith, slice_get_within [] i b there));
+  firsts = λ l less. absurd (omega (arith, less));
+})
+
+pub one_first : {g : Layout} {n block : ℕ} {old new : List ListBlock} → AreFirstBelow g n old → n < all_lists g → block ≡ list_at g n
+    → Adds n block old new → AreFirstBelow g (n + 1) new
+one_first {g} {n} {block} {old} {new} are less at adds = record {
+  reached = λ i b there. ⊎_elim
+      (λ (before : slice_get old i ≡ Some b). are.reached i b before)
+      (λ (is : (b.list ≡ n) × (b.block ≡ block)). (
+        omega (arith, less, is.0),
+        is.1 ∙ at ∙ subst (λ (l : ℕ). list_at g n ≡ list_at g l) (sym is.0) refl,
+      ))
+      (adds.only i b there);
+  firsts = λ l below. ⊎_elim
+      (λ (earlier : l < n). among_more adds l (list_at g l) (are.firsts l earlier))
+      (λ (same : l ≡ n). subst (λ (m : ℕ). IsAmong new m (list_at g m)) (sym same) (subst (IsAmong new n) at adds.has))
+      (earlier_or_last l n below);
+}
+
+pub all_first : {g : Layout} {n : ℕ} {blocks : List ListBlock} (image : Image) → AreFirstBelow g n blocks → all_lists g ≤ n → AreClosedBelow g image 0 blocks
+all_first {g} {n} {blocks} image are past = record {
+  reached = λ i b there. let is = are.reached i b there in
+      subst (IsBlockOf g image b.list) (sym is.1) (first_is g image b.list is.0);
+  firsts = λ l less. are.firsts l (omega (arith, less, past));
+  closed = λ i b less. absurd (omega (arith, less));
+}
+
+-- The pointer places of the block of this turn below one were followed.
+pub record IsFollowed (g : Layout) (image : Image) (n : ℕ) (from : ListBlock) (pointer : ℕ) (blocks : List ListBlock) : Type 0 where
+  pub below : AreClosedBelow g image n blocks
+  pub here : slice_get blocks n ≡ Some from
+  pub leads : LeadsAmong g image blocks from pointer
+
+-- the level and digit of a pointer place
+level_of : (pointer : ℕ) → 128 ≤ pointer → pointer < 248
+    → (level : ℕ) × (digit : ℕ) × (level < 8) × (1 ≤ digit) × (digit ≤ 15) × (pointer ≡ 127 + 15 * level + digit)
+level_of pointer from to = ((pointer - 128) / 15, (pointer - 128) % 15 + 1, omega arith, omega arith, omega arith, omega arith)
+
+-- a block to which a block of the list leads is one of the list
+pub leads_on : {g : Layout} {image : Image} {l block pointer target : ℕ} → IsBlockOf g image l block → 128 ≤ pointer → pointer < 248
+    → PointsTo g image (block + pointer) target → IsBlockOf g image l target
+leads_on {g} {image} {l} {block} {pointer} {target} is from to h =
+    let p = level_of pointer from to in
+    let jump = subst (λ (q : ℕ). PointsTo g image (block + q) target) p.5 h in
+    record { list = is.list; leads = behind (list_at g l) is.leads p.0 p.1 p.2 p.3 p.4 jump }
+  where
+    behind : (head : ℕ) → Leads image (pool_at g) g.cells block head → (level digit : ℕ) → level < 8 → 1 ≤ digit → digit ≤ 15
+        → PointsTo g image (block + (127 + 15 * level + digit)) target → Leads image (pool_at g) g.cells target head
+    behind head (arrived b same) level digit a b' c h =
+        let k = subst (λ (k : ℕ). PointsTo g image (k + (127 + 15 * level + digit)) target) (sym same) h in
+        onwards b level digit target a b' c k.jump k.from k.to (arrived target refl)
+    behind head (onwards b i j t a b' c jump from to rest) level digit x y z h =
+        onwards b i j t a b' c jump from to (behind t rest level digit x y z h)
+
+-- a block of a list lies on the device
+pub block_inside : {g : Layout} {image : Image} {l block : ℕ} → IsLayout g → IsBlockOf g image l block → block + 256 ≤ g.cells
+block_inside {g} {image} {l} {block} layout is = from (list_at g l) is.leads (head is.list layout.pool)
+  where
+    head : l < all_lists g → pool_at g ≤ g.cells → list_at g l + 256 ≤ g.cells
+    head less pool = grind arith
+
+    from : (start : ℕ) → Leads image (pool_at g) g.cells block start → start + 256 ≤ g.cells → block + 256 ≤ g.cells
+    from start (arrived b same) inside = omega (arith, same, inside)
+    from start (onwards b level digit target x y z jump low high rest) inside = from target rest high
+
+-- a jump cell leads to one block
+pub one_target : {g : Layout} {image : Image} {at a b : ℕ} → PointsTo g image at a → PointsTo g image at b → a ≡ b
+one_target {g} {image} {at} {a} {b} h k = let e = one_record_holds image at (Jump a) (Jump b) h.jump k.jump in cc
+
+-- no pointer place was followed yet
+pub none_followed : {g : Layout} {image : Image} {n : ℕ} {from : ListBlock} {blocks : List ListBlock} → AreClosedBelow g image n blocks
+    → slice_get blocks n ≡ Some from → IsFollowed g image n from 128 blocks
+none_followed below here = record { below = below; here = here; leads = λ p t low high. absurd (omega (arith, low, high)) }
+
+-- a place from which no pointer leads on
+pub no_target : {g : Layout} {image : Image} {n : ℕ} {from : ListBlock} {pointer : ℕ} {blocks : List ListBlock}
+    → IsFollowed g image n from pointer blocks → ((target : ℕ) → PointsTo g image (from.block + pointer) target → ⊥)
+    → IsFollowed g image n from (pointer + 1) blocks
+no_target {g} {image} {n} {from} {pointer} {blocks} w none = record {
+  below = w.below;
+  here = w.here;
+  leads = λ p t low high h. ⊎_elim
+      (λ (less : p < pointer). w.leads p t low less h)
+      (λ (same : p ≡ pointer). absurd (none t (subst (λ (q : ℕ). PointsTo g image (from.block + q) t) same h)))
+      (earlier_or_last p pointer high);
+}
+
+-- a pointer that leads to a block, which was added
+pub one_more : {g : Layout} {image : Image} {n : ℕ} {from : ListBlock} {pointer target : ℕ} {old new : List ListBlock}
+    → IsFollowed g image n from pointer old → 128 ≤ pointer → pointer < 248 → PointsTo g image (from.block + pointer) target
+    → Adds from.list target old new → IsFollowed g image n from (pointer + 1) new
+one_more {g} {image} {n} {from} {pointer} {target} {old} {new} w low high points adds = record {
+  below = record {
+    reached = λ i b there. ⊎_elim
+        (λ (before : slice_get old i ≡ Some b). w.below.reached i b before)
+        (λ (is : (b.list ≡ from.list) × (b.block ≡ target)).
+        subst (λ (l : ℕ). IsBlockOf g image l b.block) (sym is.0) (subst (IsBlockOf g image from.list) (sym is.1)
+        (leads_on (w.below.reached n from w.here) low high points)))
+        (adds.only i b there);
+    firsts = λ l less. among_more adds l (list_at g l) (w.below.firsts l less);
+    closed = λ i b less there p t from' to h. among_more adds b.list t (w.below.closed i b less (before i b less there) p t from' to h);
+  };
+  here = adds.keeps n from w.here;
+  leads = λ p t from' to h. ⊎_elim
+      (λ (less : p < pointer). among_more adds from.list t (w.leads p t from' less h))
+      (λ (same : p ≡ pointer). subst (IsAmong new from.list)
+      (one_target points (subst (λ (q : ℕ). PointsTo g image (from.block + q) t) same h)) adds.has)
+      (earlier_or_last p pointer to);
+}
+  where
+    before : (i : ℕ) (b : ListBlock) → i < n → slice_get new i ≡ Some b → slice_get old i ≡ Some b
+    before i b less there =
+        let inside : i < length old = omega (arith, less, slice_get_within old n from w.here) in
+        let is : slice_get old i ≡ Some (get_or old i b) = slice_get-get_or old i b inside in
+        let same : Some (get_or old i b) ≡ Some b = sym (adds.keeps i (get_or old i b) is) ∙ there in
+        is ∙ same
+
+-- each pointer place of the block was followed
+pub turn_done : {g : Layout} {image : Image} {n : ℕ} {from : ListBlock} {pointer : ℕ} {blocks : List ListBlock}
+    → IsFollowed g image n from pointer blocks → 248 ≤ pointer → AreClosedBelow g image (n + 1) blocks
+turn_done {g} {image} {n} {from} {pointer} {blocks} w past = record {
+  reached = w.below.reached;
+  firsts = w.below.firsts;
+  closed = λ i b less there p t low high h. ⊎_elim
+      (λ (earlier : i < n). w.below.closed i b earlier there p t low high h)
+      (λ (same : i ≡ n). let e : Some from ≡ Some b = sym w.here ∙ subst (λ (k : ℕ). slice_get blocks k ≡ Some b) same there in
+      let eq : from ≡ b = cc in
+      subst (λ (c : ListBlock). IsAmong blocks c.list t) eq (w.leads p t low (omega (arith, high, past))
+      (subst (λ (c : ListBlock). PointsTo g image (c.block + p) t) (sym eq) h)))
+      (earlier_or_last i n less);
+}
+
+-- no block is left for the next turn
+past_blocks : (blocks : List ListBlock) (n : ℕ) → slice_get blocks n ≡ None → length blocks ≤ n
+past_blocks blocks n none = ⊎_elim
+    (λ same. omega (arith, same))
+    (λ differ. ⊎_elim
+    (λ less. absurd (none-some (get_or blocks n (record { list = 0; block = 0 }))
+    (sym none ∙ slice_get-get_or blocks n (record { list = 0; block = 0 }) less)))
+    (λ more. omega (arith, more)) differ)
+    (cases_order n (length blocks))
+
+-- where no block is left these are all blocks
+pub all_found : {g : Layout} {image : Image} {n : ℕ} {blocks : List ListBlock} → AreClosedBelow g image n blocks → AreOnce blocks
+    → slice_get blocks n ≡ None → AreListBlocks g image blocks
+all_found {g} {image} {n} {blocks} below once none = record {
+  each = below.reached;
+  all = λ l block is. from l block (list_at g l) is.leads (below.firsts l is.list);
+  once = once;
+}
+  where
+    from : (l block start : ℕ) → Leads image (pool_at g) g.cells block start → IsAmong blocks l start → IsAmong blocks l block
+    from l block start (arrived b same) a = subst (IsAmong blocks l) same a
+    from l block start (onwards b level digit target x y z jump low high rest) a =
+        let inside = slice_get_within blocks a.place a.one a.there in
+        let past = past_blocks blocks n none in
+        let points : PointsTo g image (a.one.block + (127 + 15 * level + digit)) target =
+        subst (λ (k : ℕ). PointsTo g image (k + (127 + 15 * level + digit)) target) (sym a.is) (record { jump = jump; from = low; to = high }) in
+        from l block target rest (subst (λ (m : ℕ). IsAmong blocks m target) a.list
+        (below.closed a.place a.one (omega (arith, inside, past)) a.there (127 + 15 * level + digit) target (omega arith) (omega arith) points))

@@ -1,0 +1,7 @@
+-- The first blocks of the lists below this turn's were found.
+use Rattle.list_audit.specs.Blocks.{AreNumbered}
+use Rattle.list_audit.proofs.Closing.{AreFirstBelow}
+use Rattle.list_audit.proofs.blocks.first_blocks.Given as goal
+
+abbrev pub invariant-loop-list : goal.invariant-loop-list
+invariant-loop-list l = AreFirstBelow l.geometry l.list l.found.blocks.items × AreNumbered l.found.blocks.items l.found.numbers

@@ -1,0 +1,64 @@
+-- The blocks of all lists, found one after another.
+use Rattle.std.specs.Prelude.{◌≡◌, ◌<◌, ◌≤◌, ◌+◌, ◌^◌, ◌⊎◌, ℕ, List, slice_get, Option, Some, None, true}
+use Rattle.std.specs.Ordering.{nat_cmp}
+use Rattle.std.specs.BTreeSet.{BTreeSet, contains}
+use Rattle.cell_types.specs.Image.{Image}
+use Rattle.cell_types.specs.Layout.{Layout, all_lists, list_at, pool_at}
+use Rattle.cell_types.specs.declared.record_cell.RecordCell.TheVariants.{Jump}
+use Rattle.index_paths.specs.Nodes.{IsBlockOf}
+use Rattle.stored_documents.specs.Volumes.{Holds}
+use Rattle.list_audit.specs.Numbers.{number_of}
+use Rattle.list_audit.specs.declared.listed.ListBlock.{ListBlock}
+
+-- the block of list l is one of these
+pub record IsAmong (blocks : List ListBlock) (l block : ℕ) : Type 0 where
+  pub place : ℕ
+  pub one : ListBlock
+  pub there : slice_get blocks place ≡ Some one
+  pub list : one.list ≡ l
+  pub is : one.block ≡ block
+
+-- none is there twice
+abbrev pub AreOnce : List ListBlock → Type 0
+AreOnce blocks = (i j : ℕ) (b c : ListBlock) → slice_get blocks i ≡ Some b → slice_get blocks j ≡ Some c → b.list ≡ c.list
+    → b.block ≡ c.block → i ≡ j
+
+-- these are the blocks of all lists, each of a list once
+pub record AreListBlocks (g : Layout) (image : Image) (blocks : List ListBlock) : Type 0 where
+  pub each : (i : ℕ) (b : ListBlock) → slice_get blocks i ≡ Some b → IsBlockOf g image b.list b.block
+  pub all : (l block : ℕ) → IsBlockOf g image l block → IsAmong blocks l block
+  pub once : AreOnce blocks
+
+-- the jump cell there leads to a block whose cells lie in the pool
+pub record PointsTo (g : Layout) (image : Image) (at target : ℕ) : Type 0 where
+  pub jump : Holds image at (Jump target)
+  pub from : pool_at g ≤ target
+  pub to : target + 256 ≤ g.cells
+
+-- what a look at a pointer place answers
+abbrev pub TargetEnds : Layout → Image → ℕ → Option ℕ → Type 0
+TargetEnds g image at None = (target : ℕ) → PointsTo g image at target → ⊥
+TargetEnds g image at (Some target) = PointsTo g image at target
+
+-- these are the numbers of just these blocks, none of which is there twice
+pub record AreNumbered (blocks : List ListBlock) (numbers : BTreeSet ℕ) : Type 0 where
+  pub each : (i : ℕ) (b : ListBlock) → slice_get blocks i ≡ Some b → contains nat_cmp numbers (number_of b.list b.block) ≡ true
+  pub all : (l block : ℕ) → block < 2 ^ 32 → contains nat_cmp numbers (number_of l block) ≡ true → IsAmong blocks l block
+  pub once : AreOnce blocks
+
+-- new is old with this block of list l
+pub record Adds (l block : ℕ) (old new : List ListBlock) : Type 0 where
+  pub keeps : (i : ℕ) (b : ListBlock) → slice_get old i ≡ Some b → slice_get new i ≡ Some b
+  pub has : IsAmong new l block
+  pub only : (i : ℕ) (b : ListBlock) → slice_get new i ≡ Some b → (slice_get old i ≡ Some b) ⊎ ((b.list ≡ l) × (b.block ≡ block))
+
+-- each block to which one of the pointer places of this one below some place leads is among these, of the same list
+abbrev pub LeadsAmong : Layout → Image → List ListBlock → ListBlock → ℕ → Type 0
+LeadsAmong g image blocks b below =
+    (pointer target : ℕ) → 128 ≤ pointer → pointer < below → PointsTo g image (b.block + pointer) target → IsAmong blocks b.list target
+
+-- These are blocks of lists, the first one of each list is among them, and so is each to which the first n of them lead.
+pub record AreClosedBelow (g : Layout) (image : Image) (n : ℕ) (blocks : List ListBlock) : Type 0 where
+  pub reached : (i : ℕ) (b : ListBlock) → slice_get blocks i ≡ Some b → IsBlockOf g image b.list b.block
+  pub firsts : (l : ℕ) → l < all_lists g → IsAmong blocks l (list_at g l)
+  pub closed : (i : ℕ) (b : ListBlock) → i < n → slice_get blocks i ≡ Some b → LeadsAmong g image blocks b 248

@@ -1,0 +1,91 @@
+//! The blocks of all lists.
+ghost use Rattle.std.specs.Prelude.{◌≡◌, ◌<◌, ◌+◌, IfOk, OnOk, Some, slice_get};
+ghost use Rattle.cell_types.specs.Image.{Image};
+ghost use Rattle.cell_types.specs.Layout.{all_lists};
+ghost use Rattle.kept_cells.specs.Kept.{image_of};
+ghost use Rattle.list_audit.specs.Blocks.{AreListBlocks, AreNumbered, AreClosedBelow};
+
+use crate::found::FoundBlocks;
+use crate::listed::ListBlock;
+use crate::targets::target_at;
+use cell_types::{Geometry, NoMemory, STAMPED_VERSION};
+use kept_cells::KeptCells;
+use std::alloc::Global;
+
+/// The first pointer place of a block.
+pub(crate) const FIRST_POINTER: u32 = 128;
+
+/// The place behind its last pointer place.
+pub(crate) const BEHIND_POINTERS: u32 = 248;
+
+/// The blocks of all lists, the time list among them, each of a list once. They come in no order.
+///
+/// # Errors
+///
+/// `NoMemory`, also where there are 2^32 blocks.
+pub fn blocks_of(
+    alloc: Global,
+    kept: &KeptCells,
+    geometry: &Geometry,
+) -> Result<Vec<ListBlock>, NoMemory>
+    ensures { IfOk result (λ blocks. AreListBlocks geometry.now (image_of kept.now) blocks.items) }
+{
+    let mut found = first_blocks(alloc, geometry)?;
+    for turn in 0..u32::MAX {
+        let Some(from) = found.at(turn) else {
+            return Ok(found.blocks);
+        };
+        add_targets(kept, geometry, turn, from, &mut found)?;
+    }
+    Err(NoMemory)
+}
+
+/// How many lists there are with the time list.
+fn list_count(geometry: &Geometry) -> u16
+    ensures { result ≡ all_lists geometry.now }
+{
+    if geometry.version() == STAMPED_VERSION {
+        return geometry.lists() + 1;
+    }
+    geometry.lists()
+}
+
+/// The first block of each list.
+fn first_blocks(alloc: Global, geometry: &Geometry) -> Result<FoundBlocks, NoMemory>
+    ensures closed { IfOk result (λ found. (image : Image) → AreClosedBelow geometry.now image 0 found.blocks.items) }
+    ensures numbered { IfOk result (λ found. AreNumbered found.blocks.items found.numbers) }
+{
+    let mut found = FoundBlocks::none(alloc);
+    for list in 0..list_count(geometry) {
+        let block = geometry.list_at(list);
+        found.add(ListBlock { list, block })?;
+    }
+    Ok(found)
+}
+
+/// Adds each block to which the pointer places of the block of a turn lead.
+fn add_targets(
+    kept: &KeptCells,
+    geometry: &Geometry,
+    turn: u32,
+    from: ListBlock,
+    found: &mut FoundBlocks,
+) -> Result<(), NoMemory>
+    requires numbered { AreNumbered found.old.blocks.items found.old.numbers }
+    requires closed { AreClosedBelow geometry.now (image_of kept.now) turn found.old.blocks.items }
+    requires here { slice_get found.old.blocks.items turn ≡ Some from }
+    ensures closed { OnOk result (AreClosedBelow geometry.now (image_of kept.now) (turn + 1) found.new.blocks.items) }
+    ensures numbered { OnOk result (AreNumbered found.new.blocks.items found.new.numbers) }
+{
+    let _cells = geometry.cells();
+    for pointer in FIRST_POINTER..BEHIND_POINTERS {
+        let Some(block) = target_at(kept, geometry, from.block + pointer) else {
+            continue;
+        };
+        found.add(ListBlock {
+            list: from.list,
+            block,
+        })?;
+    }
+    Ok(())
+}

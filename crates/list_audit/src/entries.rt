@@ -1,0 +1,90 @@
+//! Rule 8: what stands in the places of blocks.
+ghost use Rattle.std.specs.Prelude.{◌<◌, ◌≤◌, ◌+◌, ◌↔◌, ◌^◌, IsTrue};
+ghost use Rattle.tamper_rules.specs.Rules.{Entries, HoldsInOrder};
+ghost use Rattle.index_paths.specs.Nodes.{IsBlockOf};
+ghost use Rattle.kept_cells.specs.Kept.{image_of};
+ghost use Rattle.log_audit.specs.Findings.{Finds};
+ghost use Rattle.log_audit.specs.Least.{FindsPart};
+ghost use Rattle.list_audit.specs.Blocks.{AreListBlocks};
+ghost use Rattle.list_audit.specs.Entries.{KeepsEntryRule, BlockAsks};
+
+use crate::blocks::{BEHIND_POINTERS, FIRST_POINTER};
+use crate::held_posting::posting_at;
+use crate::listed::ListBlock;
+use cell_types::{Evidence, Geometry};
+use index_paths::BLOCK_CELLS;
+use kept_cells::KeptCells;
+use log_audit::lower_of;
+use tamper_rules::BLOCK_OUT_OF_ORDER;
+
+/// The least cell of a block at which rule 8 is broken, of these blocks of all lists.
+pub fn first_broken_entry(
+    kept: &KeptCells,
+    geometry: &Geometry,
+    blocks: &[ListBlock],
+) -> Option<Evidence>
+    requires { AreListBlocks geometry.now (image_of kept.now) blocks.now }
+    ensures { Finds geometry.now (image_of kept.now) Entries result }
+{
+    let mut least = None;
+    for block in blocks {
+        least = lower_of(least, first_in_block(kept, geometry, block));
+    }
+    least
+}
+
+/// The first cell of a block at which it breaks rule 8.
+fn first_in_block(kept: &KeptCells, geometry: &Geometry, listed: &ListBlock) -> Option<Evidence>
+    requires { IsBlockOf geometry.now (image_of kept.now) listed.now.list listed.now.block }
+    ensures { FindsPart geometry.now (image_of kept.now) Entries (BlockAsks (image_of kept.now) listed.now.block) result }
+{
+    let _cells = geometry.cells();
+    let block = listed.block;
+    for place in 0..BLOCK_CELLS {
+        let cell = block + place;
+        let Some(found) = kept.at(cell) else {
+            continue;
+        };
+        if !keeps_entry_rule(kept, block, place) {
+            return Some(Evidence {
+                rule: BLOCK_OUT_OF_ORDER,
+                cell,
+                found,
+            });
+        }
+    }
+    None
+}
+
+/// Whether a place of a block, where it is written, keeps rule 8.
+fn keeps_entry_rule(kept: &KeptCells, block: u32, place: u32) -> bool
+    requires room { block + 256 ≤ 2 ^ 31 }
+    requires place { place < 256 }
+    ensures { IsTrue result ↔ KeepsEntryRule (image_of kept.now) block place }
+{
+    if place >= BEHIND_POINTERS {
+        return false;
+    }
+    if place >= FIRST_POINTER {
+        return true;
+    }
+    is_in_order(kept, block, place)
+}
+
+/// Whether a posting stands at an entry place, which is the first or behind one with a smaller key.
+fn is_in_order(kept: &KeptCells, block: u32, place: u32) -> bool
+    requires room { block + 256 ≤ 2 ^ 31 }
+    requires place { place < 128 }
+    ensures { IsTrue result ↔ HoldsInOrder (image_of kept.now) block place }
+{
+    let Some(posting) = posting_at(kept, block + place) else {
+        return false;
+    };
+    if place == 0 {
+        return true;
+    }
+    let Some(before) = posting_at(kept, block + (place - 1)) else {
+        return false;
+    };
+    before.key() < posting.key()
+}

@@ -1,0 +1,41 @@
+//! The blocks of a volume's posting lists, and whether what stands in them is in order.
+//!
+//! A list begins at its first block, and each jump cell at a pointer place of one of its blocks leads to a block more. An
+//! audit looks at all of them, over cells that were read once and are kept. On the volume of 8 slots and 2 lists on 1,000
+//! cells, where cell 164, the first pointer place of the block at 36, holds a jump cell to 620:
+//!
+//!     list 0    block 36     its first
+//!     list 1    block 292    its first
+//!     list 0    block 620    from cell 164 = 36 + 128
+//!
+//! Nobody says that a volume is a good one. Its pointers may lead in a circle, two lists may lead into one block, and
+//! blocks may meet. So each block of a list is taken once, whatever leads to it, and a block to which two lists lead is
+//! one of each. That costs 16 bytes a block and no bytes for a cell of none.
+//!
+//! **Rule 8** asks of the cells of a block that postings stand at its first places, without a gap and by rising keys, and
+//! nothing behind its pointers:
+//!
+//!     36 to 163     entry places      each written one holds a posting, behind one with a smaller key
+//!     164 to 283    pointer places    of another rule
+//!     284 to 291    no places         blank
+//!
+//! Blocks come in no order, so what is found at one is joined with what was found before by `log_audit::lower_of`.
+//!
+//! Stands on `kept_cells` and `log_audit`. Begin with `blocks.rt`; `specs/Blocks.antt` says what the blocks of all lists
+//! are.
+#![tactic(auto)]
+
+mod blocks;
+mod entries;
+mod found;
+mod held_posting;
+mod listed;
+mod targets;
+#[cfg(test)]
+mod tests;
+
+pub use blocks::blocks_of;
+pub use entries::first_broken_entry;
+pub use held_posting::{HeldPosting, posting_at};
+pub use listed::ListBlock;
+pub use targets::target_at;

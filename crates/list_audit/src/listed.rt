@@ -1,0 +1,24 @@
+//! A block of a list.
+ghost use Rattle.std.specs.Prelude.{◌≡◌};
+ghost use Rattle.list_audit.specs.Numbers.{number_of};
+
+/// How far the numbers of the blocks of a list lie from those of the next.
+pub(crate) const LIST_STEP: u64 = 4_294_967_296;
+
+/// A block, and a list whose pointers lead to it.
+#[derive(Clone, Copy, Debug, PartialEq, Eq)]
+pub struct ListBlock {
+    /// The number of the list; that of the time list is the number of the lists of words.
+    pub list: u16,
+    /// The number of the block's first cell.
+    pub block: u32,
+}
+
+impl ListBlock {
+    /// A number that no other block and list have.
+    pub(crate) fn number(&self) -> u64
+        ensures { result ≡ number_of self.now.list self.now.block }
+    {
+        u64::from(self.list) * LIST_STEP + u64::from(self.block)
+    }
+}

@@ -1,0 +1,26 @@
+-- No slot reserves the cell; the slot that does holds no document, or the cell lies before it, or does not.
+use Rattle.kept_cells.specs.Kept.{image_of}
+use Rattle.log_audit.proofs.Holders.{log_in_row, owner_holds, not_owned, owned, not_before}
+use Rattle.std.proofs.Common.{arith}
+use Rattle.log_audit.proofs.owning.owner_of.Goals as goal
+
+pub reserving_slot-requires-clause-row : goal.reserving_slot-requires-clause-row
+reserving_slot-requires-clause-row c =
+    log_in_row c.args.geometry.now (image_of c.args.kept.now) c.args.log.now c.requires.log c.requires.met
+
+pub returns-in_default-clause-none : goal.returns-in_default-clause-none
+returns-in_default-clause-none c = λ m lies. c.in_default.ensures.none m (owner_holds c.requires.log lies)
+
+pub returns-in_default-stored_slot-clause-none : goal.returns-in_default-stored_slot-clause-none
+returns-in_default-stored_slot-clause-none c = not_owned c.requires.log c.requires.met c.in-Some.ensures.some
+    (c.in_default-stored_slot).ensures.none
+
+pub returns-then-cell-document_at-clause-some : goal.returns-then-cell-document_at-clause-some
+returns-then-cell-document_at-clause-some c =
+    owned c.requires.log c.requires.met c.in-Some.ensures.some c.in-Some-stored_slot.ensures.some
+    c.in-Some-stored_slot.ensures.same (omega (arith, c.if-cell-document_at.true, c.document_at.ensures.at))
+
+pub returns-clause-none : goal.returns-clause-none
+returns-clause-none c =
+    not_before c.requires.log c.requires.met c.in-Some.ensures.some c.in-Some-stored_slot.ensures.some
+    c.in-Some-stored_slot.ensures.same (omega (arith, c.if-cell-document_at.false, c.document_at.ensures.at))

@@ -1,0 +1,8 @@
+-- Listed, and then sorted.
+use Rattle.kept_cells.specs.Kept.{image_of}
+use Rattle.pointer_audit.proofs.Occupying.{are_occupied}
+use Rattle.pointer_audit.proofs.occupied.OccupiedCells.of.Goals as goal
+
+pub returns : goal.returns
+returns c = are_occupied c.args.geometry.now (image_of c.args.kept.now) _ c.requires.blocks c.requires.nodes
+    c.in_ok-numbers.ensures c.in_ok-cells.ensures c.of.ensures c.of-2.ensures

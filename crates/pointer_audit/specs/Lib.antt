@@ -1,0 +1,4 @@
+pub mod Leading
+pub mod Listing
+pub mod Numbers
+pub mod Occupied

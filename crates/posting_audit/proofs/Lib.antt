@@ -1,0 +1,9 @@
+pub mod Holding
+pub mod Listed
+pub mod Owing
+pub mod Placing
+pub mod Spelling
+pub mod Stepping
+pub mod Tabling
+pub mod Trailing
+pub mod Walking

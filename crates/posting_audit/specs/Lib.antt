@@ -1,0 +1,5 @@
+pub mod Bodies
+pub mod Keeping
+pub mod Owing
+pub mod Tables
+pub mod Trails

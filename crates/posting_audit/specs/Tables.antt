@@ -1,0 +1,39 @@
+-- Postings that are looked up by all that they say.
+use Rattle.std.specs.Prelude.{◌≡◌, ◌<◌, ◌+◌, ◌*◌, ◌^◌, ◌↔◌, ◌⊎◌, ℕ, List, Some, slice_get, true}
+use Rattle.std.specs.declared.cmp.Ordering.{Ordering}
+use Rattle.std.specs.Ordering.{nat_cmp, ordering_then}
+use Rattle.std.specs.Cmp.Lexicographic.{slice_cmp}
+use Rattle.std.specs.BTreeSet.{BTreeSet, contains}
+use Rattle.index_paths.specs.Blocks.{PostingFields}
+use Rattle.index_paths.specs.Postings.{ListedPosting}
+use Rattle.posting_audit.specs.declared.table.TheConstants.{LIST_STEP, KEY_STEP}
+
+-- a list, a key and a greatest ordinal as one number
+abbrev pub number_of : ℕ → ℕ → ℕ → ℕ
+number_of l key last = l * LIST_STEP + key * KEY_STEP + last
+
+-- numbers and tags in their order
+abbrev pub row_cmp : ℕ × List ℕ → ℕ × List ℕ → Ordering
+row_cmp x y = ordering_then (nat_cmp x.0 y.0) (slice_cmp nat_cmp x.1 y.1)
+
+-- the posting of list l is there
+abbrev pub HasRow : BTreeSet (ℕ × List ℕ) → ℕ → PostingFields → Type 0
+HasRow rows l p = contains row_cmp rows (number_of l p.key p.last, p.tag) ≡ true
+
+-- its numbers are such as a cell can hold
+pub record FitsRow (l : ℕ) (p : PostingFields) : Type 0 where
+  pub list : l < 2 ^ 16
+  pub key : p.key < 2 ^ 32
+  pub last : p.last < 2 ^ 8
+
+-- new has those of old and this one
+abbrev pub AddsRow : ListedPosting → BTreeSet (ℕ × List ℕ) → BTreeSet (ℕ × List ℕ) → Type 0
+AddsRow row old new =
+    (l : ℕ) (p : PostingFields) → FitsRow l p
+    → (HasRow new l p ↔ (HasRow old l p ⊎ ((row.list ≡ l) × (row.posting ≡ p))))
+
+-- new has those of old and these
+abbrev pub AddsRows : List ListedPosting → BTreeSet (ℕ × List ℕ) → BTreeSet (ℕ × List ℕ) → Type 0
+AddsRows added old new =
+    (l : ℕ) (p : PostingFields) → FitsRow l p
+    → (HasRow new l p ↔ (HasRow old l p ⊎ ((i : ℕ) × (slice_get added i ≡ Some (record { list = l; posting = p })))))

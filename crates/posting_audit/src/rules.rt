@@ -1,0 +1,100 @@
+//! Rule 13: trails of postings.
+ghost use Rattle.std.specs.Prelude.{◌≡◌, ◌<◌, ◌↔◌, ℕ, IfOk, IsTrue, Some, slice_get};
+ghost use Rattle.cell_types.specs.Layout.{all_lists};
+ghost use Rattle.index_paths.specs.Postings as paths;
+ghost use Rattle.stored_documents.specs.Volumes.{IsVolume};
+ghost use Rattle.tamper_rules.specs.Rules.{Documents, Entries, Pointers, Trails};
+ghost use Rattle.kept_cells.specs.Kept.{image_of};
+ghost use Rattle.log_audit.specs.Findings.{AreMetBelow, Finds, IsMetAll};
+ghost use Rattle.log_audit.specs.Logs.{IsLog};
+ghost use Rattle.log_audit.specs.Stored.{IsStored};
+ghost use Rattle.posting_audit.specs.Keeping.{HaveTrails, KeepsTrailRule};
+
+use crate::listing::postings_of;
+use crate::trails::has_trail;
+use cell_types::{Evidence, Geometry, NoMemory};
+use kept_cells::KeptCells;
+use list_audit::HeldPosting;
+use log_audit::{Log, StoredSlot, stored_slot};
+use std::alloc::Global;
+use tamper_rules::MISSING_TRAIL;
+use term_tags::ListedPosting;
+
+/// The first done cell at which rule 13 is broken, where the rules of lower numbers are kept.
+///
+/// # Errors
+///
+/// `NoMemory`.
+pub fn first_broken_trail(
+    alloc: Global,
+    kept: &KeptCells,
+    geometry: &Geometry,
+    log: &Log,
+) -> Result<Option<Evidence>, NoMemory>
+    requires volume { IsVolume geometry.now.cells (image_of kept.now) geometry.now }
+    requires log { IsLog geometry.now (image_of kept.now) log.now }
+    requires met { AreMetBelow geometry.now (image_of kept.now) 13 }
+    ensures { IfOk result (λ found. Finds geometry.now (image_of kept.now) Trails found) }
+{
+    for slot in 0..geometry.slots() {
+        let Some(stored) = stored_slot(kept, geometry, log, slot) else {
+            continue;
+        };
+        if keeps_trail_rule(alloc, kept, geometry, &stored)? {
+            continue;
+        }
+        let cell = geometry.done_at(slot);
+        let Some(found) = kept.at(cell) else {
+            unreachable!();
+        };
+        return Ok(Some(Evidence {
+            rule: MISSING_TRAIL,
+            cell,
+            found,
+        }));
+    }
+    Ok(None)
+}
+
+/// Whether the postings of a stored slot's document exist, and each has a trail.
+fn keeps_trail_rule(
+    alloc: Global,
+    kept: &KeptCells,
+    geometry: &Geometry,
+    slot: &StoredSlot,
+) -> Result<bool, NoMemory>
+    requires stored { IsStored geometry.now (image_of kept.now) slot.now }
+    requires documents { IsMetAll geometry.now (image_of kept.now) Documents }
+    requires entries { IsMetAll geometry.now (image_of kept.now) Entries }
+    requires pointers { IsMetAll geometry.now (image_of kept.now) Pointers }
+    ensures { IfOk result (λ keeps. IsTrue keeps ↔ KeepsTrailRule geometry.now (image_of kept.now) slot.now.slot) }
+{
+    let found = postings_of(alloc, kept, geometry, slot)?;
+    let Some(rows) = found else {
+        return Ok(false);
+    };
+    Ok(have_trails(kept, geometry, &rows))
+}
+
+/// Whether each of these postings has a trail.
+fn have_trails(kept: &KeptCells, geometry: &Geometry, rows: &[ListedPosting]) -> bool
+    requires lists { (i : ℕ) (row : paths.ListedPosting) → slice_get rows.now i ≡ Some row
+        → row.list < all_lists geometry.now }
+    requires entries { IsMetAll geometry.now (image_of kept.now) Entries }
+    requires pointers { IsMetAll geometry.now (image_of kept.now) Pointers }
+    ensures { IsTrue result ↔ HaveTrails geometry.now (image_of kept.now) rows.now }
+{
+    for row in rows {
+        if !has_trail(kept, geometry, row.list(), &posting_in(row)) {
+            return false;
+        }
+    }
+    true
+}
+
+/// What a posting says, without its list.
+fn posting_in(row: &ListedPosting) -> HeldPosting
+    ensures { result ≡ row.now.posting }
+{
+    HeldPosting::new(row.key(), row.last(), row.tag())
+}

@@ -1,0 +1,5 @@
+pub mod Following
+pub mod Leading
+pub mod Stating
+pub mod Tabling
+pub mod Tiling

@@ -1,0 +1,4 @@
+pub mod Copied
+pub mod Tables
+pub mod Tiles
+pub mod Walks

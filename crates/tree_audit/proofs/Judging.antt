@@ -1,0 +1,92 @@
+-- Which buckets are true ones, and what all nodes ask.
+use Rattle.std.proofs.Common.{◌≡◌, ◌<◌, ◌≤◌, ◌+◌, inl, inr, ℕ, List, length, Some, sym, ◌∙◌, subst, ap, arith}
+use Rattle.std.specs.Prelude.{slice_get}
+use Rattle.std.proofs.lemmas.Option.{slice_get_within}
+use Rattle.sha2.specs.Sha256.{sha256}
+use Rattle.cell_types.specs.Image.{Image}
+use Rattle.cell_types.specs.Layout.{Layout, IsLayout}
+use Rattle.cell_types.specs.declared.record_cell.RecordCell.TheVariants as records
+use Rattle.index_paths.specs.HashPaths.{fingerprint_of}
+use Rattle.index_paths.specs.Nodes.{IsNode}
+use Rattle.stored_documents.specs.Documents.{Stands}
+use Rattle.stored_documents.specs.Volumes.{Holds}
+use Rattle.stored_documents.proofs.Holding.{one_record_holds}
+use Rattle.stored_documents.proofs.OneDocument.{one_document}
+use Rattle.tamper_rules.specs.Rules.{BucketRule, Buckets, IsPlace, IsTrueBucket}
+use Rattle.log_audit.proofs.Parts.{AskedBelow}
+use Rattle.tree_audit.specs.Buckets.{AsksBucket}
+use Rattle.tree_audit.specs.Documents.{HasDigest}
+use Rattle.tree_audit.specs.Nodes.{AreNodes}
+use Rattle.tree_audit.specs.Paths.{GoesBy}
+use Rattle.tree_audit.specs.declared.nodes.LevelNode.{LevelNode}
+
+buckets : (a b : ℕ) (f h : List ℕ) → records.Bucket a f ≡ records.Bucket b h → (a ≡ b) × (f ≡ h)
+buckets a b f h e = (cc, cc)
+
+module _ (g : Layout) (image : Image) (node x slot : ℕ) (fingerprint : List ℕ) (held : Holds image (node + x) (records.Bucket slot fingerprint)) where
+  -- the slot of a true bucket is the one that it names
+  pub same_slot : (t : IsTrueBucket g image node x) → (t.slot ≡ slot) × (t.fingerprint ≡ fingerprint)
+  same_slot t = buckets t.slot slot t.fingerprint fingerprint
+      (one_record_holds image (node + x) (records.Bucket t.slot t.fingerprint) (records.Bucket slot fingerprint) t.bucket held)
+
+  module _ (digest : List ℕ) (d : HasDigest g image slot digest) where
+    -- it has the fingerprint, and the path goes by it
+    pub is_true : fingerprint ≡ fingerprint_of digest → GoesBy g image digest node x → IsTrueBucket g image node x
+    is_true same by =
+        let path = subst (λ (e : List ℕ). GoesBy g image e node x) d.is by in
+        record {
+          slot = slot;
+          fingerprint = fingerprint;
+          bucket = held;
+          live = d.live;
+          id = d.id;
+          body = d.body;
+          stands = d.stands;
+          same = same ∙ ap fingerprint_of d.is;
+          level = path.level;
+          on_path = path.on_path;
+          here = path.here;
+        }
+
+    -- one that is true has and does
+    one_digest : (t : IsTrueBucket g image node x) → sha256 t.id ≡ digest
+    one_digest t =
+        let there = subst (λ (n : ℕ). Stands g.cells image n t.id t.body) (same_slot t).0 t.stands in
+        ap sha256 (one_document g.cells image slot t.id t.body d.id d.body there d.stands).0 ∙ sym d.is
+
+    pub true_fingerprint : IsTrueBucket g image node x → fingerprint ≡ fingerprint_of digest
+    true_fingerprint t = sym (same_slot t).1 ∙ t.same ∙ ap fingerprint_of (one_digest t)
+
+    pub true_path : IsTrueBucket g image node x → GoesBy g image digest node x
+    true_path t = subst (λ (e : List ℕ). GoesBy g image e node x) (one_digest t)
+        (record { level = t.level; on_path = t.on_path; here = t.here })
+
+-- a bucket of a node lies in the root or in the pool
+pub bucket_place : {g : Layout} {image : Image} {level node : ℕ} (x cell : ℕ) → IsLayout g → IsNode g image level node → x < 16 → cell ≡ node + x
+    → IsPlace g Buckets cell
+bucket_place x cell layout (IsNode.root level node first is) low at =
+    inl (record { exists = tt; from = omega (arith, is, at); below = omega (arith, is, at, low) })
+bucket_place x cell layout (IsNode.under level node v above y next rest few levels child from to) low at =
+    inr (omega (arith, from, at), omega (arith, to, at, low))
+
+-- what is asked on account of each node
+abbrev pub AsksAt : Layout → Image → List LevelNode → ℕ → ℕ → Type 0
+AsksAt g image nodes i cell = (n : LevelNode) → slice_get nodes i ≡ Some n → AsksBucket g image n.node cell
+
+module _ {g : Layout} {image : Image} {nodes : List LevelNode} (are : AreNodes g image nodes) where
+  -- all nodes ask what the rule does
+  pub asks_all : (many : ℕ) → length nodes ≤ many → (cell : ℕ) → AskedBelow (AsksAt g image nodes) many cell → BucketRule g image cell
+  asks_all many all cell asked v node x is low at =
+      let a = are.all v node is in
+      asked a.index (let w = slice_get_within nodes a.index _ a.there in omega (arith, w, all)) _ a.there x low at
+
+  pub all_ask : (many : ℕ) (cell : ℕ) → BucketRule g image cell → AskedBelow (AsksAt g image nodes) many cell
+  all_ask many cell rule part less n there x low at = rule n.level n.node x (are.each part n there) low at
+
+-- one node asks what it asks
+pub same_node : (g : Layout) (image : Image) (nodes : List LevelNode) (i : ℕ) (n : LevelNode) → slice_get nodes i ≡ Some n → (cell : ℕ)
+    → AsksBucket g image n.node cell → AsksAt g image nodes i cell
+same_node g image nodes i n here cell asks m there =
+    let both : Some n ≡ Some m = sym here ∙ there in
+    let same : n ≡ m = cc in
+    subst (λ (k : LevelNode). AsksBucket g image k.node cell) same asks

@@ -1,0 +1,294 @@
+-- Whether child cells lead down well.
+use Rattle.std.proofs.Common.{◌≡◌, ◌<◌, ◌≤◌, ◌+◌, ◌-◌, ◌⊎◌, ⊎_elim, inl, inr, ℕ, List, length, get_or, Some, refl, sym, ◌∙◌, subst, ap, arith}
+use Rattle.std.specs.Prelude.{slice_get, slice_index, Contains}
+use Rattle.std.proofs.lemmas.Bool.{cases_order}
+use Rattle.std.proofs.lemmas.List.Elements.{Contains-get_or}
+use Rattle.std.proofs.lemmas.Option.{none-some, slice_get-get_or, slice_get_within}
+use Rattle.cell_types.specs.Image.{Image}
+use Rattle.cell_types.specs.Layout.{Layout, IsLayout, pool_at}
+use Rattle.cell_types.specs.declared.record_cell.RecordCell.TheVariants.{Child}
+use Rattle.index_paths.specs.Nodes.{AreApart, IsBlockOf, IsNode}
+use Rattle.stored_documents.specs.Slots.{EndsBelow, IsEdge}
+use Rattle.stored_documents.specs.Volumes.{Holds, IsWritten}
+use Rattle.tamper_rules.specs.Journals.{LiesInBlocks, journal_at}
+use Rattle.tamper_rules.specs.Rules.{ChildRule, Children, IsPlace, LeadsDownWell, ReserveCells}
+use Rattle.tamper_rules.proofs.Settled.{one_end}
+use Rattle.kept_cells.proofs.OneMore.{below_or_at}
+use Rattle.log_audit.specs.Findings.{IsMetAll}
+use Rattle.log_audit.specs.Logs.{IsLog}
+use Rattle.log_audit.specs.Stored.{IsStored}
+use Rattle.log_audit.specs.declared.ended.EndedSlot.TheVariants.{Abandoned}
+use Rattle.log_audit.specs.declared.log.Log.{Log}
+use Rattle.log_audit.specs.declared.stored.StoredSlot.{StoredSlot}
+use Rattle.log_audit.proofs.Beginning.{ended_cells}
+use Rattle.log_audit.proofs.Logged.{one_slot}
+use Rattle.log_audit.proofs.Parts.{AskedBelow}
+use Rattle.log_audit.proofs.Storing.{one_row}
+use Rattle.tree_audit.specs.Around.{AreAround, HasBetween, IsLeadOf, lead_number}
+use Rattle.tree_audit.specs.Children.{AsksChild, HasCopyOf, IsClear, IsFirstTo, IsJournaled, IsWellLed}
+use Rattle.tree_audit.specs.Nodes.{AreNodes, HasChild}
+use Rattle.tree_audit.specs.declared.around.Around.{Around}
+use Rattle.tree_audit.specs.declared.nodes.LevelNode.{LevelNode}
+use Rattle.tree_audit.proofs.Closing.{node_inside, one_target, same_default}
+
+-- the edge of a log is one
+pub edge_is : {g : Layout} {image : Image} (log : Log) → IsLog g image log → IsEdge g image image log.edge
+edge_is log is = record { u = length log.slots.items; most = is.few; free = λ less. is.free (length log.slots.items) (omega arith) less; ends = is.ends }
+
+-- and there is no other
+pub edge_is_one : {g : Layout} {image : Image} {log : Log} {at : ℕ} → IsLog g image log → IsEdge g image image at → at ≡ log.edge
+edge_is_one {g} {image} {log} {at} is e = ⊎_elim
+    (λ same. one_end g image (length log.slots.items) at log.edge
+    (subst (λ (n : ℕ). EndsBelow g image n at) same e.ends) is.ends)
+    (λ differ. ⊎_elim
+    (λ less.
+    let slot = get_or log.slots.items e.u (Abandoned 0 0) in
+    let ended = is.each e.u slot (slice_get-get_or log.slots.items e.u (Abandoned 0 0) less) in
+    let cells = (ended_cells g image e.u slot ended.0).2 in
+    absurd (none-some _ (sym (e.free (omega (arith, less, is.few))) ∙ cells.reserve.stands)))
+    (λ more. absurd (⊎_elim
+    (λ (z : (e.u ≡ 0) × (at ≡ pool_at g)). omega (arith, z.0, more))
+    (λ w. none-some _ (sym (is.free w.0 (omega (arith, w.3, more)) (omega (arith, w.3, e.most))) ∙ w.4.reserve.stands))
+    e.ends))
+    differ)
+    (cases_order e.u (length log.slots.items))
+
+-- a number that is one of these stands somewhere
+found_at : (numbers : List ℕ) (x low high : ℕ) → Contains numbers x → low ≤ x → x < high → HasBetween numbers low high
+found_at numbers x low high h from below =
+    let at : slice_index numbers h.0 ≡ x = same_default numbers h.0 0 x h.1 ∙ h.2 in
+    record { index = h.0; inside = h.1; from = omega (arith, at, from); below = omega (arith, at, below) }
+
+-- rows of cells are apart, or one begins near the other
+apart_or_near : (t b size low : ℕ) → low + size ≡ t + 1 → AreApart t 32 b size ⊎ ((low ≤ b) × (b < t + 32))
+apart_or_near t b size low is = ⊎_elim
+    (λ (less : b < t + 32). ⊎_elim
+    (λ (before : b < low). inl (inr (omega (arith, before, is))))
+    (λ (from : low ≤ b). inr (from, less))
+    (split b low))
+    (λ (past : t + 32 ≤ b). inl (inl past))
+    (split b (t + 32))
+  where
+    split : (a b : ℕ) → (a < b) ⊎ (b ≤ a)
+    split a b = grind arith
+
+near_not_apart : (t b size low : ℕ) → low + size ≡ t + 1 → low ≤ b → b < t + 32 → AreApart t 32 b size → ⊥
+near_not_apart t b size low is from below apart = ⊎_elim
+    (λ (past : t + 32 ≤ b). omega (arith, past, below))
+    (λ (before : b + size ≤ t). omega (arith, before, is, from))
+    apart
+
+module _ {g : Layout} {image : Image} {around : Around} (are : AreAround g image around) where
+  -- no block begins near the target, or one does
+  pub no_block_near : {t low high : ℕ} → low + 256 ≡ t + 1 → high ≡ t + 32 → (HasBetween around.blocks.items low high → ⊥)
+      → (k other : ℕ) → IsBlockOf g image k other → AreApart t 32 other 256
+  no_block_near {t} {low} {high} is end none k other block = ⊎_elim
+      (λ (apart : AreApart t 32 other 256). apart)
+      (λ near. absurd (none (found_at around.blocks.items other low high ((are.blocks.each other).1 (k, block)) near.0 (omega (arith, near.1, end)))))
+      (apart_or_near t other 256 low is)
+
+  pub block_near : {t low high : ℕ} → low + 256 ≡ t + 1 → high ≡ t + 32 → HasBetween around.blocks.items low high → IsClear g image t → ⊥
+  block_near {t} {low} {high} is end h clear =
+      let b = (are.blocks.each (slice_index around.blocks.items h.index)).0 (Contains-get_or around.blocks.items h.index 0 h.inside) in
+      near_not_apart t (slice_index around.blocks.items h.index) 256 low is h.from (omega (arith, h.below, end)) (clear.blocks b.0 _ b.1)
+
+  -- no other node does
+  pub no_node_near : {t low high : ℕ} → low + 32 ≡ t + 1 → high ≡ t + 32 → (HasBetween around.nodes.items low t → ⊥)
+      → (HasBetween around.nodes.items (t + 1) high → ⊥) → (w other : ℕ) → IsNode g image w other → (other ≡ t) ⊎ AreApart t 32 other 32
+  no_node_near {t} {low} {high} is end none_before none_behind w other node = ⊎_elim
+      (λ (apart : AreApart t 32 other 32). inr apart)
+      (λ near. ⊎_elim
+      (λ same. inl same)
+      (λ differ. ⊎_elim
+      (λ less. absurd (none_before (found_at around.nodes.items other low t there near.0 less)))
+      (λ more. absurd (none_behind (found_at around.nodes.items other (t + 1) high there (omega (arith, more)) (omega (arith, near.1, end)))))
+      differ)
+      (cases_order other t))
+      (apart_or_near t other 32 low is)
+    where
+      there : Contains around.nodes.items other
+      there = (are.nodes.each other).1 (w, node)
+
+  -- or one does
+  pub node_near : {t low high from to : ℕ} → low + 32 ≡ t + 1 → high ≡ t + 32 → HasBetween around.nodes.items from to
+      → low ≤ from → to ≤ high → (to ≤ t) ⊎ (t < from) → IsClear g image t → ⊥
+  node_near {t} {low} {high} {from} {to} is end h low_is high_is beside clear =
+      let number = slice_index around.nodes.items h.index in
+      let n = (are.nodes.each number).0 (Contains-get_or around.nodes.items h.index 0 h.inside) in
+      ⊎_elim
+      (λ (same : number ≡ t). ⊎_elim
+      (λ (before : to ≤ t). omega (arith, same, before, h.below))
+      (λ (behind : t < from). omega (arith, same, behind, h.from))
+      beside)
+      (λ (apart : AreApart t 32 number 32).
+      near_not_apart t number 32 low is (omega (arith, h.from, low_is)) (omega (arith, h.below, high_is, end)) apart)
+      (clear.nodes n.0 number n.1)
+
+  -- no lower child cell leads to the target
+  pub no_lead_before : {cell target number high : ℕ} → HasChild g image cell target → number ≡ lead_number target 0 → high ≡ number + cell
+      → (HasBetween around.leads.items number high → ⊥) → IsFirstTo g image cell target
+  no_lead_before {cell} {target} {number} {high} leads is end none w other y node low less holds =
+      let at : other + 16 + y ≡ other + (16 + y) = omega arith in
+      let lead : IsLeadOf g image other 32 (lead_number target (other + (16 + y))) = record {
+        place = 16 + y;
+        from = omega arith;
+        to = omega (arith, low);
+        target = target;
+        leads = record { child = subst (λ (c : ℕ). Holds image c (Child target)) at holds; from = leads.from; to = leads.to };
+        is = refl;
+      } in
+      none (found_at around.leads.items (lead_number target (other + (16 + y))) number high
+      ((are.leads.each (lead_number target (other + (16 + y)))).1 (w, other, node, lead)) (omega (arith, is)) (omega (arith, is, end, less)))
+
+  -- or one does
+  pub lead_before : {cell target number high : ℕ} → IsLayout g → cell < 2147483648 → number ≡ lead_number target 0 → high ≡ number + cell
+      → HasBetween around.leads.items number high → IsFirstTo g image cell target → ⊥
+  lead_before {cell} {target} {number} {high} layout small is end h first =
+      let x = slice_index around.leads.items h.index in
+      let n = (are.leads.each x).0 (Contains-get_or around.leads.items h.index 0 h.inside) in
+      let lead = n.3 in
+      let inside = node_inside layout n.2 in
+      let few : n.1 + lead.place < 4294967296 = omega (arith, inside, layout.cells, lead.to) in
+      let same : lead.target ≡ target = omega (arith, lead.is, h.from, h.below, is, end, few, small) in
+      let less : n.1 + lead.place < cell = omega (arith, lead.is, h.below, is, end, same) in
+      let at : n.1 + lead.place ≡ n.1 + 16 + (lead.place - 16) = omega (arith, lead.from) in
+      first n.0 n.1 (lead.place - 16) n.2 (omega (arith, lead.from, lead.to)) (omega (arith, at, less))
+      (subst (λ (c : ℕ). Holds image c (Child target)) at (subst (λ (t : ℕ). Holds image (n.1 + lead.place) (Child t)) same lead.leads.child))
+
+-- the slot that owns the target has a copy of the cell
+pub journaled : {g : Layout} {image : Image} {s : StoredSlot} {owner cell target : ℕ} → IsStored g image s → s.slot ≡ owner
+    → LiesInBlocks g image owner target → HasCopyOf image s cell → IsJournaled g image cell target
+journaled {g} {image} {s} {owner} {cell} {target} stored same lies copy =
+    let row = one_row stored same lies.stores in
+    let a = row.0 in let b = row.1 in let d = row.3 in
+    let at : journal_at lies.start lies.length lies.journal + copy.place ≡ journal_at s.start s.length s.journal + copy.place = cc in
+    record {
+      owner = owner;
+      start = lies.start;
+      reserved = lies.length;
+      bytes = lies.bytes;
+      journal = lies.journal;
+      stores = lies.stores;
+      place = copy.place;
+      in_journal = omega (arith, copy.inside, d);
+      same = ap image at ∙ copy.same;
+      in_blocks = lies.from;
+      before_document = lies.below;
+    }
+
+-- a target that is journaled lies in some slot's blocks
+pub lies_in : {g : Layout} {image : Image} {cell target : ℕ} (j : IsJournaled g image cell target) → LiesInBlocks g image j.owner target
+lies_in j = record {
+  start = j.start;
+  length = j.reserved;
+  bytes = j.bytes;
+  journal = j.journal;
+  stores = j.stores;
+  from = j.in_blocks;
+  below = j.before_document;
+}
+
+-- which is the one that owns it, and has a copy
+pub has_its_copy : {g : Layout} {image : Image} {s : StoredSlot} {owner cell target : ℕ} → IsMetAll g image ReserveCells → IsStored g image s
+    → s.slot ≡ owner → LiesInBlocks g image owner target → IsJournaled g image cell target → HasCopyOf image s cell
+has_its_copy {g} {image} {s} {owner} {cell} {target} met stored is lies j =
+    let one : j.owner ≡ owner = one_slot g image met j.owner owner j.start j.reserved lies.start lies.length target j.stores.commits.reserves
+    lies.stores.commits.reserves j.in_blocks (omega (arith, j.before_document)) lies.from (omega (arith, lies.below)) in
+    let row = one_row stored (is ∙ sym one) j.stores in
+    let a = row.0 in let b = row.1 in let d = row.3 in
+    let at : journal_at s.start s.length s.journal + j.place ≡ journal_at j.start j.reserved j.journal + j.place = cc in
+    record { place = j.place; inside = omega (arith, j.in_journal, d); same = ap image at ∙ j.same }
+
+-- a child cell that leads down well, by its target
+module _ {g : Layout} {image : Image} {v node x target : ℕ} (leads : HasChild g image (node + 16 + x) target) where
+  pub leads_well : v < 63 → IsWritten image (node + x) → IsWellLed g image (node + 16 + x) target → LeadsDownWell g image v node x
+  leads_well level bucket led = record {
+    target = target;
+    child = leads.child;
+    bucket = bucket;
+    level = level;
+    from = leads.from;
+    to = leads.to;
+    edge = led.edge;
+    owner = led.journaled.owner;
+    start = led.journaled.start;
+    reserved = led.journaled.reserved;
+    bytes = led.journaled.bytes;
+    journal = led.journaled.journal;
+    stores = led.journaled.stores;
+    place = led.journaled.place;
+    in_journal = led.journaled.in_journal;
+    same = led.journaled.same;
+    in_blocks = led.journaled.in_blocks;
+    before_document = led.journaled.before_document;
+    once = led.first;
+    blocks = led.clear.blocks;
+    nodes = led.clear.nodes;
+  }
+
+  pub well_led : LeadsDownWell g image v node x → IsWellLed g image (node + 16 + x) target
+  well_led w = subst (IsWellLed g image (node + 16 + x)) (one_target (record { child = w.child; from = w.from; to = w.to }) leads) (record {
+    edge = w.edge;
+    journaled = record {
+      owner = w.owner;
+      start = w.start;
+      reserved = w.reserved;
+      bytes = w.bytes;
+      journal = w.journal;
+      stores = w.stores;
+      place = w.place;
+      in_journal = w.in_journal;
+      same = w.same;
+      in_blocks = w.in_blocks;
+      before_document = w.before_document;
+    };
+    first = w.once;
+    clear = record { blocks = w.blocks; nodes = w.nodes };
+  })
+
+-- a child cell of a node lies in the root or in the pool
+pub child_place : {g : Layout} {image : Image} {level node : ℕ} (x cell : ℕ) → IsLayout g → IsNode g image level node → x < 16
+    → cell ≡ node + 16 + x → IsPlace g Children cell
+child_place x cell layout (IsNode.root level node first is) low at =
+    inl (record { exists = tt; from = omega (arith, is, at); below = omega (arith, is, at, low) })
+child_place x cell layout (IsNode.under level node v above y next rest few levels child from to) low at =
+    inr (omega (arith, from, at), omega (arith, to, at, low))
+
+-- a number between two others is one between the same
+pub moved : {xs ys : List ℕ} {a b c d : ℕ} → xs ≡ ys → a ≡ c → b ≡ d → HasBetween xs a b → HasBetween ys c d
+moved {xs} {ys} {a} {b} {c} {d} same low high h = subst (λ (zs : List ℕ). HasBetween zs c d) same (record {
+  index = h.index;
+  inside = h.inside;
+  from = omega (arith, h.from, low);
+  below = omega (arith, h.below, high);
+})
+
+-- the places of a journal below one hold no copy
+pub none_more : (image : Image) (from place : ℕ) {own : List ℕ} → ((k : ℕ) → k < place → image (from + k) ≡ Some own → ⊥)
+    → (image (from + place) ≡ Some own → ⊥) → (k : ℕ) → k < place + 1 → image (from + k) ≡ Some own → ⊥
+none_more image from place {own} before here k less holds = ⊎_elim
+    (λ (earlier : k < place). before k earlier holds)
+    (λ (same : k ≡ place). here (subst (λ (m : ℕ). image (from + m) ≡ Some own) same holds))
+    (below_or_at k place less)
+
+-- what is asked on account of the child cells of each node
+abbrev pub ChildrenAskAt : Layout → Image → List LevelNode → ℕ → ℕ → Type 0
+ChildrenAskAt g image nodes i cell = (n : LevelNode) → slice_get nodes i ≡ Some n → AsksChild g image n.level n.node cell
+
+module _ {g : Layout} {image : Image} {nodes : List LevelNode} (are : AreNodes g image nodes) where
+  -- all nodes ask what the rule does
+  pub children_ask_all : (many : ℕ) → length nodes ≤ many → (cell : ℕ) → AskedBelow (ChildrenAskAt g image nodes) many cell → ChildRule g image cell
+  children_ask_all many all cell asked v node x is low at =
+      let a = are.all v node is in
+      asked a.index (let w = slice_get_within nodes a.index _ a.there in omega (arith, w, all)) _ a.there x low at
+
+  pub all_children_ask : (many : ℕ) (cell : ℕ) → ChildRule g image cell → AskedBelow (ChildrenAskAt g image nodes) many cell
+  all_children_ask many cell rule part less n there x low at = rule n.level n.node x (are.each part n there) low at
+
+-- one node asks what it asks
+pub same_children : (g : Layout) (image : Image) (nodes : List LevelNode) (i : ℕ) (n : LevelNode) → slice_get nodes i ≡ Some n → (cell : ℕ)
+    → AsksChild g image n.level n.node cell → ChildrenAskAt g image nodes i cell
+same_children g image nodes i n here cell asks m there =
+    let both : Some n ≡ Some m = sym here ∙ there in
+    let same : n ≡ m = cc in
+    subst (λ (k : LevelNode). AsksChild g image k.level k.node cell) same asks

@@ -1,0 +1,223 @@
+-- Numbers that are gathered one after another, and found by bisection.
+use Rattle.std.proofs.Common.{◌≡◌, ◌<◌, ◌≤◌, ◌+◌, ◌⊎◌, ◌++◌, ⊎_elim, inl, inr, ℕ, List, [], ◌∷◌, length, Some, refl, sym, ◌∙◌, subst, ap, arith}
+use Rattle.std.specs.Prelude.{slice_get, slice_index, Contains}
+use Rattle.std.specs.List.Sorted.{IsStrictlyIncreasing}
+use Rattle.std.proofs.lemmas.Bool.{cases_order}
+use Rattle.std.proofs.lemmas.List.Elements.{Contains-append_left, Contains-push, Contains-push_cases}
+use Rattle.std.proofs.lemmas.List.Kept.{AllPairs-from_increasing}
+use Rattle.std.proofs.lemmas.Option.{slice_get_within}
+use Rattle.cell_types.specs.Image.{Image}
+use Rattle.cell_types.specs.Layout.{Layout}
+use Rattle.index_paths.specs.Nodes.{IsBlockOf, IsNode}
+use Rattle.kept_cells.proofs.OneMore.{below_or_at}
+use Rattle.list_audit.specs.Blocks.{AreListBlocks}
+use Rattle.list_audit.specs.declared.listed.ListBlock.{ListBlock}
+use Rattle.tree_audit.specs.Around.{Adds, AreAll, AreAround, BeginsBlock, BeginsNode, HasBetween, IsLeadAmong, IsLeadOf, lead_number}
+use Rattle.tree_audit.specs.Nodes.{AreNodes, HasChild}
+use Rattle.tree_audit.specs.declared.around.Around.{Around}
+use Rattle.tree_audit.specs.declared.nodes.LevelNode.{LevelNode}
+use Rattle.tree_audit.proofs.Closing.{one_target}
+
+-- nothing was added yet
+pub adds_none : (P : ℕ → Type 0) (old : List ℕ) → ((x : ℕ) → P x → ⊥) → Adds P old old
+adds_none P old none = record {
+  each = λ x. (
+    λ h. inl h,
+    λ h. ⊎_elim (λ (before : Contains old x). before) (λ (p : P x). absurd (none x p)) h,
+  );
+}
+
+-- the same was, by another word
+pub adds_same : (P Q : ℕ → Type 0) {old new : List ℕ} → Adds P old new → ((x : ℕ) → P x → Q x) → ((x : ℕ) → Q x → P x) → Adds Q old new
+adds_same P Q {old} {new} adds to from = record {
+  each = λ x. (
+    λ h. ⊎_elim (λ (before : Contains old x). inl before) (λ (p : P x). inr (to x p)) ((adds.each x).0 h),
+    λ h. (adds.each x).1 (⊎_elim (λ (before : Contains old x). inl before) (λ (q : Q x). inr (from x q)) h),
+  );
+}
+
+-- one number more was
+pub adds_one : (P Q : ℕ → Type 0) {old new after : List ℕ} (n : ℕ) → Adds P old new → after ≡ new ++ n ∷ [] → ((x : ℕ) → P x → Q x) → Q n
+    → ((x : ℕ) → Q x → P x ⊎ (n ≡ x)) → Adds Q old after
+adds_one P Q {old} {new} {after} n adds is to here from = record {
+  each = λ x. (
+    λ h. ⊎_elim
+        (λ (before : Contains new x). ⊎_elim (λ (a : Contains old x). inl a) (λ (p : P x). inr (to x p)) ((adds.each x).0 before))
+        (λ (same : n ≡ x). inr (subst Q same here))
+        (Contains-push_cases new n x (subst (λ (xs : List ℕ). Contains xs x) is h)),
+    λ h. subst (λ (xs : List ℕ). Contains xs x) (sym is) (⊎_elim
+        (λ (a : Contains old x). Contains-append_left new (n ∷ []) x ((adds.each x).1 (inl a)))
+        (λ (q : Q x). ⊎_elim
+        (λ (p : P x). Contains-append_left new (n ∷ []) x ((adds.each x).1 (inr p)))
+        (λ (same : n ≡ x). subst (Contains (new ++ n ∷ [])) same (Contains-push new n))
+        (from x q))
+        h),
+  );
+}
+
+-- what several more are
+pub adds_more : (P Q R : ℕ → Type 0) {old new after : List ℕ} → Adds P old new → Adds R new after → ((x : ℕ) → P x → Q x) → ((x : ℕ) → R x → Q x)
+    → ((x : ℕ) → Q x → P x ⊎ R x) → Adds Q old after
+adds_more P Q R {old} {new} {after} adds more p_to r_to from = record {
+  each = λ x. (
+    λ h. ⊎_elim
+        (λ (before : Contains new x). ⊎_elim (λ (a : Contains old x). inl a) (λ (p : P x). inr (p_to x p)) ((adds.each x).0 before))
+        (λ (r : R x). inr (r_to x r))
+        ((more.each x).0 h),
+    λ h. (more.each x).1 (⊎_elim
+        (λ (a : Contains old x). inl ((adds.each x).1 (inl a)))
+        (λ (q : Q x). ⊎_elim (λ (p : P x). inl ((adds.each x).1 (inr p))) (λ (r : R x). inr r) (from x q))
+        h),
+  );
+}
+
+-- all of them, sorted
+pub are_all : (P : ℕ → Type 0) {old found once : List ℕ} → old ≡ [] → Adds P old found → IsStrictlyIncreasing once
+    → ((x : ℕ) → Contains found x → Contains once x) → ((x : ℕ) → Contains once x → Contains found x) → AreAll P once
+are_all P {old} {found} {once} empty adds rising keeps gives = record {
+  rising = rising;
+  each = λ x. (
+    λ h. ⊎_elim
+        (λ (a : Contains old x). absurd (omega (arith, a.1, ap length empty)))
+        (λ (p : P x). p)
+        ((adds.each x).0 (gives x h)),
+    λ p. keeps x ((adds.each x).1 (inr p)),
+  );
+}
+
+-- the same, by another word
+pub all_same : (P Q : ℕ → Type 0) {numbers : List ℕ} → AreAll P numbers → ((x : ℕ) → P x → Q x) → ((x : ℕ) → Q x → P x) → AreAll Q numbers
+all_same P Q all to from = record {
+  rising = all.rising;
+  each = λ x. (λ h. to x ((all.each x).0 h), λ q. (all.each x).1 (from x q));
+}
+
+-- no node, and one more
+pub no_node : (nodes : List LevelNode) (x : ℕ) → BeginsNode nodes 0 x → ⊥
+no_node nodes x b = omega (arith, b.first)
+
+pub one_node : {nodes : List LevelNode} {n : ℕ} {old new after : List ℕ} (one : LevelNode) (number : ℕ) → Adds (BeginsNode nodes n) old new
+    → slice_get nodes n ≡ Some one → number ≡ one.node → after ≡ new ++ number ∷ [] → Adds (BeginsNode nodes (n + 1)) old after
+one_node {nodes} {n} {old} {new} {after} one number adds there same is = adds_one (BeginsNode nodes n) (BeginsNode nodes (n + 1)) number adds is
+    (λ x b. record { index = b.index; first = omega (arith, b.first); one = b.one; there = b.there; is = b.is })
+    (record { index = n; first = omega arith; one = one; there = there; is = sym same })
+    (λ x b. ⊎_elim
+    (λ (less : b.index < n). inl (record { index = b.index; first = less; one = b.one; there = b.there; is = b.is }))
+    (λ (last : b.index ≡ n). let both : Some one ≡ Some b.one = sym there ∙ subst (λ (k : ℕ). slice_get nodes k ≡ Some b.one) last b.there in
+    let e : one ≡ b.one = cc in inr (same ∙ ap (λ (m : LevelNode). m.node) e ∙ b.is))
+    (below_or_at b.index n b.first))
+
+-- no block, and one more
+pub no_block : (blocks : List ListBlock) (x : ℕ) → BeginsBlock blocks 0 x → ⊥
+no_block blocks x b = omega (arith, b.first)
+
+pub one_block : {blocks : List ListBlock} {n : ℕ} {old new after : List ℕ} (one : ListBlock) (number : ℕ) → Adds (BeginsBlock blocks n) old new
+    → slice_get blocks n ≡ Some one → number ≡ one.block → after ≡ new ++ number ∷ [] → Adds (BeginsBlock blocks (n + 1)) old after
+one_block {blocks} {n} {old} {new} {after} one number adds there same is = adds_one (BeginsBlock blocks n) (BeginsBlock blocks (n + 1)) number adds is
+    (λ x b. record { index = b.index; first = omega (arith, b.first); one = b.one; there = b.there; is = b.is })
+    (record { index = n; first = omega arith; one = one; there = there; is = sym same })
+    (λ x b. ⊎_elim
+    (λ (less : b.index < n). inl (record { index = b.index; first = less; one = b.one; there = b.there; is = b.is }))
+    (λ (last : b.index ≡ n). let both : Some one ≡ Some b.one = sym there ∙ subst (λ (k : ℕ). slice_get blocks k ≡ Some b.one) last b.there in
+    let e : one ≡ b.one = cc in inr (same ∙ ap (λ (m : ListBlock). m.block) e ∙ b.is))
+    (below_or_at b.index n b.first))
+
+-- no child cell of a node yet; one that leads nowhere; and one that leads on
+pub no_lead : (g : Layout) (image : Image) (node x : ℕ) → IsLeadOf g image node 16 x → ⊥
+no_lead g image node x l = omega (arith, l.from, l.to)
+
+module _ {g : Layout} {image : Image} {node place : ℕ} {old new : List ℕ} (adds : Adds (IsLeadOf g image node place) old new) where
+  later : (x : ℕ) → IsLeadOf g image node place x → IsLeadOf g image node (place + 1) x
+  later x l = record { place = l.place; from = l.from; to = omega (arith, l.to); target = l.target; leads = l.leads; is = l.is }
+
+  pub leads_nowhere : ((target : ℕ) → HasChild g image (node + place) target → ⊥) → Adds (IsLeadOf g image node (place + 1)) old new
+  leads_nowhere none = adds_same (IsLeadOf g image node place) (IsLeadOf g image node (place + 1)) adds later (λ x l. ⊎_elim
+      (λ (less : l.place < place). record { place = l.place; from = l.from; to = less; target = l.target; leads = l.leads; is = l.is })
+      (λ (same : l.place ≡ place). absurd (none l.target (subst (λ (p : ℕ). HasChild g image (node + p) l.target) same l.leads)))
+      (below_or_at l.place place l.to))
+
+  pub leads_on : {after : List ℕ} {target number : ℕ} → 16 ≤ place → HasChild g image (node + place) target
+      → number ≡ lead_number target (node + place) → after ≡ new ++ number ∷ [] → Adds (IsLeadOf g image node (place + 1)) old after
+  leads_on {after} {target} {number} low leads same is = adds_one (IsLeadOf g image node place) (IsLeadOf g image node (place + 1)) number adds is later
+      (record { place = place; from = low; to = omega arith; target = target; leads = leads; is = same })
+      (λ x l. ⊎_elim
+      (λ (less : l.place < place). inl (record { place = l.place; from = l.from; to = less; target = l.target; leads = l.leads; is = l.is }))
+      (λ (last : l.place ≡ place).
+      let there = subst (λ (p : ℕ). HasChild g image (node + p) l.target) last l.leads in
+      let one : target ≡ l.target = one_target leads there in
+      inr (same ∙ ap (λ (t : ℕ). lead_number t (node + place)) one ∙ ap (λ (p : ℕ). lead_number l.target (node + p)) (sym last) ∙ sym l.is))
+      (below_or_at l.place place l.to))
+
+-- no node's child cells, and those of one more
+pub no_leads : (g : Layout) (image : Image) (nodes : List LevelNode) (x : ℕ) → IsLeadAmong g image nodes 0 x → ⊥
+no_leads g image nodes x l = omega (arith, l.first)
+
+pub more_leads : {g : Layout} {image : Image} {nodes : List LevelNode} {n : ℕ} {old new after : List ℕ} (one : LevelNode)
+    → Adds (IsLeadAmong g image nodes n) old new → slice_get nodes n ≡ Some one → Adds (IsLeadOf g image one.node 32) new after
+    → Adds (IsLeadAmong g image nodes (n + 1)) old after
+more_leads {g} {image} {nodes} {n} {old} {new} {after} one adds there more =
+    adds_more (IsLeadAmong g image nodes n) (IsLeadAmong g image nodes (n + 1)) (IsLeadOf g image one.node 32) adds more
+    (λ x l. record { index = l.index; first = omega (arith, l.first); one = l.one; there = l.there; lead = l.lead })
+    (λ x l. record { index = n; first = omega arith; one = one; there = there; lead = l })
+    (λ x l. ⊎_elim
+    (λ (less : l.index < n). inl (record { index = l.index; first = less; one = l.one; there = l.there; lead = l.lead }))
+    (λ (last : l.index ≡ n). let both : Some one ≡ Some l.one = sym there ∙ subst (λ (k : ℕ). slice_get nodes k ≡ Some l.one) last l.there in
+    let e : one ≡ l.one = cc in inr (subst (λ (m : LevelNode). IsLeadOf g image m.node 32 x) (sym e) l.lead))
+    (below_or_at l.index n l.first))
+
+-- what stands around the nodes of a tree
+pub are_around : {g : Layout} {image : Image} {nodes : List LevelNode} {blocks : List ListBlock} (around : Around) → AreNodes g image nodes
+    → AreListBlocks g image blocks → AreAll (BeginsNode nodes (length nodes)) around.nodes.items
+    → AreAll (BeginsBlock blocks (length blocks)) around.blocks.items
+    → AreAll (IsLeadAmong g image nodes (length nodes)) around.leads.items → AreAround g image around
+are_around {g} {image} {nodes} {blocks} around tree lists starts of_blocks leads = record {
+  nodes = all_same (BeginsNode nodes (length nodes)) (λ x. (level : ℕ) × IsNode g image level x) starts
+      (λ x b. (b.one.level, subst (IsNode g image b.one.level) b.is (tree.each b.index b.one b.there)))
+      (λ x h. let a = tree.all h.0 x h.1 in
+      record { index = a.index; first = slice_get_within nodes a.index _ a.there; one = record { level = h.0; node = x }; there = a.there; is = refl });
+  blocks = all_same (BeginsBlock blocks (length blocks)) (λ x. (l : ℕ) × IsBlockOf g image l x) of_blocks
+      (λ x b. (b.one.list, subst (IsBlockOf g image b.one.list) b.is (lists.each b.index b.one b.there)))
+      (λ x h. let a = lists.all h.0 x h.1 in
+      record { index = a.place; first = slice_get_within blocks a.place _ a.there; one = a.one; there = a.there; is = a.is });
+  leads = all_same (IsLeadAmong g image nodes (length nodes)) (λ x. (level : ℕ) × (node : ℕ) × IsNode g image level node × IsLeadOf g image node 32 x) leads
+      (λ x l. (l.one.level, l.one.node, tree.each l.index l.one l.there, l.lead))
+      (λ x h. let a = tree.all h.0 h.1 h.2 in
+      record { index = a.index; first = slice_get_within nodes a.index _ a.there; one = record { level = h.0; node = h.1 }; there = a.there; lead = h.3 });
+}
+
+-- a number between the two stands at one of these places
+pub record IsOnlyThere (numbers : List ℕ) (low high from to : ℕ) : Type 0 where
+  pub inside : to ≤ length numbers
+  pub only : (k : ℕ) → k < length numbers → low ≤ slice_index numbers k → slice_index numbers k < high → (from ≤ k) × (k < to)
+
+module _ {numbers : List ℕ} {low high from to middle : ℕ} (rising : IsStrictlyIncreasing numbers) (there : IsOnlyThere numbers low high from to)
+    (less : middle < to) where
+  rises : (a b : ℕ) → a < b → b < length numbers → slice_index numbers a < slice_index numbers b
+  rises a b h inside = AllPairs-from_increasing numbers rising a b 0 h inside
+
+  pub keep_upper : slice_index numbers middle < low → IsOnlyThere numbers low high (middle + 1) to
+  keep_upper small = record {
+    inside = there.inside;
+    only = λ k inside a b. ⊎_elim
+        (λ same. absurd (omega (arith, small, ap (slice_index numbers) same, a)))
+        (λ differ. ⊎_elim
+        (λ before. absurd (let e = rises k middle before (omega (arith, less, there.inside)) in omega (arith, small, e, a)))
+        (λ behind. (omega (arith, behind), (there.only k inside a b).1))
+        differ)
+        (cases_order k middle);
+  }
+
+  pub keep_lower : high ≤ slice_index numbers middle → IsOnlyThere numbers low high from middle
+  keep_lower great = record {
+    inside = omega (arith, less, there.inside);
+    only = λ k inside a b. ⊎_elim
+        (λ same. absurd (omega (arith, great, ap (slice_index numbers) same, b)))
+        (λ differ. ⊎_elim
+        (λ before. ((there.only k inside a b).0, before))
+        (λ behind. absurd (let e = rises middle k behind inside in omega (arith, great, e, b)))
+        differ)
+        (cases_order k middle);
+  }
+
+pub none_there : {numbers : List ℕ} {low high from to : ℕ} → IsOnlyThere numbers low high from to → to ≤ from → HasBetween numbers low high → ⊥
+none_there there closed h = let w = there.only h.index h.inside h.from h.below in omega (arith, w.0, w.1, closed)

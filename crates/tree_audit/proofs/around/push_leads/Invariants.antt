@@ -1,0 +1,7 @@
+-- The numbers of the child cells before this turn's were added.
+use Rattle.kept_cells.specs.Kept.{image_of}
+use Rattle.tree_audit.specs.Around.{Adds, IsLeadOf}
+use Rattle.tree_audit.proofs.around.push_leads.Given as goal
+
+abbrev pub invariant-loop-place : goal.invariant-loop-place
+invariant-loop-place l = Adds (IsLeadOf l.geometry (image_of l.kept) l.node l.place) l.initial.leads.items l.leads.items

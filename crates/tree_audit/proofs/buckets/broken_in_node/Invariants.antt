@@ -1,0 +1,9 @@
+-- The buckets before this turn's are true ones.
+use Rattle.std.proofs.Common.{◌+◌, ℕ}
+use Rattle.kept_cells.specs.Kept.{image_of}
+use Rattle.tamper_rules.specs.Rules.{IsTrueBucket}
+use Rattle.log_audit.proofs.Families.{AreFine}
+use Rattle.tree_audit.proofs.buckets.broken_in_node.Given as goal
+
+abbrev pub invariant-loop-x : goal.invariant-loop-x
+invariant-loop-x l = AreFine (image_of l.kept) (λ (x : ℕ). l.place.node + x) (IsTrueBucket l.geometry (image_of l.kept) l.place.node) l.x

@@ -1,0 +1,35 @@
+-- No bucket; one of a slot that does not stand; one with another fingerprint; one on the path, or not.
+use Rattle.std.proofs.Common.{ℕ, subst}
+use Rattle.stored_documents.specs.Documents.{Stands}
+use Rattle.kept_cells.specs.Kept.{image_of}
+use Rattle.log_audit.proofs.Deciding.{no, decided_no, decided_yes}
+use Rattle.tree_audit.proofs.Judging.{same_slot, is_true, true_fingerprint, true_path}
+use Rattle.tree_audit.proofs.buckets.is_true_bucket.Goals as goal
+
+pub returns-in_default : goal.returns-in_default
+returns-in_default c = no (λ t. c.in_default.ensures t.slot t.fingerprint t.bucket)
+
+pub returns-in_default-digest_of : goal.returns-in_default-digest_of
+returns-in_default-digest_of c =
+    let g = c.args.geometry.now in let image = image_of c.args.kept.now in
+    let b = c.in-Some.bucket in
+    no (λ t. (c.in_default-digest_of).ensures.none t.id t.body
+    (subst (λ (n : ℕ). Stands g.cells image n t.id t.body) (same_slot g image c.args.node c.args.x b.slot b.fingerprint c.in-Some.ensures t).0 t.stands))
+
+pub returns-then-not-is_fingerprint : goal.returns-then-not-is_fingerprint
+returns-then-not-is_fingerprint c =
+    let g = c.args.geometry.now in let image = image_of c.args.kept.now in
+    let b = c.in-Some.bucket in
+    no (λ t. decided_no _ c.is_fingerprint.ensures c.if-not-is_fingerprint.true
+    (true_fingerprint g image c.args.node c.args.x b.slot b.fingerprint c.in-Some.ensures _ (c.in-Some-digest_of).ensures.some t))
+
+pub returns : goal.returns
+returns c =
+    let g = c.args.geometry.now in let image = image_of c.args.kept.now in
+    let b = c.in-Some.bucket in
+    let digest = (c.in-Some-digest_of).digest in
+    let d = (c.in-Some-digest_of).ensures.some in
+    let same = decided_yes _ c.is_fingerprint.ensures c.if-not-is_fingerprint.false in (
+      λ yes. is_true g image c.args.node c.args.x b.slot b.fingerprint c.in-Some.ensures digest d same (c.goes_by.ensures.0 yes),
+      λ t. c.goes_by.ensures.1 (true_path g image c.args.node c.args.x b.slot b.fingerprint c.in-Some.ensures digest d t),
+    )

@@ -1,0 +1,21 @@
+-- A child cell that leads nowhere, one that leads to a node, and all of them.
+use Rattle.std.proofs.Common.{◌≡◌, ℕ, subst, arith}
+use Rattle.tree_audit.specs.Nodes.{AddsTargets}
+use Rattle.kept_cells.specs.Kept.{image_of}
+use Rattle.tree_audit.proofs.Closing.{no_targets, no_child, one_child}
+use Rattle.tree_audit.proofs.nodes.push_targets.Goals as goal
+
+pub loop-place-init : goal.loop-place-init
+loop-place-init c = no_targets c.args.geometry.now (image_of c.args.kept.now) c.args.node c.args.targets.now.items
+
+pub loop-place-preserved-in_default : goal.loop-place-preserved-in_default
+loop-place-preserved-in_default c = no_child c.loop-place.invariant c.in_default.ensures
+
+pub loop-place-preserved : goal.loop-place-preserved
+loop-place-preserved c = one_child c.loop-place.invariant c.loop-place.auto.place c.in-Some.ensures c.in-Ok.ensures.items
+
+pub returns : goal.returns
+returns c =
+    let all : c.loop-place.place ≡ 32 = omega (arith, c.loop-place-test.false, c.loop-place.auto.place-end) in
+    subst (λ (p : ℕ). AddsTargets c.args.geometry.now (image_of c.args.kept.now) c.args.node p c.args.targets.now.items c.loop-place.targets.items)
+    all c.loop-place.invariant

@@ -1,0 +1,17 @@
+-- The buckets of nodes.
+use Rattle.std.specs.Prelude.{◌≡◌, ◌<◌, ◌+◌, ℕ, List, Option, Some, None}
+use Rattle.cell_types.specs.Image.{Image}
+use Rattle.cell_types.specs.Layout.{Layout}
+use Rattle.cell_types.specs.declared.record_cell.RecordCell.TheVariants as records
+use Rattle.stored_documents.specs.Volumes.{Holds}
+use Rattle.tamper_rules.specs.Rules.{IsTrueBucket}
+use Rattle.tree_audit.specs.declared.looks.HeldBucket.{HeldBucket}
+
+-- what a look at a bucket answers
+abbrev pub BucketEnds : Image → ℕ → Option HeldBucket → Type 0
+BucketEnds image at None = (slot : ℕ) (fingerprint : List ℕ) → Holds image at (records.Bucket slot fingerprint) → ⊥
+BucketEnds image at (Some b) = Holds image at (records.Bucket b.slot b.fingerprint)
+
+-- what rule 11 asks of a cell on account of this node
+abbrev pub AsksBucket : Layout → Image → ℕ → ℕ → Type 0
+AsksBucket g image node cell = (x : ℕ) → x < 16 → cell ≡ node + x → IsTrueBucket g image node x

@@ -1,0 +1,54 @@
+-- What rule 12 asks of the child cells of nodes.
+use Rattle.std.specs.Prelude.{◌≡◌, ◌<◌, ◌≤◌, ◌+◌, ◌⊎◌, ℕ}
+use Rattle.cell_types.specs.Image.{Image}
+use Rattle.cell_types.specs.Layout.{Layout}
+use Rattle.cell_types.specs.declared.record_cell.RecordCell.TheVariants.{Child}
+use Rattle.index_paths.specs.Nodes.{AreApart, IsBlockOf, IsNode}
+use Rattle.stored_documents.specs.Documents.{document_at}
+use Rattle.stored_documents.specs.Slots.{IsEdge, Stores}
+use Rattle.stored_documents.specs.Volumes.{Holds}
+use Rattle.tamper_rules.specs.Journals.{journal_at}
+use Rattle.tamper_rules.specs.Rules.{LeadsDownWell}
+use Rattle.log_audit.specs.declared.stored.StoredSlot.{StoredSlot}
+
+-- what rule 12 asks of a cell on account of this node of a level
+abbrev pub AsksChild : Layout → Image → ℕ → ℕ → ℕ → Type 0
+AsksChild g image v node cell = (x : ℕ) → x < 16 → cell ≡ node + 16 + x → LeadsDownWell g image v node x
+
+-- the slot's journal holds the same as this cell
+pub record HasCopyOf (image : Image) (s : StoredSlot) (cell : ℕ) : Type 0 where
+  pub place : ℕ
+  pub inside : place < s.journal
+  pub same : image (journal_at s.start s.length s.journal + place) ≡ image cell
+
+-- and so does the journal of the slot in whose blocks the target lies
+pub record IsJournaled (g : Layout) (image : Image) (cell target : ℕ) : Type 0 where
+  pub owner : ℕ
+  pub start : ℕ
+  pub reserved : ℕ
+  pub bytes : ℕ
+  pub journal : ℕ
+  pub stores : Stores g image owner start reserved bytes journal
+  pub place : ℕ
+  pub in_journal : place < journal
+  pub same : image (journal_at start reserved journal + place) ≡ image cell
+  pub in_blocks : start ≤ target
+  pub before_document : target < document_at start reserved bytes journal
+
+-- no child cell of a node before this one leads to the target
+abbrev pub IsFirstTo : Layout → Image → ℕ → ℕ → Type 0
+IsFirstTo g image cell target =
+    (w other y : ℕ) → IsNode g image w other → y < 16 → other + 16 + y < cell → Holds image (other + 16 + y) (Child target) → ⊥
+
+-- the target's cells meet no block and no other node
+pub record IsClear (g : Layout) (image : Image) (target : ℕ) : Type 0 where
+  pub blocks : (k other : ℕ) → IsBlockOf g image k other → AreApart target 32 other 256
+  pub nodes : (w other : ℕ) → IsNode g image w other → (other ≡ target) ⊎ AreApart target 32 other 32
+
+-- The target of a child cell lies before each edge, is journaled with the cell, and is clear; and the cell is the first
+-- to it.
+pub record IsWellLed (g : Layout) (image : Image) (cell target : ℕ) : Type 0 where
+  pub edge : (at : ℕ) → IsEdge g image image at → target + 32 ≤ at
+  pub journaled : IsJournaled g image cell target
+  pub first : IsFirstTo g image cell target
+  pub clear : IsClear g image target

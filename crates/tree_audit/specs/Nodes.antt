@@ -1,0 +1,76 @@
+-- The nodes of a volume's tree of identifiers, found level after level.
+use Rattle.std.specs.Prelude.{◌≡◌, ◌<◌, ◌≤◌, ◌+◌, ◌↔◌, ◌⊎◌, ℕ, List, length, slice_get, slice_index, Option, Some, None, Contains}
+use Rattle.std.specs.List.Sorted.{IsStrictlyIncreasing}
+use Rattle.cell_types.specs.Image.{Image}
+use Rattle.cell_types.specs.Layout.{Layout, pool_at}
+use Rattle.cell_types.specs.declared.record_cell.RecordCell.TheVariants.{Child}
+use Rattle.index_paths.specs.Nodes.{IsNode}
+use Rattle.stored_documents.specs.Volumes.{Holds}
+use Rattle.tree_audit.specs.declared.nodes.LevelNode.{LevelNode}
+
+-- the child cell there leads to a node whose cells lie in the pool
+pub record HasChild (g : Layout) (image : Image) (at target : ℕ) : Type 0 where
+  pub child : Holds image at (Child target)
+  pub from : pool_at g ≤ target
+  pub to : target + 32 ≤ g.cells
+
+-- what a look at a child cell answers
+abbrev pub ChildEnds : Layout → Image → ℕ → Option ℕ → Type 0
+ChildEnds g image at None = (target : ℕ) → HasChild g image at target → ⊥
+ChildEnds g image at (Some target) = HasChild g image at target
+
+-- a child cell of the node leads there, one of those before this place
+pub record IsTarget (g : Layout) (image : Image) (node below target : ℕ) : Type 0 where
+  pub place : ℕ
+  pub from : 16 ≤ place
+  pub to : place < below
+  pub leads : HasChild g image (node + place) target
+
+-- to a row of numbers the targets of the node's child cells before this place were added
+pub record AddsTargets (g : Layout) (image : Image) (node below : ℕ) (old new : List ℕ) : Type 0 where
+  pub each : (target : ℕ) → Contains new target ↔ (Contains old target ⊎ IsTarget g image node below target)
+
+-- a child cell of one of the first n of these nodes leads there
+pub record IsUnder (g : Layout) (image : Image) (row : List ℕ) (n target : ℕ) : Type 0 where
+  pub index : ℕ
+  pub first : index < n
+  pub inside : index < length row
+  pub target_of : IsTarget g image (slice_index row index) 32 target
+
+-- these are the targets of the child cells of a row of nodes, each once, by rising numbers
+pub record AreUnder (g : Layout) (image : Image) (row under : List ℕ) : Type 0 where
+  pub rising : IsStrictlyIncreasing under
+  pub each : (target : ℕ) → Contains under target ↔ IsUnder g image row (length row) target
+
+-- these nodes lie on the device
+abbrev pub AreInside : Layout → List ℕ → Type 0
+AreInside g row = (index : ℕ) → index < length row → slice_index row index + 32 ≤ g.cells
+
+-- these are the nodes of a level, each once, by rising numbers
+pub record AreOnLevel (g : Layout) (image : Image) (level : ℕ) (row : List ℕ) : Type 0 where
+  pub rising : IsStrictlyIncreasing row
+  pub each : (index : ℕ) → index < length row → IsNode g image level (slice_index row index)
+  pub all : (node : ℕ) → IsNode g image level node → Contains row node
+
+-- a row of nodes was put behind others, as those of a level
+pub record AddsLevel (level : ℕ) (row : List ℕ) (many : ℕ) (old new : List LevelNode) : Type 0 where
+  pub count : length new ≡ length old + many
+  pub kept : (i : ℕ) (n : LevelNode) → slice_get old i ≡ Some n → slice_get new i ≡ Some n
+  pub added : (k : ℕ) → k < many
+      → slice_get new (length old + k) ≡ Some (record { level = level; node = slice_index row k })
+
+-- it is a node of a lower level, or one of the same level and before
+abbrev pub IsBefore : LevelNode → LevelNode → Type 0
+IsBefore a b = (a.level < b.level) ⊎ ((a.level ≡ b.level) × (a.node < b.node))
+
+-- the node of this level is one of these
+pub record IsAmong (nodes : List LevelNode) (level node : ℕ) : Type 0 where
+  pub index : ℕ
+  pub there : slice_get nodes index ≡ Some (record { level = level; node = node })
+
+-- these are the nodes of the tree, each once at each of its levels
+pub record AreNodes (g : Layout) (image : Image) (nodes : List LevelNode) : Type 0 where
+  pub each : (i : ℕ) (n : LevelNode) → slice_get nodes i ≡ Some n → IsNode g image n.level n.node
+  pub all : (level node : ℕ) → IsNode g image level node → IsAmong nodes level node
+  pub rising : (i j : ℕ) (a b : LevelNode) → i < j → slice_get nodes i ≡ Some a → slice_get nodes j ≡ Some b
+      → IsBefore a b

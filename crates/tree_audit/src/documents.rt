@@ -1,0 +1,69 @@
+//! The identifiers of documents.
+ghost use Rattle.std.specs.Prelude.{◌≡◌, ◌≤◌, ◌↔◌, ℕ, List, IsTrue, IfSome, IfNone};
+ghost use Rattle.stored_documents.specs.Documents.{Stands};
+ghost use Rattle.stored_documents.specs.Volumes.{IsVolume};
+ghost use Rattle.stored_documents.specs.declared.limits.TheConstants.{MAX_IDENTIFIER_BYTES};
+ghost use Rattle.document_store.specs.Heads.{id_of};
+ghost use Rattle.kept_cells.specs.Kept.{image_of, count_of};
+ghost use Rattle.log_audit.specs.Logs.{IsLog};
+ghost use Rattle.tree_audit.specs.Documents.{HasDigest, HasHead};
+
+use cell_types::Geometry;
+use document_store::{Head, read_document};
+use kept_cells::{KeptCells, Shown};
+use log_audit::{Log, stored_slot};
+use sha2::{Digest, Sha256};
+
+/// What stands before the body of the document of a slot, if the slot is done and its cells spell a document.
+pub(crate) fn head_of(kept: &KeptCells, geometry: &Geometry, log: &Log, slot: u32) -> Option<Head>
+    requires volume { IsVolume geometry.now.cells (image_of kept.now) geometry.now }
+    requires count { count_of kept.now ≡ geometry.now.cells }
+    requires log { IsLog geometry.now (image_of kept.now) log.now }
+    ensures some { IfSome result (λ head. HasHead geometry.now (image_of kept.now) slot head) }
+    ensures none { IfNone result ((id body : List ℕ) → Stands geometry.now.cells (image_of kept.now) slot id body → ⊥) }
+{
+    let Some(stored) = stored_slot(kept, geometry, log, slot) else {
+        return None;
+    };
+    let mut shown = Shown::new(kept);
+    let Ok(head) = read_document(&mut shown, stored.document_at(), stored.bytes) else {
+        return None;
+    };
+    Some(head)
+}
+
+/// The SHA-256 of the identifier of the document of a slot, if the slot is done and its cells spell a document.
+pub(crate) fn digest_of(
+    kept: &KeptCells,
+    geometry: &Geometry,
+    log: &Log,
+    slot: u32,
+) -> Option<[u8; 32]>
+    requires volume { IsVolume geometry.now.cells (image_of kept.now) geometry.now }
+    requires count { count_of kept.now ≡ geometry.now.cells }
+    requires log { IsLog geometry.now (image_of kept.now) log.now }
+    ensures some { IfSome result (λ digest. HasDigest geometry.now (image_of kept.now) slot digest) }
+    ensures none { IfNone result ((id body : List ℕ) → Stands geometry.now.cells (image_of kept.now) slot id body → ⊥) }
+{
+    let Some(head) = head_of(kept, geometry, log, slot) else {
+        return None;
+    };
+    Some(Sha256::digest(identifier(&head)))
+}
+
+/// The identifier that stands before a body.
+pub(crate) fn identifier(head: &Head) -> &[u8]
+    requires { head.now.id_length ≤ MAX_IDENTIFIER_BYTES }
+    ensures { result.now ≡ id_of head.now }
+{
+    &head.id[..usize::from(head.id_length)]
+}
+
+/// Whether the identifiers are the same.
+pub(crate) fn same_identifier(one: &Head, other: &Head) -> bool
+    requires one { one.now.id_length ≤ MAX_IDENTIFIER_BYTES }
+    requires other { other.now.id_length ≤ MAX_IDENTIFIER_BYTES }
+    ensures { IsTrue result ↔ (id_of one.now ≡ id_of other.now) }
+{
+    identifier(one) == identifier(other)
+}

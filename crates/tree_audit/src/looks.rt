@@ -1,0 +1,46 @@
+//! Looks at cells of nodes.
+ghost use Rattle.kept_cells.specs.Kept.{image_of};
+ghost use Rattle.tree_audit.specs.Buckets.{BucketEnds};
+ghost use Rattle.tree_audit.specs.Nodes.{ChildEnds};
+
+use cell_types::{Geometry, RecordCell};
+use index_paths::NODE_CELLS;
+use kept_cells::KeptCells;
+use log_audit::record_at;
+
+/// What a bucket says: the slot of a document, and the first bytes of its identifier's digest.
+#[derive(Clone, Copy, Debug, PartialEq, Eq)]
+pub struct HeldBucket {
+    pub slot: u32,
+    pub fingerprint: [u8; 7],
+}
+
+/// What the bucket there says, if one stands there.
+pub(crate) fn bucket_at(kept: &KeptCells, at: u32) -> Option<HeldBucket>
+    ensures { BucketEnds (image_of kept.now) at result }
+{
+    let Some(held) = record_at(kept, at) else {
+        return None;
+    };
+    let RecordCell::Bucket { slot, fingerprint } = held else {
+        return None;
+    };
+    Some(HeldBucket { slot, fingerprint })
+}
+
+/// The node to which the child cell there leads, if there is one whose cells lie in the pool.
+pub(crate) fn child_at(kept: &KeptCells, geometry: &Geometry, at: u32) -> Option<u32>
+    ensures { ChildEnds geometry.now (image_of kept.now) at result }
+{
+    let Some(held) = record_at(kept, at) else {
+        return None;
+    };
+    let RecordCell::Child { target } = held else {
+        return None;
+    };
+    let cells = geometry.cells();
+    if target < geometry.pool_at() || cells < target || cells - target < NODE_CELLS {
+        return None;
+    }
+    Some(target)
+}

@@ -1,0 +1,115 @@
+//! The nodes of the tree.
+ghost use Rattle.std.specs.Prelude.{◌≡◌, ◌<◌, ◌≤◌, ◌+◌, ◌^◌, ℕ, IfOk, OnOk, length, Contains};
+ghost use Rattle.std.specs.List.Sorted.{IsStrictlyIncreasing};
+ghost use Rattle.kept_cells.specs.Kept.{image_of};
+ghost use Rattle.tree_audit.specs.Nodes.{AreInside, AreNodes, AreOnLevel, AreUnder, AddsLevel, AddsTargets};
+
+use crate::looks::child_at;
+use cell_types::{Geometry, NoMemory};
+use index_paths::{NODE_BUCKETS, NODE_CELLS};
+use kept_cells::KeptCells;
+use std::alloc::Global;
+
+/// A digest has 64 half bytes, so there is no level below this one.
+pub(crate) const LAST_LEVEL: u8 = 63;
+
+/// A node, and a level at which the tree has it. Where cells were tampered with, one node may stand at several levels.
+#[derive(Clone, Copy, Debug, PartialEq, Eq)]
+pub struct LevelNode {
+    pub level: u8,
+    /// The first of its cells.
+    pub node: u32,
+}
+
+/// The nodes of the tree, each once at each of its levels: the root, and then level after level.
+pub fn nodes_of(
+    alloc: Global,
+    kept: &KeptCells,
+    geometry: &Geometry,
+) -> Result<Vec<LevelNode>, NoMemory>
+    ensures { IfOk result (λ nodes. AreNodes geometry.now (image_of kept.now) nodes.items) }
+{
+    let _cells = geometry.cells();
+    let mut nodes = Vec::new(alloc);
+    let mut row = root_row(alloc, kept, geometry)?;
+    for level in 0..LAST_LEVEL {
+        push_row(&mut nodes, level, &row)?;
+        row = row_under(alloc, kept, geometry, &row)?;
+    }
+    push_row(&mut nodes, LAST_LEVEL, &row)?;
+    Ok(nodes)
+}
+
+/// The root alone.
+fn root_row(alloc: Global, _kept: &KeptCells, geometry: &Geometry) -> Result<Vec<u32>, NoMemory>
+    ensures { IfOk result (λ row. AreOnLevel geometry.now (image_of _kept.now) 0 row.items) }
+{
+    let mut row = Vec::new(alloc);
+    let Ok(()) = row.push(geometry.root_at()) else {
+        return Err(NoMemory);
+    };
+    Ok(row)
+}
+
+/// Puts the nodes of a level behind those of the levels above it.
+fn push_row(nodes: &mut Vec<LevelNode>, level: u8, row: &[u32]) -> Result<(), NoMemory>
+    ensures { OnOk result (AddsLevel level row.now (length row.now) nodes.old.items nodes.new.items) }
+{
+    for node in row {
+        let Ok(()) = nodes.push(LevelNode { level, node: *node }) else {
+            return Err(NoMemory);
+        };
+    }
+    Ok(())
+}
+
+/// The nodes to which the child cells of these lead, each once, by rising numbers.
+fn row_under(
+    alloc: Global,
+    kept: &KeptCells,
+    geometry: &Geometry,
+    row: &[u32],
+) -> Result<Vec<u32>, NoMemory>
+    requires { AreInside geometry.now row.now }
+    ensures { IfOk result (λ under. AreUnder geometry.now (image_of kept.now) row.now under.items) }
+{
+    let _cells = geometry.cells();
+    let mut under = Vec::new(alloc);
+    for node in row {
+        push_targets(kept, geometry, *node, &mut under)?;
+    }
+    // Two child cells may lead to one node.
+    sort_once(&mut under);
+    Ok(under)
+}
+
+/// Adds the node to which each child cell of this one leads.
+fn push_targets(
+    kept: &KeptCells,
+    geometry: &Geometry,
+    node: u32,
+    targets: &mut Vec<u32>,
+) -> Result<(), NoMemory>
+    requires { node + 32 < 2 ^ 32 }
+    ensures { OnOk result (AddsTargets geometry.now (image_of kept.now) node 32 targets.old.items targets.new.items) }
+{
+    for place in NODE_BUCKETS..NODE_CELLS {
+        let Some(target) = child_at(kept, geometry, node + place) else {
+            continue;
+        };
+        let Ok(()) = targets.push(target) else {
+            return Err(NoMemory);
+        };
+    }
+    Ok(())
+}
+
+/// Sorts the numbers, and keeps each of them once.
+fn sort_once(numbers: &mut Vec<u32>)
+    ensures rises { IsStrictlyIncreasing numbers.new.items }
+    ensures keeps { (x : ℕ) → Contains numbers.old.items x → Contains numbers.new.items x }
+    ensures adds_none { (x : ℕ) → Contains numbers.new.items x → Contains numbers.old.items x }
+{
+    numbers.sort_unstable();
+    numbers.dedup();
+}

@@ -1,0 +1,8 @@
+-- So many so far.
+use Rattle.kept_cells.specs.Kept.{image_of}
+use Rattle.stored_documents.specs.Slots.{IsAbandonedSlot}
+use Rattle.volume_audit.proofs.Counting.{CountsTo}
+use Rattle.volume_audit.proofs.report.count_abandoned.Given as goal
+
+abbrev pub invariant-loop-slot : goal.invariant-loop-slot
+invariant-loop-slot l = CountsTo (IsAbandonedSlot l.geometry (image_of l._kept) (image_of l._kept)) l.slot l.abandoned

@@ -1,0 +1,4 @@
+pub mod Audits
+pub mod Counts
+pub mod Judging
+pub mod Reports

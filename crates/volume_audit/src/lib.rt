@@ -1,0 +1,37 @@
+//! The audit of a volume: whether each rule is kept at each written cell, and how many slots and cells there are.
+//!
+//! An auditor has the device alone. The audit settles the volume, reads each cell once in rising order and keeps it in
+//! memory, and then checks the fifteen rules over what is kept, one after another. The first that is broken is named, at
+//! the least cell where it is; where each is kept the volume is **sound**, and the answer says how many of its slots are
+//! done and abandoned, and how many cells of the device are written:
+//!
+//!     1 to 3        the log                    log_audit
+//!     4, 5, 6       documents and journals     journal_audit
+//!     7             cells astray               stray_audit
+//!     8             what stands in blocks      list_audit
+//!     9             whose postings they are    posting_audit
+//!     10            pointers                   pointer_audit
+//!     11, 12        buckets and child cells    tree_audit
+//!     13            trails of postings         posting_audit
+//!     14            paths of documents         tree_audit
+//!     15            blocks of slots            tiling_audit
+//!
+//! Of the volume of 8 slots and 2 lists on 1,000 cells that holds the document `a` it answers 1 done, 0 abandoned and 11
+//! written; where somebody else has written an abandon cell into cell 9, rule 2 is broken there, and this is named.
+//!
+//! It takes 20 bytes of memory a written cell, 4 a page of 256 cells, 20 a slot, and for each posting of a document some
+//! 40 in an ordered set while rule 9 is checked.
+//!
+//! Stands on the crates that check the rules, and on `recovery_engine`, which settles. Begin with `auditing.rt`, then
+//! `judging.rt`; `specs/Audits.antt` says what an audit answers, and why.
+#![tactic(auto)]
+
+mod auditing;
+mod checks;
+mod judging;
+mod report;
+#[cfg(test)]
+mod tests;
+
+pub use auditing::audit;
+pub use report::AuditReport;
