@@ -30,6 +30,7 @@ mod part;
 mod putting;
 #[cfg(test)]
 mod tests;
+mod text;
 
 pub use append_file::{ContentFault, Position, ROW_BYTES, next_row};
 pub use body::{BodyFault, body_into};
@@ -38,3 +39,4 @@ pub use head::{Head, read_document, read_head};
 pub use identifier::{identifier_of, is_identifier, part_has_identifier, same_identifier};
 pub use laws::{held_is_one, held_is_standing, held_stays};
 pub use part::{Part, name_commit, slot_part};
+pub use text::Text;

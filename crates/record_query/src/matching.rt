@@ -11,10 +11,11 @@ ghost use Rattle.document_store.specs.Looks.{IsPartOf, IsStated, ReadsOnce};
 ghost use Rattle.record_query.specs.Matching.{IsMatcherOf, KeepsTerms, MatchEnds, PushNextEnds, SeekEnds, SlotEnds, seek_fault_of};
 ghost use Rattle.record_query.specs.declared.matching.SeekFault.TheVariants as seeks;
 
-use crate::found::{Match, Text};
+use crate::found::Match;
 use cell_types::{Geometry, NoMemory, Refusal, Volume};
 use document_store::{
-    ContentFault, Head, Part, Position, ROW_BYTES, name_commit, next_row, read_head, slot_part,
+    ContentFault, Head, Part, Position, ROW_BYTES, Text, name_commit, next_row, read_head,
+    slot_part,
 };
 use std::alloc::{AllocError, Global};
 use word_reader::Matcher;
