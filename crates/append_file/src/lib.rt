@@ -26,8 +26,6 @@ mod piece;
 mod position;
 mod reader;
 mod row;
-#[cfg(test)]
-mod tests;
 
 pub use cells::{CONTENT_BYTES, cells_for, content_cells, push_content};
 pub use piece::{ContentFault, read_piece};

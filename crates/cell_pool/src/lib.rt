@@ -16,8 +16,6 @@
 
 mod laws;
 mod pool;
-#[cfg(test)]
-mod tests;
 
 pub use laws::grants_tile;
 pub use pool::Pool;

@@ -25,8 +25,6 @@ mod geometry;
 mod held_bytes;
 mod record_cell;
 mod refusal;
-#[cfg(test)]
-mod tests;
 
 pub use cell::Cell;
 pub use codec::{address_of, decode, encode, no_record_is_content, records_are_one};

@@ -49,8 +49,6 @@ mod reservation;
 mod slot;
 mod slot_cells;
 mod slot_parts;
-#[cfg(test)]
-mod tests;
 mod used_slot;
 
 pub use laws::{a_slot_has_one_state, no_state_breaks_a_rule};

@@ -28,8 +28,6 @@ mod identifier;
 mod laws;
 mod part;
 mod putting;
-#[cfg(test)]
-mod tests;
 mod text;
 
 pub use append_file::{ContentFault, Position, ROW_BYTES, next_row};

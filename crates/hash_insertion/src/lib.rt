@@ -30,8 +30,6 @@
 
 mod insertion;
 mod laws;
-#[cfg(test)]
-mod tests;
 
 pub use insertion::insert;
 pub use laws::{passed_is_on_path, taken_is_broken};

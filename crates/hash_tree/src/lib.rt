@@ -29,8 +29,6 @@ mod level;
 mod looks;
 mod node_cells;
 mod path;
-#[cfg(test)]
-mod tests;
 
 pub use digests::nibble_of;
 pub use laws::a_step_has_one_answer;

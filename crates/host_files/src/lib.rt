@@ -31,8 +31,6 @@
 //! `specs/Device.antt` says what a file is as a device, and `specs/Crashes.antt` what a crash leaves of it.
 #![tactic(auto)]
 
-#[cfg(test)]
-mod callers;
 mod change;
 mod device;
 mod file_device;
@@ -44,8 +42,6 @@ mod os_file;
 mod page;
 mod pages;
 mod rows;
-#[cfg(test)]
-mod tests;
 
 pub use change::{FileChange, Leaving};
 pub use file_device::{FileDevice, OpenFault};

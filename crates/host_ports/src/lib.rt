@@ -23,15 +23,11 @@
 //! source does.
 #![tactic(auto)]
 
-#[cfg(test)]
-mod callers;
 mod memory;
 mod schedule;
 mod sink;
 mod source;
 mod standard;
-#[cfg(test)]
-mod tests;
 mod whole;
 
 pub use memory::{MemorySink, MemorySource};

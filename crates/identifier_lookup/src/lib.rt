@@ -25,8 +25,6 @@
 
 mod answers;
 mod candidates;
-#[cfg(test)]
-mod tests;
 mod walks;
 
 pub use answers::Walk;

@@ -1,7 +1,8 @@
-//! Tests of insertions: a list that grows key by key, and what that costs, also where somebody else writes.
+//! Tests of insertions: into a posting list and into the tree of identifiers, over planned cells; grants of the pool; and a
+//! list that grows key by key, what that costs, also where somebody else writes.
 //!
-//! The list begins at cell 36, and its other blocks lie from cell 600 on. Each key is planned in an overlay of its own,
-//! and then written, as ingest after ingest would do.
+//! The growing list begins at cell 36, and its other blocks lie from cell 600 on. Each key is planned in an overlay of its
+//! own, and then written, as ingest after ingest would do.
 #![tactic(auto)]
 
 #[cfg(test)]
@@ -10,3 +11,9 @@ mod foreign;
 mod growing;
 #[cfg(test)]
 mod lists;
+#[cfg(test)]
+mod nodes;
+#[cfg(test)]
+mod pools;
+#[cfg(test)]
+mod postings;

@@ -34,8 +34,6 @@ mod key_spans;
 mod known_front;
 mod pointers;
 mod spans;
-#[cfg(test)]
-mod tests;
 
 pub use consulting::first_from_known;
 pub use entries::entry;

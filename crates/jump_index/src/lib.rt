@@ -28,12 +28,8 @@
 mod bounds;
 mod here;
 mod later;
-#[cfg(test)]
-mod long_list;
 mod looked;
 mod search;
-#[cfg(test)]
-mod tests;
 
 pub use bounds::Bounds;
 pub use search::{find_geq, find_geq_from_kept};

@@ -39,8 +39,6 @@ mod meeting;
 mod puts;
 mod readiness;
 mod spans;
-#[cfg(test)]
-mod tests;
 
 pub use entries::NewEntry;
 pub use insertion::insert;

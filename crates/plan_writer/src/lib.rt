@@ -23,8 +23,6 @@ mod laws;
 mod plan;
 mod put;
 mod steps;
-#[cfg(test)]
-mod tests;
 
 pub use laws::{commits_follow_documents, crashes_leave_whole_slots, slots_keep_states};
 pub use plan::Plan;

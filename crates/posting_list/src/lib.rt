@@ -35,8 +35,6 @@
 //! specs/Owing.antt says what must not be passed, and specs/Naming.antt what is evidence.
 #![tactic(auto)]
 
-#[cfg(test)]
-mod callers;
 mod has_slot;
 mod joined;
 mod laws;
@@ -45,8 +43,6 @@ mod reach;
 mod sought_term;
 mod sought_terms;
 mod term_lists;
-#[cfg(test)]
-mod tests;
 
 pub use has_slot::HAS_READS;
 pub use laws::kept_are_owed;

@@ -27,13 +27,9 @@
 #![tactic(auto)]
 
 mod cached;
-#[cfg(test)]
-mod callers;
 mod cell_cache;
 mod kept;
 mod reads;
-#[cfg(test)]
-mod tests;
 
 pub use cached::Cached;
 pub use cell_cache::CellCache;

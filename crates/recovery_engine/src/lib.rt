@@ -25,8 +25,6 @@ mod laws;
 mod looks;
 mod ordered;
 mod settling;
-#[cfg(test)]
-mod tests;
 
 pub use ending::{finish, journal_of};
 pub use journal::{Journal, apply_journal};

@@ -35,8 +35,6 @@ mod keys;
 mod laws;
 mod listing;
 mod rows;
-#[cfg(test)]
-mod tests;
 
 pub use digests::{list_of, tag};
 pub use laws::too_many_is_one;

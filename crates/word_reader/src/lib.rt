@@ -33,8 +33,6 @@ mod folded;
 mod matcher;
 mod reader;
 mod term;
-#[cfg(test)]
-mod tests;
 mod text_matcher;
 
 pub use matcher::Matcher;

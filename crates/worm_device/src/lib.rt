@@ -32,8 +32,6 @@
 //! Begin with `device.rt`; `specs/State.antt` says what a device is, and `specs/Calls.antt` what each call does.
 #![tactic(auto)]
 
-#[cfg(test)]
-mod callers;
 mod device;
 mod direct;
 mod laws;

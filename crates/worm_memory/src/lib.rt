@@ -52,8 +52,6 @@
 #![tactic(auto)]
 
 mod arrival;
-#[cfg(test)]
-mod callers;
 mod change;
 mod commands;
 mod device;
@@ -63,8 +61,6 @@ mod mark;
 mod memory_device;
 mod moment;
 mod schedule;
-#[cfg(test)]
-mod tests;
 
 pub use change::Change;
 pub use laws::{

@@ -30,8 +30,6 @@
 mod gather;
 mod join;
 mod lists;
-#[cfg(test)]
-mod tests;
 
 pub use gather::all_common;
 pub use join::next_common;
