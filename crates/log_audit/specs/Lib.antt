@@ -1,3 +1,4 @@
+pub mod Between
 pub mod Findings
 pub mod Least
 pub mod Logs
