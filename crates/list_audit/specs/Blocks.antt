@@ -36,9 +36,9 @@ pub record PointsTo (g : Layout) (image : Image) (at target : ℕ) : Type 0 wher
   pub to : target + 256 ≤ g.cells
 
 -- what a look at a pointer place answers
-abbrev pub TargetEnds : Layout → Image → ℕ → Option ℕ → Type 0
-TargetEnds g image at None = (target : ℕ) → PointsTo g image at target → ⊥
-TargetEnds g image at (Some target) = PointsTo g image at target
+abbrev pub BlockTargetEnds : Layout → Image → ℕ → Option ℕ → Type 0
+BlockTargetEnds g image at None = (target : ℕ) → PointsTo g image at target → ⊥
+BlockTargetEnds g image at (Some target) = PointsTo g image at target
 
 -- these are the numbers of just these blocks, none of which is there twice
 pub record AreNumbered (blocks : List ListBlock) (numbers : BTreeSet ℕ) : Type 0 where

@@ -38,8 +38,6 @@ mod documents;
 mod looks;
 mod nodes;
 mod paths;
-#[cfg(test)]
-mod tests;
 mod trails;
 mod volume;
 

@@ -30,8 +30,6 @@ mod auditing;
 mod checks;
 mod judging;
 mod report;
-#[cfg(test)]
-mod tests;
 
 pub use auditing::audit;
 pub use report::AuditReport;
