@@ -11,7 +11,7 @@ use cell_types::Geometry;
 use index_paths::ENTRY_PLACES;
 use jump_block::span;
 use kept_cells::KeptCells;
-use list_audit::{HeldPosting, ListBlock, posting_at, pointer_target};
+use list_audit::{HeldPosting, ListBlock, pointer_target, posting_at};
 
 /// Where a posting's trail leads from a block.
 #[derive(Clone, Copy, Debug, PartialEq, Eq)]
