@@ -49,7 +49,7 @@ pub use checking::check_log;
 pub use ended::{EndedSlot, ended_slot};
 pub use laws::{evidence_is_one, stored_slots_are_live};
 pub use log::{Log, log_of};
-pub use looks::{record_at, reservation};
+pub use looks::{lies_in_pool, record_at, reservation};
 pub use lower::lower_of;
 pub use owning::owner_of;
 pub use sorted::{has_between, sort_once};

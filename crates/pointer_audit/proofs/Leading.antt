@@ -73,4 +73,4 @@ module _ (g : Layout) (image : Image) (log : Log) (is : IsLog g image log) (l bl
   -- the target is a block of the list
   pub target_is : IsBlockOf g image l block → level < 8 → 1 ≤ digit → digit ≤ 15 → IsBeforeEdge g log.edge target → IsBlockOf g image l target
   target_is of levels some digits inside = leads_on {pointer = 127 + 15 * level + digit} of (omega (arith, some)) (omega (arith, levels, digits))
-      (record { jump = jump; from = inside.from; to = inside.to })
+      (record { held = jump; from = inside.from; to = inside.to })

@@ -135,7 +135,7 @@ module _ {g : Layout} {image : Image} {around : Around} (are : AreAround g image
         from = omega arith;
         to = omega (arith, low);
         target = target;
-        leads = record { child = subst (λ (c : ℕ). Holds image c (Child target)) at holds; from = leads.from; to = leads.to };
+        leads = record { held = subst (λ (c : ℕ). Holds image c (Child target)) at holds; from = leads.from; to = leads.to };
         is = refl;
       } in
       none (found_at around.leads.items (lead_number target (other + (16 + y))) number high
@@ -153,7 +153,7 @@ module _ {g : Layout} {image : Image} {around : Around} (are : AreAround g image
       let less : n.1 + lead.place < cell = omega (arith, lead.is, h.below, is, end, same) in
       let at : n.1 + lead.place ≡ n.1 + 16 + (lead.place - 16) = omega (arith, lead.from) in
       first n.0 n.1 (lead.place - 16) n.2 (omega (arith, lead.from, lead.to)) (omega (arith, at, less))
-      (subst (λ (c : ℕ). Holds image c (Child target)) at (subst (λ (t : ℕ). Holds image (n.1 + lead.place) (Child t)) same lead.leads.child))
+      (subst (λ (c : ℕ). Holds image c (Child target)) at (subst (λ (t : ℕ). Holds image (n.1 + lead.place) (Child t)) same lead.leads.held))
 
 -- the slot that owns the target has a copy of the cell
 pub journaled : {g : Layout} {image : Image} {s : StoredSlot} {owner cell target : ℕ} → IsStored g image s → s.slot ≡ owner
@@ -204,7 +204,7 @@ module _ {g : Layout} {image : Image} {v node x target : ℕ} (leads : HasChild 
   pub leads_well : v < 63 → IsWritten image (node + x) → IsWellLed g image (node + 16 + x) target → LeadsDownWell g image v node x
   leads_well level bucket led = record {
     target = target;
-    child = leads.child;
+    child = leads.held;
     bucket = bucket;
     level = level;
     from = leads.from;
@@ -227,7 +227,7 @@ module _ {g : Layout} {image : Image} {v node x target : ℕ} (leads : HasChild 
   }
 
   pub well_led : LeadsDownWell g image v node x → IsWellLed g image (node + 16 + x) target
-  well_led w = subst (IsWellLed g image (node + 16 + x)) (one_target (record { child = w.child; from = w.from; to = w.to }) leads) (record {
+  well_led w = subst (IsWellLed g image (node + 16 + x)) (one_target (record { held = w.child; from = w.from; to = w.to }) leads) (record {
     edge = w.edge;
     journaled = record {
       owner = w.owner;
@@ -266,7 +266,7 @@ moved {xs} {ys} {a} {b} {c} {d} same low high h = subst (λ (zs : List ℕ). Has
 -- a child cell is a copy of itself
 pub copies_itself : {g : Layout} {image : Image} {cell target : ℕ} → HasChild g image cell target → cell < 2 ^ 32 → HasTarget image cell cell
 copies_itself {g} {image} {cell} {target} leads small =
-    let h = leads.child in
+    let h = leads.held in
     let at = address_in (Child target) cell h.cell small h.is in
     record {
       cell = h.cell;

@@ -16,7 +16,7 @@ returns-in_default-stored_slot c = let lies = c.in-Some.ensures.some in
     no (λ j. (c.in_default-stored_slot).ensures.none lies.start lies.length lies.bytes lies.journal lies.stores)
 
 pub returns-in_default-at : goal.returns-in_default-at
-returns-in_default-at c = no (λ j. none-some _ (sym (c.in_default-at).is ∙ c.at.ensures ∙ c.requires.leads.child.stands))
+returns-in_default-at c = no (λ j. none-some _ (sym (c.in_default-at).is ∙ c.at.ensures ∙ c.requires.leads.held.stands))
 
 pub returns : goal.returns
 returns c =
