@@ -29,13 +29,13 @@ mod copies;
 mod documents;
 mod entries;
 mod journals;
+mod places;
 mod targets;
-#[cfg(test)]
-mod tests;
 
 pub use checking::first_broken;
 pub use copies::target_at;
 pub use documents::first_broken_document;
 pub use entries::is_in_order;
 pub use journals::first_broken_journal;
+pub use places::journal_place_of;
 pub use targets::first_broken_target;

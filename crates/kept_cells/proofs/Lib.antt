@@ -1,4 +1,5 @@
 pub mod Finding
 pub mod OneMore
+pub mod Chunking
 pub mod KeptSoFar
 pub mod Rowed

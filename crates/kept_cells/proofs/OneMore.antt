@@ -5,6 +5,7 @@ use Rattle.std.proofs.lemmas.Bool.Decides.{nat_tests}
 use Rattle.std.proofs.lemmas.Grind.{common_steps}
 use Rattle.std.proofs.lemmas.Option.{gets, slice_get_within}
 use Rattle.cell_types.specs.Bytes.{IsCell}
+use Rattle.kept_cells.specs.AllRows.{all_rows}
 use Rattle.kept_cells.specs.Cells.{shown_by, AreKept}
 use Rattle.kept_cells.specs.Kept.{image_of, count_of, IsNext}
 use Rattle.kept_cells.specs.Viewing.{shown_within}
@@ -136,7 +137,7 @@ module _ {count : ℕ} {rows : List WrittenCell} {starts : List ℕ} (kept : Are
 
 -- the next image: with a blank cell, and with a written one
 pub next_blank : {found : Option (List ℕ)} {old new : KeptCells} → found ≡ None → count_of new ≡ count_of old + 1
-    → new.rows.items ≡ old.rows.items → IsNext found old new
+    → all_rows new.rows ≡ all_rows old.rows → IsNext found old new
 next_blank {found} {old} {new} none count same =
     let one : (cell : ℕ) → image_of new cell ≡ image_of old cell = λ cell. ap (λ (l : List WrittenCell). shown_by l cell) same in
     record {
@@ -146,7 +147,7 @@ next_blank {found} {old} {new} none count same =
     }
 
 pub next_written : (row : WrittenCell) {found : Option (List ℕ)} {old new : KeptCells} → found ≡ Some row.cell → row.number ≡ count_of old
-    → count_of new ≡ count_of old + 1 → new.rows.items ≡ old.rows.items ++ row ∷ [] → IsNext found old new
+    → count_of new ≡ count_of old + 1 → all_rows new.rows ≡ all_rows old.rows ++ row ∷ [] → IsNext found old new
 next_written row {found} {old} {new} some number count more =
     let one : (cell : ℕ) → image_of new cell ≡ (if cell == count_of old then Some row.cell else image_of old cell) =
     λ cell. shown_more old.kept row cell number more in

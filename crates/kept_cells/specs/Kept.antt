@@ -7,12 +7,13 @@ use Rattle.worm_device.specs.Counts.{Rose, IsStill}
 use Rattle.worm_device.specs.State.{DeviceState}
 use Rattle.worm_device.specs.Views.{ViewState, no_cells}
 use Rattle.kept_cells.specs.Cells.{shown_by}
+use Rattle.kept_cells.specs.AllRows.{all_rows}
 use Rattle.kept_cells.specs.declared.kept.KeptCells.{KeptCells}
 use Rattle.kept_cells.specs.declared.written.WrittenCell.{WrittenCell}
 
 -- the image that the kept cells show
 abbrev pub image_of : KeptCells → Image
-image_of kept = shown_by kept.rows.items
+image_of kept = shown_by (all_rows kept.rows)
 
 -- how many cells are kept, blank ones too
 abbrev pub count_of : KeptCells → ℕ
@@ -70,4 +71,4 @@ view_over count rows = record {
 
 -- the kept cells as a view
 abbrev pub view_of : KeptCells → ViewState
-view_of kept = view_over kept.count kept.rows.items
+view_of kept = view_over kept.count (all_rows kept.rows)

@@ -1,12 +1,13 @@
 -- The written cells that are kept, one after another.
 use Rattle.std.specs.Prelude.{◌≡◌, ◌<◌, ℕ, List, slice_get, Some}
 use Rattle.kept_cells.specs.Cells.{shown_by, AreRising}
+use Rattle.kept_cells.specs.AllRows.{all_rows}
 use Rattle.kept_cells.specs.declared.kept.KeptCells.{KeptCells}
 use Rattle.kept_cells.specs.declared.written.WrittenCell.{WrittenCell}
 
 -- the written cells by rising numbers
 abbrev pub rows_of : KeptCells → List WrittenCell
-rows_of kept = kept.rows.items
+rows_of kept = all_rows kept.rows
 
 -- Their numbers rise and lie below the count, the image shows each of them, and each cell that it shows is one of them.
 pub record AreRows (count : ℕ) (rows : List WrittenCell) : Type 0 where

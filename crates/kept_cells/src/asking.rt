@@ -1,10 +1,12 @@
 //! What stands in kept cells.
 ghost use Rattle.std.specs.Prelude.{◌≡◌, ◌<◌, ◌≤◌, ◌+◌, ◌*◌, ◌^◌, ℕ, Some, length, slice_get};
 ghost use Rattle.kept_cells.specs.Cells.{shown_by, AreRising, AreOnlyBetween};
+ghost use Rattle.kept_cells.specs.AllRows.{all_rows};
 ghost use Rattle.kept_cells.specs.Kept.{image_of, count_of};
 ghost use Rattle.kept_cells.specs.declared.written.WrittenCell.{WrittenCell};
 
 use crate::KeptCells;
+use crate::chunked::ChunkedRows;
 use crate::written::{PAGE_CELLS, WrittenCell};
 use cell_types::Cell;
 
@@ -28,7 +30,7 @@ impl KeptCells {
 
     /// No written cell of the page stands before this place.
     fn first_of(&self, page: usize) -> usize
-        ensures { (k : ℕ) (row : WrittenCell) → slice_get self.now.rows.items k ≡ Some row
+        ensures { (k : ℕ) (row : WrittenCell) → slice_get (all_rows self.now.rows) k ≡ Some row
             → page * PAGE_CELLS ≤ row.number → result ≤ k }
     {
         match self.starts.get(page) {
@@ -40,29 +42,29 @@ impl KeptCells {
     /// Each written cell of the page stands before this place.
     fn last_of(&self, page: usize) -> usize
         requires { page < 2 ^ 32 }
-        ensures within { result ≤ length self.now.rows.items }
-        ensures before { (k : ℕ) (row : WrittenCell) → slice_get self.now.rows.items k ≡ Some row
+        ensures within { result ≤ length (all_rows self.now.rows) }
+        ensures before { (k : ℕ) (row : WrittenCell) → slice_get (all_rows self.now.rows) k ≡ Some row
             → row.number < page * PAGE_CELLS + PAGE_CELLS → k < result }
     {
         match self.starts.get(page + 1) {
             Some(start) => *start as usize,
-            None => self.rows.len(),
+            None => self.rows.count(),
         }
     }
 }
 
 /// What the written cell of a number holds, where it can stand at these places alone: found by bisection.
-fn held_between(rows: &[WrittenCell], from: usize, to: usize, number: u32) -> Option<Cell>
-    requires rising { AreRising rows.now }
-    requires places { AreOnlyBetween rows.now from to number }
-    requires within { to ≤ length rows.now }
-    ensures { result ≡ shown_by rows.now number }
+fn held_between(rows: &ChunkedRows, from: usize, to: usize, number: u32) -> Option<Cell>
+    requires rising { AreRising (all_rows rows.now) }
+    requires places { AreOnlyBetween (all_rows rows.now) from to number }
+    requires within { to ≤ length (all_rows rows.now) }
+    ensures { result ≡ shown_by (all_rows rows.now) number }
 {
     let mut low = from;
     let mut high = to;
     while low < high {
         let middle = low + (high - low) / 2;
-        let Some(row) = row_at(rows, middle) else {
+        let Some(row) = rows.row_at(middle) else {
             unreachable!();
         };
         if row.number == number {
@@ -75,16 +77,6 @@ fn held_between(rows: &[WrittenCell], from: usize, to: usize, number: u32) -> Op
         }
     }
     None
-}
-
-/// The written cell at a place.
-pub(crate) fn row_at(rows: &[WrittenCell], place: usize) -> Option<WrittenCell>
-    ensures { result ≡ slice_get rows.now place }
-{
-    match rows.get(place) {
-        Some(row) => Some(*row),
-        None => None,
-    }
 }
 
 /// What it holds.

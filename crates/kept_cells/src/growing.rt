@@ -1,27 +1,32 @@
 //! Kept cells that grow by the next cell.
-ghost use Rattle.std.specs.Prelude.{◌≡◌, ◌<◌, ◌+◌, ◌^◌, ℕ, None, OnOk};
+ghost use Rattle.std.specs.Prelude.{◌≡◌, ◌<◌, ◌+◌, ◌^◌, ℕ, None, IfOk, OnOk};
 ghost use Rattle.kept_cells.specs.Kept.{image_of, count_of, IsNext};
 
 use crate::KeptCells;
+use crate::chunked::ChunkedRows;
 use crate::written::{PAGE_CELLS, WrittenCell};
 use cell_types::{Cell, NoMemory};
 use std::alloc::Global;
 
 impl KeptCells {
-    /// No cell is kept yet. It takes no memory.
-    pub(crate) fn none(alloc: Global) -> KeptCells
-        ensures count { count_of result ≡ 0 }
-        ensures blank { (cell : ℕ) → image_of result cell ≡ None }
+    /// No cell is kept yet, and there is room for the pages of so many.
+    pub(crate) fn none(alloc: Global, cells: u32) -> Result<KeptCells, NoMemory>
+        ensures count { IfOk result (λ kept. count_of kept ≡ 0) }
+        ensures blank { IfOk result (λ kept. (cell : ℕ) → image_of kept cell ≡ None) }
     {
-        KeptCells {
+        let pages = (cells / PAGE_CELLS) as usize + 1;
+        let Ok(starts) = Vec::with_capacity(alloc, pages) else {
+            return Err(NoMemory);
+        };
+        Ok(KeptCells {
             count: 0,
-            rows: Vec::new(alloc),
-            starts: Vec::new(alloc),
-        }
+            rows: ChunkedRows::none(alloc),
+            starts,
+        })
     }
 
     /// Keeps what was found in the next cell.
-    pub(crate) fn keep_next(&mut self, found: Option<Cell>) -> Result<(), NoMemory>
+    pub(crate) fn keep_next(&mut self, alloc: Global, found: Option<Cell>) -> Result<(), NoMemory>
         requires { count_of self.old + 1 < 2 ^ 32 }
         ensures { OnOk result (IsNext found self.old self.new) }
     {
@@ -33,9 +38,7 @@ impl KeptCells {
         };
         // Known of a cell once its bytes are asked for: there are sixteen, and not all of them are zero.
         let _bytes = cell.bytes();
-        let Ok(()) = self.rows.push(WrittenCell { number, cell }) else {
-            return Err(NoMemory);
-        };
+        self.rows.push(alloc, WrittenCell { number, cell })?;
         self.count = number + 1;
         Ok(())
     }
@@ -52,7 +55,7 @@ impl KeptCells {
         if (self.count / PAGE_CELLS) as usize != self.starts.len() {
             return Ok(());
         }
-        let start = self.rows.len() as u32;
+        let start = self.rows.count() as u32;
         let Ok(()) = self.starts.push(start) else {
             return Err(NoMemory);
         };

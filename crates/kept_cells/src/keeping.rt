@@ -23,12 +23,14 @@ pub fn keep_cells<D: Device>(alloc: Global, device: &mut D) -> Result<KeptCells,
     ensures ends { KeepEnds (D.state device.old) (D.state device.new) result }
 {
     let count = device.cells();
-    let mut kept = KeptCells::none(alloc);
+    let Ok(mut kept) = KeptCells::none(alloc, count) else {
+        return Err(Refusal::NoMemory);
+    };
     for at in 0..count {
         let Ok(found) = device.read(at) else {
             return Err(Refusal::DeviceFault);
         };
-        let Ok(()) = kept.keep_next(found) else {
+        let Ok(()) = kept.keep_next(alloc, found) else {
             return Err(Refusal::NoMemory);
         };
     }

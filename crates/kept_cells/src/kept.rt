@@ -1,15 +1,16 @@
 //! Cells in memory.
 ghost use Rattle.std.proofs.Props.{props};
 ghost use Rattle.kept_cells.specs.Cells.{AreKept};
+ghost use Rattle.kept_cells.specs.AllRows.{all_rows};
 
-use crate::written::WrittenCell;
+use crate::chunked::ChunkedRows;
 
 /// The cells of a device below some number: the written ones, by rising numbers. Contracts see the image that they show.
 #[derive(Drop)]
 pub struct KeptCells {
     pub(crate) count: u32,
-    pub(crate) rows: Vec<WrittenCell>,
+    pub(crate) rows: ChunkedRows,
     /// Of each page how many of the rows stand before it.
     pub(crate) starts: Vec<u32>,
-    ghost kept: { AreKept count rows.items starts.items } by { Prim.hlevel props },
+    ghost kept: { AreKept count (all_rows rows) starts.items } by { Prim.hlevel props },
 }

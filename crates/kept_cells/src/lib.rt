@@ -13,8 +13,9 @@
 //!
 //! `at(560)` is of page 2, so it stands at one of the places 6 to 10, and bisection finds it at 6; `at(300)` is of page
 //! 1, of which nothing was written. That costs 20 bytes a written cell and 4 bytes a page, and no bytes more for a blank
-//! cell: 1,000,000 cells of which 650,000 are written take 13 MB, and 2^31 blank ones 32 MB. A `Vec` that grows may hold
-//! twice as much. A question takes 8 halvings at most.
+//! cell: 1,000,000 cells of which 650,000 are written take 13 MB, and 2^31 blank ones 32 MB. The written cells stand in
+//! chunks of 4,096, and a full chunk is never copied: so this is what is held at any moment, but for the rest of the
+//! last chunk. A question takes 8 halvings at most.
 //!
 //! What is kept lies between what stood when the reading began and what stands at its end, and is both where nobody else
 //! wrote.
@@ -23,15 +24,16 @@
 #![tactic(auto)]
 
 mod asking;
+mod chunked;
+mod chunks;
 mod growing;
 mod keeping;
 mod kept;
 mod rows;
 mod shown;
-#[cfg(test)]
-mod tests;
 mod written;
 
+pub use chunked::ChunkedRows;
 pub use keeping::keep_cells;
 pub use kept::KeptCells;
 pub use shown::Shown;

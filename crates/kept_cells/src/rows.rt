@@ -4,7 +4,6 @@ ghost use Rattle.kept_cells.specs.Kept.{count_of};
 ghost use Rattle.kept_cells.specs.Rows.{rows_of, AreRows};
 
 use crate::KeptCells;
-use crate::asking::row_at;
 use crate::written::WrittenCell;
 
 impl KeptCells {
@@ -13,13 +12,13 @@ impl KeptCells {
         ensures count { result ≡ length (rows_of self.now) }
         ensures rows { AreRows (count_of self.now) (rows_of self.now) }
     {
-        self.rows.len() as u32
+        self.rows.count() as u32
     }
 
     /// The written cell at this place of their row, which goes by rising numbers.
     pub fn written_at(&self, place: u32) -> Option<WrittenCell>
         ensures { result ≡ slice_get (rows_of self.now) place }
     {
-        row_at(&self.rows, place as usize)
+        self.rows.row_at(place as usize)
     }
 }

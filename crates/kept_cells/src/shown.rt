@@ -21,12 +21,13 @@ impl<'a> Shown<'a> {
 }
 
 impl<'a> View for Shown<'a> {
+    ghost use Rattle.kept_cells.specs.AllRows.{all_rows};
     ghost use Rattle.kept_cells.specs.Kept.{view_of};
     ghost use Rattle.kept_cells.specs.Viewing.{kept_is_view};
 
     ghost seen = { λ v. view_of v.kept.now };
 
-    ghost proper = { λ v. kept_is_view v.kept.now.count v.kept.now.rows.items v.kept.now.starts.items v.kept.now.kept };
+    ghost proper = { λ v. kept_is_view v.kept.now.count (all_rows v.kept.now.rows) v.kept.now.starts.items v.kept.now.kept };
 
     fn cells(&self) -> u32 {
         self.kept.count()

@@ -81,7 +81,7 @@ leads_on {g} {image} {l} {block} {pointer} {target} is from to h =
         → PointsTo g image (block + (127 + 15 * level + digit)) target → Leads image (pool_at g) g.cells target head
     behind head (arrived b same) level digit a b' c h =
         let k = subst (λ (k : ℕ). PointsTo g image (k + (127 + 15 * level + digit)) target) (sym same) h in
-        onwards b level digit target a b' c k.jump k.from k.to (arrived target refl)
+        onwards b level digit target a b' c k.held k.from k.to (arrived target refl)
     behind head (onwards b i j t a b' c jump from to rest) level digit x y z h =
         onwards b i j t a b' c jump from to (behind t rest level digit x y z h)
 
@@ -98,7 +98,7 @@ block_inside {g} {image} {l} {block} layout is = from (list_at g l) is.leads (he
 
 -- a jump cell leads to one block
 pub one_target : {g : Layout} {image : Image} {at a b : ℕ} → PointsTo g image at a → PointsTo g image at b → a ≡ b
-one_target {g} {image} {at} {a} {b} h k = let e = one_record_holds image at (Jump a) (Jump b) h.jump k.jump in cc
+one_target {g} {image} {at} {a} {b} h k = let e = one_record_holds image at (Jump a) (Jump b) h.held k.held in cc
 
 -- no pointer place was followed yet
 pub none_followed : {g : Layout} {image : Image} {n : ℕ} {from : ListBlock} {blocks : List ListBlock} → AreClosedBelow g image n blocks
@@ -188,6 +188,6 @@ all_found {g} {image} {n} {blocks} below once none = record {
         let inside = slice_get_within blocks a.place a.one a.there in
         let past = past_blocks blocks n none in
         let points : PointsTo g image (a.one.block + (127 + 15 * level + digit)) target =
-        subst (λ (k : ℕ). PointsTo g image (k + (127 + 15 * level + digit)) target) (sym a.is) (record { jump = jump; from = low; to = high }) in
+        subst (λ (k : ℕ). PointsTo g image (k + (127 + 15 * level + digit)) target) (sym a.is) (record { held = jump; from = low; to = high }) in
         from l block target rest (subst (λ (m : ℕ). IsAmong blocks m target) a.list
         (below.closed a.place a.one (omega (arith, inside, past)) a.there (127 + 15 * level + digit) target (omega arith) (omega arith) points))

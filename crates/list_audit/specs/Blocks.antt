@@ -7,6 +7,7 @@ use Rattle.cell_types.specs.Layout.{Layout, all_lists, list_at, pool_at}
 use Rattle.cell_types.specs.declared.record_cell.RecordCell.TheVariants.{Jump}
 use Rattle.index_paths.specs.Nodes.{IsBlockOf}
 use Rattle.stored_documents.specs.Volumes.{Holds}
+use Rattle.log_audit.specs.Leads.{LeadsInto}
 use Rattle.list_audit.specs.Numbers.{number_of}
 use Rattle.list_audit.specs.declared.listed.ListBlock.{ListBlock}
 
@@ -30,15 +31,8 @@ pub record AreListBlocks (g : Layout) (image : Image) (blocks : List ListBlock) 
   pub once : AreOnce blocks
 
 -- the jump cell there leads to a block whose cells lie in the pool
-pub record PointsTo (g : Layout) (image : Image) (at target : ℕ) : Type 0 where
-  pub jump : Holds image at (Jump target)
-  pub from : pool_at g ≤ target
-  pub to : target + 256 ≤ g.cells
-
--- what a look at a pointer place answers
-abbrev pub TargetEnds : Layout → Image → ℕ → Option ℕ → Type 0
-TargetEnds g image at None = (target : ℕ) → PointsTo g image at target → ⊥
-TargetEnds g image at (Some target) = PointsTo g image at target
+abbrev pub PointsTo : Layout → Image → ℕ → ℕ → Type 0
+PointsTo g image at target = LeadsInto g image (λ (t : ℕ). Jump t) 256 at target
 
 -- these are the numbers of just these blocks, none of which is there twice
 pub record AreNumbered (blocks : List ListBlock) (numbers : BTreeSet ℕ) : Type 0 where

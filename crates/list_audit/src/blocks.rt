@@ -7,7 +7,7 @@ ghost use Rattle.list_audit.specs.Blocks.{AreListBlocks, AreNumbered, AreClosedB
 
 use crate::found::FoundBlocks;
 use crate::listed::ListBlock;
-use crate::targets::target_at;
+use crate::targets::pointer_target;
 use cell_types::{Geometry, NoMemory, STAMPED_VERSION};
 use kept_cells::KeptCells;
 use std::alloc::Global;
@@ -79,7 +79,7 @@ fn add_targets(
 {
     let _cells = geometry.cells();
     for pointer in FIRST_POINTER..BEHIND_POINTERS {
-        let Some(block) = target_at(kept, geometry, from.block + pointer) else {
+        let Some(block) = pointer_target(kept, geometry, from.block + pointer) else {
             continue;
         };
         found.add(ListBlock {

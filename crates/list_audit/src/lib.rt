@@ -31,11 +31,9 @@ mod found;
 mod held_posting;
 mod listed;
 mod targets;
-#[cfg(test)]
-mod tests;
 
 pub use blocks::blocks_of;
 pub use entries::first_broken_entry;
 pub use held_posting::{HeldPosting, posting_at};
 pub use listed::ListBlock;
-pub use targets::target_at;
+pub use targets::pointer_target;

@@ -1,15 +1,16 @@
 //! Where a pointer place leads.
+ghost use Rattle.cell_types.specs.declared.record_cell.RecordCell.TheVariants.{Jump};
 ghost use Rattle.kept_cells.specs.Kept.{image_of};
-ghost use Rattle.list_audit.specs.Blocks.{TargetEnds};
+ghost use Rattle.log_audit.specs.Leads.{LeadEnds};
 
 use cell_types::{Geometry, RecordCell};
 use index_paths::BLOCK_CELLS;
 use kept_cells::KeptCells;
-use log_audit::record_at;
+use log_audit::{lies_in_pool, record_at};
 
 /// The block to which the jump cell there leads, if there is one whose cells lie in the pool.
-pub fn target_at(kept: &KeptCells, geometry: &Geometry, at: u32) -> Option<u32>
-    ensures { TargetEnds geometry.now (image_of kept.now) at result }
+pub fn pointer_target(kept: &KeptCells, geometry: &Geometry, at: u32) -> Option<u32>
+    ensures { LeadEnds geometry.now (image_of kept.now) (λ t. Jump t) 256 at result }
 {
     let Some(held) = record_at(kept, at) else {
         return None;
@@ -17,8 +18,7 @@ pub fn target_at(kept: &KeptCells, geometry: &Geometry, at: u32) -> Option<u32>
     let RecordCell::Jump { target } = held else {
         return None;
     };
-    let cells = geometry.cells();
-    if target < geometry.pool_at() || cells < target || cells - target < BLOCK_CELLS {
+    if !lies_in_pool(geometry, target, BLOCK_CELLS) {
         return None;
     }
     Some(target)

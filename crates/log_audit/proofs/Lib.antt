@@ -1,4 +1,5 @@
 pub mod Beginning
+pub mod Bisecting
 pub mod Deciding
 pub mod Edges
 pub mod Families
@@ -10,3 +11,4 @@ pub mod Outcomes
 pub mod Parts
 pub mod Stopping
 pub mod Storing
+pub mod Uniqueness

@@ -35,6 +35,10 @@ pub record IsFirst (g : Layout) (image : Image) (e : Evidence) : Type 0 where
   pub least : IsLeast g image rule e
   pub lower : AreMetBelow g image (number_of rule)
 
+-- there is one evidence: that of the least rule that is broken in an image, at its least cell
+abbrev pub EvidenceIsOne : Type 0
+EvidenceIsOne = (g : Layout) (image : Image) (a b : Evidence) → IsFirst g image a → IsFirst g image b → a ≡ b
+
 -- why the checks of rules stop
 abbrev pub Stops : Layout → Image → Refusal → Type 0
 Stops g image (Tampered e) = IsFirst g image e

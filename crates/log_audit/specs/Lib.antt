@@ -1,4 +1,6 @@
+pub mod Between
 pub mod Findings
+pub mod Leads
 pub mod Least
 pub mod Logs
 pub mod Owning

@@ -1,10 +1,11 @@
 //! The slots that have ended, in memory.
+ghost use Rattle.std.specs.Prelude.{◌≡◌, [], IfOk};
 ghost use Rattle.kept_cells.specs.Kept.{image_of};
 ghost use Rattle.log_audit.specs.Logs.{LogEnds};
 ghost use Rattle.log_audit.specs.Findings.{AreMetBelow};
 
 use crate::ended::{EndedSlot, ended_slot};
-use cell_types::{Evidence, Geometry, Refusal};
+use cell_types::{Evidence, Geometry, NoMemory, Refusal};
 use kept_cells::KeptCells;
 use std::alloc::Global;
 use tamper_rules::RESERVE_CELL;
@@ -39,7 +40,7 @@ pub fn log_of(alloc: Global, kept: &KeptCells, geometry: &Geometry) -> Result<Lo
     requires { AreMetBelow geometry.now (image_of kept.now) 4 }
     ensures { LogEnds geometry.now (image_of kept.now) result }
 {
-    let mut slots = Vec::new(alloc);
+    let mut slots = room_for_slots(alloc, kept, geometry)?;
     let mut edge = geometry.pool_at();
     for slot in 0..geometry.slots() {
         let cell = geometry.reserve_at(slot);
@@ -59,4 +60,28 @@ pub fn log_of(alloc: Global, kept: &KeptCells, geometry: &Geometry) -> Result<Lo
         };
     }
     Ok(Log { slots, edge })
+}
+
+/// No slot yet, and room for all: it is taken at once, since a row that grows is there twice while it is copied.
+fn room_for_slots(
+    alloc: Global,
+    kept: &KeptCells,
+    geometry: &Geometry,
+) -> Result<Vec<EndedSlot>, NoMemory>
+    ensures { IfOk result (λ slots. slots.items ≡ []) }
+{
+    let Ok(slots) = Vec::with_capacity(alloc, reserved_slots(kept, geometry) as usize) else {
+        return Err(NoMemory);
+    };
+    Ok(slots)
+}
+
+/// How many slots from the first one on have a written reserve cell.
+fn reserved_slots(kept: &KeptCells, geometry: &Geometry) -> u32 {
+    for slot in 0..geometry.slots() {
+        if kept.at(geometry.reserve_at(slot)).is_none() {
+            return slot;
+        }
+    }
+    geometry.slots()
 }

@@ -1,10 +1,11 @@
-//! Looks at kept cells.
-ghost use Rattle.std.specs.Prelude.{◌≡◌, ◌<◌, ◌+◌, ◌≤◌, ℕ, Some, IfSome, IfNone};
+//! Looks at kept cells, and at what they lead to.
+ghost use Rattle.std.specs.Prelude.{◌≡◌, ◌<◌, ◌+◌, ◌≤◌, ◌↔◌, ℕ, Some, IfSome, IfNone, IsTrue};
 ghost use Rattle.cell_types.specs.declared.record_cell.RecordCell.{RecordCell};
 ghost use Rattle.cell_types.specs.declared.geometry.TheConstants.{MAX_CELLS};
 ghost use Rattle.stored_documents.specs.Slots.{Reserves};
 ghost use Rattle.stored_documents.specs.Volumes.{Holds};
 ghost use Rattle.kept_cells.specs.Kept.{image_of};
+ghost use Rattle.log_audit.specs.Leads.{LiesInPool};
 
 use cell_types::{Geometry, RecordCell, decode};
 use commit_record::Reservation;
@@ -40,4 +41,15 @@ pub fn reservation(kept: &KeptCells, geometry: &Geometry, slot: u32) -> Option<R
         return None;
     }
     Some(Reservation { start, length })
+}
+
+/// Whether so many cells from the target on lie in the pool.
+pub fn lies_in_pool(geometry: &Geometry, target: u32, count: u32) -> bool
+    ensures { IsTrue result ↔ LiesInPool geometry.now count target }
+{
+    let cells = geometry.cells();
+    if target < geometry.pool_at() || cells < target {
+        return false;
+    }
+    count <= cells - target
 }

@@ -12,7 +12,7 @@ use Rattle.list_audit.proofs.Closing.{leads_on}
 use Rattle.log_audit.specs.Logs.{IsLog}
 use Rattle.log_audit.specs.declared.log.Log.{Log}
 use Rattle.log_audit.proofs.Edges.{is_edge, one_edge}
-use Rattle.pointer_audit.specs.Leading.{IsInside, IsOwned, IsInSpan}
+use Rattle.pointer_audit.specs.Leading.{IsBeforeEdge, IsOwned, IsInSpan}
 use Rattle.pointer_audit.specs.Occupied.{IsAlone, IsOffNodes}
 
 module _ (g : Layout) (image : Image) (log : Log) (is : IsLog g image log) (l block level digit target : ℕ)
@@ -22,8 +22,8 @@ module _ (g : Layout) (image : Image) (log : Log) (is : IsLog g image log) (l bl
   one_target w = let same : Jump w.target ≡ Jump target =
       one_record_holds image (pointer_at block level digit) (Jump w.target) (Jump target) w.jump jump in cc
 
-  pub inside_so : LeadsWell g image l block level digit → IsInside g log.edge target
-  inside_so w = subst (IsInside g log.edge) (one_target w)
+  pub inside_so : LeadsWell g image l block level digit → IsBeforeEdge g log.edge target
+  inside_so w = subst (IsBeforeEdge g log.edge) (one_target w)
       (record { from = w.from; to = w.to; before = w.edge log.edge (is_edge g image log is) })
 
   pub owned_so : LeadsWell g image l block level digit → IsOwned g image target
@@ -47,7 +47,7 @@ module _ (g : Layout) (image : Image) (log : Log) (is : IsLog g image log) (l bl
   pub off_nodes_so : LeadsWell g image l block level digit → IsOffNodes g image target
   off_nodes_so w = subst (IsOffNodes g image) (one_target w) w.nodes
 
-  pub well : IsInside g log.edge target → IsOwned g image target → IsInSpan image block level digit target → IsAlone g image l target
+  pub well : IsBeforeEdge g log.edge target → IsOwned g image target → IsInSpan image block level digit target → IsAlone g image l target
       → IsOffNodes g image target → LeadsWell g image l block level digit
   well inside owned span alone off = record {
     target = target;
@@ -71,6 +71,6 @@ module _ (g : Layout) (image : Image) (log : Log) (is : IsLog g image log) (l bl
   }
 
   -- the target is a block of the list
-  pub target_is : IsBlockOf g image l block → level < 8 → 1 ≤ digit → digit ≤ 15 → IsInside g log.edge target → IsBlockOf g image l target
+  pub target_is : IsBlockOf g image l block → level < 8 → 1 ≤ digit → digit ≤ 15 → IsBeforeEdge g log.edge target → IsBlockOf g image l target
   target_is of levels some digits inside = leads_on {pointer = 127 + 15 * level + digit} of (omega (arith, some)) (omega (arith, levels, digits))
-      (record { jump = jump; from = inside.from; to = inside.to })
+      (record { held = jump; from = inside.from; to = inside.to })

@@ -1,4 +1,3 @@
-pub mod Bisecting
 pub mod Going
 pub mod Leading
 pub mod Meeting

@@ -1,5 +1,5 @@
 -- The numbers of all blocks and the first cells of all nodes, sorted.
-use Rattle.std.proofs.Common.{◌≡◌, ◌<◌, ⊎_elim, ◌∙◌, ℕ, List, length, Some, sym, ap, subst, arith}
+use Rattle.std.proofs.Common.{◌≡◌, ◌<◌, ⊎_elim, ◌∙◌, ℕ, List, length, get_or, Some, sym, ap, subst, arith}
 use Rattle.std.specs.Prelude.{Contains, slice_get}
 use Rattle.std.proofs.lemmas.Grind.{get_or_default_zero}
 use Rattle.std.proofs.lemmas.Option.{slice_get_cases, slice_get-get_or, slice_get_within}
@@ -10,11 +10,15 @@ use Rattle.list_audit.specs.Blocks.{AreListBlocks}
 use Rattle.list_audit.specs.declared.listed.ListBlock.{ListBlock}
 use Rattle.tree_audit.specs.Nodes.{AreNodes}
 use Rattle.tree_audit.specs.declared.nodes.LevelNode.{LevelNode}
-use Rattle.pointer_audit.specs.Listing.{AreBlockNumbers, AreNodeCells}
-use Rattle.pointer_audit.specs.Numbers.{AreSorted}
+use Rattle.pointer_audit.specs.Listing.{AreBlockNumbers, AreNodeCells, AreSortedOnce}
 use Rattle.pointer_audit.specs.Occupied.{AreOccupied, number_of}
 use Rattle.pointer_audit.specs.declared.occupied.OccupiedCells.{OccupiedCells}
-use Rattle.pointer_audit.proofs.Bisecting.{at_place}
+
+-- the number at a place
+at_place : (xs : List ℕ) (k x : ℕ) → slice_get xs k ≡ Some x → get_or xs k 0 ≡ x
+at_place xs k x there =
+    let within = slice_get_within xs k x there in
+    let same : Some (get_or xs k 0) ≡ Some x = sym (slice_get-get_or xs k 0 within) ∙ there in cc
 
 -- a number that stands somewhere is contained
 contained : (xs : List ℕ) (k x : ℕ) → slice_get xs k ≡ Some x → Contains xs x
@@ -35,7 +39,7 @@ thing_at xs k less = ⊎_elim
 
 module _ (g : Layout) (image : Image) {blocks : List ListBlock} {nodes : List LevelNode} {numbers cells : List ℕ} (occupied : OccupiedCells) where
   pub are_occupied : AreListBlocks g image blocks → AreNodes g image nodes → AreBlockNumbers blocks numbers → AreNodeCells nodes cells
-      → AreSorted numbers occupied.blocks → AreSorted cells occupied.nodes → AreOccupied g image occupied
+      → AreSortedOnce numbers occupied.blocks.items → AreSortedOnce cells occupied.nodes.items → AreOccupied g image occupied
   are_occupied are_blocks are_nodes numbered listed by_number by_cell = record {
     blocks_ordered = by_number.ordered;
     nodes_ordered = by_cell.ordered;
@@ -54,8 +58,8 @@ module _ (g : Layout) (image : Image) {blocks : List ListBlock} {nodes : List Le
     all_blocks = λ l block is.
         let a = are_blocks.all l block is in
         let n = numbered.each a.place a.one a.there in
-        subst (λ (m : ℕ). Contains occupied.blocks.numbers.items (number_of m block)) a.list
-        (subst (λ (m : ℕ). Contains occupied.blocks.numbers.items (number_of a.one.list m)) a.is
+        subst (λ (m : ℕ). Contains occupied.blocks.items (number_of m block)) a.list
+        (subst (λ (m : ℕ). Contains occupied.blocks.items (number_of a.one.list m)) a.is
         (by_number.all (number_of a.one.list a.one.block) (contained numbers a.place (number_of a.one.list a.one.block) n.0)));
     few_lists = λ l block is.
         let a = are_blocks.all l block is in

@@ -8,7 +8,7 @@ use Rattle.tamper_rules.specs.Journals.{LiesInBlocks}
 use Rattle.tamper_rules.specs.Rules.{EndsFront, LeadsWell}
 
 -- the target's cells lie in the pool, and before the edge
-pub record IsInside (g : Layout) (edge target : ℕ) : Type 0 where
+pub record IsBeforeEdge (g : Layout) (edge target : ℕ) : Type 0 where
   pub from : pool_at g ≤ target
   pub to : target + 256 ≤ g.cells
   pub before : target + 256 ≤ edge

@@ -1,4 +1,3 @@
 pub mod Leading
 pub mod Listing
-pub mod Numbers
 pub mod Occupied

@@ -1,6 +1,6 @@
 -- The cells of blocks and of nodes.
 use Rattle.std.specs.Prelude.{◌≡◌, ◌<◌, ◌+◌, ◌*◌, ◌⊎◌, ℕ, Contains}
-use Rattle.std.specs.List.Sorted.{IsNonDecreasing}
+use Rattle.std.specs.List.Sorted.{IsStrictlyIncreasing}
 use Rattle.cell_types.specs.Image.{Image}
 use Rattle.cell_types.specs.Layout.{Layout}
 use Rattle.index_paths.specs.Nodes.{IsBlockOf, IsNode, AreApart}
@@ -26,13 +26,13 @@ pub record IsNodeCell (g : Layout) (image : Image) (cell : ℕ) : Type 0 where
 
 -- these are the numbers of all blocks, and the first cells of all nodes, each in order
 pub record AreOccupied (g : Layout) (image : Image) (occupied : OccupiedCells) : Type 0 where
-  pub blocks_ordered : IsNonDecreasing occupied.blocks.numbers.items
-  pub nodes_ordered : IsNonDecreasing occupied.nodes.numbers.items
-  pub block_is : (number : ℕ) → Contains occupied.blocks.numbers.items number → IsBlockNumber g image number
-  pub all_blocks : (l block : ℕ) → IsBlockOf g image l block → Contains occupied.blocks.numbers.items (number_of l block)
+  pub blocks_ordered : IsStrictlyIncreasing occupied.blocks.items
+  pub nodes_ordered : IsStrictlyIncreasing occupied.nodes.items
+  pub block_is : (number : ℕ) → Contains occupied.blocks.items number → IsBlockNumber g image number
+  pub all_blocks : (l block : ℕ) → IsBlockOf g image l block → Contains occupied.blocks.items (number_of l block)
   pub few_lists : (l block : ℕ) → IsBlockOf g image l block → l < BLOCK_STEP
-  pub node_is : (cell : ℕ) → Contains occupied.nodes.numbers.items cell → IsNodeCell g image cell
-  pub all_nodes : (level cell : ℕ) → IsNode g image level cell → Contains occupied.nodes.numbers.items cell
+  pub node_is : (cell : ℕ) → Contains occupied.nodes.items cell → IsNodeCell g image cell
+  pub all_nodes : (level cell : ℕ) → IsNode g image level cell → Contains occupied.nodes.items cell
 
 -- the block's cells meet no block that begins elsewhere, and none of another list
 abbrev pub IsAlone : Layout → Image → ℕ → ℕ → Type 0

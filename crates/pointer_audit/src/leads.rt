@@ -7,7 +7,7 @@ ghost use Rattle.tamper_rules.specs.Rules.{LeadsWell};
 ghost use Rattle.kept_cells.specs.Kept.{image_of};
 ghost use Rattle.log_audit.specs.Findings.{AreMetBelow};
 ghost use Rattle.log_audit.specs.Logs.{IsLog};
-ghost use Rattle.pointer_audit.specs.Leading.{IsInside, IsOwned};
+ghost use Rattle.pointer_audit.specs.Leading.{IsBeforeEdge, IsOwned};
 ghost use Rattle.pointer_audit.specs.Occupied.{AreOccupied};
 
 use crate::occupied::OccupiedCells;
@@ -73,7 +73,7 @@ fn jump_at(kept: &KeptCells, at: u32) -> Option<u32>
 
 /// Whether the 256 cells from the target on lie in the pool, and before the edge.
 fn is_inside(geometry: &Geometry, log: &Log, target: u32) -> bool
-    ensures { IsTrue result ↔ IsInside geometry.now log.now.edge target }
+    ensures { IsTrue result ↔ IsBeforeEdge geometry.now log.now.edge target }
 {
     if target < geometry.pool_at() {
         return false;

@@ -21,9 +21,7 @@
 mod leads;
 mod occupied;
 mod pointers;
-mod sorted;
 mod spans;
 
 pub use occupied::OccupiedCells;
 pub use pointers::first_broken_pointer;
-pub use sorted::SortedNumbers;

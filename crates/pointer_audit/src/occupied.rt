@@ -8,11 +8,11 @@ ghost use Rattle.pointer_audit.specs.Occupied.{AreOccupied, IsAlone, IsOffNodes}
 ghost use Rattle.pointer_audit.specs.declared.occupied.TheConstants.{BLOCK_STEP};
 ghost use Rattle.pointer_audit.specs.Listing.{AreBlockNumbers, AreNodeCells};
 
-use crate::sorted::SortedNumbers;
 use cell_types::{Geometry, NoMemory};
 use index_paths::{BLOCK_CELLS, NODE_CELLS};
 use kept_cells::KeptCells;
 use list_audit::ListBlock;
+use log_audit::{has_between, sort_once};
 use std::alloc::Global;
 use tree_audit::LevelNode;
 
@@ -23,8 +23,8 @@ pub(crate) const BLOCK_STEP: u64 = 65_536;
 /// first cell, plus its list.
 #[derive(Drop)]
 pub struct OccupiedCells {
-    pub(crate) blocks: SortedNumbers,
-    pub(crate) nodes: SortedNumbers,
+    pub(crate) blocks: Vec<u64>,
+    pub(crate) nodes: Vec<u64>,
 }
 
 impl OccupiedCells {
@@ -40,11 +40,13 @@ impl OccupiedCells {
         requires nodes { AreNodes geometry.now (image_of kept.now) nodes.now }
         ensures { IfOk result (λ occupied. AreOccupied geometry.now (image_of kept.now) occupied) }
     {
-        let numbers = block_numbers(alloc, blocks)?;
-        let cells = node_cells(alloc, nodes)?;
+        let mut numbers = block_numbers(alloc, blocks)?;
+        sort_once(&mut numbers);
+        let mut cells = node_cells(alloc, nodes)?;
+        sort_once(&mut cells);
         Ok(OccupiedCells {
-            blocks: SortedNumbers::of(numbers),
-            nodes: SortedNumbers::of(cells),
+            blocks: numbers,
+            nodes: cells,
         })
     }
 
@@ -62,11 +64,11 @@ impl OccupiedCells {
     {
         let own = u64::from(target) * BLOCK_STEP + u64::from(list);
         let first = u64::from(target - (BLOCK_CELLS - 1)) * BLOCK_STEP;
-        if self.blocks.has_between(first, own) {
+        if has_between(&self.blocks, first, own) {
             return false;
         }
         let behind = (u64::from(target) + u64::from(BLOCK_CELLS)) * BLOCK_STEP;
-        !self.blocks.has_between(own + 1, behind)
+        !has_between(&self.blocks, own + 1, behind)
     }
 
     /// Whether they meet no node.
@@ -77,7 +79,7 @@ impl OccupiedCells {
     {
         let first = u64::from(target - (NODE_CELLS - 1));
         let behind = u64::from(target) + u64::from(BLOCK_CELLS);
-        !self.nodes.has_between(first, behind)
+        !has_between(&self.nodes, first, behind)
     }
 }
 

@@ -1,7 +1,6 @@
 -- Which postings the documents of a volume are to have, slot after slot.
-use Rattle.std.proofs.Common.{◌≡◌, ◌<◌, ◌+◌, ◌↔◌, ◌⊎◌, ⊎_elim, inl, inr, ℕ, List, Option, Some, sym, ◌∙◌, subst, arith}
+use Rattle.std.proofs.Common.{◌≡◌, ◌<◌, ◌+◌, ◌↔◌, ◌⊎◌, ⊎_elim, inl, inr, ℕ, List, [], length, Option, Some, sym, ◌∙◌, subst, ap, arith}
 use Rattle.std.specs.Prelude.{slice_get}
-use Rattle.std.specs.BTreeSet.{BTreeSet}
 use Rattle.cell_types.specs.Image.{Image}
 use Rattle.cell_types.specs.Layout.{Layout, all_lists}
 use Rattle.document_store.specs.Standing.{HoldsDocument}
@@ -18,7 +17,7 @@ use Rattle.log_audit.proofs.Logged.{stores_of}
 use Rattle.log_audit.proofs.Storing.{stored_there, stored_is_live}
 use Rattle.posting_audit.specs.Bodies.{AreRowsOf, HasNoRows}
 use Rattle.posting_audit.specs.Owing.{IsOwed, AreOwed, KeepsPostingRule, BlockOwes}
-use Rattle.posting_audit.specs.Tables.{HasRow, FitsRow, AddsRows}
+use Rattle.posting_audit.specs.Tables.{AddsRows, AreSameRows, FitsRow, HasRow, number_of}
 use Rattle.posting_audit.proofs.Trailing.{one_stamp}
 
 earlier_or_last : (k n : ℕ) → k < n + 1 → (k < n) ⊎ (k ≡ n)
@@ -26,11 +25,21 @@ earlier_or_last k n h = grind arith
 
 module _ (g : Layout) (image : Image) where
   -- no slot is below 0
-  pub none_owed : (rows : BTreeSet (ℕ × List ℕ)) → ((l : ℕ) (p : PostingFields) → HasRow rows l p → ⊥) → AreOwed g image 0 rows
+  pub none_owed : (rows : List (ℕ × List ℕ)) → ((l : ℕ) (p : PostingFields) → HasRow rows l p → ⊥) → AreOwed g image 0 rows
   none_owed rows none l p fits = (λ has. absurd (none l p has), λ owed. absurd (omega (arith, owed.1)))
 
+  -- nor in a table that is empty
+  pub none_yet : (rows : List (ℕ × List ℕ)) → rows ≡ [] → AreOwed g image 0 rows
+  none_yet rows empty = none_owed rows (λ l p has. omega (arith, has.1, ap length empty))
+
+  -- the same in another order
+  pub owed_in_order : (n : ℕ) (rows sorted : List (ℕ × List ℕ)) → AreOwed g image n rows → AreSameRows rows sorted → AreOwed g image n sorted
+  owed_in_order n rows sorted are same l p fits =
+      let row : ℕ × List ℕ = (number_of l p.key p.last, p.tag) in
+      (λ has. (are l p fits).0 ((same row).0 has), λ owed. (same row).1 ((are l p fits).1 owed))
+
   -- a slot of which nothing is owed
-  pub nothing_more : (n : ℕ) (rows : BTreeSet (ℕ × List ℕ)) → AreOwed g image n rows
+  pub nothing_more : (n : ℕ) (rows : List (ℕ × List ℕ)) → AreOwed g image n rows
       → ((l : ℕ) (p : PostingFields) (o : IsOwed g image l p) → o.slot ≡ n → ⊥) → AreOwed g image (n + 1) rows
   nothing_more n rows so_far none l p fits = (
     λ has. let o = (so_far l p fits).0 has in (o.0, omega (arith, o.1)),
@@ -41,7 +50,7 @@ module _ (g : Layout) (image : Image) where
   )
 
   -- a slot with its postings
-  pub slot_more : (n : ℕ) (added : List ListedPosting) (old new : BTreeSet (ℕ × List ℕ)) (id body : List ℕ) → HoldsDocument g image n id body
+  pub slot_more : (n : ℕ) (added : List ListedPosting) (old new : List (ℕ × List ℕ)) (id body : List ℕ) → HoldsDocument g image n id body
       → AreRowsOf g image n added → AreOwed g image n old → AddsRows added old new → AreOwed g image (n + 1) new
   slot_more n added old new id body holds are so_far adds l p fits = (
     λ has. ⊎_elim
@@ -120,7 +129,7 @@ module _ (g : Layout) (image : Image) (log : Log) (volume : IsVolume g.cells ima
       true_is_owed l p of.list (rule l block place p of few at (subst (λ (n : ℕ). Holds image n (posting_record p)) (sym at) holds))
 
 -- a posting of the table is owed, and one that is owed is of the table
-pub of_table : (g : Layout) (image : Image) (rows : BTreeSet (ℕ × List ℕ)) (l : ℕ) (p : PostingFields) → AreOwed g image g.slots rows → FitsRow l p
+pub of_table : (g : Layout) (image : Image) (rows : List (ℕ × List ℕ)) (l : ℕ) (p : PostingFields) → AreOwed g image g.slots rows → FitsRow l p
     → (HasRow rows l p ↔ IsOwed g image l p)
 of_table g image rows l p are fits =
     (λ has. ((are l p fits).0 has).0, λ o. (are l p fits).1 (o, o.holds.done.commits.reserves.slot))

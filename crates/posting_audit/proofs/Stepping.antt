@@ -106,7 +106,7 @@ module _ (g : Layout) (image : Image) (l block : ℕ) (p q : PostingFields) (is 
         let both = apart q.key p.key hop.level hop.digit s.level s.digit
         (subst (λ (r : PostingFields). InSpan r.key hop.level hop.digit p.key) one hop.span) (in_span span low high) in
         let where_to : pointer_at b hop.level hop.digit ≡ cell = omega (arith, same, both.0, both.1, pointer) in
-        record { jump = subst (λ (n : ℕ). Holds image n (Jump t)) where_to hop.jump; from = hop.inside_from; to = hop.inside_to }
+        record { held = subst (λ (n : ℕ). Holds image n (Jump t)) where_to hop.jump; from = hop.inside_from; to = hop.inside_to }
 
     -- no pointer is there
     pub no_way : ((target : ℕ) → PointsTo g image cell target → ⊥) → HasTrail g image p block → ⊥
@@ -118,13 +118,13 @@ module _ (g : Layout) (image : Image) (l block : ℕ) (p q : PostingFields) (is 
 
     module _ (target : ℕ) (points : PointsTo g image cell target) (met : IsMetAll g image Pointers) where
       well : LeadsWell g image l block s.level s.digit
-      well = met cell (held_written points.jump) l block s.level s.digit is span.levels span.some span.digits pointer
+      well = met cell (held_written points.held) l block s.level s.digit is span.levels span.some span.digits pointer
 
       leads_there : PointsTo g image (pointer_at block s.level s.digit) target
       leads_there = subst (λ (n : ℕ). PointsTo g image n target) pointer points
 
       same_target : well.target ≡ target
-      same_target = one_jump (one_record_holds image (pointer_at block s.level s.digit) (Jump well.target) (Jump target) well.jump leads_there.jump)
+      same_target = one_jump (one_record_holds image (pointer_at block s.level s.digit) (Jump well.target) (Jump target) well.jump leads_there.held)
         where
           one_jump : Jump well.target ≡ Jump target → well.target ≡ target
           one_jump e = cc
@@ -140,7 +140,7 @@ module _ (g : Layout) (image : Image) (l block : ℕ) (p q : PostingFields) (is 
         level = s.level;
         digit = s.digit;
         span = in_span span low high;
-        jump = leads_there.jump;
+        jump = leads_there.held;
         inside_from = points.from;
         inside_to = points.to;
         place = well.place;

@@ -1,6 +1,5 @@
 -- Which postings the documents of a volume are to have.
 use Rattle.std.specs.Prelude.{◌≡◌, ◌<◌, ◌+◌, ◌↔◌, ℕ, List, Option}
-use Rattle.std.specs.BTreeSet.{BTreeSet}
 use Rattle.cell_types.specs.Image.{Image}
 use Rattle.cell_types.specs.Layout.{Layout, all_lists}
 use Rattle.document_store.specs.Standing.{HoldsDocument}
@@ -23,7 +22,7 @@ pub record IsOwed (g : Layout) (image : Image) (l : ℕ) (p : PostingFields) : T
   pub is : IsPostingOf g stamp body slot l p
 
 -- these are the postings of the documents of the slots below n
-abbrev pub AreOwed : Layout → Image → ℕ → BTreeSet (ℕ × List ℕ) → Type 0
+abbrev pub AreOwed : Layout → Image → ℕ → List (ℕ × List ℕ) → Type 0
 AreOwed g image n rows =
     (l : ℕ) (p : PostingFields) → FitsRow l p → (HasRow rows l p ↔ ((o : IsOwed g image l p) × (o.slot < n)))
 

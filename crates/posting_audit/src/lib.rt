@@ -12,9 +12,10 @@
 //! What a document is owed is made again from its body, as an ingest makes it. A document that would have more than 256
 //! postings in one list has none, and breaks rule 13.
 //!
-//! **Rule 9** is asked of each posting in each block. So what all documents are owed is put into one ordered set, and a
-//! posting is looked up by all that it says: its list, its key, its greatest ordinal and its tag. That costs some 20 bytes
-//! a posting.
+//! **Rule 9** is asked of each posting in each block. So what all documents are owed is put into one row in order, and a
+//! posting is looked up by all that it says: its list, its key, its greatest ordinal and its tag. That costs 16 bytes a
+//! posting, and a posting is two written cells, its own and its copy in a journal: with the 20 bytes of each kept cell 56
+//! bytes for the two. Room for as many postings as journals hold is taken at once.
 //!
 //! **Rule 13** is asked at each done cell, once the rules of lower numbers are kept. That makes a step of a trail short:
 //! the entries of a block stand without a gap and by rising keys, so that the place of a key is found by bisection, in 8

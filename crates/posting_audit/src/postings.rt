@@ -9,6 +9,7 @@ ghost use Rattle.log_audit.specs.Least.{FindsPart};
 ghost use Rattle.log_audit.specs.Logs.{IsLog};
 ghost use Rattle.list_audit.specs.Blocks.{AreListBlocks};
 ghost use Rattle.posting_audit.specs.Owing.{AreOwed, BlockOwes};
+ghost use Rattle.posting_audit.specs.Tables.{AreOrderedRows};
 
 use crate::table::{PostingTable, table_of};
 use cell_types::{Evidence, Geometry, NoMemory};
@@ -19,7 +20,8 @@ use log_audit::{Log, lower_of};
 use std::alloc::Global;
 use tamper_rules::FAKE_POSTING;
 
-/// The least cell of a block at which rule 9 is broken, of these blocks of all lists, where rule 4 is kept.
+/// The least cell of a block at which rule 9 is broken, of these blocks of all lists, where rule 4 is kept. It takes 16
+/// bytes a posting, and what one document's words and postings take while they are made.
 ///
 /// # Errors
 ///
@@ -52,7 +54,8 @@ fn first_fake(
     requires volume { IsVolume geometry.now.cells (image_of kept.now) geometry.now }
     requires log { IsLog geometry.now (image_of kept.now) _log.now }
     requires blocks { AreListBlocks geometry.now (image_of kept.now) blocks.now }
-    requires owed { AreOwed geometry.now (image_of kept.now) geometry.now.slots table.now.rows }
+    requires owed { AreOwed geometry.now (image_of kept.now) geometry.now.slots table.now.rows.items }
+    requires order { AreOrderedRows table.now.rows.items }
     ensures { Finds geometry.now (image_of kept.now) Postings result }
 {
     let mut least = None;
@@ -70,7 +73,8 @@ fn first_fake_in(
     table: &PostingTable,
 ) -> Option<Evidence>
     requires block { IsBlockOf geometry.now (image_of kept.now) listed.now.list listed.now.block }
-    requires owed { AreOwed geometry.now (image_of kept.now) geometry.now.slots table.now.rows }
+    requires owed { AreOwed geometry.now (image_of kept.now) geometry.now.slots table.now.rows.items }
+    requires order { AreOrderedRows table.now.rows.items }
     ensures { FindsPart geometry.now (image_of kept.now) Postings
         (BlockOwes geometry.now (image_of kept.now) listed.now.list listed.now.block) result }
 {

@@ -11,7 +11,7 @@ use cell_types::Geometry;
 use index_paths::ENTRY_PLACES;
 use jump_block::span;
 use kept_cells::KeptCells;
-use list_audit::{HeldPosting, ListBlock, posting_at, target_at};
+use list_audit::{HeldPosting, ListBlock, pointer_target, posting_at};
 
 /// Where a posting's trail leads from a block.
 #[derive(Clone, Copy, Debug, PartialEq, Eq)]
@@ -59,7 +59,7 @@ fn step_on(kept: &KeptCells, geometry: &Geometry, listed: &ListBlock, posting: &
     };
     let keys = span(greatest.key(), posting.key());
     let pointer = 127 + 15 * u32::from(keys.level) + u32::from(keys.digit);
-    match target_at(kept, geometry, block + pointer) {
+    match pointer_target(kept, geometry, block + pointer) {
         Some(target) => Step::On(target),
         None => Step::Missing,
     }

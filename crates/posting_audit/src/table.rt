@@ -1,19 +1,19 @@
 //! The postings that documents are to have.
-ghost use Rattle.std.specs.Prelude.{◌≡◌, ◌↔◌, IfOk, IsTrue, OnOk};
+ghost use Rattle.std.specs.Prelude.{◌≡◌, ◌↔◌, [], IfOk, IsTrue, OnOk};
 ghost use Rattle.tamper_rules.specs.Rules.{Documents};
 ghost use Rattle.kept_cells.specs.Kept.{image_of};
 ghost use Rattle.log_audit.specs.Findings.{IsMetAll};
 ghost use Rattle.log_audit.specs.Logs.{IsLog};
+ghost use Rattle.log_audit.specs.Stored.{HasCells};
 ghost use Rattle.posting_audit.specs.Owing.{AreOwed};
-ghost use Rattle.posting_audit.specs.Tables.{AddsRow, AddsRows, HasRow, number_of};
+ghost use Rattle.posting_audit.specs.Tables.{AddsRow, AddsRows, AreOrderedRows, AreSameRows, HasRow, number_of};
 
 use crate::listing::postings_of;
-use cell_types::{Geometry, NoMemory};
+use cell_types::{Geometry, NoMemory, RecordCell, address_of, decode};
 use kept_cells::KeptCells;
 use list_audit::HeldPosting;
-use log_audit::{Log, stored_slot};
+use log_audit::{Log, StoredSlot, stored_slot};
 use std::alloc::Global;
-use std::collections::BTreeSet;
 use term_tags::ListedPosting;
 
 /// How far the numbers of the postings of a list lie from those of the next.
@@ -22,19 +22,37 @@ pub(crate) const LIST_STEP: u64 = 1_099_511_627_776;
 /// How far those of a key lie from those of the next.
 pub(crate) const KEY_STEP: u64 = 256;
 
-/// Postings with their lists: of each its list, its key and its greatest ordinal as one number, and its tag.
+/// Postings with their lists, 16 bytes each: the list, the key and the greatest ordinal as one number, and the tag.
 #[derive(Drop)]
 pub(crate) struct PostingTable {
-    pub(crate) rows: BTreeSet<(u64, [u8; 6])>,
+    pub(crate) rows: Vec<(u64, [u8; 6])>,
 }
 
 impl PostingTable {
-    /// Adds a posting.
+    /// No posting yet, and room for as many as journals hold: on a volume that keeps its rules these are all, so that
+    /// the row never grows.
+    fn with_room(
+        alloc: Global,
+        kept: &KeptCells,
+        geometry: &Geometry,
+        log: &Log,
+    ) -> Result<PostingTable, NoMemory>
+        requires { IsLog geometry.now (image_of kept.now) log.now }
+        ensures { IfOk result (λ table. table.rows.items ≡ []) }
+    {
+        let room = journaled_postings(kept, geometry, log);
+        let Ok(rows) = Vec::with_capacity(alloc, room) else {
+            return Err(NoMemory);
+        };
+        Ok(PostingTable { rows })
+    }
+
+    /// Adds a posting behind the others.
     pub(crate) fn add(&mut self, row: &ListedPosting) -> Result<(), NoMemory>
-        ensures { OnOk result (AddsRow row.now self.old.rows self.new.rows) }
+        ensures { OnOk result (AddsRow row.now self.old.rows.items self.new.rows.items) }
     {
         let number = number_of(row.list(), row.key(), row.last());
-        let Ok(_added) = self.rows.insert((number, row.tag())) else {
+        let Ok(()) = self.rows.push((number, row.tag())) else {
             return Err(NoMemory);
         };
         Ok(())
@@ -42,7 +60,7 @@ impl PostingTable {
 
     /// Adds these postings.
     fn add_all(&mut self, rows: &[ListedPosting]) -> Result<(), NoMemory>
-        ensures { OnOk result (AddsRows rows.now self.old.rows self.new.rows) }
+        ensures { OnOk result (AddsRows rows.now self.old.rows.items self.new.rows.items) }
     {
         for row in rows {
             self.add(row)?;
@@ -50,12 +68,24 @@ impl PostingTable {
         Ok(())
     }
 
-    /// Whether a posting of a list is there.
+    /// Puts them in order.
+    fn sort(&mut self)
+        ensures order { AreOrderedRows self.new.rows.items }
+        ensures same { AreSameRows self.old.rows.items self.new.rows.items }
+    {
+        self.rows.sort_unstable();
+    }
+
+    /// Whether a posting of a list is there: found by bisection.
     pub(crate) fn has(&self, list: u16, posting: &HeldPosting) -> bool
-        ensures { IsTrue result ↔ HasRow self.now.rows list posting.now }
+        requires { AreOrderedRows self.now.rows.items }
+        ensures { IsTrue result ↔ HasRow self.now.rows.items list posting.now }
     {
         let number = number_of(list, posting.key(), posting.last());
-        self.rows.contains(&(number, posting.tag()))
+        let Ok(_place) = self.rows.binary_search(&(number, posting.tag())) else {
+            return false;
+        };
+        true
     }
 }
 
@@ -68,11 +98,11 @@ pub(crate) fn table_of(
 ) -> Result<PostingTable, NoMemory>
     requires log { IsLog geometry.now (image_of kept.now) log.now }
     requires documents { IsMetAll geometry.now (image_of kept.now) Documents }
-    ensures { IfOk result (λ table. AreOwed geometry.now (image_of kept.now) geometry.now.slots table.rows) }
+    ensures owed { IfOk result (λ table.
+        AreOwed geometry.now (image_of kept.now) geometry.now.slots table.rows.items) }
+    ensures order { IfOk result (λ table. AreOrderedRows table.rows.items) }
 {
-    let mut table = PostingTable {
-        rows: BTreeSet::new(alloc),
-    };
+    let mut table = PostingTable::with_room(alloc, kept, geometry, log)?;
     for slot in 0..geometry.slots() {
         let Some(stored) = stored_slot(kept, geometry, log, slot) else {
             continue;
@@ -83,7 +113,39 @@ pub(crate) fn table_of(
         };
         table.add_all(&rows)?;
     }
+    table.sort();
     Ok(table)
+}
+
+/// How many postings the journals of stored slots hold.
+fn journaled_postings(kept: &KeptCells, geometry: &Geometry, log: &Log) -> usize
+    requires { IsLog geometry.now (image_of kept.now) log.now }
+{
+    let mut count: usize = 0;
+    for slot in 0..geometry.slots() {
+        let Some(holder) = stored_slot(kept, geometry, log, slot) else {
+            continue;
+        };
+        count = count.saturating_add(postings_journaled_by(kept, &holder));
+    }
+    count
+}
+
+/// How many the journal of one holds.
+fn postings_journaled_by(kept: &KeptCells, stored: &StoredSlot) -> usize
+    requires { HasCells stored.now }
+{
+    let from = stored.journal_at();
+    let mut count: usize = 0;
+    for place in 0..stored.journal {
+        let Some(cell) = kept.at(from + place) else {
+            continue;
+        };
+        if let Some(RecordCell::Posting { .. }) = decode(cell, address_of(cell)) {
+            count = count.saturating_add(1);
+        }
+    }
+    count
 }
 
 /// A list, a key and a greatest ordinal as one number.

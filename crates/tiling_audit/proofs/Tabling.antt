@@ -11,7 +11,7 @@ use Rattle.stored_documents.specs.Documents.{document_at}
 use Rattle.tamper_rules.specs.Journals.{journal_at}
 use Rattle.tamper_rules.specs.Rules.{IsSize, TilingRule}
 use Rattle.log_audit.specs.declared.stored.StoredSlot.{StoredSlot}
-use Rattle.tiling_audit.specs.Tables.{HaveTargets, HasAtLeast, IsLed, IsInside, IsTable, IsWithTile, Follow, ended, tile, LieWithin}
+use Rattle.tiling_audit.specs.Tables.{HaveTargets, HasAtLeast, IsLed, IsInOwnBlocks, IsTable, IsWithTile, Follow, ended, tile, LieWithin}
 use Rattle.tiling_audit.specs.Tiles.{HasTile}
 use Rattle.tiling_audit.specs.Walks.{IsOwn, Walks, over, next}
 use Rattle.tiling_audit.specs.declared.tile.Tile.{Tile}
@@ -71,7 +71,7 @@ moved image from to place one same has = subst (λ (k : ℕ). HasTile image (k +
 -- a cell's tile does not lie in the slot's own part
 pub lies_outside : {image : Image} {at : ℕ} {one : Tile} (s : StoredSlot) → HasTile image at one
     → (one.target < s.start) ⊎ (document_at s.start s.length s.bytes s.journal ≤ one.target)
-    → (t z : ℕ) → HasTile image at (record { target = t; size = z }) → IsInside s t → ⊥
+    → (t z : ℕ) → HasTile image at (record { target = t; size = z }) → IsInOwnBlocks s t → ⊥
 lies_outside {image} {at} {one} s has out t z here inside =
     let eq : record { target = t; size = z } ≡ one = one_tile here has in
     let same : t ≡ one.target = ap (λ (x : Tile). x.target) eq in
@@ -83,7 +83,7 @@ module _ {image : Image} {s : StoredSlot} {p : ℕ} {old : ℕ → Option ℕ} (
 
   -- a place of which no tile is to be kept
   pub table_same : ((t z : ℕ) → HasTile image (journal_at s.start s.length s.journal + p) (record { target = t; size = z })
-      → IsInside s t → ⊥) → IsTable image s (p + 1) old
+      → IsInOwnBlocks s t → ⊥) → IsTable image s (p + 1) old
   table_same none = record {
     sound = λ t z is. let k = table.sound t z is in (more_places k.0, k.1);
     all = λ t z led inside. ⊎_elim
@@ -96,10 +96,10 @@ module _ {image : Image} {s : StoredSlot} {p : ℕ} {old : ℕ → Option ℕ} (
 
   -- a place of which the tile is kept
   pub table_more : {new : ℕ → Option ℕ} {one : Tile} → HasTile image (journal_at s.start s.length s.journal + p) one
-      → IsInside s one.target → IsWithTile old new one → IsTable image s (p + 1) new
+      → IsInOwnBlocks s one.target → IsWithTile old new one → IsTable image s (p + 1) new
   table_more {new} {one} has inside with = record {
     sound = λ t z is. ⊎_elim
-        (λ (same : t ≡ one.target). subst (λ (k : ℕ). IsLed image s (p + 1) k z × IsInside s k) (sym same)
+        (λ (same : t ≡ one.target). subst (λ (k : ℕ). IsLed image s (p + 1) k z × IsInOwnBlocks s k) (sym same)
         (there z (subst (λ (k : ℕ). new k ≡ Some z) same is)))
         (λ differ. let k = table.sound t z (sym (with.others t differ) ∙ is) in (more_places k.0, k.1))
         (cases_eq t one.target);
@@ -124,7 +124,7 @@ module _ {image : Image} {s : StoredSlot} {p : ℕ} {old : ℕ → Option ℕ} (
         (below_or_at led.place p led.below);
   }
     where
-      there : (z : ℕ) → new one.target ≡ Some z → IsLed image s (p + 1) one.target z × IsInside s one.target
+      there : (z : ℕ) → new one.target ≡ Some z → IsLed image s (p + 1) one.target z × IsInOwnBlocks s one.target
       there z is =
           let eq : z ≡ with.size = one_value new one.target z with.size is with.here in
           ⊎_elim

@@ -23,15 +23,15 @@ pub record IsLed (image : Image) (s : StoredSlot) (places target size : ℕ) : T
   pub has : HasTile image (journal_at s.start s.length s.journal + place) (record { target = target; size = size })
 
 -- the cell lies in the slot's own block part
-pub record IsInside (s : StoredSlot) (target : ℕ) : Type 0 where
+pub record IsInOwnBlocks (s : StoredSlot) (target : ℕ) : Type 0 where
   pub from : s.start ≤ target
   pub to : target < document_at s.start s.length s.bytes s.journal
 
 -- These are the sizes of the tiles in the slot's own block part to which the first places of its journal lead: of each
 -- tile the greatest.
 pub record IsTable (image : Image) (s : StoredSlot) (places : ℕ) (sizes : ℕ → Option ℕ) : Type 0 where
-  pub sound : (target size : ℕ) → sizes target ≡ Some size → IsLed image s places target size × IsInside s target
-  pub all : (target size : ℕ) → IsLed image s places target size → IsInside s target
+  pub sound : (target size : ℕ) → sizes target ≡ Some size → IsLed image s places target size × IsInOwnBlocks s target
+  pub all : (target size : ℕ) → IsLed image s places target size → IsInOwnBlocks s target
       → (most : ℕ) × (sizes target ≡ Some most) × (size ≤ most)
 
 -- a tile that begins where this one does is as large, or larger

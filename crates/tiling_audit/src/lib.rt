@@ -22,8 +22,6 @@
 mod back;
 mod laws;
 mod table;
-#[cfg(test)]
-mod tests;
 mod tile;
 mod tilings;
 

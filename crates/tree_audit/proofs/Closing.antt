@@ -30,7 +30,7 @@ same_default (x ∷ xs) (suc k) a b less = same_default xs k a b (omega (arith, 
 
 -- a child cell leads to one node
 pub one_target : {g : Layout} {image : Image} {at a b : ℕ} → HasChild g image at a → HasChild g image at b → a ≡ b
-one_target {g} {image} {at} {a} {b} h k = let e = one_record_holds image at (Child a) (Child b) h.child k.child in cc
+one_target {g} {image} {at} {a} {b} h k = let e = one_record_holds image at (Child a) (Child b) h.held k.held in cc
 
 -- no child cell was looked at yet
 pub no_targets : (g : Layout) (image : Image) (node : ℕ) (old : List ℕ) → AddsTargets g image node 16 old old
@@ -152,7 +152,7 @@ next_level {g} {image} {level} {row} {beneath} levels here are = record {
       let above = slice_index row u.index in
       let cell : above + t.place ≡ above + 16 + (t.place - 16) = omega (arith, t.from) in
       under (level + 1) target level above (t.place - 16) refl (here.each u.index u.inside) (omega (arith, t.to, t.from)) levels
-      (subst (λ (c : ℕ). Holds image c (Child target)) cell t.leads.child) t.leads.from t.leads.to;
+      (subst (λ (c : ℕ). Holds image c (Child target)) cell t.leads.held) t.leads.from t.leads.to;
   all = λ node is. (are.each node).1 (below node is);
 }
   where
@@ -171,7 +171,7 @@ next_level {g} {image} {level} {row} {beneath} levels here are = record {
             place = 16 + x;
             from = omega arith;
             to = omega (arith, low);
-            leads = record { child = subst (λ (c : ℕ). Holds image c (Child node)) cell child; from = from; to = to };
+            leads = record { held = subst (λ (c : ℕ). Holds image c (Child node)) cell child; from = from; to = to };
           };
         }
 

@@ -1,11 +1,13 @@
 -- Whether child cells lead down well.
-use Rattle.std.proofs.Common.{◌≡◌, ◌<◌, ◌≤◌, ◌+◌, ◌-◌, ◌⊎◌, ⊎_elim, inl, inr, ℕ, List, length, get_or, Some, refl, sym, ◌∙◌, subst, ap, arith}
-use Rattle.std.specs.Prelude.{slice_get, slice_index, Contains}
+use Rattle.std.proofs.Common.{◌≡◌, ◌<◌, ◌≤◌, ◌+◌, ◌-◌, ◌^◌, ◌⊎◌, ⊎_elim, inl, inr, ℕ, List, length, get_or, Some, refl, sym, ◌∙◌, subst, ap, arith}
+use Rattle.std.specs.Prelude.{slice_get, Contains}
 use Rattle.std.proofs.lemmas.Bool.{cases_order}
-use Rattle.std.proofs.lemmas.List.Elements.{Contains-get_or}
 use Rattle.std.proofs.lemmas.Option.{none-some, slice_get-get_or, slice_get_within}
 use Rattle.cell_types.specs.Image.{Image}
 use Rattle.cell_types.specs.Layout.{Layout, IsLayout, pool_at}
+use Rattle.cell_types.specs.Records.{IsRecordCell}
+use Rattle.cell_types.proofs.OneRecord.{address_in}
+use Rattle.journal_audit.specs.Copying.{HasTarget}
 use Rattle.cell_types.specs.declared.record_cell.RecordCell.TheVariants.{Child}
 use Rattle.index_paths.specs.Nodes.{AreApart, IsBlockOf, IsNode}
 use Rattle.stored_documents.specs.Slots.{EndsBelow, IsEdge}
@@ -13,7 +15,7 @@ use Rattle.stored_documents.specs.Volumes.{Holds, IsWritten}
 use Rattle.tamper_rules.specs.Journals.{LiesInBlocks, journal_at}
 use Rattle.tamper_rules.specs.Rules.{ChildRule, Children, IsPlace, LeadsDownWell, ReserveCells}
 use Rattle.tamper_rules.proofs.Settled.{one_end}
-use Rattle.kept_cells.proofs.OneMore.{below_or_at}
+use Rattle.log_audit.specs.Between.{HasBetween}
 use Rattle.log_audit.specs.Findings.{IsMetAll}
 use Rattle.log_audit.specs.Logs.{IsLog}
 use Rattle.log_audit.specs.Stored.{IsStored}
@@ -24,12 +26,12 @@ use Rattle.log_audit.proofs.Beginning.{ended_cells}
 use Rattle.log_audit.proofs.Logged.{one_slot}
 use Rattle.log_audit.proofs.Parts.{AskedBelow}
 use Rattle.log_audit.proofs.Storing.{one_row}
-use Rattle.tree_audit.specs.Around.{AreAround, HasBetween, IsLeadOf, lead_number}
+use Rattle.tree_audit.specs.Around.{AreAround, IsLeadOf, lead_number}
 use Rattle.tree_audit.specs.Children.{AsksChild, HasCopyOf, IsClear, IsFirstTo, IsJournaled, IsWellLed}
 use Rattle.tree_audit.specs.Nodes.{AreNodes, HasChild}
 use Rattle.tree_audit.specs.declared.around.Around.{Around}
 use Rattle.tree_audit.specs.declared.nodes.LevelNode.{LevelNode}
-use Rattle.tree_audit.proofs.Closing.{node_inside, one_target, same_default}
+use Rattle.tree_audit.proofs.Closing.{node_inside, one_target}
 
 -- the edge of a log is one
 pub edge_is : {g : Layout} {image : Image} (log : Log) → IsLog g image log → IsEdge g image image log.edge
@@ -56,8 +58,7 @@ edge_is_one {g} {image} {log} {at} is e = ⊎_elim
 -- a number that is one of these stands somewhere
 found_at : (numbers : List ℕ) (x low high : ℕ) → Contains numbers x → low ≤ x → x < high → HasBetween numbers low high
 found_at numbers x low high h from below =
-    let at : slice_index numbers h.0 ≡ x = same_default numbers h.0 0 x h.1 ∙ h.2 in
-    record { index = h.0; inside = h.1; from = omega (arith, at, from); below = omega (arith, at, below) }
+    record { number = x; there = h; from = from; below = below }
 
 -- rows of cells are apart, or one begins near the other
 apart_or_near : (t b size low : ℕ) → low + size ≡ t + 1 → AreApart t 32 b size ⊎ ((low ≤ b) × (b < t + 32))
@@ -89,8 +90,8 @@ module _ {g : Layout} {image : Image} {around : Around} (are : AreAround g image
 
   pub block_near : {t low high : ℕ} → low + 256 ≡ t + 1 → high ≡ t + 32 → HasBetween around.blocks.items low high → IsClear g image t → ⊥
   block_near {t} {low} {high} is end h clear =
-      let b = (are.blocks.each (slice_index around.blocks.items h.index)).0 (Contains-get_or around.blocks.items h.index 0 h.inside) in
-      near_not_apart t (slice_index around.blocks.items h.index) 256 low is h.from (omega (arith, h.below, end)) (clear.blocks b.0 _ b.1)
+      let b = (are.blocks.each h.number).0 h.there in
+      near_not_apart t h.number 256 low is h.from (omega (arith, h.below, end)) (clear.blocks b.0 _ b.1)
 
   -- no other node does
   pub no_node_near : {t low high : ℕ} → low + 32 ≡ t + 1 → high ≡ t + 32 → (HasBetween around.nodes.items low t → ⊥)
@@ -113,8 +114,8 @@ module _ {g : Layout} {image : Image} {around : Around} (are : AreAround g image
   pub node_near : {t low high from to : ℕ} → low + 32 ≡ t + 1 → high ≡ t + 32 → HasBetween around.nodes.items from to
       → low ≤ from → to ≤ high → (to ≤ t) ⊎ (t < from) → IsClear g image t → ⊥
   node_near {t} {low} {high} {from} {to} is end h low_is high_is beside clear =
-      let number = slice_index around.nodes.items h.index in
-      let n = (are.nodes.each number).0 (Contains-get_or around.nodes.items h.index 0 h.inside) in
+      let number = h.number in
+      let n = (are.nodes.each number).0 h.there in
       ⊎_elim
       (λ (same : number ≡ t). ⊎_elim
       (λ (before : to ≤ t). omega (arith, same, before, h.below))
@@ -134,7 +135,7 @@ module _ {g : Layout} {image : Image} {around : Around} (are : AreAround g image
         from = omega arith;
         to = omega (arith, low);
         target = target;
-        leads = record { child = subst (λ (c : ℕ). Holds image c (Child target)) at holds; from = leads.from; to = leads.to };
+        leads = record { held = subst (λ (c : ℕ). Holds image c (Child target)) at holds; from = leads.from; to = leads.to };
         is = refl;
       } in
       none (found_at around.leads.items (lead_number target (other + (16 + y))) number high
@@ -144,8 +145,7 @@ module _ {g : Layout} {image : Image} {around : Around} (are : AreAround g image
   pub lead_before : {cell target number high : ℕ} → IsLayout g → cell < 2147483648 → number ≡ lead_number target 0 → high ≡ number + cell
       → HasBetween around.leads.items number high → IsFirstTo g image cell target → ⊥
   lead_before {cell} {target} {number} {high} layout small is end h first =
-      let x = slice_index around.leads.items h.index in
-      let n = (are.leads.each x).0 (Contains-get_or around.leads.items h.index 0 h.inside) in
+      let n = (are.leads.each h.number).0 h.there in
       let lead = n.3 in
       let inside = node_inside layout n.2 in
       let few : n.1 + lead.place < 4294967296 = omega (arith, inside, layout.cells, lead.to) in
@@ -153,7 +153,7 @@ module _ {g : Layout} {image : Image} {around : Around} (are : AreAround g image
       let less : n.1 + lead.place < cell = omega (arith, lead.is, h.below, is, end, same) in
       let at : n.1 + lead.place ≡ n.1 + 16 + (lead.place - 16) = omega (arith, lead.from) in
       first n.0 n.1 (lead.place - 16) n.2 (omega (arith, lead.from, lead.to)) (omega (arith, at, less))
-      (subst (λ (c : ℕ). Holds image c (Child target)) at (subst (λ (t : ℕ). Holds image (n.1 + lead.place) (Child t)) same lead.leads.child))
+      (subst (λ (c : ℕ). Holds image c (Child target)) at (subst (λ (t : ℕ). Holds image (n.1 + lead.place) (Child t)) same lead.leads.held))
 
 -- the slot that owns the target has a copy of the cell
 pub journaled : {g : Layout} {image : Image} {s : StoredSlot} {owner cell target : ℕ} → IsStored g image s → s.slot ≡ owner
@@ -204,7 +204,7 @@ module _ {g : Layout} {image : Image} {v node x target : ℕ} (leads : HasChild 
   pub leads_well : v < 63 → IsWritten image (node + x) → IsWellLed g image (node + 16 + x) target → LeadsDownWell g image v node x
   leads_well level bucket led = record {
     target = target;
-    child = leads.child;
+    child = leads.held;
     bucket = bucket;
     level = level;
     from = leads.from;
@@ -227,7 +227,7 @@ module _ {g : Layout} {image : Image} {v node x target : ℕ} (leads : HasChild 
   }
 
   pub well_led : LeadsDownWell g image v node x → IsWellLed g image (node + 16 + x) target
-  well_led w = subst (IsWellLed g image (node + 16 + x)) (one_target (record { child = w.child; from = w.from; to = w.to }) leads) (record {
+  well_led w = subst (IsWellLed g image (node + 16 + x)) (one_target (record { held = w.child; from = w.from; to = w.to }) leads) (record {
     edge = w.edge;
     journaled = record {
       owner = w.owner;
@@ -257,19 +257,27 @@ child_place x cell layout (IsNode.under level node v above y next rest few level
 -- a number between two others is one between the same
 pub moved : {xs ys : List ℕ} {a b c d : ℕ} → xs ≡ ys → a ≡ c → b ≡ d → HasBetween xs a b → HasBetween ys c d
 moved {xs} {ys} {a} {b} {c} {d} same low high h = subst (λ (zs : List ℕ). HasBetween zs c d) same (record {
-  index = h.index;
-  inside = h.inside;
+  number = h.number;
+  there = h.there;
   from = omega (arith, h.from, low);
   below = omega (arith, h.below, high);
 })
 
--- the places of a journal below one hold no copy
-pub none_more : (image : Image) (from place : ℕ) {own : List ℕ} → ((k : ℕ) → k < place → image (from + k) ≡ Some own → ⊥)
-    → (image (from + place) ≡ Some own → ⊥) → (k : ℕ) → k < place + 1 → image (from + k) ≡ Some own → ⊥
-none_more image from place {own} before here k less holds = ⊎_elim
-    (λ (earlier : k < place). before k earlier holds)
-    (λ (same : k ≡ place). here (subst (λ (m : ℕ). image (from + m) ≡ Some own) same holds))
-    (below_or_at k place less)
+-- a child cell is a copy of itself
+pub copies_itself : {g : Layout} {image : Image} {cell target : ℕ} → HasChild g image cell target → cell < 2 ^ 32 → HasTarget image cell cell
+copies_itself {g} {image} {cell} {target} leads small =
+    let h = leads.held in
+    let at = address_in (Child target) cell h.cell small h.is in
+    record {
+      cell = h.cell;
+      stands = h.stands;
+      copy = record { held = Child target; index = tt; is = subst (λ (n : ℕ). IsRecordCell (Child target) n h.cell) (sym at) h.is };
+      is = sym at;
+    }
+
+-- and what holds the same is a copy of it
+pub same_copies : {image : Image} {cell at : ℕ} → HasTarget image cell cell → image at ≡ image cell → HasTarget image at cell
+same_copies h same = record { cell = h.cell; stands = same ∙ h.stands; copy = h.copy; is = h.is }
 
 -- what is asked on account of the child cells of each node
 abbrev pub ChildrenAskAt : Layout → Image → List LevelNode → ℕ → ℕ → Type 0

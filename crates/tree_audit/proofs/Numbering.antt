@@ -1,10 +1,8 @@
 -- Numbers that are gathered one after another, and found by bisection.
 use Rattle.std.proofs.Common.{◌≡◌, ◌<◌, ◌≤◌, ◌+◌, ◌⊎◌, ◌++◌, ⊎_elim, inl, inr, ℕ, List, [], ◌∷◌, length, Some, refl, sym, ◌∙◌, subst, ap, arith}
-use Rattle.std.specs.Prelude.{slice_get, slice_index, Contains}
+use Rattle.std.specs.Prelude.{slice_get, Contains}
 use Rattle.std.specs.List.Sorted.{IsStrictlyIncreasing}
-use Rattle.std.proofs.lemmas.Bool.{cases_order}
 use Rattle.std.proofs.lemmas.List.Elements.{Contains-append_left, Contains-push, Contains-push_cases}
-use Rattle.std.proofs.lemmas.List.Kept.{AllPairs-from_increasing}
 use Rattle.std.proofs.lemmas.Option.{slice_get_within}
 use Rattle.cell_types.specs.Image.{Image}
 use Rattle.cell_types.specs.Layout.{Layout}
@@ -12,7 +10,7 @@ use Rattle.index_paths.specs.Nodes.{IsBlockOf, IsNode}
 use Rattle.kept_cells.proofs.OneMore.{below_or_at}
 use Rattle.list_audit.specs.Blocks.{AreListBlocks}
 use Rattle.list_audit.specs.declared.listed.ListBlock.{ListBlock}
-use Rattle.tree_audit.specs.Around.{Adds, AreAll, AreAround, BeginsBlock, BeginsNode, HasBetween, IsLeadAmong, IsLeadOf, lead_number}
+use Rattle.tree_audit.specs.Around.{Adds, AreAll, AreAround, BeginsBlock, BeginsNode, IsLeadAmong, IsLeadOf, lead_number}
 use Rattle.tree_audit.specs.Nodes.{AreNodes, HasChild}
 use Rattle.tree_audit.specs.declared.around.Around.{Around}
 use Rattle.tree_audit.specs.declared.nodes.LevelNode.{LevelNode}
@@ -184,40 +182,3 @@ are_around {g} {image} {nodes} {blocks} around tree lists starts of_blocks leads
       (λ x h. let a = tree.all h.0 h.1 h.2 in
       record { index = a.index; first = slice_get_within nodes a.index _ a.there; one = record { level = h.0; node = h.1 }; there = a.there; lead = h.3 });
 }
-
--- a number between the two stands at one of these places
-pub record IsOnlyThere (numbers : List ℕ) (low high from to : ℕ) : Type 0 where
-  pub inside : to ≤ length numbers
-  pub only : (k : ℕ) → k < length numbers → low ≤ slice_index numbers k → slice_index numbers k < high → (from ≤ k) × (k < to)
-
-module _ {numbers : List ℕ} {low high from to middle : ℕ} (rising : IsStrictlyIncreasing numbers) (there : IsOnlyThere numbers low high from to)
-    (less : middle < to) where
-  rises : (a b : ℕ) → a < b → b < length numbers → slice_index numbers a < slice_index numbers b
-  rises a b h inside = AllPairs-from_increasing numbers rising a b 0 h inside
-
-  pub keep_upper : slice_index numbers middle < low → IsOnlyThere numbers low high (middle + 1) to
-  keep_upper small = record {
-    inside = there.inside;
-    only = λ k inside a b. ⊎_elim
-        (λ same. absurd (omega (arith, small, ap (slice_index numbers) same, a)))
-        (λ differ. ⊎_elim
-        (λ before. absurd (let e = rises k middle before (omega (arith, less, there.inside)) in omega (arith, small, e, a)))
-        (λ behind. (omega (arith, behind), (there.only k inside a b).1))
-        differ)
-        (cases_order k middle);
-  }
-
-  pub keep_lower : high ≤ slice_index numbers middle → IsOnlyThere numbers low high from middle
-  keep_lower great = record {
-    inside = omega (arith, less, there.inside);
-    only = λ k inside a b. ⊎_elim
-        (λ same. absurd (omega (arith, great, ap (slice_index numbers) same, b)))
-        (λ differ. ⊎_elim
-        (λ before. ((there.only k inside a b).0, before))
-        (λ behind. absurd (let e = rises middle k behind inside in omega (arith, great, e, b)))
-        differ)
-        (cases_order k middle);
-  }
-
-pub none_there : {numbers : List ℕ} {low high from to : ℕ} → IsOnlyThere numbers low high from to → to ≤ from → HasBetween numbers low high → ⊥
-none_there there closed h = let w = there.only h.index h.inside h.from h.below in omega (arith, w.0, w.1, closed)

@@ -21,9 +21,9 @@ one_on_level {g} {image} {digest} {v} {a} {b} (under _ _ w above next rest low c
     let same : above' ≡ above = sym (one_on_level rest (subst (λ (u : ℕ). IsOnPath g image digest u above') level rest')) in
     let cell : above' + 16 + nibble digest w' ≡ above + 16 + nibble digest w =
     ap (λ (u : ℕ). above' + 16 + nibble digest u) level ∙ ap (λ (m : ℕ). m + 16 + nibble digest w) same in
-    let one : HasChild g image (above + 16 + nibble digest w) a = record { child = child; from = from; to = to } in
+    let one : HasChild g image (above + 16 + nibble digest w) a = record { held = child; from = from; to = to } in
     let other : HasChild g image (above + 16 + nibble digest w) b =
-    record { child = subst (λ (c : ℕ). Holds image c (Child b)) cell child'; from = from'; to = to' } in
+    record { held = subst (λ (c : ℕ). Holds image c (Child b)) cell child'; from = from'; to = to' } in
     one_target one other
 
 -- and goes on from a node of it where it has one further down
@@ -36,7 +36,7 @@ goes_on {g} {image} {digest} {v} {at} here (under w node u above next rest low c
     let one : above ≡ at = one_on_level (subst (λ (k : ℕ). IsOnPath g image digest k above) (sym same) rest) here in
     let cell : above + 16 + nibble digest u ≡ at + 16 + nibble digest v =
     ap (λ (m : ℕ). m + 16 + nibble digest u) one ∙ ap (λ (k : ℕ). at + 16 + nibble digest k) (sym same) in
-    (node, record { child = subst (λ (c : ℕ). Holds image c (Child node)) cell child; from = from; to = to }))
+    (node, record { held = subst (λ (c : ℕ). Holds image c (Child node)) cell child; from = from; to = to }))
     (below_or_at v u (omega (arith, less, next)))
 
 -- a path has 64 levels at most
@@ -73,7 +73,7 @@ pub one_step : {g : Layout} {image : Image} {digest : List ℕ} {node x level at
     → (at ≡ node → x ≡ nibble digest level → ⊥) → HasChild g image (at + 16 + nibble digest level) target
     → IsFollowed g image digest node x (level + 1) target
 one_step {g} {image} {digest} {node} {x} {level} {at} {target} f low differ leads = record {
-  on_path = λ less. under (level + 1) target level at refl (f.on_path low) (omega (arith, less)) leads.child leads.from leads.to;
+  on_path = λ less. under (level + 1) target level at refl (f.on_path low) (omega (arith, less)) leads.held leads.from leads.to;
   inside = leads.to;
   missed = not_here f low differ;
 }

@@ -1,28 +1,33 @@
 -- Documents that are read of kept cells.
-use Rattle.std.proofs.Common.{rules, ◌≡◌, inr, ℕ, List, length, Ok, Err, refl, sym, subst, arith}
+use Rattle.std.proofs.Common.{rules, ◌≡◌, ◌++◌, ◌∷◌, ℕ, List, length, take, drop, Ok, Err, refl, sym, ◌∙◌, subst, ap, arith}
 use Rattle.std.specs.Prelude.{IsTrue, true}
+use Rattle.std.proofs.Math.Seq.{take-append_seam}
 use Rattle.cell_types.specs.Image.{Image}
-use Rattle.cell_types.specs.Layout.{Layout}
-use Rattle.stored_documents.specs.Documents.{Spells, Stands, document_at, stored_bytes}
+use Rattle.cell_types.specs.Layout.{Layout, outcome_at}
+use Rattle.stored_documents.specs.Documents.{IsBody, IsIdentifier, Spells, Stands, document_at, stored_bytes}
 use Rattle.stored_documents.specs.Slots.{IsDone}
 use Rattle.stored_documents.specs.Volumes.{IsVolume}
-use Rattle.worm_device.specs.Views.{Viewed}
+use Rattle.worm_device.specs.Views.{Viewed, ViewState}
 use Rattle.worm_device.proofs.Resting.{rests_of}
-use Rattle.tamper_rules.specs.Rules.{HasDocument}
+use Rattle.tamper_rules.specs.Rules.{Documents, HasDocument}
 use Rattle.tamper_rules.proofs.Images.{same_image}
+use Rattle.append_file.specs.Reading.{HasRead}
+use Rattle.append_file.specs.declared.position.Position.{Position}
+use Rattle.append_file.proofs.Spelled.{front_of}
 use Rattle.append_file.specs.declared.piece.ContentFault.{ContentFault}
 use Rattle.append_file.specs.declared.piece.ContentFault.TheVariants as faults
-use Rattle.document_store.specs.Heads.{DocumentEnds, id_of}
-use Rattle.document_store.specs.Standing.{HoldsDocument}
+use Rattle.document_store.specs.Heads.{HeadEnds, id_of}
 use Rattle.document_store.specs.declared.head.Head.{Head}
-use Rattle.document_store.proofs.Holding.{stands_held}
+use Rattle.document_store.proofs.Parsing.{first_is, stored_fits}
 use Rattle.kept_cells.specs.Kept.{image_of, view_of}
 use Rattle.kept_cells.specs.declared.kept.KeptCells.{KeptCells}
+use Rattle.log_audit.specs.Findings.{IsMetAll}
 use Rattle.log_audit.specs.Logs.{IsLog}
 use Rattle.log_audit.specs.Stored.{IsStored}
 use Rattle.log_audit.specs.declared.log.Log.{Log}
 use Rattle.log_audit.specs.declared.stored.StoredSlot.{StoredSlot}
-use Rattle.log_audit.proofs.Storing.{one_row, stored_is_live}
+use Rattle.log_audit.proofs.Deciding.{held_written}
+use Rattle.log_audit.proofs.Storing.{stored_is_live, stores_it}
 use Rattle.tree_audit.specs.Documents.{HasHead}
 
 told : IsTrue true
@@ -32,55 +37,58 @@ told = search rules
 same_kept : (a b : KeptCells) → Viewed (view_of a) (view_of b) → image_of b ≡ image_of a
 same_kept a b viewed = same_image ((rests_of viewed).shown (record { same = refl; below = omega arith }))
 
+-- where rule 4 is kept, the cells of a stored slot spell a document
+document_in : {g : Layout} {image : Image} {s : StoredSlot} {start : ℕ} → start ≡ document_at s.start s.length s.bytes s.journal
+    → IsStored g image s → IsMetAll g image Documents → HasDocument image start s.bytes
+document_in {g} {image} {s} {start} same stored met = subst (λ (a : ℕ). HasDocument image a s.bytes) (sym same)
+    (met (outcome_at s.slot) (held_written stored.done.commits.outcome) s.slot stored.done.commits.reserves.slot refl
+    s.start s.length s.bytes s.journal (stores_it stored))
+
+-- the identifier that was read is that of the document that stands there
+identifier_is : (v : ViewState) (start bytes : ℕ) (p : Position) → IsTrue v.base.tells → (own : List ℕ) → HasRead v start bytes p (length own ∷ own)
+    → (id body : List ℕ) → bytes ≡ length (stored_bytes id body) → IsIdentifier id → IsBody body → Spells v.image start (stored_bytes id body) → own ≡ id
+identifier_is v start bytes p tells own read id body count is_id is_body spells =
+    let all : (length own ∷ own) ≡ take (length (length own ∷ own)) (stored_bytes id body) =
+    front_of v start bytes p (length own ∷ own) read tells (stored_bytes id body) count (stored_fits id body is_id is_body) spells in
+    let first : length own ≡ length id =
+    first_is v start bytes p tells (length own) own read (record { id = id; body = body; count = count; spells = spells; is_identifier = is_id; is_body = is_body }) in
+    ap (drop 1) all
+    ∙ ap (λ (n : ℕ). take n (id ++ body)) first
+    ∙ take-append_seam id body
+
 module _ (g : Layout) (log : Log) (s : StoredSlot) (start : ℕ) (a b : KeptCells) (stored : IsStored g (image_of a) s)
     (at : start ≡ document_at s.start s.length s.bytes s.journal) (viewed : Viewed (view_of a) (view_of b)) where
-  -- the document of a stored slot was read
-  pub read_head : IsVolume g.cells (image_of a) g → IsLog g (image_of a) log → (h : Head)
-      → DocumentEnds start s.bytes (view_of a) (view_of b) (Ok h) → HasHead g (image_of a) s.slot h
-  read_head volume is h ends =
+  -- what stands before the body of the document of a stored slot was read
+  pub head_was_read : IsVolume g.cells (image_of a) g → IsLog g (image_of a) log → IsMetAll g (image_of a) Documents → (p : Position) (h : Head)
+      → HeadEnds start s.bytes (view_of a) (view_of b) p (Ok h) → HasHead g (image_of a) s.slot h
+  head_was_read volume is met p h ends =
       let image = image_of a in
-      let body = ends.1.body in
-      let whole = ends.1.whole in
-      let stored_as = stored_bytes (id_of h) body in
-      let spells : Spells image start stored_as = subst (λ (i : Image). Spells i start stored_as) (same_kept a b viewed) (whole.told told).1 in
+      let d = document_in at stored met in
+      let shown : HasDocument (image_of b) start s.bytes = subst (λ (i : Image). HasDocument i start s.bytes) (sym (same_kept a b viewed)) d in
+      let same : id_of h ≡ d.id = identifier_is (view_of b) start s.bytes p told (id_of h) ends.1.read d.id d.body d.count d.is_identifier d.is_body
+      (subst (λ (i : Image). Spells i start (stored_bytes d.id d.body)) (sym (same_kept a b viewed)) d.spells) in
       record {
         live = stored_is_live g image log is s stored;
         room = ends.1.room;
-        body = body;
-        stands = record {
+        body = d.body;
+        stands = subst (λ (id : List ℕ). Stands g.cells image s.slot id d.body) (sym same) (record {
           layout = g;
           start = s.start;
           reserved = s.length;
           journal = s.journal;
           volume = volume;
           slot = stored.done.commits.reserves.slot;
-          done = subst (λ (n : ℕ). IsDone g image s.slot s.start s.length n s.journal) whole.count stored.done;
-          spells = subst (λ (n : ℕ). Spells image (document_at s.start s.length n s.journal) stored_as) whole.count
-              (subst (λ (from : ℕ). Spells image from stored_as) at spells);
-          is_identifier = whole.identifier;
-          is_body = (whole.told told).0;
-        };
+          done = subst (λ (n : ℕ). IsDone g image s.slot s.start s.length n s.journal) d.count stored.done;
+          spells = subst (λ (n : ℕ). Spells image (document_at s.start s.length n s.journal) (stored_bytes d.id d.body)) d.count
+              (subst (λ (from : ℕ). Spells image from (stored_bytes d.id d.body)) at d.spells);
+          is_identifier = d.is_identifier;
+          is_body = d.is_body;
+        });
       }
 
-  -- none was: the slot does not stand
-  pub read_none : IsVolume g.cells (image_of a) g → (fault : ContentFault) → DocumentEnds start s.bytes (view_of a) (view_of b) (Err fault)
-      → (id body : List ℕ) → Stands g.cells (image_of a) s.slot id body → ⊥
-  read_none volume faults.ReadFault ends id body stands = omega (arith, ends)
-  read_none volume faults.Broken ends id body stands =
-      ends.1 told (subst (λ (i : Image). HasDocument i start s.bytes) (sym (same_kept a b viewed))
-      (has_document (stands_held g g.cells (image_of a) s.slot id body volume stands)))
-    where
-      has_document : {id body : List ℕ} → HoldsDocument g (image_of a) s.slot id body → HasDocument (image_of a) start s.bytes
-      has_document {id} {body} h =
-          let bytes = length (stored_bytes id body) in
-          let row = one_row stored refl (record { commits = h.done.commits; done = inr h.done.done }) in
-          let e = row.0 in let f = row.1 in let k = row.2 in let l = row.3 in
-          let place : document_at h.start h.reserved bytes h.journal ≡ start = cc in
-          record {
-            id = id;
-            body = body;
-            count = sym k;
-            spells = subst (λ (from : ℕ). Spells (image_of a) from (stored_bytes id body)) place h.spells;
-            is_identifier = h.is_identifier;
-            is_body = h.is_body;
-          }
+  -- and it always is
+  pub head_is_read : IsMetAll g (image_of a) Documents → (p : Position) (fault : ContentFault)
+      → HeadEnds start s.bytes (view_of a) (view_of b) p (Err fault) → ⊥
+  head_is_read met p faults.ReadFault ends = omega (arith, ends)
+  head_is_read met p faults.Broken ends =
+      ends.1 told (subst (λ (i : Image). HasDocument i start s.bytes) (sym (same_kept a b viewed)) (document_in at stored met))

@@ -80,7 +80,7 @@ module _ {g : Layout} {image : Image} {id : List ℕ} {n level node : ℕ} (reac
       -- no child cell leads on
       pub no_child : ((target : ℕ) → HasChild g image (node + 16 + nibble (sha256 id) level) target → ⊥) → HasTrail g image id n → ⊥
       no_child none trail = let h = (goes_below trail).1 in
-          none h.0 (record { child = h.1.child; from = h.1.inside_from; to = h.1.inside_to })
+          none h.0 (record { held = h.1.child; from = h.1.inside_from; to = h.1.inside_to })
 
       -- one level further down
       pub onward : IsOther g image id b → (target : ℕ) → HasChild g image (node + 16 + nibble (sha256 id) level) target
@@ -89,10 +89,10 @@ module _ {g : Layout} {image : Image} {id : List ℕ} {n level node : ℕ} (reac
         on = λ less. (
           λ rest. (reached.on low).0 (below node level target
               (record { slot = b.slot; fingerprint = b.fingerprint; bucket = held; other = passes })
-              (record { levels = omega (arith, less); child = leads.child; inside_from = leads.from; inside_to = leads.to }) rest),
+              (record { levels = omega (arith, less); child = leads.held; inside_from = leads.from; inside_to = leads.to }) rest),
           λ trail. let h = (goes_below trail).1 in
               let taken : HasChild g image (node + 16 + nibble (sha256 id) level) h.0 =
-              record { child = h.1.child; from = h.1.inside_from; to = h.1.inside_to } in
+              record { held = h.1.child; from = h.1.inside_from; to = h.1.inside_to } in
               subst (λ (t : ℕ). HashTrail image (sought_in g.cells g id) n t (level + 1)) (one_target taken leads) h.2,
         );
         over = λ past trail. omega (arith, past, (goes_below trail).1.1.levels);

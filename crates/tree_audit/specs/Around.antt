@@ -1,5 +1,5 @@
 -- Where nodes and blocks begin, and which child cells lead to which nodes, as rising numbers.
-use Rattle.std.specs.Prelude.{◌≡◌, ◌<◌, ◌≤◌, ◌+◌, ◌*◌, ◌↔◌, ◌⊎◌, ℕ, List, length, slice_get, slice_index, Some, Contains}
+use Rattle.std.specs.Prelude.{◌≡◌, ◌<◌, ◌≤◌, ◌+◌, ◌*◌, ◌↔◌, ◌⊎◌, ℕ, List, slice_get, Some, Contains}
 use Rattle.std.specs.List.Sorted.{IsStrictlyIncreasing}
 use Rattle.cell_types.specs.Image.{Image}
 use Rattle.cell_types.specs.Layout.{Layout}
@@ -9,13 +9,6 @@ use Rattle.tree_audit.specs.Nodes.{HasChild}
 use Rattle.tree_audit.specs.declared.around.Around.{Around}
 use Rattle.tree_audit.specs.declared.around.TheConstants.{TARGET_STEP}
 use Rattle.tree_audit.specs.declared.nodes.LevelNode.{LevelNode}
-
--- one of the numbers lies from low on and below high
-pub record HasBetween (numbers : List ℕ) (low high : ℕ) : Type 0 where
-  pub index : ℕ
-  pub inside : index < length numbers
-  pub from : low ≤ slice_index numbers index
-  pub below : slice_index numbers index < high
 
 -- new has what old has, and the numbers of which this holds
 pub record Adds (P : ℕ → Type 0) (old new : List ℕ) : Type 0 where

@@ -6,18 +6,12 @@ use Rattle.cell_types.specs.Layout.{Layout, pool_at}
 use Rattle.cell_types.specs.declared.record_cell.RecordCell.TheVariants.{Child}
 use Rattle.index_paths.specs.Nodes.{IsNode}
 use Rattle.stored_documents.specs.Volumes.{Holds}
+use Rattle.log_audit.specs.Leads.{LeadsInto}
 use Rattle.tree_audit.specs.declared.nodes.LevelNode.{LevelNode}
 
 -- the child cell there leads to a node whose cells lie in the pool
-pub record HasChild (g : Layout) (image : Image) (at target : ℕ) : Type 0 where
-  pub child : Holds image at (Child target)
-  pub from : pool_at g ≤ target
-  pub to : target + 32 ≤ g.cells
-
--- what a look at a child cell answers
-abbrev pub ChildEnds : Layout → Image → ℕ → Option ℕ → Type 0
-ChildEnds g image at None = (target : ℕ) → HasChild g image at target → ⊥
-ChildEnds g image at (Some target) = HasChild g image at target
+abbrev pub HasChild : Layout → Image → ℕ → ℕ → Type 0
+HasChild g image at target = LeadsInto g image (λ (t : ℕ). Child t) 32 at target
 
 -- a child cell of the node leads there, one of those before this place
 pub record IsTarget (g : Layout) (image : Image) (node below target : ℕ) : Type 0 where

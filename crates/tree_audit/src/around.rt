@@ -1,6 +1,5 @@
 //! What stands around a node: other nodes, blocks, and the child cells that lead to it.
-ghost use Rattle.std.specs.Prelude.{◌≡◌, ◌<◌, ◌+◌, ◌^◌, ℕ, [], length, IfOk, OnOk, Contains};
-ghost use Rattle.std.specs.List.Sorted.{IsStrictlyIncreasing};
+ghost use Rattle.std.specs.Prelude.{◌≡◌, ◌<◌, ◌+◌, ◌^◌, ℕ, [], length, IfOk, OnOk};
 ghost use Rattle.kept_cells.specs.Kept.{image_of};
 ghost use Rattle.list_audit.specs.Blocks.{AreListBlocks};
 ghost use Rattle.tree_audit.specs.Around.{Adds, AreAll, AreAround, BeginsBlock, BeginsNode, IsLeadAmong, IsLeadOf};
@@ -12,6 +11,7 @@ use cell_types::{Geometry, NoMemory};
 use index_paths::{NODE_BUCKETS, NODE_CELLS};
 use kept_cells::KeptCells;
 use list_audit::ListBlock;
+use log_audit::sort_once;
 use std::alloc::Global;
 
 /// How far the numbers of the child cells that lead to one node lie from those that lead to the next cell.
@@ -115,14 +115,4 @@ fn push_leads(
         };
     }
     Ok(())
-}
-
-/// Sorts the numbers, and keeps each of them once.
-fn sort_once(numbers: &mut Vec<u64>)
-    ensures rises { IsStrictlyIncreasing numbers.new.items }
-    ensures keeps { (x : ℕ) → Contains numbers.old.items x → Contains numbers.new.items x }
-    ensures adds_none { (x : ℕ) → Contains numbers.new.items x → Contains numbers.old.items x }
-{
-    numbers.sort_unstable();
-    numbers.dedup();
 }

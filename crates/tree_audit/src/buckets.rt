@@ -3,9 +3,9 @@ ghost use Rattle.std.specs.Prelude.{◌≡◌, ◌<◌, ◌≤◌, ◌+◌, ◌^
 ghost use Rattle.index_paths.specs.HashPaths.{fingerprint_of};
 ghost use Rattle.index_paths.specs.Nodes.{IsNode};
 ghost use Rattle.stored_documents.specs.Volumes.{IsVolume};
-ghost use Rattle.tamper_rules.specs.Rules.{Buckets, IsTrueBucket};
+ghost use Rattle.tamper_rules.specs.Rules.{Buckets, Documents, IsTrueBucket};
 ghost use Rattle.kept_cells.specs.Kept.{image_of, count_of};
-ghost use Rattle.log_audit.specs.Findings.{Finds};
+ghost use Rattle.log_audit.specs.Findings.{Finds, IsMetAll};
 ghost use Rattle.log_audit.specs.Least.{FindsPart};
 ghost use Rattle.log_audit.specs.Logs.{IsLog};
 ghost use Rattle.tree_audit.specs.Buckets.{AsksBucket};
@@ -21,7 +21,7 @@ use kept_cells::KeptCells;
 use log_audit::{Log, lower_of};
 use tamper_rules::FAKE_BUCKET;
 
-/// The least bucket at which rule 11 is broken, among those of all nodes.
+/// The least bucket at which rule 11 is broken, among those of all nodes, where rule 4 is kept.
 pub fn first_broken_bucket(
     kept: &KeptCells,
     geometry: &Geometry,
@@ -31,6 +31,7 @@ pub fn first_broken_bucket(
     requires volume { IsVolume geometry.now.cells (image_of kept.now) geometry.now }
     requires count { count_of kept.now ≡ geometry.now.cells }
     requires log { IsLog geometry.now (image_of kept.now) log.now }
+    requires documents { IsMetAll geometry.now (image_of kept.now) Documents }
     requires nodes { AreNodes geometry.now (image_of kept.now) nodes.now }
     ensures { Finds geometry.now (image_of kept.now) Buckets result }
 {
@@ -53,6 +54,7 @@ fn broken_in_node(
     requires volume { IsVolume geometry.now.cells (image_of kept.now) geometry.now }
     requires count { count_of kept.now ≡ geometry.now.cells }
     requires log { IsLog geometry.now (image_of kept.now) log.now }
+    requires documents { IsMetAll geometry.now (image_of kept.now) Documents }
     requires node { IsNode geometry.now (image_of kept.now) place.now.level place.now.node }
     ensures { FindsPart geometry.now (image_of kept.now) Buckets
         (AsksBucket geometry.now (image_of kept.now) place.now.node) result }
@@ -81,6 +83,7 @@ fn is_true_bucket(kept: &KeptCells, geometry: &Geometry, log: &Log, node: u32, x
     requires volume { IsVolume geometry.now.cells (image_of kept.now) geometry.now }
     requires count { count_of kept.now ≡ geometry.now.cells }
     requires log { IsLog geometry.now (image_of kept.now) log.now }
+    requires documents { IsMetAll geometry.now (image_of kept.now) Documents }
     requires inside { node + x < 2 ^ 32 }
     ensures { IsTrue result ↔ IsTrueBucket geometry.now (image_of kept.now) node x }
 {

@@ -2,30 +2,31 @@
 ghost use Rattle.std.specs.Prelude.{◌≡◌, ◌<◌, ◌≤◌, ◌+◌, ◌^◌, ◌↔◌, Some, IsTrue, IfOk};
 ghost use Rattle.cell_types.specs.Layout.{pool_at};
 ghost use Rattle.index_paths.specs.Nodes.{IsNode};
-ghost use Rattle.tamper_rules.specs.Rules.{Children, LeadsDownWell, ReserveCells};
+ghost use Rattle.tamper_rules.specs.Rules.{Children, Journals, LeadsDownWell, ReserveCells};
 ghost use Rattle.kept_cells.specs.Kept.{image_of};
 ghost use Rattle.log_audit.specs.Findings.{Finds, IsMetAll};
 ghost use Rattle.log_audit.specs.Least.{FindsPart};
 ghost use Rattle.log_audit.specs.Logs.{IsLog};
-ghost use Rattle.log_audit.specs.Stored.{HasCells};
+ghost use Rattle.log_audit.specs.Stored.{IsStored};
+ghost use Rattle.journal_audit.specs.Copying.{HasTarget};
 ghost use Rattle.list_audit.specs.Blocks.{AreListBlocks};
 ghost use Rattle.tree_audit.specs.Around.{AreAround};
 ghost use Rattle.tree_audit.specs.Children.{AsksChild, HasCopyOf, IsClear, IsJournaled, IsWellLed};
 ghost use Rattle.tree_audit.specs.Nodes.{AreNodes, HasChild};
 
 use crate::around::{Around, TARGET_STEP, around_of};
-use crate::between::has_between;
 use crate::looks::child_at;
 use crate::nodes::{LAST_LEVEL, LevelNode};
 use cell_types::{Cell, Evidence, Geometry, NoMemory};
 use index_paths::{BLOCK_CELLS, NODE_BUCKETS, NODE_CELLS};
+use journal_audit::journal_place_of;
 use kept_cells::KeptCells;
 use list_audit::ListBlock;
-use log_audit::{Log, StoredSlot, lower_of, owner_of, stored_slot};
+use log_audit::{Log, StoredSlot, has_between, lower_of, owner_of, stored_slot};
 use std::alloc::Global;
 use tamper_rules::LOST_CHILD;
 
-/// The least child cell at which rule 12 is broken, among those of all nodes.
+/// The least child cell at which rule 12 is broken, among those of all nodes, where rules 1 and 5 are kept.
 pub fn first_broken_child(
     alloc: Global,
     kept: &KeptCells,
@@ -36,6 +37,7 @@ pub fn first_broken_child(
 ) -> Result<Option<Evidence>, NoMemory>
     requires log { IsLog geometry.now (image_of kept.now) log.now }
     requires met { IsMetAll geometry.now (image_of kept.now) ReserveCells }
+    requires journals { IsMetAll geometry.now (image_of kept.now) Journals }
     requires nodes { AreNodes geometry.now (image_of kept.now) nodes.now }
     requires blocks { AreListBlocks geometry.now (image_of kept.now) blocks.now }
     ensures { IfOk result (λ found. Finds geometry.now (image_of kept.now) Children found) }
@@ -59,6 +61,7 @@ fn broken_under(
 ) -> Option<Evidence>
     requires log { IsLog geometry.now (image_of kept.now) log.now }
     requires met { IsMetAll geometry.now (image_of kept.now) ReserveCells }
+    requires journals { IsMetAll geometry.now (image_of kept.now) Journals }
     requires around { AreAround geometry.now (image_of kept.now) around.now }
     requires node { IsNode geometry.now (image_of kept.now) place.now.level place.now.node }
     ensures { FindsPart geometry.now (image_of kept.now) Children
@@ -93,6 +96,7 @@ fn leads_down_well(
 ) -> bool
     requires log { IsLog geometry.now (image_of kept.now) log.now }
     requires met { IsMetAll geometry.now (image_of kept.now) ReserveCells }
+    requires journals { IsMetAll geometry.now (image_of kept.now) Journals }
     requires around { AreAround geometry.now (image_of kept.now) around.now }
     requires inside { place.now.node + 16 + x < 2 ^ 31 }
     ensures { IsTrue result ↔ LeadsDownWell geometry.now (image_of kept.now) place.now.level place.now.node x }
@@ -122,6 +126,7 @@ fn is_well_led(
 ) -> bool
     requires log { IsLog geometry.now (image_of kept.now) log.now }
     requires met { IsMetAll geometry.now (image_of kept.now) ReserveCells }
+    requires journals { IsMetAll geometry.now (image_of kept.now) Journals }
     requires around { AreAround geometry.now (image_of kept.now) around.now }
     requires inside { cell < 2 ^ 31 }
     requires leads { HasChild geometry.now (image_of kept.now) cell target }
@@ -145,6 +150,7 @@ fn is_well_led(
 fn is_journaled(kept: &KeptCells, geometry: &Geometry, log: &Log, cell: u32, target: u32) -> bool
     requires log { IsLog geometry.now (image_of kept.now) log.now }
     requires met { IsMetAll geometry.now (image_of kept.now) ReserveCells }
+    requires journals { IsMetAll geometry.now (image_of kept.now) Journals }
     requires leads { HasChild geometry.now (image_of kept.now) cell target }
     ensures { IsTrue result ↔ IsJournaled geometry.now (image_of kept.now) cell target }
 {
@@ -157,22 +163,28 @@ fn is_journaled(kept: &KeptCells, geometry: &Geometry, log: &Log, cell: u32, tar
     let Some(own) = kept.at(cell) else {
         return false;
     };
-    has_copy(kept, &stored, cell, own)
+    has_copy(kept, geometry, &stored, cell, own)
 }
 
 /// Whether the slot's journal holds the same as this cell, in which that stands.
-fn has_copy(kept: &KeptCells, stored: &StoredSlot, cell: u32, own: Cell) -> bool
-    requires cells { HasCells stored.now }
+fn has_copy(
+    kept: &KeptCells,
+    geometry: &Geometry,
+    stored: &StoredSlot,
+    cell: u32,
+    own: Cell,
+) -> bool
+    requires stored { IsStored geometry.now (image_of kept.now) stored.now }
+    requires journals { IsMetAll geometry.now (image_of kept.now) Journals }
+    requires itself { HasTarget (image_of kept.now) cell cell }
     requires stands { image_of kept.now cell ≡ Some own }
     ensures { IsTrue result ↔ HasCopyOf (image_of kept.now) stored.now cell }
 {
-    let from = stored.journal_at();
-    for place in 0..stored.journal {
-        if holds(kept, from + place, own) {
-            return true;
-        }
-    }
-    false
+    // A copy names the cell as its target, and of a journal's targets no two are one.
+    let Some(place) = journal_place_of(kept, geometry, stored, cell) else {
+        return false;
+    };
+    holds(kept, stored.journal_at() + place, own)
 }
 
 /// Whether this stands in the cell.

@@ -4,21 +4,24 @@ ghost use Rattle.stored_documents.specs.Documents.{Stands};
 ghost use Rattle.stored_documents.specs.Volumes.{IsVolume};
 ghost use Rattle.stored_documents.specs.declared.limits.TheConstants.{MAX_IDENTIFIER_BYTES};
 ghost use Rattle.document_store.specs.Heads.{id_of};
+ghost use Rattle.tamper_rules.specs.Rules.{Documents};
 ghost use Rattle.kept_cells.specs.Kept.{image_of, count_of};
+ghost use Rattle.log_audit.specs.Findings.{IsMetAll};
 ghost use Rattle.log_audit.specs.Logs.{IsLog};
 ghost use Rattle.tree_audit.specs.Documents.{HasDigest, HasHead};
 
 use cell_types::Geometry;
-use document_store::{Head, read_document};
+use document_store::{Head, Position, read_head};
 use kept_cells::{KeptCells, Shown};
 use log_audit::{Log, stored_slot};
 use sha2::{Digest, Sha256};
 
-/// What stands before the body of the document of a slot, if the slot is done and its cells spell a document.
+/// What stands before the body of the document of a slot, if the slot is done, where rule 4 is kept.
 pub(crate) fn head_of(kept: &KeptCells, geometry: &Geometry, log: &Log, slot: u32) -> Option<Head>
     requires volume { IsVolume geometry.now.cells (image_of kept.now) geometry.now }
     requires count { count_of kept.now ≡ geometry.now.cells }
     requires log { IsLog geometry.now (image_of kept.now) log.now }
+    requires documents { IsMetAll geometry.now (image_of kept.now) Documents }
     ensures some { IfSome result (λ head. HasHead geometry.now (image_of kept.now) slot head) }
     ensures none { IfNone result ((id body : List ℕ) → Stands geometry.now.cells (image_of kept.now) slot id body → ⊥) }
 {
@@ -26,13 +29,17 @@ pub(crate) fn head_of(kept: &KeptCells, geometry: &Geometry, log: &Log, slot: u3
         return None;
     };
     let mut shown = Shown::new(kept);
-    let Ok(head) = read_document(&mut shown, stored.document_at(), stored.bytes) else {
-        return None;
+    let start = stored.document_at();
+    let mut position = Position::new(start, stored.bytes);
+    // Its cells are known to spell a document. So what stands before the body is enough, 14 cells at most: who asks for
+    // one document again and again has not its whole body read each time.
+    let Ok(head) = read_head(&mut shown, start, stored.bytes, &mut position) else {
+        unreachable!();
     };
     Some(head)
 }
 
-/// The SHA-256 of the identifier of the document of a slot, if the slot is done and its cells spell a document.
+/// The SHA-256 of the identifier of the document of a slot, if the slot is done, where rule 4 is kept.
 pub(crate) fn digest_of(
     kept: &KeptCells,
     geometry: &Geometry,
@@ -42,6 +49,7 @@ pub(crate) fn digest_of(
     requires volume { IsVolume geometry.now.cells (image_of kept.now) geometry.now }
     requires count { count_of kept.now ≡ geometry.now.cells }
     requires log { IsLog geometry.now (image_of kept.now) log.now }
+    requires documents { IsMetAll geometry.now (image_of kept.now) Documents }
     ensures some { IfSome result (λ digest. HasDigest geometry.now (image_of kept.now) slot digest) }
     ensures none { IfNone result ((id body : List ℕ) → Stands geometry.now.cells (image_of kept.now) slot id body → ⊥) }
 {

@@ -24,22 +24,21 @@
 //! node is found by bisection, among the rising numbers of where nodes and blocks begin.
 //!
 //! A document stands on the volume that cell 0 states. So who asks about documents shows first that cell 0 states this
-//! volume, as by `states_volume`. Of the other rules rule 12 alone needs one: that rule 1 is kept.
+//! volume, as by `states_volume`. Rules 11 and 14 need that rule 4 is kept: then an identifier is known by the first cells
+//! of its document, and a bucket costs no reading of a body. Rule 12 needs rules 1 and 5: the targets of a journal rise,
+//! so that the copy of a child cell is found by bisection.
 //!
-//! Stands on `log_audit` and `list_audit`, on `document_store` for identifiers, on `hash_tree` for half bytes, and on
+//! Stands on `log_audit`, `journal_audit` and `list_audit`, on `document_store` for identifiers, on `hash_tree` for half bytes, and on
 //! `sha2`. Begin with `nodes.rt`, then `buckets.rt`.
 #![tactic(auto)]
 
 mod around;
-mod between;
 mod buckets;
 mod children;
 mod documents;
 mod looks;
 mod nodes;
 mod paths;
-#[cfg(test)]
-mod tests;
 mod trails;
 mod volume;
 

@@ -1,12 +1,13 @@
 //! Looks at cells of nodes.
+ghost use Rattle.cell_types.specs.declared.record_cell.RecordCell.TheVariants.{Child};
 ghost use Rattle.kept_cells.specs.Kept.{image_of};
+ghost use Rattle.log_audit.specs.Leads.{LeadEnds};
 ghost use Rattle.tree_audit.specs.Buckets.{BucketEnds};
-ghost use Rattle.tree_audit.specs.Nodes.{ChildEnds};
 
 use cell_types::{Geometry, RecordCell};
 use index_paths::NODE_CELLS;
 use kept_cells::KeptCells;
-use log_audit::record_at;
+use log_audit::{lies_in_pool, record_at};
 
 /// What a bucket says: the slot of a document, and the first bytes of its identifier's digest.
 #[derive(Clone, Copy, Debug, PartialEq, Eq)]
@@ -30,7 +31,7 @@ pub(crate) fn bucket_at(kept: &KeptCells, at: u32) -> Option<HeldBucket>
 
 /// The node to which the child cell there leads, if there is one whose cells lie in the pool.
 pub(crate) fn child_at(kept: &KeptCells, geometry: &Geometry, at: u32) -> Option<u32>
-    ensures { ChildEnds geometry.now (image_of kept.now) at result }
+    ensures { LeadEnds geometry.now (image_of kept.now) (λ t. Child t) 32 at result }
 {
     let Some(held) = record_at(kept, at) else {
         return None;
@@ -38,8 +39,7 @@ pub(crate) fn child_at(kept: &KeptCells, geometry: &Geometry, at: u32) -> Option
     let RecordCell::Child { target } = held else {
         return None;
     };
-    let cells = geometry.cells();
-    if target < geometry.pool_at() || cells < target || cells - target < NODE_CELLS {
+    if !lies_in_pool(geometry, target, NODE_CELLS) {
         return None;
     }
     Some(target)

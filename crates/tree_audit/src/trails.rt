@@ -3,10 +3,10 @@ ghost use Rattle.std.specs.Prelude.{◌≡◌, ◌≤◌, ◌↔◌, IsTrue};
 ghost use Rattle.sha2.specs.Sha256.{sha256};
 ghost use Rattle.stored_documents.specs.Volumes.{IsVolume};
 ghost use Rattle.stored_documents.specs.declared.limits.TheConstants.{MAX_IDENTIFIER_BYTES};
-ghost use Rattle.tamper_rules.specs.Rules.{Paths};
+ghost use Rattle.tamper_rules.specs.Rules.{Documents, Paths};
 ghost use Rattle.document_store.specs.Heads.{id_of};
 ghost use Rattle.kept_cells.specs.Kept.{image_of, count_of};
-ghost use Rattle.log_audit.specs.Findings.{Finds};
+ghost use Rattle.log_audit.specs.Findings.{Finds, IsMetAll};
 ghost use Rattle.log_audit.specs.Logs.{IsLog};
 ghost use Rattle.tree_audit.specs.Paths.{HasTrail, IsOther, IsOwn};
 
@@ -23,12 +23,13 @@ use log_audit::Log;
 use sha2::{Digest, Sha256};
 use tamper_rules::MISSING_PATH;
 
-/// The first done cell at which rule 14 is broken. Only hash trails are looked for: of two documents with one
+/// The first done cell at which rule 14 is broken, where rule 4 is kept. Only hash trails are looked for: of two documents with one
 /// identifier one alone has such a trail.
 pub fn first_broken_path(kept: &KeptCells, geometry: &Geometry, log: &Log) -> Option<Evidence>
     requires volume { IsVolume geometry.now.cells (image_of kept.now) geometry.now }
     requires count { count_of kept.now ≡ geometry.now.cells }
     requires log { IsLog geometry.now (image_of kept.now) log.now }
+    requires documents { IsMetAll geometry.now (image_of kept.now) Documents }
     ensures { Finds geometry.now (image_of kept.now) Paths result }
 {
     for slot in 0..geometry.slots() {
@@ -56,6 +57,7 @@ fn has_hash_trail(kept: &KeptCells, geometry: &Geometry, log: &Log, slot: u32, h
     requires volume { IsVolume geometry.now.cells (image_of kept.now) geometry.now }
     requires count { count_of kept.now ≡ geometry.now.cells }
     requires log { IsLog geometry.now (image_of kept.now) log.now }
+    requires documents { IsMetAll geometry.now (image_of kept.now) Documents }
     requires room { head.now.id_length ≤ MAX_IDENTIFIER_BYTES }
     ensures { IsTrue result ↔ HasTrail geometry.now (image_of kept.now) (id_of head.now) slot }
 {
@@ -103,6 +105,7 @@ fn is_passed(
     requires volume { IsVolume geometry.now.cells (image_of kept.now) geometry.now }
     requires count { count_of kept.now ≡ geometry.now.cells }
     requires log { IsLog geometry.now (image_of kept.now) log.now }
+    requires documents { IsMetAll geometry.now (image_of kept.now) Documents }
     requires room { head.now.id_length ≤ MAX_IDENTIFIER_BYTES }
     requires digest { digest.now ≡ sha256 (id_of head.now) }
     ensures { IsTrue result ↔ IsOther geometry.now (image_of kept.now) (id_of head.now) bucket.now }

@@ -19,8 +19,10 @@
 //! Of the volume of 8 slots and 2 lists on 1,000 cells that holds the document `a` it answers 1 done, 0 abandoned and 11
 //! written; where somebody else has written an abandon cell into cell 9, rule 2 is broken there, and this is named.
 //!
-//! It takes 20 bytes of memory a written cell, 4 a page of 256 cells, 20 a slot, and for each posting of a document some
-//! 40 in an ordered set while rule 9 is checked.
+//! It takes 20 bytes of memory a written cell, 4 a page of 256 cells and 20 a slot all along, and besides 16 a posting
+//! while rule 9 is checked, with what the words of one document take. A posting is two written cells, its own and its
+//! copy in a journal, and a slot is four at least where its document stands: so these are 28 bytes a written cell where
+//! postings are many, and 29 where documents of one bucket are. Room is taken at once where it is known.
 //!
 //! Stands on the crates that check the rules, and on `recovery_engine`, which settles. Begin with `auditing.rt`, then
 //! `judging.rt`; `specs/Audits.antt` says what an audit answers, and why.
@@ -30,8 +32,6 @@ mod auditing;
 mod checks;
 mod judging;
 mod report;
-#[cfg(test)]
-mod tests;
 
 pub use auditing::audit;
 pub use report::AuditReport;

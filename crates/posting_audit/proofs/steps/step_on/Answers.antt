@@ -16,12 +16,12 @@ span-keys-requires c =
     c.in-Some.greatest c.requires.block c.requires.full c.in-Some.ensures.some in
     omega (arith, f.1, c.key.ensures, c.key-2.ensures)
 
-pub returns-in-Some-target_at : goal.returns-in-Some-target_at
-returns-in-Some-target_at c = leads_on_to c.args.geometry.now (image_of c.args.kept.now) c.args.listed.now.list c.args.listed.now.block
+pub returns-in-Some-pointer_target : goal.returns-in-Some-pointer_target
+returns-in-Some-pointer_target c = leads_on_to c.args.geometry.now (image_of c.args.kept.now) c.args.listed.now.list c.args.listed.now.block
     c.args.posting.now c.in-Some.greatest c.requires.block c.requires.full c.in-Some.ensures.some
     c.span-keys.result (subst (λ (l : ℕ). IsSpan l c.span-keys.result) c.key.ensures c.span-keys.ensures.is)
     (omega (arith, c.span-keys.ensures.low, c.key-2.ensures)) (omega (arith, c.span-keys.ensures.high, c.key-2.ensures))
-    _ (omega (arith, c.from.ensures, c.from-2.ensures)) c.in-Some-target_at.target c.in-Some-target_at.ensures c.requires.pointers
+    _ (omega (arith, c.from.ensures, c.from-2.ensures)) c.in-Some-pointer_target.target c.in-Some-pointer_target.ensures c.requires.pointers
 
 pub returns-in-None : goal.returns-in-None
 returns-in-None c = no_way c.args.geometry.now (image_of c.args.kept.now) c.args.listed.now.list c.args.listed.now.block

@@ -5,7 +5,7 @@ use Rattle.tree_audit.proofs.Leading.{leads_well, well_led}
 use Rattle.tree_audit.proofs.children.leads_down_well.Goals as goal
 
 pub returns-in_default : goal.returns-in_default
-returns-in_default c = no (λ w. c.in_default.ensures w.target (record { child = w.child; from = w.from; to = w.to }))
+returns-in_default c = no (λ w. c.in_default.ensures w.target (record { held = w.child; from = w.from; to = w.to }))
 
 pub returns : goal.returns
 returns c = (

@@ -1,12 +1,15 @@
 -- What was found.
 use Rattle.std.proofs.Common.{arith}
 use Rattle.kept_cells.specs.Kept.{image_of}
-use Rattle.tamper_rules.specs.Rules.{Children, ReserveCells}
+use Rattle.tamper_rules.specs.Rules.{Children, Journals, ReserveCells}
 use Rattle.volume_audit.proofs.Passing.{passes}
 use Rattle.volume_audit.proofs.checks.check_children.Goals as goal
 
 pub first_broken_child-requires-clause-met : goal.first_broken_child-requires-clause-met
 first_broken_child-requires-clause-met c = c.requires.met ReserveCells (omega arith)
+
+pub first_broken_child-requires-clause-journals : goal.first_broken_child-requires-clause-journals
+first_broken_child-requires-clause-journals c = c.requires.met Journals (omega arith)
 
 pub returns : goal.returns
 returns c = passes c.args.geometry.now (image_of c.args.kept.now) Children c.in_ok-first_broken_child.field-0 c.refuse.result c.requires.met

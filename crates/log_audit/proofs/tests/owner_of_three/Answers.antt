@@ -1,7 +1,0 @@
--- Rule 1 is kept, as each of the first three is.
-use Rattle.std.proofs.Common.{arith}
-use Rattle.tamper_rules.specs.Rules.{ReserveCells}
-use Rattle.log_audit.proofs.tests.owner_of_three.Goals as goal
-
-pub owner_of-requires-clause-met : goal.owner_of-requires-clause-met
-owner_of-requires-clause-met c = c.in-Ok.ensures.1 ReserveCells (omega arith)
