@@ -1,9 +1,9 @@
 //! Entries on a volume of 8 slots and 2 lists in memory: the root is at 548, the pool at 580.
 ghost use Rattle.std.specs.Prelude.{◌≡◌};
 
-use hash_insertion::insert;
 use cell_pool::Pool;
 use cell_types::{Cell, Evidence, FIRST_VERSION, Fault, Geometry, RecordCell, Volume, encode};
+use hash_insertion::insert;
 use hash_tree::{Level, Open, PathStep, next_candidate};
 use planned_cells::GrowthFault;
 use std::test::Fail;

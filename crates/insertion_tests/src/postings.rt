@@ -4,10 +4,10 @@ ghost use Rattle.cell_pool.specs.Grants.{room_of};
 ghost use Rattle.worm_device.specs.Overlays.{of_overlay};
 ghost use Rattle.worm_memory.specs.Device.{memory_of};
 
-use jump_insertion::{NewEntry, insert};
 use cell_pool::Pool;
 use cell_types::{Evidence, Fault, NoMemory, RecordCell, encode};
 use jump_block::Entry;
+use jump_insertion::{NewEntry, insert};
 use planned_cells::GrowthFault;
 use std::alloc::Global;
 use std::test::Fail;

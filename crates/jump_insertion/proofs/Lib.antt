@@ -14,7 +14,6 @@ pub mod Others
 mod Placing
 mod Planned
 mod Readying
-mod Rows
 mod Searching
 mod Showing
 mod Tailing

@@ -3,14 +3,14 @@ use Rattle.std.proofs.Common.{ℕ, sym, subst}
 use Rattle.worm_device.specs.Overlays.{of_overlay}
 use Rattle.jump_insertion.specs.Inserting.{fields_of}
 use Rattle.jump_insertion.specs.Readiness.{IsReady}
-use Rattle.jump_insertion.proofs.Rows.{row_begins, row_goes_on}
-use Rattle.jump_insertion.proofs.Showing.{is_view}
+use Rattle.insertion_tests.proofs.Rows.{row_begins, row_goes_on}
+use Rattle.worm_device.specs.Overlaying.{overlay_shows}
 use Rattle.insertion_tests.proofs.postings.insert_row.Goals as goal
 
 pub loop-done-init : goal.loop-done-init
 loop-done-init g c =
     row_begins (of_overlay g.V.View.seen c.args.overlay.now)
-    (is_view g.V.View.seen g.met.V.View.proper c.args.overlay.now)
+    (overlay_shows g.V.View.seen g.met.V.View.proper c.args.overlay.now)
     c.args.pool.now c.args.first c.args.count c.requires.fresh c.requires.next c.requires.room c.requires.nothing
 
 pub insert-requires-clause-ready : goal.insert-requires-clause-ready

@@ -1,7 +1,7 @@
 -- What is inserted next has a greater key than all that is planned.
 use Rattle.std.proofs.Common.{◌-◌}
 use Rattle.worm_device.specs.Overlays.{of_overlay}
-use Rattle.jump_insertion.proofs.Rows.{RowSoFar}
+use Rattle.insertion_tests.proofs.Rows.{RowSoFar}
 use Rattle.insertion_tests.proofs.postings.insert_row.Given as goal
 
 abbrev pub invariant-loop-done : goal.invariant-loop-done
