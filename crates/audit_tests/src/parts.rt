@@ -79,15 +79,23 @@ fn tiled_with(alloc: Global, jump: u32, child: u32) -> Result<Option<u32>, Fail>
     Ok(found.map(|evidence| evidence.cell))
 }
 
+/// A device of 5,000 cells in which each of the first ones holds this.
+fn device_filled_to(alloc: Global, end: u32, value: Cell) -> Result<MemoryDevice, Fail> {
+    let mut device = MemoryDevice::new(alloc, 5_000)?;
+    device.reserve(5_000)?;
+    for at in 0..end {
+        if at < device.cells() {
+            let _ = device.foreign(at, value)?;
+        }
+    }
+    Ok(device)
+}
+
 /// More written cells than a chunk holds, and a blank page behind them.
 #[test]
 fn each_written_cell_is_found_and_no_other(rt: HostRuntime) -> Result<(), Fail> {
-    let mut device = MemoryDevice::new(rt.alloc(), 5_000)?;
-    device.reserve(4_200)?;
     let value = Cell::from_bytes([9; 16]).ok_or("a blank cell")?;
-    for at in 0..4_200 {
-        let _ = device.foreign(at, value)?;
-    }
+    let mut device = device_filled_to(rt.alloc(), 4_200, value)?;
     let kept = keep_cells(rt.alloc(), &mut device)?;
     assert_eq!(rt; kept.count(), 5_000);
     assert_eq!(rt; kept.written(), 4_200);

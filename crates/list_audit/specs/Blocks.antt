@@ -1,12 +1,11 @@
 -- The blocks of all lists, found one after another.
-use Rattle.std.specs.Prelude.{◌≡◌, ◌<◌, ◌≤◌, ◌+◌, ◌^◌, ◌⊎◌, ℕ, List, slice_get, Option, Some, None, true}
+use Rattle.std.specs.Prelude.{◌≡◌, ◌<◌, ◌≤◌, ◌+◌, ◌^◌, ◌⊎◌, ℕ, List, slice_get, Some, true}
 use Rattle.std.specs.Ordering.{nat_cmp}
 use Rattle.std.specs.BTreeSet.{BTreeSet, contains}
 use Rattle.cell_types.specs.Image.{Image}
-use Rattle.cell_types.specs.Layout.{Layout, all_lists, list_at, pool_at}
+use Rattle.cell_types.specs.Layout.{Layout, all_lists, list_at}
 use Rattle.cell_types.specs.declared.record_cell.RecordCell.TheVariants.{Jump}
 use Rattle.index_paths.specs.Nodes.{IsBlockOf}
-use Rattle.stored_documents.specs.Volumes.{Holds}
 use Rattle.log_audit.specs.Leads.{LeadsInto}
 use Rattle.list_audit.specs.Numbers.{number_of}
 use Rattle.list_audit.specs.declared.listed.ListBlock.{ListBlock}

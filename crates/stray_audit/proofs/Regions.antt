@@ -1,17 +1,12 @@
 -- Which cells are of the index, and where the edge is, by the log.
-use Rattle.std.proofs.Common.{◌≡◌, ◌<◌, ◌≤◌, ◌+◌, ◌-◌, ◌/◌, ◌⊎◌, ⊎_elim, inr, ℕ, length, Option, Some, None, refl, sym, ◌∙◌, subst, arith}
-use Rattle.std.specs.Prelude.{slice_get}
-use Rattle.std.proofs.lemmas.Option.{none-some}
+use Rattle.std.proofs.Common.{◌≡◌, ◌<◌, ◌≤◌, ◌+◌, ◌-◌, ◌/◌, ◌⊎◌, ⊎_elim, inr, ℕ, arith}
 use Rattle.cell_types.specs.Image.{Image}
-use Rattle.cell_types.specs.Layout.{Layout, reserve_at, all_lists, lists_at, root_at, pool_at}
-use Rattle.stored_documents.specs.Slots.{Reserves, EndsBelow, IsEdge}
+use Rattle.cell_types.specs.Layout.{Layout, all_lists, lists_at, root_at, pool_at}
 use Rattle.tamper_rules.specs.Journals.{LiesInBlocks, IsNamed}
 use Rattle.tamper_rules.specs.Rules.{IsDoneIndexCell, of_list, of_root, of_slot}
 use Rattle.log_audit.specs.Logs.{IsLog}
-use Rattle.log_audit.specs.declared.ended.EndedSlot.{EndedSlot}
 use Rattle.log_audit.specs.declared.log.Log.{Log}
-use Rattle.log_audit.proofs.Beginning.{ended_cells, one_reservation}
-use Rattle.log_audit.proofs.Logged.{past_end, stores_of}
+use Rattle.log_audit.proofs.Logged.{stores_of}
 use Rattle.log_audit.proofs.Edges.{one_edge}
 use Rattle.stray_audit.specs.Strays.{IsExpected}
 

@@ -1,11 +1,10 @@
 -- The nodes of a volume's tree of identifiers, found level after level.
-use Rattle.std.specs.Prelude.{◌≡◌, ◌<◌, ◌≤◌, ◌+◌, ◌↔◌, ◌⊎◌, ℕ, List, length, slice_get, slice_index, Option, Some, None, Contains}
+use Rattle.std.specs.Prelude.{◌≡◌, ◌<◌, ◌≤◌, ◌+◌, ◌↔◌, ◌⊎◌, ℕ, List, length, slice_get, slice_index, Some, Contains}
 use Rattle.std.specs.List.Sorted.{IsStrictlyIncreasing}
 use Rattle.cell_types.specs.Image.{Image}
-use Rattle.cell_types.specs.Layout.{Layout, pool_at}
+use Rattle.cell_types.specs.Layout.{Layout}
 use Rattle.cell_types.specs.declared.record_cell.RecordCell.TheVariants.{Child}
 use Rattle.index_paths.specs.Nodes.{IsNode}
-use Rattle.stored_documents.specs.Volumes.{Holds}
 use Rattle.log_audit.specs.Leads.{LeadsInto}
 use Rattle.tree_audit.specs.declared.nodes.LevelNode.{LevelNode}
 

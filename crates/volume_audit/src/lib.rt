@@ -21,8 +21,8 @@
 //!
 //! It takes 20 bytes of memory a written cell, 4 a page of 256 cells and 20 a slot all along, and besides 16 a posting
 //! while rule 9 is checked, with what the words of one document take. A posting is two written cells, its own and its
-//! copy in a journal, and a slot is four at least where its document stands: so these are 28 bytes a written cell where
-//! postings are many, and 29 where documents of one bucket are. Room is taken at once where it is known.
+//! copy in a journal, and a slot is two at least, where it was given up: so these are 28 bytes a written cell where
+//! postings are many, and 30 where slots were given up. Room is taken at once where it is known.
 //!
 //! Stands on the crates that check the rules, and on `recovery_engine`, which settles. Begin with `auditing.rt`, then
 //! `judging.rt`; `specs/Audits.antt` says what an audit answers, and why.
