@@ -1,0 +1,10 @@
+//! Scripts.
+#![tactic(auto)]
+
+mod event;
+mod limits;
+
+pub use event::{Event, Schedule, Script, Timed};
+pub use limits::{
+    MAX_CALLED_FOR, MAX_EVENTS, MAX_FAILING, MAX_KEPT, MAX_MOMENT, MAX_SCRIPT_CELLS, MAX_WORDS,
+};

@@ -1,0 +1,6 @@
+//! Replies.
+#![tactic(auto)]
+
+mod reply;
+
+pub use reply::Reply;

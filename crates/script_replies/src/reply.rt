@@ -1,0 +1,32 @@
+//! What an event is answered.
+use cell_types::{Cell, Refusal};
+use document_store::Text;
+use record_query::Match;
+use recovery_engine::Step;
+use volume_audit::AuditReport;
+use worm_memory::Crash;
+
+/// The reply to an event.
+#[derive(Debug, Drop)]
+pub enum Reply {
+    /// The device is a volume now.
+    Formatted,
+    /// The document stands in this slot.
+    Acknowledged(u32),
+    /// These documents have the terms.
+    Found(Vec<Match>),
+    /// The document with the identifier stands in this slot, and this is its body.
+    Body { slot: u32, body: Text },
+    /// The volume breaks no rule.
+    Sound(AuditReport),
+    /// The volume is settled, by this step.
+    Settled(Step),
+    /// Somebody else wrote the cell.
+    ForeignDone,
+    /// The cell was written before, with this value.
+    ForeignTaken(Cell),
+    /// A crash took what was not kept.
+    Crashed(Crash),
+    /// The command gave no answer.
+    Refused(Refusal),
+}
