@@ -38,10 +38,10 @@ pub record IsTimedOn (cells : ℕ) (timed : Timed) : Type 0 where
 -- a plan of a script, on a device of so many cells
 pub record IsPlanOn (cells : ℕ) (plan : Schedule) : Type 0 where
   pub stop : IsStopOf plan.stop
-  pub failing : length plan.fail.items ≤ MAX_FAILING
-  pub fails : Each IsMomentOf plan.fail.items
-  pub called_for : length plan.foreign.items ≤ MAX_CALLED_FOR
-  pub writes : Each (IsTimedOn cells) plan.foreign.items
+  pub failing : length plan.fail ≤ MAX_FAILING
+  pub fails : Each IsMomentOf plan.fail
+  pub called_for : length plan.foreign ≤ MAX_CALLED_FOR
+  pub writes : Each (IsTimedOn cells) plan.foreign
 
 -- the one term of some word
 abbrev pub IsTermOf : List ℕ → Type 0
@@ -53,12 +53,12 @@ IsEventOn cells (event.Format slots lists plan) =
     (1 ≤ slots) × (slots ≤ MAX_SLOTS) × (1 ≤ lists) × (lists ≤ MAX_LISTS) × IsPlanOn cells plan
 IsEventOn cells (event.Ingest id body plan) = IsIdentifier id × IsBody body × IsPlanOn cells plan
 IsEventOn cells (event.Find terms plan) =
-    (1 ≤ length terms.items) × (length terms.items ≤ MAX_WORDS) × Each IsTermOf terms.items × IsPlanOn cells plan
+    (1 ≤ length terms) × (length terms ≤ MAX_WORDS) × Each IsTermOf terms × IsPlanOn cells plan
 IsEventOn cells (event.Lookup id plan) = IsIdentifier id × IsPlanOn cells plan
 IsEventOn cells (event.Audit plan) = IsPlanOn cells plan
 IsEventOn cells (event.Recover plan) = IsPlanOn cells plan
 IsEventOn cells (event.Foreign at cell) = at < cells
-IsEventOn cells (event.Crash keep) = length keep.items ≤ MAX_KEPT
+IsEventOn cells (event.Crash keep) = length keep ≤ MAX_KEPT
 
 -- events of a script, on a device of so many cells
 abbrev pub AreEventsOn : ℕ → List Event → Type 0

@@ -1,4 +1,5 @@
 //! What a script asks for.
+use crate::Sequence;
 use cell_types::Cell;
 use document_store::Text;
 use word_reader::Term;
@@ -18,9 +19,9 @@ pub struct Schedule {
     /// The moment after which each call fails.
     pub stop: Option<Moment>,
     /// The moments whose calls fail.
-    pub fail: Vec<Moment>,
+    pub fail: Sequence<Moment>,
     /// What others write before which calls, in order.
-    pub foreign: Vec<Timed>,
+    pub foreign: Sequence<Timed>,
 }
 
 /// One event of a script. All are of volumes of the first version: once a volume can be made in a later one, a version
@@ -40,7 +41,7 @@ pub enum Event {
         plan: Schedule,
     },
     /// Find the documents that have all of these terms.
-    Find { terms: Vec<Term>, plan: Schedule },
+    Find { terms: Sequence<Term>, plan: Schedule },
     /// Look an identifier up.
     Lookup { id: Text, plan: Schedule },
     /// Audit the volume.
@@ -50,12 +51,12 @@ pub enum Event {
     /// Somebody else writes a cell, between two commands.
     Foreign { at: u32, cell: Cell },
     /// A crash takes each cell that is not sure and not kept.
-    Crash { keep: Vec<u32> },
+    Crash { keep: Sequence<u32> },
 }
 
 /// A device of so many cells, and what befalls it, in order.
 #[derive(Debug, Drop)]
 pub struct Script {
     pub cells: u32,
-    pub events: Vec<Event>,
+    pub events: Sequence<Event>,
 }

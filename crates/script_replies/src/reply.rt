@@ -3,6 +3,7 @@ use cell_types::{Cell, Refusal};
 use document_store::Text;
 use record_query::Match;
 use recovery_engine::Step;
+use script_events::Sequence;
 use volume_audit::AuditReport;
 use worm_memory::Crash;
 
@@ -14,7 +15,7 @@ pub enum Reply {
     /// The document stands in this slot.
     Acknowledged(u32),
     /// These documents have the terms.
-    Found(Vec<Match>),
+    Found(Sequence<Match>),
     /// The document with the identifier stands in this slot, and this is its body.
     Body { slot: u32, body: Text },
     /// The volume breaks no rule.
