@@ -1,5 +1,5 @@
 -- What is planned for a command, one by one: the command goes by its plan all the while, since no call is made.
-use Rattle.std.proofs.Common.{◌≡◌, ◌<◌, ◌+◌, ◌==◌, ◌&&◌, ℕ, suc, Bool, true, false, if◌then◌else◌, List, [], ◌∷◌, ◌++◌, take, length, map, get_or, refl, sym, ap, subst, ◌∙◌, arith}
+use Rattle.std.proofs.Common.{◌≡◌, ◌<◌, ◌+◌, ◌==◌, ◌&&◌, ℕ, suc, Bool, true, false, if◌then◌else◌, List, [], ◌∷◌, ◌++◌, take, length, map, get_or, refl, sym, ap, ◌∙◌, arith}
 use Rattle.std.proofs.Math.Seq.{take-suc}
 use Rattle.std.proofs.lemmas.List.{append-nil, append_assoc}
 use Rattle.worm_memory.specs.Memory.{Memory, is_early, with_failure, with_planned}
@@ -36,14 +36,14 @@ pub next_failure : (old mid new : Memory) (fails : List Moment) (i : ℕ) (momen
     → i < length fails → moment ≡ get_or fails i moment → b ≡ true
     → WithFailures (take i fails) old mid → new ≡ (if b then with_failure mid moment else mid)
     → WithFailures (take (i + 1) fails) old new
-next_failure old mid new fails i moment true is_so within is ok before planned =
+next_failure old mid new fails i moment true is_so within is ok before done =
     let goes : is_early old ≡ old.by_plan = is_so ∙ sym (early old.by_plan (old.calls == 0) is_so) in
-    planned ∙ ap (λ (m : Memory). with_failure m moment) before
+    done ∙ ap (λ (m : Memory). with_failure m moment) before
     ∙ ap (λ (b : Bool). record (with_failure (with_failures (take i fails) old) moment) { by_plan = b }) goes
     ∙ ap (λ (l : List Moment). record old { plan = record old.plan { fails = l } })
     (append_assoc old.plan.fails (take i fails) (moment ∷ [])
     ∙ ap (λ (l : List Moment). old.plan.fails ++ l) (sym (one_longer fails i moment within is)))
-next_failure old mid new fails i moment false is_so within is ok before planned = absurd cc
+next_failure old mid new fails i moment false is_so within is ok before done = absurd cc
 
 map_append : (xs ys : List Timed) → map planned_of (xs ++ ys) ≡ map planned_of xs ++ map planned_of ys
 map_append [] ys = refl
@@ -53,13 +53,13 @@ pub next_foreign : (old mid new : Memory) (foreign : List Timed) (i : ℕ) (t : 
     → i < length foreign → t ≡ get_or foreign i t → b ≡ true
     → WithForeign (take i foreign) old mid → new ≡ (if b then with_planned mid (planned_of t) else mid)
     → WithForeign (take (i + 1) foreign) old new
-next_foreign old mid new foreign i t true is_so within is ok before planned =
+next_foreign old mid new foreign i t true is_so within is ok before done =
     let goes : is_early old ≡ old.by_plan = is_so ∙ sym (early old.by_plan (old.calls == 0) is_so) in
-    planned ∙ ap (λ (m : Memory). with_planned m (planned_of t)) before
+    done ∙ ap (λ (m : Memory). with_planned m (planned_of t)) before
     ∙ ap (λ (b : Bool). record (with_planned (with_foreign_planned (take i foreign) old) (planned_of t)) { by_plan = b }) goes
     ∙ ap (λ (l : List planned.Timed). record old { plan = record old.plan { foreign = l } })
     (append_assoc old.plan.foreign (map planned_of (take i foreign)) (planned_of t ∷ [])
     ∙ ap (λ (l : List planned.Timed). old.plan.foreign ++ l)
     (sym (map_append (take i foreign) (t ∷ []))
     ∙ ap (λ (l : List Timed). map planned_of l) (sym (one_longer foreign i t within is))))
-next_foreign old mid new foreign i t false is_so within is ok before planned = absurd cc
+next_foreign old mid new foreign i t false is_so within is ok before done = absurd cc

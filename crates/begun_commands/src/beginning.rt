@@ -1,8 +1,9 @@
 //! A command, begun on a device in memory with its plan.
 ghost use Rattle.std.specs.Prelude.{◌≡◌, ◌≤◌, ◌*◌, ◌+◌, ◌++◌, true, OnOk};
+ghost use Rattle.std.specs.List.{All};
 ghost use Rattle.worm_memory.specs.Device.{IsReady, memory_of, room_of};
 ghost use Rattle.worm_memory.specs.Memory.{is_early, with_begin};
-ghost use Rattle.script_events.specs.Events.{Each, IsPlanOn, IsTimedOn};
+ghost use Rattle.script_events.specs.Events.{IsPlanOn, IsTimedOn};
 ghost use Rattle.script_events.specs.declared.limits.TheConstants.{MAX_SCRIPT_CELLS};
 ghost use Rattle.begun_commands.specs.Beginnings.{begun_with, with_failures, with_foreign_planned};
 
@@ -53,7 +54,7 @@ fn plan_failures(device: &mut MemoryDevice, fails: &[Moment]) -> Result<(), NoMe
 /// Plans what others write.
 fn plan_foreign(device: &mut MemoryDevice, foreign: &[Timed]) -> Result<(), NoMemory>
     requires early { is_early (memory_of device.old) ≡ true }
-    requires inside { Each (IsTimedOn (memory_of device.old).cells) foreign.now }
+    requires inside { All (IsTimedOn (memory_of device.old).cells) foreign.now }
     ensures { OnOk result (memory_of device.new ≡ with_foreign_planned foreign.now (memory_of device.old)) }
 {
     for timed in foreign {
