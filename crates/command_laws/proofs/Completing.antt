@@ -1,6 +1,6 @@
 -- Where all is as it is to be, a command over a device ends with no refusal but want of memory, or that no document has
 -- the identifier.
-use Rattle.std.proofs.Common.{◌≡◌, ◌≤◌, ◌+◌, ℕ, List, length, None, Result, Err, refl, sym, ap, ◌∙◌, subst, arith}
+use Rattle.std.proofs.Common.{◌≡◌, ◌≤◌, ◌+◌, ℕ, List, length, None, Err, refl, sym, ap, ◌∙◌, subst, arith}
 use Rattle.std.specs.Global.{Vec}
 use Rattle.std.proofs.lemmas.Option.{none-some}
 use Rattle.cell_types.specs.Image.{Image}
@@ -25,7 +25,7 @@ use Rattle.worm_device.specs.State.{DeviceState, IsDevice}
 use Rattle.worm_device.proofs.Counting.{rose_or_still, still_first, still_second}
 use Rattle.commit_record.specs.Licences.{IsLicensed}
 use Rattle.document_store.proofs.Holding.{held_stands}
-use Rattle.recovery_engine.specs.Settling.{HasSettled, IsSettlingRule, SettleEnds, Settles, SettlesFirst}
+use Rattle.recovery_engine.specs.Settling.{HasSettled, IsSettlingRule, Settles, SettlesFirst}
 use Rattle.recovery_engine.specs.declared.settling.Ready.{Ready}
 use Rattle.settling_laws.proofs.Alarms.{looked_unbroken, settling_named}
 use Rattle.settling_laws.proofs.LookedAt.{looked_ends}

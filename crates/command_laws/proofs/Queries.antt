@@ -1,13 +1,11 @@
 -- What a crash leaves of settling, and of calls that settle first and then look alone, from a steady device on, where
 -- nobody else writes.
-use Rattle.std.proofs.Common.{◌≡◌, ℕ, List, Result, Err, sym, subst}
+use Rattle.std.proofs.Common.{ℕ, Result, Err, sym, subst}
 use Rattle.cell_types.specs.declared.refusal.Refusal.{Refusal}
-use Rattle.stored_documents.specs.Documents.{Document}
 use Rattle.tamper_rules.specs.Settling.{Held}
 use Rattle.worm_device.specs.State.{DeviceState, IsDevice}
 use Rattle.recovery_engine.specs.Settling.{Settles, SettlesFirst, settled, settling}
 use Rattle.recovery_engine.specs.declared.settling.Ready.{Ready}
-use Rattle.settling_laws.specs.Steadiness.{StaysSteady}
 use Rattle.settling_laws.proofs.LeftWhole.{settling_keeps, settling_left, stays_steady}
 use Rattle.settling_laws.proofs.LookedAt.{looking_keeps, looking_steady}
 use Rattle.command_laws.specs.Begins.{BeginsSteady}
