@@ -1,14 +1,11 @@
 -- What stays along the turns of a world: the device has as many cells, what is sure stays sure, and the count of foreign
 -- writes does not fall.
-use Rattle.std.proofs.Common.{◌≡◌, ◌≤◌, ◌<◌, ℕ, Bool, true, false, if◌then◌else◌, List, [], ◌∷◌, ◌++◌, Option, Some, None, refl, sym, ap, subst, ◌∙◌, arith}
-use Rattle.cell_types.specs.Image.{Image, Extends}
-use Rattle.worm_device.specs.Calls.{Called}
-use Rattle.worm_device.specs.Counts.{next_count}
+use Rattle.std.proofs.Common.{◌≡◌, ◌≤◌, ℕ, Bool, true, false, if◌then◌else◌, List, [], ◌∷◌, ◌++◌, Option, Some, refl, sym, ap, subst, ◌∙◌, arith}
+use Rattle.cell_types.specs.Image.{Extends}
 use Rattle.worm_device.specs.State.{DeviceState, IsDevice}
 use Rattle.worm_device.proofs.Images.{extends_self, extends_then}
-use Rattle.worm_memory.specs.Losses.{kept_image}
 use Rattle.worm_memory.specs.Unsure.{is_among}
-use Rattle.worm_memory.specs.Memory.{Memory, device_of, with_begin}
+use Rattle.worm_memory.specs.Memory.{Memory, device_of}
 use Rattle.replayed_worlds.specs.Turns.{CarriesOut, IsCrash, Turns}
 use Rattle.replayed_worlds.specs.Worlds.{AreInTurn, Turn}
 use Rattle.script_events.specs.declared.event.Event.{Event}
@@ -59,7 +56,7 @@ turn_goes (event.Lookup id plan) r old new device t = goes_called t
 turn_goes (event.Audit plan) r old new device t = goes_called t
 turn_goes (event.Recover plan) r old new device t = goes_called t
 turn_goes (event.Foreign at value) reply.ForeignDone old new device t =
-    record { cells = t.2.cells; sure = t.2.sure; foreign_writes = t.2.foreign_writes }
+    record { cells = t.2.called.cells; sure = t.2.called.sure; foreign_writes = t.2.called.foreign_writes }
 turn_goes (event.Foreign at value) (reply.ForeignTaken found) old new device t =
     subst (λ (m : Memory). Goes (device_of old) (device_of m)) (sym t.1)
     (record { cells = refl; sure = extends_self (device_of old).sure; foreign_writes = omega arith })

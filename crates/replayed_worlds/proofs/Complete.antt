@@ -1,6 +1,6 @@
 -- Each command that can be done is done: its refusals have causes that do not stand.
-use Rattle.std.proofs.Common.{◌≡◌, ◌⊎◌, ⊎_elim, ℕ, List, None, Result, Ok, Err, refl, sym, subst}
-use Rattle.cell_types.specs.Layout.{IsLayout, Layout}
+use Rattle.std.proofs.Common.{◌≡◌, ⊎_elim, ℕ, List, refl, sym, subst}
+use Rattle.cell_types.specs.Layout.{Layout}
 use Rattle.cell_types.specs.declared.refusal.Refusal.{Refusal}
 use Rattle.cell_types.specs.declared.refusal.Refusal.TheVariants as refusals
 use Rattle.stored_documents.specs.Volumes.{IsVolume}
@@ -9,10 +9,8 @@ use Rattle.worm_device.specs.State.{DeviceState, IsDevice}
 use Rattle.worm_memory.specs.Memory.{Memory, device_of}
 use Rattle.settling_laws.specs.Steadiness.{IsSteady}
 use Rattle.command_laws.specs.Begins.{BeginsSteady}
-use Rattle.command_laws.specs.Completing.{BeginsBlank, HasPlaceFor}
 use Rattle.command_laws.specs.WholeLogs.{HasSteadyVolume}
 use Rattle.command_laws.proofs.Completing.{audits_whole, formats_whole, ingests_whole, looks_whole, searches_whole, steady_settles}
-use Rattle.script_events.specs.declared.event.Event.{Event}
 use Rattle.script_events.specs.declared.event.Event.TheVariants as event
 use Rattle.script_events.specs.declared.event.Schedule.{Schedule}
 use Rattle.script_replies.specs.declared.reply.Reply.{Reply}

@@ -1,21 +1,17 @@
 -- Where nobody else has written, no tampering is named, and queries tell of just the documents that are held.
-use Rattle.std.proofs.Common.{◌≡◌, ℕ, List, [], ◌∷◌, ◌++◌, refl, sym, ap, subst, ◌∙◌, arith}
+use Rattle.std.proofs.Common.{subst, arith}
 use Rattle.cell_types.specs.declared.refusal.Evidence.{Evidence}
 use Rattle.cell_types.specs.declared.refusal.Refusal.TheVariants as refusals
-use Rattle.stored_documents.specs.Documents.{AreDocuments, Document}
-use Rattle.tamper_rules.specs.Settling.{Held}
-use Rattle.worm_device.specs.State.{DeviceState, IsDevice}
-use Rattle.worm_memory.specs.Memory.{Memory, device_of}
-use Rattle.replayed_worlds.specs.Headline.{IsDoneQuery, IsUndisturbed, IsNew, TellsExactly, ToldIsExact}
-use Rattle.replayed_worlds.specs.Steadily.{CommandsAreWhole, IsCommand, IsWholeTurn}
+use Rattle.worm_memory.specs.Memory.{Memory}
+use Rattle.replayed_worlds.specs.Headline.{IsDoneQuery, IsUndisturbed, ToldIsExact}
+use Rattle.replayed_worlds.specs.Steadily.{CommandsAreWhole, IsCommand}
 use Rattle.replayed_worlds.specs.Turns.{Turns}
-use Rattle.replayed_worlds.specs.Worlds.{AreInTurn, Turn}
 use Rattle.script_events.specs.declared.event.Event.{Event}
 use Rattle.script_events.specs.declared.event.Event.TheVariants as event
 use Rattle.script_replies.specs.declared.reply.Reply.{Reply}
 use Rattle.script_replies.specs.declared.reply.Reply.TheVariants as reply
 use Rattle.replayed_worlds.proofs.Along.{along, split, turn_goes}
-use Rattle.replayed_worlds.proofs.HeldIngests.{IsSteadyFrom, stands_from, whole_turn}
+use Rattle.replayed_worlds.proofs.HeldIngests.{stands_from, whole_turn}
 
 -- a query is a command
 query_is_command : (e : Event) (r : Reply) → IsDoneQuery e r → IsCommand e

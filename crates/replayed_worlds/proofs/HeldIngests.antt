@@ -1,32 +1,29 @@
 -- Where nobody else writes, what is held comes from the ingests in order, whatever crashes fall.
-use Rattle.std.proofs.Common.{◌≡◌, ◌≢◌, ◌≤◌, ◌<◌, ◌⊎◌, ⊎_elim, inl, inr, ℕ, Bool, true, false, if◌then◌else◌, List, [], ◌∷◌, ◌++◌, Option, Some, None, refl, sym, ap, subst, ◌∙◌, arith}
-use Rattle.std.specs.Prelude.{Contains}
+use Rattle.std.proofs.Common.{◌≡◌, ◌≤◌, ◌<◌, ◌⊎◌, ⊎_elim, inl, ℕ, Bool, true, false, if◌then◌else◌, List, [], ◌∷◌, ◌++◌, Option, Some, None, refl, sym, ap, subst, ◌∙◌, arith}
 use Rattle.std.proofs.lemmas.List.{append-nil, append_assoc}
-use Rattle.std.proofs.lemmas.List.Elements.{Contains-append_left, Contains-push}
-use Rattle.cell_types.specs.Image.{Image, Between, Extends, IsUnchanged}
-use Rattle.cell_types.specs.declared.refusal.Refusal.{Refusal}
+use Rattle.std.proofs.lemmas.List.Elements.{Contains-push}
+use Rattle.cell_types.specs.Image.{Image, Between, Extends}
 use Rattle.cell_types.specs.declared.refusal.Refusal.TheVariants as refusals
 use Rattle.stored_documents.specs.Documents.{AreDocuments, Document}
-use Rattle.tamper_rules.specs.Settling.{Held, IsBlankOrSound, Settled, none, nothing, of_after}
+use Rattle.tamper_rules.specs.Settling.{Held, IsBlankOrSound, none, nothing, of_after}
 use Rattle.tamper_rules.proofs.Images.{same_image}
 use Rattle.tamper_rules.proofs.Steady.{steady_two}
 use Rattle.worm_device.specs.Counts.{IsStill}
 use Rattle.worm_device.specs.State.{DeviceState, IsDevice, LeftSince}
 use Rattle.worm_device.proofs.Images.{extends_self, extends_then}
-use Rattle.worm_memory.specs.Losses.{kept_image}
 use Rattle.worm_memory.specs.Unsure.{is_among}
 use Rattle.worm_memory.specs.Memory.{Memory, device_of}
 use Rattle.worm_memory.specs.Worlds.{world}
 use Rattle.worm_memory.specs.declared.change.Change.{Change}
 use Rattle.stored_documents.proofs.Extending.{blank_before}
-use Rattle.settling_laws.specs.Steadiness.{HoldsOneOf, IsLeftWhole, IsSteady, StaysSteady}
+use Rattle.settling_laws.specs.Steadiness.{HoldsOneOf, IsSteady}
 use Rattle.settling_laws.proofs.LeftWhole.{left_between, sure_steady, whole_from}
 use Rattle.crash_laws.specs.Steadiness.{HasOneMore, HoldsOneMore, IsLeftByIngest, StaysSteadyBy}
 use Rattle.ingest_engine.specs.Ingesting.{document_in}
 use Rattle.replayed_worlds.specs.Headline.{ComeFrom, MayGive, HoldsIngests, IngestsAreHeld, IsUndisturbed, IsNew, MayGiveNone, nothing_came, followed}
 use Rattle.replayed_worlds.specs.Headline as said
 use Rattle.command_laws.specs.Telling.{LeavesHeld}
-use Rattle.replayed_worlds.specs.Steadily.{LeavesIngest, CommandsAreWhole, IsTurnedDown, IsCommand, IsWholeTurn, begun_by}
+use Rattle.replayed_worlds.specs.Steadily.{CommandsAreWhole, IsCommand, IsWholeTurn, begun_by}
 use Rattle.replayed_worlds.specs.Turns.{IsCrash, Turns}
 use Rattle.begun_commands.specs.Beginnings.{begun_with}
 use Rattle.replayed_worlds.specs.Worlds.{AreInTurn, Turn}
@@ -35,7 +32,7 @@ use Rattle.script_events.specs.declared.event.Event.TheVariants as event
 use Rattle.script_events.specs.declared.event.Schedule.{Schedule}
 use Rattle.script_replies.specs.declared.reply.Reply.{Reply}
 use Rattle.script_replies.specs.declared.reply.Reply.TheVariants as reply
-use Rattle.replayed_worlds.proofs.Along.{Goes, along, crash_sure, turn_goes}
+use Rattle.replayed_worlds.proofs.Along.{along, crash_sure, turn_goes}
 use Rattle.tamper_rules.proofs.HeldGrows.{held_up}
 use Rattle.replayed_worlds.proofs.LastDocuments.{last_is_new}
 

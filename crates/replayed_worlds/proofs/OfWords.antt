@@ -1,11 +1,11 @@
 -- No event of a script is refused for its words, nor for a source or a sink.
-use Rattle.std.proofs.Common.{◌≡◌, ◌⊎◌, ⊎_elim, ℕ, List, Result, Ok, Err, refl, sym, subst}
+use Rattle.std.proofs.Common.{◌≡◌, ⊎_elim, ℕ, List, Err, refl, subst}
 use Rattle.cell_types.specs.Layout.{Layout}
 use Rattle.cell_types.specs.declared.refusal.Refusal.{Refusal}
 use Rattle.cell_types.specs.declared.refusal.Refusal.TheVariants as refusals
 use Rattle.host_ports.specs.Sinks.{SinkState}
 use Rattle.worm_device.specs.State.{DeviceState}
-use Rattle.worm_memory.specs.Memory.{Memory, device_of}
+use Rattle.worm_memory.specs.Memory.{device_of}
 use Rattle.recovery_engine.specs.Settling.{SettleEnds}
 use Rattle.ingest_engine.specs.Formats.{FormatEnds}
 use Rattle.ingest_engine.specs.Ingesting.{IngestEnds}
@@ -15,11 +15,9 @@ use Rattle.volume_audit.specs.Audits.{SettlesThenAudits}
 use Rattle.volume_audit.proofs.Comes.{refuses}
 use Rattle.replayed_worlds.specs.Headline.{Headline}
 use Rattle.replayed_worlds.specs.Refusals.{IsOfWords, NoneIsOfWords}
-use Rattle.replayed_worlds.specs.Turns.{LookUpRefused, Turns, first_layout}
+use Rattle.replayed_worlds.specs.Turns.{LookUpRefused, first_layout}
 use Rattle.begun_commands.specs.Beginnings.{begun_with}
-use Rattle.script_events.specs.declared.event.Event.{Event}
 use Rattle.script_events.specs.declared.event.Event.TheVariants as event
-use Rattle.script_replies.specs.declared.reply.Reply.TheVariants as reply
 use Rattle.replayed_worlds.proofs.Evident.{tampering_evident}
 use Rattle.replayed_worlds.proofs.Exact.{told_exact}
 use Rattle.replayed_worlds.proofs.HeldIngests.{ingests_held}

@@ -1,8 +1,7 @@
 -- Acknowledged documents are kept from then on, and so they are returned.
-use Rattle.std.proofs.Common.{◌≡◌, ◌⊎◌, ⊎_elim, ℕ, List, [], ◌∷◌, ◌++◌, refl, sym, ap, subst, ◌∙◌, arith}
+use Rattle.std.proofs.Common.{◌≡◌, ⊎_elim, ℕ, List, [], ◌∷◌, refl, sym, subst, ◌∙◌, arith}
 use Rattle.std.specs.Prelude.{Contains, Err, IsTrue}
 use Rattle.std.proofs.lemmas.List.Elements.{Contains-append_cases, Contains-push, Contains-push_cases}
-use Rattle.cell_types.specs.Image.{Image, Extends}
 use Rattle.cell_types.specs.Layout.{Layout}
 use Rattle.cell_types.specs.declared.refusal.Refusal.{Refusal}
 use Rattle.cell_types.specs.declared.refusal.Refusal.TheVariants as refusals
@@ -26,7 +25,7 @@ use Rattle.script_events.specs.declared.event.Event.{Event}
 use Rattle.script_events.specs.declared.event.Event.TheVariants as event
 use Rattle.script_replies.specs.declared.reply.Reply.{Reply}
 use Rattle.script_replies.specs.declared.reply.Reply.TheVariants as reply
-use Rattle.replayed_worlds.proofs.Along.{Goes, Splits, along, split}
+use Rattle.replayed_worlds.proofs.Along.{Goes, along, split}
 use Rattle.replayed_worlds.proofs.Standing.{body_is}
 
 -- the document is kept by what is sure
@@ -50,8 +49,8 @@ ingested_kept : {id body : List ℕ} {n : ℕ} {old new : DeviceState} → IsDev
 ingested_kept {id} {body} {n} {old} {new} device i = record {
   layout = i.layout;
   volume = subst (λ (g : Layout). IsVolume new.cells new.sure g)
-      (one_layout i.document.stands.layout i.layout (volume_on device.sure i.document.stands.volume) i.volume)
-      i.document.stands.volume;
+      (one_layout i.document.layout i.layout (volume_on device.sure i.document.volume) i.volume)
+      i.document.volume;
   each = λ d among. subst (λ (e : Document). IsKept new.cells new.sure i.layout e)
       (the_one (document_in n id body) d among) i.kept;
 }

@@ -1,5 +1,5 @@
 -- What is returned stands, and matches.
-use Rattle.std.proofs.Common.{◌≡◌, ℕ, List, [], ◌∷◌, ◌++◌, Option, Some, refl, sym, ap, subst, ◌∙◌}
+use Rattle.std.proofs.Common.{◌≡◌, ℕ, List, [], Option, Some, refl, sym, subst}
 use Rattle.std.specs.Prelude.{Contains}
 use Rattle.stored_documents.specs.Documents.{Stands}
 use Rattle.worm_device.specs.State.{DeviceState}

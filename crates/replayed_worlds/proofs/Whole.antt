@@ -1,5 +1,5 @@
 -- Each command is whole, from a steady device on, where nobody else writes: what the engines' clauses say of it.
-use Rattle.std.proofs.Common.{◌≡◌, ◌⊎◌, ⊎_elim, ℕ, List, Result, Ok, Err, refl, sym, ap, ◌∙◌, subst}
+use Rattle.std.proofs.Common.{◌≡◌, ⊎_elim, ℕ, List, Ok, Err, refl, sym, ap, ◌∙◌, subst}
 use Rattle.std.specs.Prelude.{Contains}
 use Rattle.cell_types.specs.declared.refusal.Evidence.{Evidence}
 use Rattle.cell_types.specs.declared.refusal.Refusal.{Refusal}
@@ -19,16 +19,14 @@ use Rattle.crash_laws.proofs.Kept.{refused_keeps}
 use Rattle.crash_laws.proofs.Steady.{comes_steady}
 use Rattle.record_query.specs.Finding.{Searches}
 use Rattle.record_query.specs.LookingUp.{LooksUp}
-use Rattle.record_query.specs.declared.found.Match.{Match}
 use Rattle.volume_audit.specs.Audits.{Audits}
 use Rattle.volume_audit.proofs.Comes.{licensed, settles_first}
 use Rattle.command_laws.specs.Begins.{BeginsSteady}
-use Rattle.command_laws.specs.Telling.{AreMatchesOf, LeavesHeld}
+use Rattle.command_laws.specs.Telling.{AreMatchesOf}
 use Rattle.command_laws.proofs.Alarms.{query_alarms, settling_alarms}
 use Rattle.command_laws.proofs.Formatting.{format_leaves}
 use Rattle.command_laws.proofs.HeldAnswers.{just_these, none_held, stand_now, stands_among}
 use Rattle.command_laws.proofs.Queries.{query_leaves, settling_leaves}
-use Rattle.script_events.specs.declared.event.Event.{Event}
 use Rattle.script_events.specs.declared.event.Event.TheVariants as event
 use Rattle.script_events.specs.declared.event.Schedule.{Schedule}
 use Rattle.script_replies.specs.declared.reply.Reply.{Reply}
@@ -106,9 +104,11 @@ module _ (plan : Schedule) (old new : Memory) (device : IsDevice (device_of (beg
       record {
         leaves = query_leaves s t device device_new begins a.searches.comes;
         tells = λ done documents held.
-            let stand = stand_now s t device device_new begins a.found documents held (Ok a.found) refl a.searches.comes in
-            (stand.1, subst (AreMatchesOf terms documents) (sym a.matches_are)
-            (just_these s t device device_new begins stand.0 documents stand.1 terms a.found.items (a.searches.ends refl)));
+            let stand = stand_now s t device device_new begins a.found documents held (Ok a.found) refl a.searches.comes in (
+              stand.1,
+              subst (AreMatchesOf terms documents) (sym a.matches_are)
+                  (just_these s t device device_new begins stand.0 documents stand.1 terms a.found.items (a.searches.ends refl)),
+            );
         no_alarm = λ e named. absurd cc;
       }
   find_whole terms (reply.Refused refusal) turned = record {
@@ -153,10 +153,12 @@ module _ (plan : Schedule) (old new : Memory) (device : IsDevice (device_of (beg
             let stand = stand_now s t device device_new begins a.found documents held (Ok a.found) refl a.looks.comes in
             let there : Contains documents (record { slot = a.found.slot; id = id; body = a.looks.ends.body }) =
             stands_among s t device device_new begins stand.0 documents stand.1 a.found.slot id a.looks.ends.body
-            (a.looks.ends.first refl).first.stands in
-            (stand.1, subst (λ (n : ℕ). Contains documents (record { slot = n; id = id; body = body })) (sym a.slot_is)
-            (subst (λ (b : List ℕ). Contains documents (record { slot = a.found.slot; id = id; body = b }))
-            (sym (body_is a)) there));
+            (a.looks.ends.first refl).first.stands in (
+              stand.1,
+              subst (λ (n : ℕ). Contains documents (record { slot = n; id = id; body = body })) (sym a.slot_is)
+                  (subst (λ (b : List ℕ). Contains documents (record { slot = a.found.slot; id = id; body = b }))
+                  (sym (body_is a)) there),
+            );
         no_alarm = λ e named. absurd cc;
       }
   look_up_whole id (reply.Refused refusals.Absent) turned = record {

@@ -1,6 +1,6 @@
 -- When a command of a world has to be done: from a steady device, where nobody else writes and no call fails. So a replay
 -- that refuses what it could do is none.
-use Rattle.std.specs.Prelude.{◌≡◌, ℕ, List, None, ⊤}
+use Rattle.std.specs.Prelude.{◌≡◌, ℕ, None, ⊤}
 use Rattle.cell_types.specs.Layout.{IsLayout, Layout}
 use Rattle.cell_types.specs.declared.refusal.Refusal.TheVariants as refusals
 use Rattle.stored_documents.specs.Volumes.{IsVolume}

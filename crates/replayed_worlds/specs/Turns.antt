@@ -1,11 +1,12 @@
 -- What an event does to the device, and how it is answered.
-use Rattle.std.specs.Prelude.{◌≡◌, ◌⊎◌, ℕ, List, [], length, true, None, Some, Result, Ok, Err}
+use Rattle.std.specs.Prelude.{◌≡◌, ◌⊎◌, ℕ, List, [], length, true, None, Some, Ok, Err}
 use Rattle.std.specs.Global.{Vec}
 use Rattle.cell_types.specs.Layout.{Layout}
 use Rattle.cell_types.specs.declared.refusal.Refusal.{Refusal}
 use Rattle.cell_types.specs.declared.refusal.Refusal.TheVariants as refusals
 use Rattle.worm_device.specs.Calls.{Called}
 use Rattle.worm_device.specs.State.{DeviceState}
+use Rattle.worm_memory.specs.Device.{ForeignWrites}
 use Rattle.worm_memory.specs.Losses.{kept_count, kept_image}
 use Rattle.worm_memory.specs.Memory.{KeepsPlan, Memory, device_of, with_begin, with_foreign, with_hand}
 use Rattle.worm_memory.specs.Outcomes.{with_crash}
@@ -103,10 +104,11 @@ pub record CarriesOut (plan : Schedule) (old new : Memory) (Answers : DeviceStat
   pub called : Called (device_of (begun_with plan old)) (device_of new)
   pub by_plan : GoesByPlan plan old new
 
--- a foreign write is done where its cell was blank, and else nothing is
+-- A foreign write is done where its cell was blank, and keeps what stands and what is sure; else nothing is done.
 abbrev pub ForeignAnswers : ℕ → List ℕ → Memory → Memory → Reply → Type 0
 ForeignAnswers at cell old new reply.ForeignDone =
     ((device_of old).image at ≡ None) × (new ≡ with_foreign (with_hand (with_begin true old)) at cell)
+    × ForeignWrites (device_of (with_begin true old)) (device_of new)
 ForeignAnswers at cell old new (reply.ForeignTaken found) =
     ((device_of old).image at ≡ Some found) × (new ≡ with_begin true old)
 ForeignAnswers at cell old new other = ⊥
