@@ -1,12 +1,14 @@
 -- An event whose `do` names one kind is of no other.
-use Rattle.std.proofs.Common.{◌≡◌, ℕ, List, [], ◌∷◌, Option, Some, None, Bool, true, false, true≢false, codes, unwrap_or, option_and_then, bytes_eq, refl, ap, sym, ◌∙◌}
+use Rattle.std.proofs.Common.{◌≡◌, ℕ, List, [], ◌∷◌, Option, Some, None, Result, IfOk, MatchOption, subst, Bool, true, false, true≢false, codes, unwrap_or, option_and_then, bytes_eq, refl, ap, sym, ◌∙◌}
 use Rattle.std.proofs.lemmas.Slice.Eq.{bytes_eq-Decides}
 use Rattle.serde_json.specs.Data.{Data, string}
 use Rattle.serde_json.specs.Find.{get, as_str}
 use Rattle.script_events.specs.declared.event.Event.{Event}
 use Rattle.script_events.specs.declared.event.Event.TheVariants.{Format, Ingest, Find, Lookup, Audit, Recover, Foreign, Crash}
 use Rattle.script_events.specs.declared.event.Schedule.{Schedule}
-use Rattle.script_events.specs.Grammar.{SaysEvent, SaysFind, SaysForeign, SaysFormat, SaysIngest, SaysLookup}
+use Rattle.stored_documents.specs.Words.{AreWords}
+use Rattle.stored_documents.specs.declared.word_rules.WordRule.TheVariants.{Ascii}
+use Rattle.script_events.specs.Grammar.{SaysEvent, SaysFind, SaysForeign, SaysFormat, SaysIngest, SaysLookup, SaysTerm}
 use Rattle.script_events.specs.Json.{Exactly}
 
 pub none_of : {A : Type 0} (P : A → Type 0) (found : Option A) → Exactly P found → ((y : A) → found ≡ Some y → ⊥) → (x : A) → P x → ⊥
@@ -47,3 +49,9 @@ pub none_foreign : (cells : ℕ) (d : Data) → get (codes "do") d ≡ Some (str
     → ((x : ℕ × List ℕ) → SaysForeign cells x.0 x.1 d → ⊥) → (e : Event) → SaysEvent cells e d → ⊥
 none_foreign cells d said none (Foreign at cell) h = none (at, cell) h.1
 none_foreign cells d said none e h = two_texts _ _ _ said h.0 refl
+
+-- the term that a text holds is the one that the value says
+pub term_said : {E : Type 0} (word : List ℕ) (d : Data) (found : Result (Option (List ℕ)) E) → as_str d ≡ Some word
+    → IfOk found (Exactly (λ term. AreWords Ascii word (term ∷ []))) → IfOk found (Exactly (λ term. SaysTerm term d))
+term_said word d found is h =
+    subst (λ text. IfOk found (Exactly (λ term. MatchOption text ⊥ (λ bytes. AreWords Ascii bytes (term ∷ []))))) (sym is) h

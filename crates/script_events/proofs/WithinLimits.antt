@@ -4,6 +4,7 @@ use Rattle.std.proofs.lemmas.List.Elements.{All-nil, All-cons}
 use Rattle.serde_json.specs.Data.{Data, Items, no_items, item}
 use Rattle.serde_json.specs.Events.{items_len}
 use Rattle.serde_json.specs.Find.{get, as_array, as_str}
+use Rattle.cell_types.specs.declared.geometry.TheConstants.{MAX_LISTS, MAX_SLOTS}
 use Rattle.worm_memory.specs.declared.moment.Moment.{Moment}
 use Rattle.worm_memory.specs.declared.moment.Moment.TheVariants.{Step, Call}
 use Rattle.script_events.specs.Events.{IsEventOn, IsInLimits, IsPlanOn, IsScriptMoment, IsScriptStop, IsTermOfWord, IsTimedOn}
@@ -15,6 +16,7 @@ use Rattle.script_events.specs.declared.event.Event.TheVariants.{Format, Ingest,
 use Rattle.script_events.specs.declared.event.Schedule.{Schedule}
 use Rattle.script_events.specs.declared.event.Timed.{Timed}
 use Rattle.script_events.specs.declared.event.Script.{Script}
+use Rattle.script_events.specs.declared.limits.TheConstants.{MAX_SCRIPT_CELLS}
 
 -- what a member says
 member : {A : Type 0} {C : Type 0} (o : Option A) (P : A → Type 0) → MatchOption o ⊥ P → ((x : A) → P x → C) → C
@@ -83,9 +85,9 @@ term_so term d h = member (as_str d) _ h (λ word p. (word, p))
 
 event_so : (cells : ℕ) (event : Event) (d : Data) → SaysEvent cells event d → IsEventOn cells event
 event_so cells (Format slots lists plan) d h =
-    let s = member (get (codes "slots") d) _ h.1.1 (λ e p. p) in
-    let l = member (get (codes "lists") d) _ h.1.2 (λ e p. p) in
-    (s.1, s.2, l.1, l.2, plan_so cells plan d h.1.3)
+    let s = member {C = (1 ≤ slots) × (slots ≤ MAX_SLOTS)} (get (codes "slots") d) _ h.1.1 (λ e p. (p.1, p.2)) in
+    let l = member {C = (1 ≤ lists) × (lists ≤ MAX_LISTS)} (get (codes "lists") d) _ h.1.2 (λ e p. (p.1, p.2)) in
+    (s.0, s.1, l.0, l.1, plan_so cells plan d h.1.3)
 event_so cells (Ingest id body plan) d h =
     (member (get (codes "id") d) _ h.1.1 (λ e p. p.1), h.1.2.0, plan_so cells plan d h.1.3)
 event_so cells (Find terms plan) d h =
@@ -102,10 +104,12 @@ event_so cells (Crash keep) d h =
 
 pub scripts_are_in_limits : ScriptsAreInLimits
 scripts_are_in_limits text script h =
-    let cells = member (get (codes "cells") h.1.0) _ h.1.2.1 (λ e p. p) in
+    let cells =
+        member {C = (1 ≤ script.cells) × (script.cells ≤ MAX_SCRIPT_CELLS)} (get (codes "cells") h.1.0) _ h.1.2.1
+        (λ e p. (p.1, p.2)) in
     record {
-      some = cells.1;
-      most = cells.2;
+      some = cells.0;
+      most = cells.1;
       few = omega (arith, h.1.2.3, items_long (SaysEvent script.cells) script.events h.0 h.2);
       each = items_all (SaysEvent script.cells) (IsEventOn script.cells) (event_so script.cells) script.events h.0 h.2;
     }

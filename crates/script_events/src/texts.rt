@@ -1,6 +1,10 @@
 //! Identifiers, bodies and words.
-ghost use Rattle.std.specs.Prelude.{◌≡◌, ◌≤◌, length, IfOk};
+ghost use Rattle.std.specs.Prelude.{◌≡◌, ◌≤◌, ◌∷◌, [], length, IfOk};
+ghost use Rattle.serde_json.specs.Data.{string};
 ghost use Rattle.serde_json.specs.View.{view, items_view};
+ghost use Rattle.stored_documents.specs.Documents.{IsBody};
+ghost use Rattle.stored_documents.specs.Words.{AreWords};
+ghost use Rattle.stored_documents.specs.declared.word_rules.WordRule.TheVariants.{Ascii};
 ghost use Rattle.script_events.specs.Grammar.{SaysBody, SaysBytes, SaysIdentifier, SaysTerm};
 ghost use Rattle.script_events.specs.Json.{AreItems, Exactly, IsArrayOf};
 ghost use Rattle.script_events.specs.declared.limits.TheConstants.{MAX_WORDS};
@@ -33,37 +37,53 @@ pub(crate) fn body(alloc: Global, value: &Value) -> Result<Option<Text>, AllocEr
     ensures { IfOk result (Exactly (λ body. SaysBody body (view value.now))) }
 {
     match (value.get("body"), value.get("hex")) {
-        (Some(body), None) => {
-            let Some(text) = body.as_str() else {
-                return Ok(None);
-            };
-            if text.len() > MAX_BODY_BYTES {
-                return Ok(None);
-            }
-            Ok(Some(Text::new(text.as_bytes().to_vec(alloc)?)))
-        }
-        (None, Some(hex)) => {
-            let Some(bytes) = hex_bytes(alloc, hex)? else {
-                return Ok(None);
-            };
-            if bytes.len() > MAX_BODY_BYTES {
-                return Ok(None);
-            }
-            Ok(Some(Text::new(bytes)))
-        }
+        (Some(body), None) => plain_body(alloc, body),
+        (None, Some(hex)) => hex_body(alloc, hex),
         _ => Ok(None),
     }
 }
 
+/// The body that the value is.
+fn plain_body(alloc: Global, value: &Value) -> Result<Option<Text>, AllocError>
+    ensures { IfOk result (Exactly (λ body. IsBody body × (view value.now ≡ string body))) }
+{
+    let Some(text) = value.as_str() else {
+        return Ok(None);
+    };
+    let bytes = text.as_bytes().to_vec(alloc)?;
+    Ok(body_of(Text::new(bytes)))
+}
+
+/// The body that the value spells in hexadecimal.
+fn hex_body(alloc: Global, value: &Value) -> Result<Option<Text>, AllocError>
+    ensures { IfOk result (Exactly (λ body. IsBody body × SaysBytes body (view value.now))) }
+{
+    let Some(bytes) = hex_bytes(alloc, value)? else {
+        return Ok(None);
+    };
+    Ok(body_of(bytes))
+}
+
+/// These bytes, where they are a body.
+fn body_of(bytes: Text) -> Option<Text>
+    ensures { Exactly (λ body. IsBody body × (body ≡ bytes)) result }
+{
+    let all = bytes.bytes();
+    if all.len() > MAX_BODY_BYTES {
+        return None;
+    }
+    Some(bytes)
+}
+
 /// The bytes that the value spells in hexadecimal.
-fn hex_bytes(alloc: Global, value: &Value) -> Result<Option<Vec<u8>>, AllocError>
-    ensures { IfOk result (Exactly (λ bytes. SaysBytes bytes.items (view value.now))) }
+fn hex_bytes(alloc: Global, value: &Value) -> Result<Option<Text>, AllocError>
+    ensures { IfOk result (Exactly (λ bytes. SaysBytes bytes (view value.now))) }
 {
     let Some(text) = value.as_str() else {
         return Ok(None);
     };
     match hex::decode(alloc, text.as_bytes()) {
-        Ok(bytes) => Ok(Some(bytes)),
+        Ok(bytes) => Ok(Some(Text::new(bytes))),
         Err(FromHexError::OutOfMemory) => Err(AllocError),
         Err(_) => Ok(None),
     }
@@ -100,14 +120,21 @@ fn terms_in(alloc: Global, array: &Vec<Value>) -> Result<Option<Sequence<Term>>,
     Ok(Some(Sequence::new(found)))
 }
 
-/// The one term of a word.
+/// The one term of the word that the value is.
 fn term(alloc: Global, value: &Value) -> Result<Option<Term>, AllocError>
     ensures { IfOk result (Exactly (λ term. SaysTerm term (view value.now))) }
 {
     let Some(text) = value.as_str() else {
         return Ok(None);
     };
-    match single_term(alloc, text.as_bytes(), WordRule::Ascii) {
+    term_of(alloc, text.as_bytes())
+}
+
+/// The one term of a word.
+fn term_of(alloc: Global, word: &[u8]) -> Result<Option<Term>, AllocError>
+    ensures { IfOk result (Exactly (λ term. AreWords Ascii word.now (term ∷ []))) }
+{
+    match single_term(alloc, word, WordRule::Ascii) {
         Ok(term) => Ok(Some(term)),
         Err(WordFault::BadWord) => Ok(None),
         Err(WordFault::NoMemory) => Err(AllocError),
