@@ -1,10 +1,10 @@
 -- An event whose `do` names one kind is of no other.
-use Rattle.std.proofs.Common.{◌≡◌, ℕ, List, [], ◌∷◌, Option, Some, None, Result, IfOk, MatchOption, subst, Bool, true, false, true≢false, codes, unwrap_or, option_and_then, bytes_eq, refl, ap, sym, ◌∙◌}
+use Rattle.std.proofs.Common.{◌≡◌, ℕ, List, [], ◌∷◌, Option, Some, None, Result, IfOk, MatchOption, subst, false, true≢false, codes, unwrap_or, option_and_then, bytes_eq, refl, ap, sym, ◌∙◌}
 use Rattle.std.proofs.lemmas.Slice.Eq.{bytes_eq-Decides}
 use Rattle.serde_json.specs.Data.{Data, string}
 use Rattle.serde_json.specs.Find.{get, as_str}
 use Rattle.script_events.specs.declared.event.Event.{Event}
-use Rattle.script_events.specs.declared.event.Event.TheVariants.{Format, Ingest, Find, Lookup, Audit, Recover, Foreign, Crash}
+use Rattle.script_events.specs.declared.event.Event.TheVariants.{Format, Ingest, Find, Lookup, Foreign}
 use Rattle.script_events.specs.declared.event.Schedule.{Schedule}
 use Rattle.stored_documents.specs.Words.{AreWords}
 use Rattle.stored_documents.specs.declared.word_rules.WordRule.TheVariants.{Ascii}

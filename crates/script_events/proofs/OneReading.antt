@@ -1,5 +1,5 @@
 -- A value says one thing at most: one number, one moment, one plan, one event.
-use Rattle.std.proofs.Common.{◌≡◌, ℕ, zero, suc, List, [], ◌∷◌, Option, Some, None, Result, Ok, Err, MatchOption, codes, get_or, refl, ap, sym, ◌∙◌, subst}
+use Rattle.std.proofs.Common.{◌≡◌, ℕ, List, [], ◌∷◌, Option, Some, None, Result, Ok, MatchOption, codes, get_or, refl, ap, sym, ◌∙◌, subst}
 use Rattle.serde_json.specs.Data.{Data, number, string, unsigned, Items, no_items, item}
 use Rattle.serde_json.specs.Find.{get, as_array, as_str}
 use Rattle.stored_documents.specs.declared.word_rules.WordRule.TheVariants.{Ascii}
@@ -7,8 +7,8 @@ use Rattle.stored_documents.proofs.Words.{words_are_one}
 use Rattle.worm_memory.specs.declared.moment.Moment.{Moment}
 use Rattle.worm_memory.specs.declared.moment.Moment.TheVariants.{Step, Call}
 use Rattle.script_events.proofs.OneKind.{two_texts}
-use Rattle.script_events.specs.Grammar.{SaysBody, SaysBytes, SaysCell, SaysEvent, SaysIdentifier, SaysMoment, SaysPlan, SaysTerm, SaysTimed, kind_of_event, kind_name}
-use Rattle.script_events.specs.Json.{AreItems, HasArray, HasMember, IsArrayOf, IsNumberBelow, IsNumberIn, MayHaveMember}
+use Rattle.script_events.specs.Grammar.{SaysBody, SaysBytes, SaysCell, SaysEvent, SaysIdentifier, SaysMoment, SaysPlan, SaysTerm, SaysTimed}
+use Rattle.script_events.specs.Json.{AreItems, HasMember, IsArrayOf, IsNumberBelow, IsNumberIn, MayHaveMember}
 use Rattle.script_events.specs.declared.event.Event.{Event}
 use Rattle.script_events.specs.declared.event.Event.TheVariants.{Format, Ingest, Find, Lookup, Audit, Recover, Foreign, Crash}
 use Rattle.script_events.specs.declared.event.Schedule.{Schedule}

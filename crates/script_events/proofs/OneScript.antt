@@ -1,8 +1,7 @@
 -- A text is one script at most, and has one fault at most.
-use Rattle.std.proofs.Common.{◌≡◌, ℕ, zero, suc, List, [], ◌∷◌, Option, Some, None, codes, unwrap_or, option_and_then, refl, ap, sym, ◌∙◌, subst}
+use Rattle.std.proofs.Common.{◌≡◌, ℕ, zero, suc, List, [], ◌∷◌, codes, unwrap_or, refl, ap, sym, ◌∙◌, subst}
 use Rattle.serde_json.specs.Data.{Data, Items, no_items, item}
 use Rattle.serde_json.specs.Find.{get}
-use Rattle.serde_json.specs.Read.{read}
 use Rattle.script_events.proofs.OneReading.{both, event_one, items_one, number_one}
 use Rattle.script_events.specs.Grammar.{SaysEvent}
 use Rattle.script_events.specs.Json.{AreItems, IsFirstOther}
@@ -14,8 +13,7 @@ use Rattle.script_events.specs.declared.event.Script.{Script}
 frame_one : (text : List ℕ) (m n : ℕ) (ds es : Items) → IsFramed text m ds → IsFramed text n es → (m ≡ n) × (ds ≡ es)
 frame_one text m n ds es h k =
     let same : k.0 ≡ h.0 = ap (λ o. unwrap_or o h.0) (sym k.1.1 ∙ h.1.1) in
-    let other : SaysFrame n es h.0 = subst (SaysFrame n es) same k.2 in
-    (
+    let other : SaysFrame n es h.0 = subst (SaysFrame n es) same k.2 in (
       both (get (codes "cells") h.0) _ _ h.2.1 other.1 (λ e p q. number_one _ _ m n e p q),
       ap (λ o. unwrap_or o ds) (sym h.2.2 ∙ other.2),
     )

@@ -1,5 +1,5 @@
 -- What a text says is within the limits of scripts.
-use Rattle.std.proofs.Common.{◌≡◌, ◌<◌, ◌≤◌, ℕ, suc, List, [], ◌∷◌, Option, Some, None, MatchOption, All, codes, length, refl, ap, sym, ◌∙◌, subst, arith}
+use Rattle.std.proofs.Common.{◌≡◌, ◌≤◌, ℕ, suc, List, [], ◌∷◌, Option, Some, None, MatchOption, All, codes, length, refl, ap, sym, subst, arith}
 use Rattle.std.proofs.lemmas.List.Elements.{All-nil, All-cons}
 use Rattle.serde_json.specs.Data.{Data, Items, no_items, item}
 use Rattle.serde_json.specs.Events.{items_len}
@@ -7,15 +7,14 @@ use Rattle.serde_json.specs.Find.{get, as_array, as_str}
 use Rattle.cell_types.specs.declared.geometry.TheConstants.{MAX_LISTS, MAX_SLOTS}
 use Rattle.worm_memory.specs.declared.moment.Moment.{Moment}
 use Rattle.worm_memory.specs.declared.moment.Moment.TheVariants.{Step, Call}
-use Rattle.script_events.specs.Events.{IsEventOn, IsInLimits, IsPlanOn, IsScriptMoment, IsScriptStop, IsTermOfWord, IsTimedOn}
+use Rattle.script_events.specs.Events.{IsEventOn, IsPlanOn, IsScriptMoment, IsScriptStop, IsTermOfWord, IsTimedOn}
 use Rattle.script_events.specs.Grammar.{SaysEvent, SaysMoment, SaysPlan, SaysTerm, SaysTimed}
 use Rattle.script_events.specs.Json.{AreItems, IsArrayOf, MayHaveMember}
-use Rattle.script_events.specs.Scripts.{IsScript, ScriptsAreInLimits}
+use Rattle.script_events.specs.Scripts.{ScriptsAreInLimits}
 use Rattle.script_events.specs.declared.event.Event.{Event}
 use Rattle.script_events.specs.declared.event.Event.TheVariants.{Format, Ingest, Find, Lookup, Audit, Recover, Foreign, Crash}
 use Rattle.script_events.specs.declared.event.Schedule.{Schedule}
 use Rattle.script_events.specs.declared.event.Timed.{Timed}
-use Rattle.script_events.specs.declared.event.Script.{Script}
 use Rattle.script_events.specs.declared.limits.TheConstants.{MAX_SCRIPT_CELLS}
 
 -- what a member says
@@ -64,9 +63,9 @@ stop_so (Some moment) d h = member (get (codes "stop") d) _ h (moment_so moment)
 
 timed_so : (cells : ℕ) (timed : Timed) (d : Data) → SaysTimed cells timed d → IsTimedOn cells timed
 timed_so cells timed d h = (
-      member (get (codes "before") d) _ h.1 (moment_so timed.before),
-      member (get (codes "at") d) _ h.2 (λ e p. p.1),
-    )
+  member (get (codes "before") d) _ h.1 (moment_so timed.before),
+  member (get (codes "at") d) _ h.2 (λ e p. p.1),
+)
 
 plan_so : (cells : ℕ) (plan : Schedule) (d : Data) → SaysPlan cells plan d → IsPlanOn cells plan
 plan_so cells plan d h =
@@ -105,8 +104,8 @@ event_so cells (Crash keep) d h =
 pub scripts_are_in_limits : ScriptsAreInLimits
 scripts_are_in_limits text script h =
     let cells =
-        member {C = (1 ≤ script.cells) × (script.cells ≤ MAX_SCRIPT_CELLS)} (get (codes "cells") h.1.0) _ h.1.2.1
-        (λ e p. (p.1, p.2)) in
+    member {C = (1 ≤ script.cells) × (script.cells ≤ MAX_SCRIPT_CELLS)} (get (codes "cells") h.1.0) _ h.1.2.1
+    (λ e p. (p.1, p.2)) in
     record {
       some = cells.0;
       most = cells.1;

@@ -1,5 +1,5 @@
 -- The grammar of events: which JSON value is which event, on a device of so many cells.
-use Rattle.std.specs.Prelude.{◌≡◌, ◌≢◌, ◌^◌, ◌-◌, ℕ, List, [], ◌∷◌, codes, replicate, Option, Some, None, Ok, MatchOption, option_map, true}
+use Rattle.std.specs.Prelude.{◌≡◌, ◌≢◌, ◌^◌, ◌-◌, ℕ, List, [], ◌∷◌, codes, replicate, Some, None, Ok, MatchOption, option_map, true}
 use Rattle.hex.specs.Hex.{decode_of, decode_sized}
 use Rattle.serde_json.specs.Data.{Data, string}
 use Rattle.serde_json.specs.Find.{get, as_str}
@@ -68,8 +68,8 @@ abbrev pub SaysBody : List ℕ → Data → Type 0
 SaysBody body d =
     IsBody body
     × MatchOption (get (codes "body") d)
-      (HasMember (codes "hex") (SaysBytes body) d)
-      (λ e. (get (codes "hex") d ≡ None) × (e ≡ string body))
+    (HasMember (codes "hex") (SaysBytes body) d)
+    (λ e. (get (codes "hex") d ≡ None) × (e ≡ string body))
 
 -- the members of each kind of event
 abbrev pub SaysFormat : ℕ → ℕ → ℕ → Schedule → Data → Type 0

@@ -1,5 +1,5 @@
 -- Which text is which script, and where a text is none.
-use Rattle.std.specs.Prelude.{◌≡◌, ◌≤◌, ℕ, suc, zero, List, [], ◌∷◌, codes, Option, Some, Result, Ok, Err, option_and_then, ⊤, true}
+use Rattle.std.specs.Prelude.{◌≡◌, ◌≤◌, ℕ, suc, zero, List, [], ◌∷◌, codes, Some, Result, Ok, Err, option_and_then, ⊤, true}
 use Rattle.std.specs.Str.{IsUtf8}
 use Rattle.serde_json.specs.Data.{Data, Items}
 use Rattle.serde_json.specs.Events.{items_len}

@@ -58,11 +58,7 @@ fn fail(alloc: Global, value: &Value) -> Result<Option<Sequence<Moment>>, AllocE
 }
 
 /// What others write before which calls.
-fn foreign(
-    alloc: Global,
-    value: &Value,
-    cells: u32,
-) -> Result<Option<Sequence<Timed>>, AllocError>
+fn foreign(alloc: Global, value: &Value, cells: u32) -> Result<Option<Sequence<Timed>>, AllocError>
     ensures { IfOk result (Exactly (λ foreign. HasArray (codes "foreign") (SaysTimed cells) MAX_CALLED_FOR foreign
         (view value.now))) }
 {

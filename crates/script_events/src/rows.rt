@@ -55,7 +55,10 @@ pub(crate) fn ingest(
 ) -> Result<Option<(Text, Text, Schedule)>, AllocError>
     ensures { IfOk result (Exactly (λ said. SaysIngest cells said.0 said.1 said.2 (view value.now))) }
 {
-    if !has_only(value, &["do", "id", "body", "hex", "stop", "fail", "foreign"]) {
+    if !has_only(
+        value,
+        &["do", "id", "body", "hex", "stop", "fail", "foreign"],
+    ) {
         return Ok(None);
     }
     let Some(id) = value.get("id") else {

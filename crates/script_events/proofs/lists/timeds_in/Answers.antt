@@ -1,4 +1,4 @@
-use Rattle.std.proofs.Common.{sym, ◌^◌, ◌-◌}
+use Rattle.std.proofs.Common.{sym}
 use Rattle.script_events.specs.Grammar.{SaysTimed}
 use Rattle.script_events.proofs.OneByOne.{one_more, none_such}
 use Rattle.script_events.proofs.lists.timeds_in.Goals as goal

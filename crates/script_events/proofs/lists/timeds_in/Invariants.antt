@@ -1,4 +1,4 @@
-use Rattle.std.proofs.Common.{take, ◌^◌, ◌-◌}
+use Rattle.std.proofs.Common.{take}
 use Rattle.serde_json.specs.View.{items_view}
 use Rattle.script_events.specs.Grammar.{SaysTimed}
 use Rattle.script_events.specs.Json.{AreItems}

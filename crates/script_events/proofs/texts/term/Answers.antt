@@ -1,4 +1,4 @@
-use Rattle.std.proofs.Common.{◌≡◌, Some, ap, sym, ◌∙◌}
+use Rattle.std.proofs.Common.{Some, ap, sym, ◌∙◌}
 use Rattle.serde_json.specs.View.{view}
 use Rattle.script_events.proofs.OneKind.{term_said}
 use Rattle.script_events.proofs.texts.term.Goals as goal
