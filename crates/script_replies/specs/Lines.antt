@@ -16,7 +16,7 @@ use Rattle.script_replies.specs.declared.reply.Reply.TheVariants as reply
 -- the evidence of a tampering: rule, cell, and what stands there
 abbrev pub evidence_words : Evidence → List ℕ
 evidence_words e =
-    codes "tampered " ++ decimal e.rule ++ codes " " ++ decimal e.cell ++ codes " " ++ encode_lower e.found
+    codes "tampered " ++ (decimal e.rule ++ (codes " " ++ (decimal e.cell ++ (codes " " ++ encode_lower e.found))))
 
 -- why there is no answer
 abbrev pub refusal_words : Refusal → List ℕ
@@ -26,27 +26,27 @@ refusal_words refusal = codes "refused"
 -- the slots, each behind a space
 abbrev pub slots_words : List Match → List ℕ
 slots_words [] = []
-slots_words (m ∷ ms) = codes " " ++ decimal m.slot ++ slots_words ms
+slots_words (m ∷ ms) = codes " " ++ (decimal m.slot ++ slots_words ms)
 
 -- the slot and the length of a body
 abbrev pub body_words : ℕ → List ℕ → List ℕ
-body_words slot body = codes "slot " ++ decimal slot ++ codes ", " ++ decimal (length body) ++ codes " bytes"
+body_words slot body = codes "slot " ++ (decimal slot ++ (codes ", " ++ (decimal (length body) ++ codes " bytes")))
 
 -- the numbers of a sound volume
 abbrev pub report_words : AuditReport → List ℕ
 report_words r =
-    codes "sound: " ++ decimal r.done ++ codes " done, " ++ decimal r.abandoned ++ codes " abandoned, "
-    ++ decimal r.written ++ codes " written cells"
+    codes "sound: " ++ (decimal r.done ++ (codes " done, " ++ (decimal r.abandoned
+    ++ (codes " abandoned, " ++ (decimal r.written ++ codes " written cells")))))
 
 -- what settling did
 abbrev pub step_words : Step → List ℕ
 step_words Nothing = codes "nothing to settle"
-step_words (Abandoned slot) = codes "slot " ++ decimal slot ++ codes " abandoned"
-step_words (Completed slot) = codes "slot " ++ decimal slot ++ codes " completed"
+step_words (Abandoned slot) = codes "slot " ++ (decimal slot ++ codes " abandoned")
+step_words (Completed slot) = codes "slot " ++ (decimal slot ++ codes " completed")
 
 -- how many cells a crash could take, and how many it left
 abbrev pub crash_words : Crash → List ℕ
-crash_words crash = codes "kept " ++ decimal crash.kept ++ codes " of " ++ decimal crash.unsure
+crash_words crash = codes "kept " ++ (decimal crash.kept ++ (codes " of " ++ decimal crash.unsure))
 
 -- what any event is answered, in words
 abbrev pub reply_words : Reply → List ℕ
@@ -69,7 +69,7 @@ reply_status r = 0
 -- the line of the reply to the event of this number: the number, the status, the words
 abbrev pub reply_line : ℕ → Reply → List ℕ
 reply_line number r =
-    decimal number ++ codes " " ++ decimal (reply_status r) ++ codes " " ++ reply_words r ++ codes "\n"
+    decimal number ++ (codes " " ++ (decimal (reply_status r) ++ (codes " " ++ (reply_words r ++ codes "\n"))))
 
 -- a line for each reply, the first with this number
 abbrev pub lines_from : ℕ → List Reply → List ℕ
@@ -84,4 +84,5 @@ replies_text replies = lines_from 1 replies
 -- this says what the text of any is.
 abbrev pub OneLineEach : Type 0
 OneLineEach =
-    (replies : List Reply) (r : Reply) → replies_text (replies ++ r ∷ []) ≡ replies_text replies ++ reply_line (length replies + 1) r
+    (replies : List Reply) (r : Reply)
+    → replies_text (replies ++ r ∷ []) ≡ replies_text replies ++ reply_line (length replies + 1) r
