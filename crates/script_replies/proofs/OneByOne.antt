@@ -16,4 +16,4 @@ one_more number (q ∷ replies) r =
     ∙ ap (λ n. (reply_line number q ++ lines_from (number + 1) replies) ++ reply_line n r) next
 
 pub one_line_each : OneLineEach
-one_line_each replies r = one_more 1 replies r
+one_line_each = record { none = refl; more = one_more 1 }

@@ -80,9 +80,9 @@ lines_from number (r ∷ replies) = reply_line number r ++ lines_from (number + 
 abbrev pub replies_text : List Reply → List ℕ
 replies_text replies = lines_from 1 replies
 
--- One reply more is one line more, with the next number, behind what stood there. With the empty text of no replies
--- this says what the text of any is.
-abbrev pub OneLineEach : Type 0
-OneLineEach =
-    (replies : List Reply) (r : Reply)
-    → replies_text (replies ++ r ∷ []) ≡ replies_text replies ++ reply_line (length replies + 1) r
+-- No replies have no text; and one reply more is one line more, with the next number, behind what stood there. This
+-- says what the text of any replies is.
+pub record OneLineEach : Type 0 where
+  pub none : replies_text [] ≡ []
+  pub more : (replies : List Reply) (r : Reply)
+      → replies_text (replies ++ r ∷ []) ≡ replies_text replies ++ reply_line (length replies + 1) r
