@@ -41,17 +41,32 @@ pub enum Event {
         plan: Schedule,
     },
     /// Find the documents that have all of these terms.
-    Find { terms: Sequence<Term>, plan: Schedule },
+    Find {
+        terms: Sequence<Term>,
+        plan: Schedule,
+    },
     /// Look an identifier up.
-    Lookup { id: Text, plan: Schedule },
+    Lookup {
+        id: Text,
+        plan: Schedule,
+    },
     /// Audit the volume.
-    Audit { plan: Schedule },
+    Audit {
+        plan: Schedule,
+    },
     /// Settle the volume.
-    Recover { plan: Schedule },
+    Recover {
+        plan: Schedule,
+    },
     /// Somebody else writes a cell, between two commands.
-    Foreign { at: u32, cell: Cell },
+    Foreign {
+        at: u32,
+        cell: Cell,
+    },
     /// A crash takes each cell that is not sure and not kept.
-    Crash { keep: Sequence<u32> },
+    Crash {
+        keep: Sequence<u32>,
+    },
 }
 
 /// A device of so many cells, and what befalls it, in order.

@@ -1,4 +1,7 @@
 //! What an event is answered.
+ghost use Rattle.std.specs.Prelude.{◌≡◌};
+ghost use Rattle.script_replies.specs.Lines.{reply_status};
+
 use cell_types::{Cell, Refusal};
 use document_store::Text;
 use record_query::Match;
@@ -30,4 +33,16 @@ pub enum Reply {
     Crashed(Crash),
     /// The command gave no answer.
     Refused(Refusal),
+}
+
+impl Reply {
+    /// The status of the event: 0 for an answer, and for a refusal its own, 1 to 11.
+    pub fn status(&self) -> u8
+        ensures { result ≡ reply_status self.now }
+    {
+        match self {
+            Reply::Refused(refusal) => refusal.status(),
+            _ => 0,
+        }
+    }
 }
