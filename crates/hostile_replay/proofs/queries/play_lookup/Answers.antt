@@ -1,5 +1,5 @@
 -- What was looked up is what the sink holds, which held nothing before; or it was refused.
-use Rattle.std.proofs.Common.{◌≡◌, List, ℕ, [], Some, ap, ◌∙◌}
+use Rattle.std.proofs.Common.{Some, ap, ◌∙◌}
 use Rattle.host_ports.specs.Memories.{SinkMemory}
 use Rattle.worm_memory.specs.Device.{memory_of}
 use Rattle.hostile_replay.proofs.Playing.{looked, not_looked, whole_body}

@@ -1,5 +1,5 @@
 -- The events so far were answered in a world.
-use Rattle.std.proofs.Common.{◌≡◌, take}
+use Rattle.std.proofs.Common.{take}
 use Rattle.worm_memory.specs.Device.{memory_of}
 use Rattle.hostile_replay.proofs.Rows.{IsSoFar}
 use Rattle.hostile_replay.proofs.replaying.replay.Given as goal
