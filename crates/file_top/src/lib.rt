@@ -20,7 +20,7 @@ ghost use Rattle.std.specs.String.{string_bytes};
 ghost use Rattle.file_top.specs.Files.{KeepsAll, KeepsIn, WhereTold, file_ports};
 ghost use Rattle.host_files.specs.Crashes.{CrashesAreSeen};
 ghost use Rattle.host_files.specs.Over.{file_below, state_over};
-ghost use Rattle.record_top.specs.Begins.{BeginsSteady};
+ghost use Rattle.command_laws.specs.Begins.{BeginsSteady};
 ghost use Rattle.record_top.specs.Commands.{Asks, AsksNothing, Does, IsAnswered, IsUnhindered, Request};
 ghost use Rattle.record_top.specs.Ingesting.{AsksToIngest};
 ghost use Rattle.record_top.specs.Ports.{ports_of};

@@ -12,15 +12,12 @@ use Rattle.worm_device.specs.Calls.{Called}
 use Rattle.worm_device.specs.State.{IsDevice}
 use Rattle.worm_device.proofs.Counting.{rose_or_still}
 use Rattle.worm_device.proofs.Elapsing.{called_self}
-use Rattle.recovery_engine.specs.Settling.{IsSettlingRule, SettlesFirst}
 use Rattle.record_query.specs.Finding.{FindEnds, Searches}
 use Rattle.record_query.specs.declared.found.Match.{Match}
 use Rattle.record_top.specs.Finding.{AreTermsOf, DoesFind, IsFirstBadWord, IsReadyToFind, TermsEnd, found_text, misworded, searched, unread}
 use Rattle.record_top.specs.Ports.{Ports, IsOkOrNoMemory, TellsFromMemory}
-use Rattle.record_top.specs.WholeLogs.{HasWholeLog}
-use Rattle.record_top.proofs.Alarms.{query_alarms}
-use Rattle.record_top.proofs.Results.{other_refusal}
-use Rattle.record_top.proofs.WholeLogs.{settles_whole, settling_steady}
+use Rattle.command_laws.proofs.Results.{other_refusal}
+use Rattle.command_laws.proofs.Completing.{searches_whole}
 
 -- where the terms can't be read, nothing is done
 pub not_searched : (asked : List (List ℕ)) (ports : Ports) (refusal : Refusal) → TermsEnd asked (Err refusal)
@@ -60,31 +57,13 @@ module _ (asked : List (List ℕ)) (old new : Ports) where
 
 module _ (asked : List (List ℕ)) (g : Layout) (old new : Ports) (ready : IsReadyToFind asked g old new)
     (device : IsDevice old.device) (device_new : IsDevice new.device) where
-  settling : HasWholeLog IsSettlingRule g old.device new.device
-  settling = settling_steady ready.log
-
-  module _ (terms : List (List ℕ)) (called : Called old.device new.device) where
-    searches_whole : (refusal : Refusal) → SettlesFirst (Vec Match) old.device new.device (Err refusal)
-        → FindEnds terms old.device new.device (Err refusal) → IsOkOrNoMemory (Err refusal)
-    searches_whole refusals.NoMemory comes ends = tt
-    searches_whole refusals.DeviceFault comes ends = rose_or_still _ _ ends ready.log.no_fault
-    searches_whole (refusals.Tampered e) comes ends =
-        absurd (query_alarms old.device new.device device ready.log.tells ready.log.alone ready.log.is device_new comes e
-        refl (ends ready.log.tells))
-    searches_whole refusals.NotFormatted comes ends =
-        absurd (settles_whole settling called refusals.NotFormatted (λ e same. absurd cc) ends)
-    searches_whole (refusals.NotAVolume found) comes ends =
-        absurd (settles_whole settling called (refusals.NotAVolume found) (λ e same. absurd cc) ends)
-    searches_whole (refusals.WrongSize stated real) comes ends =
-        absurd (settles_whole settling called (refusals.WrongSize stated real) (λ e same. absurd cc) ends)
-    searches_whole refusal comes ends = absurd ends
-
   find_told : (terms : List (List ℕ)) (result : Result Unit Refusal) (answer : Result (Vec Match) Refusal)
       → Searches terms old.device new.device answer → TellsFromMemory found_text answer old new result → IsOkOrNoMemory result
   find_told terms (Ok u) answer searches tells = tt
   find_told terms (Err refusal) (Err refused) searches tells =
       subst (λ (r : Refusal). IsOkOrNoMemory (Err r)) (sym tells.0)
-      (searches_whole terms searches.called refused searches.comes searches.ends)
+      (subst (λ (r : Refusal). IsOkOrNoMemory (Err r)) (sym (searches_whole ready.log device device_new searches.called
+      terms refused searches.comes searches.ends)) tt)
   find_told terms (Err refusals.NoMemory) (Ok matches) searches tells = tt
   find_told terms (Err refusals.SinkFault) (Ok matches) searches tells =
       rose_or_still _ _ tells.faults ready.no_sink_fault

@@ -1,7 +1,5 @@
-pub mod Alarms
 pub mod Asking
 pub mod Audits
-pub mod ByBytes
 pub mod Completing
 pub mod Ending
 pub mod Finds
@@ -13,8 +11,6 @@ pub mod OneMore
 pub mod Options
 pub mod Pieces
 pub mod Reports
-pub mod Results
 pub mod Steadily
 pub mod Taken
 pub mod Terms
-pub mod WholeLogs

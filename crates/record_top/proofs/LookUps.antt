@@ -1,6 +1,6 @@
 -- How a look-up ends: over what every call of the device keeps, never with `Usage`, and where nothing hinders it with
 -- no refusal but that no document has the identifier.
-use Rattle.std.proofs.Common.{ℕ, List, Result, Ok, Err, refl, subst, sym}
+use Rattle.std.proofs.Common.{◌≡◌, ℕ, List, Result, Ok, Err, refl, subst, sym}
 use Rattle.cell_types.specs.Layout.{Layout}
 use Rattle.cell_types.specs.declared.refusal.Refusal.{Refusal}
 use Rattle.cell_types.specs.declared.refusal.Refusal.TheVariants as refusals
@@ -8,15 +8,12 @@ use Rattle.worm_device.specs.Calls.{Called}
 use Rattle.worm_device.specs.State.{IsDevice}
 use Rattle.worm_device.proofs.Counting.{rose_or_still}
 use Rattle.worm_device.proofs.Elapsing.{called_self}
-use Rattle.recovery_engine.specs.Settling.{IsSettlingRule, SettlesFirst}
 use Rattle.record_query.specs.LookingUp.{LookUpEnds, LooksUp}
 use Rattle.record_query.specs.declared.found.Found.{Found}
 use Rattle.record_top.specs.LookingUp.{Answers, DoesLookUp, IsReadyToLookUp, looked, misnamed}
 use Rattle.record_top.specs.Ports.{Ports, IsOkOrAbsent}
-use Rattle.record_top.specs.WholeLogs.{HasWholeLog}
-use Rattle.record_top.proofs.Alarms.{query_alarms}
-use Rattle.record_top.proofs.Results.{no_answer, one_refusal, other_refusal}
-use Rattle.record_top.proofs.WholeLogs.{settles_whole, settling_steady}
+use Rattle.command_laws.proofs.Results.{no_answer, one_refusal, other_refusal}
+use Rattle.command_laws.proofs.Completing.{looks_whole}
 
 module _ (id : List ℕ) (old new : Ports) where
   -- a look-up keeps what every call of the device keeps
@@ -40,31 +37,19 @@ module _ (id : List ℕ) (old new : Ports) where
 
 module _ (id : List ℕ) (g : Layout) (old new : Ports) (ready : IsReadyToLookUp id g old new) (device : IsDevice old.device)
     (device_new : IsDevice new.device) where
-  settling : HasWholeLog IsSettlingRule g old.device new.device
-  settling = settling_steady ready.log
-
-  module _ (called : Called old.device new.device) where
-    looks_whole : (refusal : Refusal) → SettlesFirst Found old.device new.device (Err refusal)
-        → LookUpEnds id old.device new.device old.sink new.sink (Err refusal) → IsOkOrAbsent (Err refusal)
-    looks_whole refusals.Absent comes ends = tt
-    looks_whole refusals.DeviceFault comes ends = rose_or_still _ _ ends.0 ready.log.no_fault
-    looks_whole refusals.SinkFault comes ends = rose_or_still _ _ ends.0 ready.no_sink_fault
-    looks_whole (refusals.Tampered e) comes ends =
-        absurd (query_alarms old.device new.device device ready.log.tells ready.log.alone ready.log.is device_new comes e
-        refl (ends.1 ready.log.tells).1)
-    looks_whole refusals.NotFormatted comes ends =
-        absurd (settles_whole settling called refusals.NotFormatted (λ e same. absurd cc) ends.1)
-    looks_whole (refusals.NotAVolume found) comes ends =
-        absurd (settles_whole settling called (refusals.NotAVolume found) (λ e same. absurd cc) ends.1)
-    looks_whole (refusals.WrongSize stated real) comes ends =
-        absurd (settles_whole settling called (refusals.WrongSize stated real) (λ e same. absurd cc) ends.1)
-    looks_whole refusal comes ends = absurd ends
+  -- the sink does not fail
+  no_sink_fault : (refusal : Refusal) → LookUpEnds id old.device new.device old.sink new.sink (Err refusal)
+      → refusal ≡ refusals.SinkFault → ⊥
+  no_sink_fault refusal ends same = rose_or_still _ _ (subst
+      (λ (r : Refusal). LookUpEnds id old.device new.device old.sink new.sink (Err r)) same ends).0 ready.no_sink_fault
 
   answered : (result : Result Unit Refusal) (answer : Result Found Refusal)
       → LooksUp id old.device new.device old.sink new.sink answer → Answers answer result → IsOkOrAbsent result
   answered result (Ok found) looks answers = subst IsOkOrAbsent (sym answers) tt
   answered result (Err refusal) looks answers =
-      subst IsOkOrAbsent (sym answers) (looks_whole looks.called refusal looks.comes looks.ends)
+      subst IsOkOrAbsent (sym answers)
+      (subst (λ (r : Refusal). IsOkOrAbsent (Err r)) (sym (looks_whole ready.log device device_new looks.called id old.sink
+      new.sink refusal looks.comes (no_sink_fault refusal looks.ends) looks.ends)) tt)
 
   -- the answer is Ok, or no document has the identifier
   pub look_up_completes : (result : Result Unit Refusal) → DoesLookUp id old new result → IsOkOrAbsent result

@@ -22,7 +22,7 @@ use Rattle.crash_laws.proofs.Kept.{refused_keeps}
 use Rattle.crash_laws.proofs.LeftByIngest.{nothing_done}
 use Rattle.crash_laws.proofs.Steady.{comes_steady}
 use Rattle.crash_laws.proofs.WellPlanned as planned
-use Rattle.record_top.specs.Begins.{BeginsSteady}
+use Rattle.command_laws.specs.Begins.{BeginsSteady}
 use Rattle.record_top.specs.Ingesting.{DoesIngest, HasRefused, HasStored, acknowledgement, misnamed, untaken, taken}
 use Rattle.record_top.specs.Ports.{Ports, Tells}
 use Rattle.record_top.specs.Steadiness.{AddsOne, IsExactlyTooMany}
@@ -30,7 +30,7 @@ use Rattle.record_top.specs.Taking.{refusal_of_body_fault}
 use Rattle.record_top.specs.declared.body.BodyFault.{BodyFault}
 use Rattle.record_top.specs.declared.body.BodyFault.TheVariants as faults
 use Rattle.record_top.proofs.Pieces.{gives_nothing}
-use Rattle.record_top.proofs.Results.{other_refusal}
+use Rattle.command_laws.proofs.Results.{other_refusal}
 
 -- the answer that refuses in this way
 abbrev refuses : Refusal → Result Unit Refusal

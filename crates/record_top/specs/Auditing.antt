@@ -7,7 +7,7 @@ use Rattle.worm_device.specs.Counts.{IsStill}
 use Rattle.volume_audit.specs.Audits.{Audits}
 use Rattle.volume_audit.specs.declared.report.AuditReport.{AuditReport}
 use Rattle.record_top.specs.Ports.{Ports, TellsFromMemory}
-use Rattle.record_top.specs.WholeLogs.{HasSteadyVolume}
+use Rattle.command_laws.specs.WholeLogs.{HasSteadyVolume}
 
 -- the word is `audit`
 abbrev pub AsksToAudit : List (List ℕ) → Type 0

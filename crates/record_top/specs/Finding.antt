@@ -11,7 +11,7 @@ use Rattle.worm_device.specs.Counts.{IsStill}
 use Rattle.record_query.specs.Finding.{Searches}
 use Rattle.record_query.specs.declared.found.Match.{Match}
 use Rattle.record_top.specs.Ports.{Ports, TellsFromMemory}
-use Rattle.record_top.specs.WholeLogs.{HasSteadyVolume}
+use Rattle.command_laws.specs.WholeLogs.{HasSteadyVolume}
 use Rattle.record_top.specs.Words.{IsNoOption}
 use Rattle.record_top.specs.declared.words.TheConstants.{MAX_QUERY_WORDS}
 

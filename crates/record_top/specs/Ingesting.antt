@@ -13,7 +13,7 @@ use Rattle.ingest_laws.specs.Needs.{IsNeed}
 use Rattle.worm_device.specs.Counts.{IsStill}
 use Rattle.identifier_lookup.specs.Walks.{IsPassedWhole}
 use Rattle.ingest_engine.specs.Ingesting.{Ingests}
-use Rattle.record_top.specs.Begins.{BeginsSteady}
+use Rattle.command_laws.specs.Begins.{BeginsSteady}
 use Rattle.record_top.specs.Ports.{Ports, KeepsSink, Tells}
 use Rattle.record_top.specs.Recovering.{slot_line}
 use Rattle.record_top.specs.Taking.{BodyFails, refusal_of_body_fault}

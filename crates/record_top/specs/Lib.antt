@@ -1,5 +1,4 @@
 pub mod Auditing
-pub mod Begins
 pub mod Commands
 pub mod Finding
 pub mod Formatting
@@ -9,5 +8,4 @@ pub mod Ports
 pub mod Recovering
 pub mod Steadiness
 pub mod Taking
-pub mod WholeLogs
 pub mod Words

@@ -8,7 +8,7 @@ use Rattle.worm_device.specs.Counts.{IsStill}
 use Rattle.record_query.specs.LookingUp.{LooksUp}
 use Rattle.record_query.specs.declared.found.Found.{Found}
 use Rattle.record_top.specs.Ports.{Ports}
-use Rattle.record_top.specs.WholeLogs.{HasSteadyVolume}
+use Rattle.command_laws.specs.WholeLogs.{HasSteadyVolume}
 use Rattle.record_top.specs.Words.{IsNoOption}
 
 -- the words are `lookup` and this one

@@ -12,7 +12,7 @@ use Rattle.recovery_engine.specs.declared.settling.Step.{Step}
 use Rattle.settling_laws.specs.Steadiness.{EndsAs}
 use Rattle.recovery_engine.specs.declared.settling.Step.TheVariants.{Nothing, Abandoned, Completed}
 use Rattle.record_top.specs.Ports.{Ports, Tells}
-use Rattle.record_top.specs.WholeLogs.{HasWholeLog}
+use Rattle.command_laws.specs.WholeLogs.{HasWholeLog}
 
 -- the word is `recover`
 abbrev pub AsksToRecover : List (List ℕ) → Type 0

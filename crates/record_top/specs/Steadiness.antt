@@ -1,23 +1,21 @@
 -- A command from a steady device on, where nobody else writes: what a crash leaves of it, at whichever moment; which
 -- documents stand behind it; and that a query tells of just those.
-use Rattle.std.specs.Prelude.{None, ◌≡◌, ◌<◌, ◌-◌, ℕ, List, [], length, Contains, Result, Ok, Err, ⊤}
+use Rattle.std.specs.Prelude.{None, ◌≡◌, ◌<◌, ◌-◌, ℕ, List, Contains, Result, Ok, Err, ⊤}
 use Rattle.cell_types.specs.Layout.{Layout}
 use Rattle.cell_types.specs.declared.refusal.Evidence.{Evidence}
 use Rattle.cell_types.specs.declared.refusal.Refusal.{Refusal}
 use Rattle.cell_types.specs.declared.refusal.Refusal.TheVariants.{Absent, Full, SinkFault, Tampered}
 use Rattle.host_ports.specs.Sources.{Gives}
-use Rattle.stored_documents.specs.Documents.{AreDocuments, Document}
+use Rattle.stored_documents.specs.Documents.{Document}
 use Rattle.stored_documents.specs.Slots.{IsEdge, IsHorizon}
 use Rattle.stored_documents.specs.Volumes.{IsVolume}
-use Rattle.stored_documents.specs.Words.{Matches}
-use Rattle.stored_documents.specs.declared.word_rules.WordRule.TheVariants.{Ascii}
-use Rattle.tamper_rules.specs.Settling.{Held, Settled, Sound}
+use Rattle.tamper_rules.specs.Settling.{Held, Sound}
 use Rattle.ingest_laws.specs.Needs.{IsNeed}
 use Rattle.worm_device.specs.State.{DeviceState}
 use Rattle.settling_laws.specs.Steadiness.{StaysSteady}
 use Rattle.crash_laws.specs.Steadiness.{HasOneMore, StaysSteadyBy}
-use Rattle.record_query.specs.Finding.{HasMatch, Rises}
 use Rattle.record_query.specs.declared.found.Match.{Match}
+use Rattle.command_laws.specs.Telling.{AreMatchesOf, IsFormatted}
 use Rattle.record_top.specs.Commands.{Request, ToAudit, ToFind, ToFormat, ToIngest, ToLookUp, ToRecover}
 use Rattle.record_top.specs.Ingesting.{HasRefused, HasStored, acknowledgement}
 use Rattle.record_top.specs.Finding.{AreTermsOf, find_text}
@@ -31,14 +29,6 @@ pub record AddsNone (old new : Ports) (result : Result Unit Refusal) : Type 0 wh
   pub keeps : (documents : List Document) → Held old.device.cells old.device.image documents
       → Held new.device.cells new.device.image documents
   pub no_alarm : (e : Evidence) → result ≡ Err (Tampered e) → ⊥
-
--- These are the matches of just those documents that have the terms, by rising slot.
-pub record AreMatchesOf (terms : List (List ℕ)) (documents : List Document) (matches : List Match) : Type 0 where
-  pub all : (d : Document) → Contains documents d → Matches Ascii d.body terms → HasMatch matches d.slot d.id d.body
-  pub only : (found : Match) → Contains matches found → (body : List ℕ)
-      × Contains documents (record { slot = found.slot; id = found.identifier; body = body })
-      × (found.bytes ≡ length body) × Matches Ascii body terms
-  pub rise : Rises 0 matches
 
 -- A find that is done has told of just those documents that the volume held at entry and that have the words.
 abbrev pub FindsHeld : List (List ℕ) → Ports → Ports → Result Unit Refusal → Type 0
@@ -59,12 +49,7 @@ LooksUpHeld id old new (Err Absent) =
     → (d : Document) → Contains documents d → d.id ≡ id → ⊥
 LooksUpHeld id old new (Err refusal) = ⊤
 
--- the device is a settled volume without documents
-pub record IsFormatted (s : DeviceState) : Type 0 where
-  pub settled : Settled s.cells s.image
-  pub none : AreDocuments s.cells s.image []
-
--- a format that is done leaves such a volume, also where it could not be told
+-- a format that is done leaves a settled volume without documents, also where it could not be told
 abbrev pub LeavesFormatted : Ports → Result Unit Refusal → Type 0
 LeavesFormatted new (Ok u) = IsFormatted new.device
 LeavesFormatted new (Err SinkFault) = IsFormatted new.device

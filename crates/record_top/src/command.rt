@@ -2,7 +2,7 @@
 ghost use Rattle.std.specs.Prelude.{◌≡◌, ◌↔◌, map};
 ghost use Rattle.std.specs.String.{string_bytes};
 ghost use Rattle.worm_device.specs.Calls.{Called};
-ghost use Rattle.record_top.specs.Begins.{BeginsSteady};
+ghost use Rattle.command_laws.specs.Begins.{BeginsSteady};
 ghost use Rattle.record_top.specs.Commands.{Asks, AsksNothing, Does, IsAnswered, IsAskedFor, IsUnhindered, Request, request_of};
 ghost use Rattle.record_top.specs.Ports.{ports_of};
 ghost use Rattle.record_top.specs.Steadiness.{LeavesWhole};

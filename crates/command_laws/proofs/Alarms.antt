@@ -10,7 +10,7 @@ use Rattle.commit_record.specs.Licences.{IsLicensed}
 use Rattle.recovery_engine.specs.Settling.{Settles, SettlesFirst, settled, settling}
 use Rattle.settling_laws.specs.Steadiness.{IsSteady}
 use Rattle.settling_laws.proofs.Alarms.{looked_unbroken, settling_named}
-use Rattle.record_top.proofs.Results.{one_refusal}
+use Rattle.command_laws.proofs.Results.{one_refusal}
 
 module _ (old new : DeviceState) (device : IsDevice old) (tells : IsTrue old.tells)
     (alone : IsStill old.foreign_writes new.foreign_writes) (steady : IsSteady old) where

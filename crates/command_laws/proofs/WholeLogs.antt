@@ -16,7 +16,7 @@ use Rattle.worm_device.proofs.Counting.{rose_or_still}
 use Rattle.commit_record.specs.Opening.{IsNoVolumeCell}
 use Rattle.recovery_engine.specs.Settling.{IsFound, IsSettlingRule, SettleEnds}
 use Rattle.settling_laws.specs.Steadiness.{IsSteady}
-use Rattle.record_top.specs.WholeLogs.{HasSteadyVolume, HasWholeLog, IsUntampered, steady, unbroken}
+use Rattle.command_laws.specs.WholeLogs.{HasSteadyVolume, HasWholeLog, IsUntampered, steady, unbroken}
 
 some_is : (a b : List ℕ) → Some a ≡ Some b → a ≡ b
 some_is a b e = cc

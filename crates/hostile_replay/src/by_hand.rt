@@ -1,0 +1,48 @@
+//! What others do between two commands, and crashes.
+ghost use Rattle.std.specs.Prelude.{◌≡◌, ◌≤◌, ◌<◌, IfOk};
+ghost use Rattle.worm_memory.specs.Device.{memory_of};
+ghost use Rattle.script_events.specs.declared.event.Event.TheVariants as event;
+ghost use Rattle.script_events.specs.declared.limits.TheConstants.{MAX_SCRIPT_CELLS};
+ghost use Rattle.replayed_worlds.specs.Turns.{CrashAnswers, Turns};
+ghost use Rattle.hostile_replay.specs.Sinks.{reply_of_foreign};
+
+use begun_commands::begin_by_hand;
+use cell_types::{Cell, NoMemory};
+use script_replies::Reply;
+use worm_device::Written;
+use worm_memory::MemoryDevice;
+
+/// Somebody else writes.
+pub fn play_foreign(at: u32, cell: Cell, device: &mut MemoryDevice) -> Result<Reply, NoMemory>
+    requires cells { (memory_of device.old).cells ≤ MAX_SCRIPT_CELLS }
+    requires inside { at < (memory_of device.old).cells }
+    ensures { IfOk result (λ r. Turns (event.Foreign at cell) r (memory_of device.old) (memory_of device.new)) }
+{
+    begin_by_hand(device)?;
+    let Ok(written) = device.foreign(at, cell) else {
+        return Err(NoMemory);
+    };
+    Ok(reply_of_foreign(written))
+}
+
+/// The reply to a foreign write.
+fn reply_of_foreign(written: Written) -> Reply
+    ensures { result ≡ reply_of_foreign written }
+{
+    match written {
+        Written::Done => Reply::ForeignDone,
+        Written::Taken(found) => Reply::ForeignTaken(found),
+    }
+}
+
+/// A crash.
+pub fn play_crash(keep: &[u32], device: &mut MemoryDevice) -> Result<Reply, NoMemory>
+    requires cells { (memory_of device.old).cells ≤ MAX_SCRIPT_CELLS }
+    ensures { IfOk result (λ r. CrashAnswers keep.now (memory_of device.old) (memory_of device.new) r) }
+{
+    begin_by_hand(device)?;
+    match device.crash(keep) {
+        Ok(crash) => Ok(Reply::Crashed(crash)),
+        Err(_) => Err(NoMemory),
+    }
+}

@@ -1,0 +1,92 @@
+//! Commands of a script, carried out on a device in memory: each is begun with the event's plan.
+ghost use Rattle.std.specs.Prelude.{◌≡◌, ◌≤◌, IfOk};
+ghost use Rattle.stored_documents.specs.Documents.{IsBody, IsIdentifier};
+ghost use Rattle.worm_memory.specs.Device.{memory_of};
+ghost use Rattle.script_events.specs.Events.{IsPlanOn};
+ghost use Rattle.script_events.specs.declared.event.Event.TheVariants as event;
+ghost use Rattle.script_events.specs.declared.limits.TheConstants.{MAX_SCRIPT_CELLS};
+ghost use Rattle.replayed_worlds.specs.Turns.{Turns};
+
+use begun_commands::begin_with;
+use cell_types::NoMemory;
+use document_store::Text;
+use ingest_engine::{format_volume, ingest};
+use recovery_engine::settle;
+use script_events::Schedule;
+use script_replies::Reply;
+use std::alloc::Global;
+use volume_audit::audit;
+use worm_memory::{MemoryDevice, a_plan_is_kept};
+
+/// Formats.
+pub fn play_format(
+    slots: u32,
+    lists: u16,
+    plan: &Schedule,
+    device: &mut MemoryDevice,
+) -> Result<Reply, NoMemory>
+    requires cells { (memory_of device.old).cells ≤ MAX_SCRIPT_CELLS }
+    requires inside { IsPlanOn (memory_of device.old).cells plan.now }
+    ensures { IfOk result (λ r. Turns (event.Format slots lists plan.now) r (memory_of device.old) (memory_of device.new)) }
+{
+    a_plan_is_kept();
+    begin_with(device, plan)?;
+    match format_volume(device, slots, lists) {
+        Ok(()) => Ok(Reply::Formatted),
+        Err(refusal) => Ok(Reply::Refused(refusal)),
+    }
+}
+
+/// Ingests.
+pub fn play_ingest(
+    alloc: Global,
+    id: &Text,
+    body: &Text,
+    plan: &Schedule,
+    device: &mut MemoryDevice,
+) -> Result<Reply, NoMemory>
+    requires cells { (memory_of device.old).cells ≤ MAX_SCRIPT_CELLS }
+    requires inside { IsPlanOn (memory_of device.old).cells plan.now }
+    requires identifier { IsIdentifier id.now }
+    requires body { IsBody body.now }
+    ensures { IfOk result (λ r. Turns (event.Ingest id.now body.now plan.now) r (memory_of device.old) (memory_of device.new)) }
+{
+    a_plan_is_kept();
+    begin_with(device, plan)?;
+    match ingest(alloc, device, id.bytes(), body.bytes()) {
+        Ok(slot) => Ok(Reply::Acknowledged(slot)),
+        Err(refusal) => Ok(Reply::Refused(refusal)),
+    }
+}
+
+/// Settles.
+pub fn play_recover(plan: &Schedule, device: &mut MemoryDevice) -> Result<Reply, NoMemory>
+    requires cells { (memory_of device.old).cells ≤ MAX_SCRIPT_CELLS }
+    requires inside { IsPlanOn (memory_of device.old).cells plan.now }
+    ensures { IfOk result (λ r. Turns (event.Recover plan.now) r (memory_of device.old) (memory_of device.new)) }
+{
+    a_plan_is_kept();
+    begin_with(device, plan)?;
+    match settle(device) {
+        Ok(ready) => Ok(Reply::Settled(ready.step)),
+        Err(refusal) => Ok(Reply::Refused(refusal)),
+    }
+}
+
+/// Audits.
+pub fn play_audit(
+    alloc: Global,
+    plan: &Schedule,
+    device: &mut MemoryDevice,
+) -> Result<Reply, NoMemory>
+    requires cells { (memory_of device.old).cells ≤ MAX_SCRIPT_CELLS }
+    requires inside { IsPlanOn (memory_of device.old).cells plan.now }
+    ensures { IfOk result (λ r. Turns (event.Audit plan.now) r (memory_of device.old) (memory_of device.new)) }
+{
+    a_plan_is_kept();
+    begin_with(device, plan)?;
+    match audit(alloc, device) {
+        Ok(report) => Ok(Reply::Sound(report)),
+        Err(refusal) => Ok(Reply::Refused(refusal)),
+    }
+}

@@ -1,0 +1,10 @@
+mod Along
+mod Complete
+mod Evident
+mod Exact
+mod HeldIngests
+mod LastDocuments
+mod OfWords
+mod Returned
+mod Standing
+mod Whole

@@ -1,0 +1,6 @@
+pub mod Completeness
+pub mod Headline
+pub mod Refusals
+pub mod Steadily
+pub mod Turns
+pub mod Worlds

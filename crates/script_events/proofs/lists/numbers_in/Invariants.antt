@@ -1,0 +1,8 @@
+use Rattle.std.proofs.Common.{take, ◌^◌, ◌-◌}
+use Rattle.serde_json.specs.View.{items_view}
+use Rattle.script_events.specs.Json.{AreItems, IsNumberIn}
+use Rattle.script_events.proofs.lists.numbers_in.Given as goal
+
+-- those found so far are the first items
+abbrev pub invariant-loop-value : goal.invariant-loop-value
+invariant-loop-value l = AreItems (IsNumberIn 0 (2 ^ 32 - 1)) l.found.items (items_view (take l.value-index l.value-items))

@@ -1,0 +1,4 @@
+pub mod Events
+pub mod Json
+pub mod Grammar
+pub mod Scripts

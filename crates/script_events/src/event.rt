@@ -1,0 +1,77 @@
+//! What a script asks for.
+use crate::Sequence;
+use cell_types::Cell;
+use document_store::Text;
+use word_reader::Term;
+use worm_memory::Moment;
+
+/// A foreign write, before the call that a moment names.
+#[derive(Clone, Copy, Debug, PartialEq, Eq)]
+pub struct Timed {
+    pub before: Moment,
+    pub at: u32,
+    pub cell: Cell,
+}
+
+/// What befalls the calls of one command.
+#[derive(Debug, Drop)]
+pub struct Schedule {
+    /// The moment after which each call fails.
+    pub stop: Option<Moment>,
+    /// The moments whose calls fail.
+    pub fail: Sequence<Moment>,
+    /// What others write before which calls, in order.
+    pub foreign: Sequence<Timed>,
+}
+
+/// One event of a script. All are of volumes of the first version: once a volume can be made in a later one, a version
+/// stands here beside the slots of `Format`, and a stamp beside the identifier of `Ingest`.
+#[derive(Debug, Drop)]
+pub enum Event {
+    /// Make the device a volume.
+    Format {
+        slots: u32,
+        lists: u16,
+        plan: Schedule,
+    },
+    /// Take a document in.
+    Ingest {
+        id: Text,
+        body: Text,
+        plan: Schedule,
+    },
+    /// Find the documents that have all of these terms.
+    Find {
+        terms: Sequence<Term>,
+        plan: Schedule,
+    },
+    /// Look an identifier up.
+    Lookup {
+        id: Text,
+        plan: Schedule,
+    },
+    /// Audit the volume.
+    Audit {
+        plan: Schedule,
+    },
+    /// Settle the volume.
+    Recover {
+        plan: Schedule,
+    },
+    /// Somebody else writes a cell, between two commands.
+    Foreign {
+        at: u32,
+        cell: Cell,
+    },
+    /// A crash takes each cell that is not sure and not kept.
+    Crash {
+        keep: Sequence<u32>,
+    },
+}
+
+/// A device of so many cells, and what befalls it, in order.
+#[derive(Debug, Drop)]
+pub struct Script {
+    pub cells: u32,
+    pub events: Sequence<Event>,
+}

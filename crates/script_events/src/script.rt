@@ -1,0 +1,97 @@
+//! A script, read from its text.
+ghost use Rattle.std.specs.Prelude.{◌≡◌, ◌≤◌, ◌⊎◌, ℕ, length, IfOk, IfErr, IfSome, IfNone};
+ghost use Rattle.serde_json.specs.Data.{Items};
+ghost use Rattle.serde_json.specs.View.{view, items_view};
+ghost use Rattle.cell_types.specs.declared.refusal.Refusal.TheVariants.{BadScript, NoMemory};
+ghost use Rattle.script_events.specs.Grammar.{SaysEvent};
+ghost use Rattle.script_events.specs.Json.{AreItems, IsFirstOther};
+ghost use Rattle.script_events.specs.Scripts.{ReadScriptEnds, SaysFrame};
+ghost use Rattle.script_events.specs.declared.limits.TheConstants.{MAX_EVENTS};
+
+use crate::event::{Event, Script};
+use crate::limits::{MAX_EVENTS, MAX_SCRIPT_CELLS};
+use crate::lists::count;
+use crate::members::has_only;
+use crate::reader::event;
+use crate::sequence::Sequence;
+use crate::values::number;
+use cell_types::Refusal;
+use serde_json::Value;
+use std::alloc::Global;
+
+/// Reads a script.
+pub fn read_script(alloc: Global, text: &[u8]) -> Result<Script, Refusal>
+    ensures { ReadScriptEnds text.now result }
+{
+    let Ok(text) = std::str::from_utf8(text) else {
+        return Err(Refusal::BadScript(0));
+    };
+    let value = match Value::from_str(alloc, text) {
+        Ok(value) => value,
+        Err(error) => {
+            if error.is_memory() {
+                return Err(Refusal::NoMemory);
+            }
+            return Err(Refusal::BadScript(0));
+        }
+    };
+    let Some((cells, array)) = frame(&value) else {
+        return Err(Refusal::BadScript(0));
+    };
+    match events(alloc, array, cells) {
+        Ok(events) => Ok(Script { cells, events }),
+        Err(refusal) => Err(refusal),
+    }
+}
+
+/// The cells of a script, and what stands in the places of its events.
+fn frame(value: &Value) -> Option<(u32, &Vec<Value>)>
+    ensures some { IfSome result (λ said. SaysFrame said.0 (items_view said.1.now.items) (view value.now)) }
+    ensures few { IfSome result (λ said. length said.1.now.items ≤ MAX_EVENTS) }
+    ensures none { IfNone result ((cells : ℕ) (items : Items) → SaysFrame cells items (view value.now) → ⊥) }
+{
+    if !has_only(value, &["cells", "events"]) {
+        return None;
+    }
+    let Some(cells) = value.get("cells") else {
+        return None;
+    };
+    let Some(cells) = number(cells, 1, MAX_SCRIPT_CELLS) else {
+        return None;
+    };
+    let Some(events) = value.get("events") else {
+        return None;
+    };
+    let Some(array) = events.as_array() else {
+        return None;
+    };
+    if count(array) > MAX_EVENTS {
+        return None;
+    }
+    Some((cells, array))
+}
+
+/// The events that these are, or the number of the first that is none.
+fn events(alloc: Global, array: &Vec<Value>, cells: u32) -> Result<Sequence<Event>, Refusal>
+    requires { length array.now.items ≤ MAX_EVENTS }
+    ensures found { IfOk result (λ found. AreItems (SaysEvent cells) found (items_view array.now.items)) }
+    ensures other { IfErr result (λ refusal. (refusal ≡ NoMemory)
+        ⊎ ((i : ℕ) × (refusal ≡ BadScript i) × (1 ≤ i)
+        × IsFirstOther (SaysEvent cells) i (items_view array.now.items))) }
+{
+    let mut found = Vec::new(alloc);
+    let mut passed = 0;
+    for value in array {
+        let Ok(next) = event(alloc, value, cells) else {
+            return Err(Refusal::NoMemory);
+        };
+        let Some(next) = next else {
+            return Err(Refusal::BadScript(passed + 1));
+        };
+        let Ok(()) = found.push(next) else {
+            return Err(Refusal::NoMemory);
+        };
+        passed += 1;
+    }
+    Ok(Sequence::new(found))
+}
