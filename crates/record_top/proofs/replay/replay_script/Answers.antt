@@ -8,6 +8,10 @@ use Rattle.record_top.specs.Replaying.{replayed, unread, untaken}
 use Rattle.record_top.specs.Taking.{refusal_of_body_fault}
 use Rattle.record_top.proofs.replay.replay_script.Goals as goal
 
+-- what was read is within the limits
+pub lines_of-requires : goal.lines_of-requires
+lines_of-requires g c = c.scripts_are_in_limits.ensures _ c.in_ok-script.script c.in_ok-script.ensures
+
 -- no text was taken
 pub returns-in_err-text : goal.returns-in_err-text
 returns-in_err-text g c =
