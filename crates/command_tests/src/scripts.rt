@@ -8,7 +8,8 @@ use test_volumes::outcome_of;
 use worm_memory::MemoryDevice;
 
 /// A volume of 8 slots and 2 lists that has the document `a`, on 1,000 cells.
-const STORED: &str = "{'do': 'format', 'slots': 8, 'lists': 2}, {'do': 'ingest', 'id': 'a', 'body': 'hello world'}";
+const STORED: &str =
+    "{'do': 'format', 'slots': 8, 'lists': 2}, {'do': 'ingest', 'id': 'a', 'body': 'hello world'}";
 
 /// The JSON text that stands here with single quotes.
 fn json(alloc: Global, text: &str) -> Result<Vec<u8>, Fail> {
@@ -112,9 +113,11 @@ fn what_befalls_an_ingest_is_told(rt: HostRuntime) -> Result<(), Fail> {
 fn each_step_of_an_ingest_fails_in_turn(rt: HostRuntime) -> Result<(), Fail> {
     let alloc = rt.alloc();
     for step in 1..17 {
-        let events = format!(in alloc; "{{'do': 'format', 'slots': 8, 'lists': 2}},
+        let events = format!(in alloc;
+            "{{'do': 'format', 'slots': 8, 'lists': 2}},
  {{'do': 'ingest', 'id': 'a', 'body': 'hello world', 'fail': [{{'step': {step}}}]}},
- {{'do': 'find', 'words': ['hello']}}")?;
+ {{'do': 'find', 'words': ['hello']}}"
+        )?;
         let found = if step < 10 { "found" } else { "found 0" };
         let expected = format!(in alloc; "1 0 formatted\n2 5 refused\n3 0 {found}\n")?;
         let lines = lines_of(alloc, 1_000, events.as_str())?;
@@ -129,7 +132,10 @@ fn a_text_that_is_no_script_is_refused(rt: HostRuntime) -> Result<(), Fail> {
     for (text, event) in [
         ("{", 0),
         ("", 0),
-        ("{'cells': 9, 'events': [{'do': 'audit'}, {'do': 'audit'}, {'do': 'fly'}]}", 3),
+        (
+            "{'cells': 9, 'events': [{'do': 'audit'}, {'do': 'audit'}, {'do': 'fly'}]}",
+            3,
+        ),
     ] {
         let (outcome, put) = replay(alloc, text)?;
         assert_eq!(rt; outcome, Err(Refusal::BadScript(event)));
