@@ -5,7 +5,9 @@ use Rattle.cell_types.specs.Layout.{Layout}
 use Rattle.cell_types.specs.declared.refusal.Refusal.{Refusal}
 use Rattle.cell_types.specs.declared.refusal.Refusal.TheVariants as refusals
 use Rattle.host_ports.specs.Sources.{Gives, IsAtEnd}
+use Rattle.stored_documents.specs.Documents.{IsBody}
 use Rattle.worm_device.specs.Calls.{Called}
+use Rattle.worm_device.specs.Counts.{IsStill}
 use Rattle.worm_device.specs.State.{IsDevice}
 use Rattle.worm_device.proofs.Counting.{rose_or_still}
 use Rattle.recovery_engine.specs.Settling.{Settles}
@@ -34,13 +36,24 @@ gives_within left body given new e gives = within new (subst (λ (l : Option (Li
     within (Some rest) h = omega (arith, ap length h, length-append given rest)
 
 -- and at its end it has given all
-gives_all : (left : Option (List ℕ)) (body given : List ℕ) (new : Option (List ℕ)) → left ≡ Some body
+pub gives_all : (left : Option (List ℕ)) (body given : List ℕ) (new : Option (List ℕ)) → left ≡ Some body
     → Gives left new given → IsAtEnd new → given ≡ body
 gives_all left body given new e gives end = all new (subst (λ (l : Option (List ℕ)). Gives l new given) e gives) end
   where
     all : (new : Option (List ℕ)) → Gives (Some body) new given → IsAtEnd new → given ≡ body
     all None h at_end = absurd h
     all (Some rest) h at_end = sym (append-nil given) ∙ ap (λ (r : List ℕ). given ++ r) (sym at_end) ∙ sym h
+
+module _ (body : List ℕ) (old new : Ports) (holds : old.source.left ≡ Some body) (is_body : IsBody body)
+    (no_fault : IsStill old.source.faults new.source.faults) where
+  -- a source that holds a body, and none of whose calls fails, gives it
+  pub body_taken : (given : List ℕ) (fault : BodyFault) → Gives old.source.left new.source.left given
+      → BodyFails given old.source new.source fault → IsOkOrNoMemory (Err (refusal_of_body_fault fault))
+  body_taken given faults.TooLong gives fails =
+      let within = gives_within old.source.left body given new.source.left holds gives in
+      omega (arith, within, is_body.most, fails)
+  body_taken given faults.SourceFailed gives fails = rose_or_still _ _ fails.1 no_fault
+  body_taken given faults.NoMemory gives fails = tt
 
 module _ (g : Layout) (old new : Ports) (ready : IsReadyToRecover g old new) (device : IsDevice old.device) where
   -- the answer is Ok, since no memory is taken
@@ -80,14 +93,6 @@ module _ {id body : List ℕ} {g : Layout} {slot : ℕ} {old new : Ports} (ready
   ends_told (Err refusals.SinkFault) (Ok n) called ends tells = rose_or_still _ _ tells.faults ready.no_sink_fault
   ends_told (Err refusal) (Ok n) called ends tells = absurd tells
 
-  body_taken : (given : List ℕ) (fault : BodyFault) → Gives old.source.left new.source.left given
-      → BodyFails given old.source new.source fault → IsOkOrNoMemory (Err (refusal_of_body_fault fault))
-  body_taken given faults.TooLong gives fails =
-      let within = gives_within old.source.left body given new.source.left ready.source gives in
-      omega (arith, within, ready.is_body.most, fails)
-  body_taken given faults.SourceFailed gives fails = rose_or_still _ _ fails.1 ready.no_source_fault
-  body_taken given faults.NoMemory gives fails = tt
-
 module _ (id body : List ℕ) (g : Layout) (slot : ℕ) (old new : Ports)
     (ready : IsReadyToIngest id body g slot old new) (device : IsDevice old.device) (device_new : IsDevice new.device)
   where
@@ -95,7 +100,7 @@ module _ (id body : List ℕ) (g : Layout) (slot : ℕ) (old new : Ports)
     pub ingest_completes : (result : Result Unit Refusal) → DoesIngest id old new result → IsOkOrNoMemory result
     ingest_completes result (misnamed bad is same) = absurd (bad ready.identifier)
     ingest_completes result (untaken given fault name gives fails is same keeps) =
-        subst IsOkOrNoMemory (sym is) (body_taken ready device device_new given fault gives fails)
+        subst IsOkOrNoMemory (sym is) (body_taken body old new ready.source ready.is_body ready.no_source_fault given fault gives fails)
     ingest_completes result (taken given answer name is gives end ingests tells) =
         let all = gives_all old.source.left body given new.source.left ready.source gives end in
         ends_told ready device device_new result answer ingests.called

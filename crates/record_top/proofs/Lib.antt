@@ -10,6 +10,7 @@ pub mod MatchLines
 pub mod OneMore
 pub mod Options
 pub mod Pieces
+pub mod Replays
 pub mod Reports
 pub mod Steadily
 pub mod Taken

@@ -19,15 +19,17 @@ use Rattle.volume_audit.specs.Audits.{SettlesThenAudits}
 use Rattle.volume_audit.specs.declared.report.AuditReport.{AuditReport}
 use Rattle.volume_audit.proofs.Comes.{licensed, settles_first}
 use Rattle.record_top.specs.Auditing.{DoesAudit, report_text}
-use Rattle.record_top.specs.Commands.{Does, Request, ToAudit, ToFind, ToFormat, ToIngest, ToLookUp, ToRecover, layout_on}
+use Rattle.record_top.specs.Commands.{Does, Request, ToAudit, ToFind, ToFormat, ToIngest, ToLookUp, ToRecover, ToReplay, layout_on}
 use Rattle.record_top.specs.Finding.{DoesFind, found_text, misworded, searched, unread}
 use Rattle.record_top.specs.Formatting.{DoesFormat, FormatCommandEnds}
 use Rattle.record_top.specs.LookingUp.{Answers, DoesLookUp, looked, misnamed}
+use Rattle.record_top.specs.Replaying.{DoesReplay}
 use Rattle.record_top.specs.Ports.{Ports, Tells, TellsFromMemory}
 use Rattle.record_top.specs.Recovering.{DoesRecover, recovered}
 use Rattle.command_laws.proofs.Alarms.{query_alarms, settling_alarms}
 use Rattle.record_top.proofs.HeldAnswers.{find_held, look_up_held}
 use Rattle.record_top.proofs.OneMore.{ingest_adds}
+use Rattle.record_top.proofs.Replays.{replay_keeps, replay_names_none}
 use Rattle.command_laws.proofs.Results.{no_answer, one_refusal, other_refusal}
 use Rattle.command_laws.specs.Begins.{BeginsSteady}
 use Rattle.record_top.specs.Steadiness.{AddsNone, LeavesFormatted, LeavesWhole}
@@ -147,6 +149,14 @@ module _ (old new : Ports) (device : IsDevice old.device) (device_new : IsDevice
       told (Err refused) comes e tells = query_names (settles_first comes) e (ap Err (sym tells.0))
           (licensed e (subst (λ (r : Refusal). SettlesThenAudits old.device new.device (Err r)) (sym tells.0) comes) begins.tells)
 
+  replay_adds : (result : Result Unit Refusal) → DoesReplay old new result → AddsNone old new result
+  replay_adds result does =
+      let same = replay_keeps old new result does in
+      leaves_none (record {
+        stays = unused_steady old.device new.device device begins.steady same;
+        keeps = held_unmoved same;
+      }) (λ e is. replay_names_none old new e (subst (DoesReplay old new) is does))
+
   -- whatever was asked for
   pub leaves_whole : (request : Request) (result : Result Unit Refusal) → Does request old new result
       → LeavesWhole request old new result
@@ -161,3 +171,4 @@ module _ (old new : Ports) (device : IsDevice old.device) (device_new : IsDevice
       (look_up_adds id result does, look_up_held old new device device_new begins id result does)
   leaves_whole ToRecover result does = recover_adds result does
   leaves_whole ToAudit result does = audit_adds result does
+  leaves_whole ToReplay result does = replay_adds result does

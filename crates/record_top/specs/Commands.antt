@@ -4,6 +4,7 @@ use Rattle.std.specs.Prelude.{ℕ, List, Result, map}
 use Rattle.std.specs.String.{string_bytes}
 use Rattle.cell_types.specs.Layout.{Layout}
 use Rattle.cell_types.specs.declared.refusal.Refusal.{Refusal}
+use Rattle.script_events.specs.declared.event.Script.{Script}
 use Rattle.record_top.specs.Auditing.{AsksToAudit, DoesAudit, IsReadyToAudit}
 use Rattle.record_top.specs.Finding.{AsksToFind, DoesFind, IsReadyToFind}
 use Rattle.record_top.specs.Formatting.{AsksToFormat, DoesFormat, IsReadyToFormat}
@@ -11,8 +12,9 @@ use Rattle.record_top.specs.Ingesting.{AsksToIngest, DoesIngest, IsReadyToIngest
 use Rattle.record_top.specs.LookingUp.{AsksToLookUp, DoesLookUp, IsReadyToLookUp}
 use Rattle.record_top.specs.Ports.{IsOkAlone, IsOkOrAbsent, IsOkOrNoMemory, Ports}
 use Rattle.record_top.specs.Recovering.{AsksToRecover, DoesRecover, IsReadyToRecover}
+use Rattle.record_top.specs.Replaying.{AsksToReplay, DoesReplay, IsReadyToReplay}
 use Rattle.record_top.specs.declared.words.Command.{Command}
-use Rattle.record_top.specs.declared.words.Command.TheVariants.{Audit, Find, Format, Ingest, LookUp, Recover}
+use Rattle.record_top.specs.declared.words.Command.TheVariants.{Audit, Find, Format, Ingest, LookUp, Recover, Replay}
 
 -- what may be asked for, with what is given
 pub data Request : Type 0 where
@@ -22,6 +24,7 @@ pub data Request : Type 0 where
   ToLookUp : (id : List ℕ) → Request
   ToRecover : Request
   ToAudit : Request
+  ToReplay : Request
 
 -- the request that a command stands for
 abbrev pub request_of : Command → Request
@@ -31,6 +34,7 @@ request_of (Find asked) = ToFind (map string_bytes asked.now)
 request_of (LookUp id) = ToLookUp id.now
 request_of Recover = ToRecover
 request_of Audit = ToAudit
+request_of Replay = ToReplay
 
 -- the words ask for this
 abbrev pub Asks : List (List ℕ) → Request → Type 0
@@ -40,6 +44,7 @@ Asks words (ToFind asked) = AsksToFind words asked
 Asks words (ToLookUp id) = AsksToLookUp words id
 Asks words ToRecover = AsksToRecover words
 Asks words ToAudit = AsksToAudit words
+Asks words ToReplay = AsksToReplay words
 
 -- the words ask for nothing
 abbrev pub AsksNothing : List (List ℕ) → Type 0
@@ -61,6 +66,7 @@ Does (ToFind asked) old new result = DoesFind asked old new result
 Does (ToLookUp id) old new result = DoesLookUp id old new result
 Does ToRecover old new result = DoesRecover old new result
 Does ToAudit old new result = DoesAudit old new result
+Does ToReplay old new result = DoesReplay old new result
 
 -- nothing hinders this
 abbrev pub IsUnhindered : Request → Ports → Ports → Type 0
@@ -71,6 +77,7 @@ IsUnhindered (ToFind asked) old new = (g : Layout) × IsReadyToFind asked g old 
 IsUnhindered (ToLookUp id) old new = (g : Layout) × IsReadyToLookUp id g old new
 IsUnhindered ToRecover old new = (g : Layout) × IsReadyToRecover g old new
 IsUnhindered ToAudit old new = (g : Layout) × IsReadyToAudit g old new
+IsUnhindered ToReplay old new = (text : List ℕ) × (script : Script) × IsReadyToReplay text script old new
 
 -- What is answered where nothing hinders this: it is done; or, where memory is taken, none was to be had; or, where a
 -- document is looked up, none has the identifier.
@@ -81,3 +88,4 @@ IsAnswered (ToFind asked) result = IsOkOrNoMemory result
 IsAnswered (ToLookUp id) result = IsOkOrAbsent result
 IsAnswered ToRecover result = IsOkAlone result
 IsAnswered ToAudit result = IsOkOrNoMemory result
+IsAnswered ToReplay result = IsOkOrNoMemory result

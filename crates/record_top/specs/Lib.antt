@@ -6,6 +6,7 @@ pub mod Ingesting
 pub mod LookingUp
 pub mod Ports
 pub mod Recovering
+pub mod Replaying
 pub mod Steadiness
 pub mod Taking
 pub mod Words

@@ -16,7 +16,7 @@ use Rattle.settling_laws.specs.Steadiness.{StaysSteady}
 use Rattle.crash_laws.specs.Steadiness.{HasOneMore, StaysSteadyBy}
 use Rattle.record_query.specs.declared.found.Match.{Match}
 use Rattle.command_laws.specs.Telling.{AreMatchesOf, IsFormatted}
-use Rattle.record_top.specs.Commands.{Request, ToAudit, ToFind, ToFormat, ToIngest, ToLookUp, ToRecover}
+use Rattle.record_top.specs.Commands.{Request, ToAudit, ToFind, ToFormat, ToIngest, ToLookUp, ToRecover, ToReplay}
 use Rattle.record_top.specs.Ingesting.{HasRefused, HasStored, acknowledgement}
 use Rattle.record_top.specs.Finding.{AreTermsOf, find_text}
 use Rattle.record_top.specs.Ports.{Ports, PutsOut, Tells}
@@ -93,3 +93,4 @@ LeavesWhole (ToFind asked) old new result = AddsNone old new result × FindsHeld
 LeavesWhole (ToLookUp id) old new result = AddsNone old new result × LooksUpHeld id old new result
 LeavesWhole ToRecover old new result = AddsNone old new result
 LeavesWhole ToAudit old new result = AddsNone old new result
+LeavesWhole ToReplay old new result = AddsNone old new result

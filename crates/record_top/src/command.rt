@@ -13,6 +13,7 @@ use crate::format::format_device;
 use crate::ingest::ingest_body;
 use crate::lookup::look_up_document;
 use crate::recover::recover_device;
+use crate::replay::replay_script;
 use crate::words::{Command, command_of};
 use cell_types::Refusal;
 use host_ports::{Sink, Source};
@@ -81,5 +82,6 @@ fn carry_out<D: Device, S: Source, K: Sink>(
         Command::LookUp { id } => look_up_document(id, device, source, sink),
         Command::Recover => recover_device(device, source, sink),
         Command::Audit => audit_volume(alloc, device, source, sink),
+        Command::Replay => replay_script(alloc, device, source, sink),
     }
 }

@@ -10,6 +10,9 @@
 //!     recover         settles the volume                                           nothing to settle
 //!     audit           checks each rule at each written cell      sound: 1 done, 0 abandoned, 11 written cells
 //!
+//! A `replay` leaves the device alone. It takes a script from the source, replays its events on a device in memory of its
+//! own, and puts out a line for each.
+//!
 //! A `find` makes its text before the first byte goes out, and a `lookup` checks the document whole before that.
 //! Whatever keeps a command from being done is a refusal that names its cause. And where nobody else writes, whatever a
 //! crash leaves of any of these, at any moment, from a blank device on, is blank or sound: settling makes a settled
@@ -20,7 +23,7 @@
 //! own there and here, and one arm in `command.rt`.
 //!
 //! Stands on `ingest_engine` and `recovery_engine`, which write, on `record_query`, which searches and looks up, on
-//! `volume_audit`, on `settling_laws` and `crash_laws`, and on `host_ports`. Begin with `command.rt`; specs/Commands.antt says which
+//! `volume_audit`, on `script_events`, `script_replies` and `hostile_replay`, on `command_laws`, and on `host_ports`. Begin with `command.rt`; specs/Commands.antt says which
 //! commands there are, and leads to what each does; specs/Steadiness.antt says what a crash leaves of it, and which
 //! documents stand behind it.
 #![tactic(auto)]
@@ -33,6 +36,7 @@ mod format;
 mod ingest;
 mod lookup;
 mod recover;
+mod replay;
 mod text;
 mod words;
 

@@ -8,6 +8,7 @@ ghost use Rattle.record_top.specs.Formatting.{AsksToFormat};
 ghost use Rattle.record_top.specs.Ingesting.{AsksToIngest};
 ghost use Rattle.record_top.specs.LookingUp.{AsksToLookUp};
 ghost use Rattle.record_top.specs.Recovering.{AsksToRecover};
+ghost use Rattle.record_top.specs.Replaying.{AsksToReplay};
 ghost use Rattle.record_top.specs.Words.{IsNoOption, IsNumberUpTo};
 
 use cell_types::{MAX_LISTS, MAX_SLOTS};
@@ -33,6 +34,8 @@ pub enum Command<'a> {
     Recover,
     /// Say whether the volume keeps its rules.
     Audit,
+    /// Replay a script on a device in memory.
+    Replay,
 }
 
 /// The command that the words ask for.
@@ -55,7 +58,10 @@ pub fn command_of(words: &[String]) -> Option<Command<'_>>
     if let Some(command) = recover_of(words) {
         return Some(command);
     }
-    audit_of(words)
+    if let Some(command) = audit_of(words) {
+        return Some(command);
+    }
+    replay_of(words)
 }
 
 /// The command `format`, where the words are this and two numbers in range.
@@ -155,6 +161,20 @@ fn audit_of(words: &[String]) -> Option<Command<'_>>
         return None;
     }
     Some(Command::Audit)
+}
+
+/// The command `replay`, where the words are this alone.
+fn replay_of(words: &[String]) -> Option<Command<'_>>
+    ensures some { IfSome result (λ command. Asks (map string_bytes words.now) (request_of command)) }
+    ensures none { IfNone result (AsksToReplay (map string_bytes words.now) → ⊥) }
+{
+    let [command] = words else {
+        return None;
+    };
+    if command.as_str() != "replay" {
+        return None;
+    }
+    Some(Command::Replay)
 }
 
 /// The number that the word stands for, where it is 1 to 10 digits and the number from 1 to the most.
