@@ -3,8 +3,8 @@ ghost use Rattle.std.specs.Prelude.{◌≡◌, ◌<◌, Some, IsTrue, IfOk, IfSo
 ghost use Rattle.worm_device.specs.Calls.{Called};
 ghost use Rattle.worm_device.specs.Views.{Viewed};
 
-use read_cache::{Cached, CellCache};
 use cell_types::{Cell, Refusal};
+use read_cache::{Cached, CellCache};
 use std::alloc::Global;
 use worm_device::{Device, Direct, Failed, View};
 

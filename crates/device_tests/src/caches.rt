@@ -1,6 +1,6 @@
 //! Reads of a device in memory by way of kept cells: what they answer, and how many of them the device gets.
-use read_cache::{Cached, CellCache};
 use cell_types::Cell;
+use read_cache::{Cached, CellCache};
 use std::alloc::Global;
 use std::test::Fail;
 use worm_device::{Device, Direct, View};

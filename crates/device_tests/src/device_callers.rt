@@ -5,8 +5,8 @@ ghost use Rattle.worm_device.specs.Calls.{Called};
 ghost use Rattle.worm_device.specs.Counts.{Rose, IsStill};
 ghost use Rattle.worm_device.specs.Views.{Viewed, ViewState};
 
-use worm_device::{Device, Direct, Failed, Overlay, PlannedCells, View, Written};
 use cell_types::Cell;
+use worm_device::{Device, Direct, Failed, Overlay, PlannedCells, View, Written};
 
 /// Writes two cells and syncs. Answers whether both were blank.
 fn write_two<D: Device>(device: &mut D, first: Cell, second: Cell) -> Result<bool, Failed>
@@ -78,7 +78,7 @@ struct Counted<V> {
 }
 
 impl<V> Counted<V> {
-    ghost use Rattle.worm_device.specs.declared.callers.Counted.{Counted};
+    ghost use Rattle.device_tests.specs.declared.device_callers.Counted.{Counted};
 
     fn new(view: V) -> Counted<V>
         ensures { result ≡ record { view = view; asked = 0 } }

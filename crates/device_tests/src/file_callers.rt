@@ -3,8 +3,8 @@ ghost use Rattle.std.specs.Prelude.{◌≡◌, ◌<◌, Some, IsErr, IfOk, IsTru
 ghost use Rattle.worm_device.specs.Counts.{Rose};
 ghost use Rattle.host_files.specs.Over.{state_over};
 
-use host_files::{FileDevice, MemoryFile};
 use cell_types::Cell;
+use host_files::{FileDevice, MemoryFile};
 use worm_device::{Device, Failed, Written};
 
 /// Writes a cell, and makes it sure.

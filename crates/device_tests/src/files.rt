@@ -1,8 +1,8 @@
 //! Devices over a file of the host, over files in memory whose calls fail, and over one that writes down its calls.
 ghost use Rattle.std.specs.Prelude.{◌<◌};
 
-use host_files::{FileDevice, Hold, HostFile, Leaving, MemoryFile, OpenFault, OsFile, Pages};
 use cell_types::Cell;
+use host_files::{FileDevice, Hold, HostFile, Leaving, MemoryFile, OpenFault, OsFile, Pages};
 use std::alloc::{AllocError, Global};
 use std::fs::{Metadata, OpenFile};
 use std::io::ErrorKind;

@@ -2,12 +2,12 @@
 use crate::memory::Action::{
     Begin, FailAt, Foreign, ForeignBefore, Lose, Read, Reserve, StopAfter, Sync, Write,
 };
-use worm_memory::{Change, Crash, Mark, MemoryDevice, Moment};
 use cell_types::{Cell, NoMemory};
 use std::alloc::Global;
 use std::process::Abort;
 use std::test::Fail;
 use worm_device::{Device, Direct, Failed, RowWritten, View, Written};
+use worm_memory::{Change, Crash, Mark, MemoryDevice, Moment};
 
 /// What is done to a device.
 #[derive(Clone, Copy)]

@@ -7,9 +7,9 @@ ghost use Rattle.worm_memory.specs.Device.{memory_of, room_of, state_of, Foreign
 ghost use Rattle.worm_memory.specs.Memory.{KeepsPlan};
 ghost use Rattle.worm_memory.specs.Plans.{no_plan};
 
-use worm_memory::{MemoryDevice, Moment};
 use cell_types::{Cell, NoMemory};
 use worm_device::{Device, Failed, Written};
+use worm_memory::{MemoryDevice, Moment};
 
 /// Writes two cells and syncs. Answers whether both were blank.
 fn write_two<D: Device>(device: &mut D, first: Cell, second: Cell) -> Result<bool, Failed>
