@@ -3,7 +3,8 @@ ghost use Rattle.std.specs.Prelude.{◌≡◌, ◌≤◌, ◌<◌, IfOk};
 ghost use Rattle.worm_memory.specs.Device.{memory_of};
 ghost use Rattle.script_events.specs.declared.event.Event.TheVariants as event;
 ghost use Rattle.script_events.specs.declared.limits.TheConstants.{MAX_SCRIPT_CELLS};
-ghost use Rattle.replayed_worlds.specs.Turns.{CrashAnswers, Turns};
+ghost use Rattle.replayed_worlds.specs.Turns.{CrashAnswers};
+ghost use Rattle.hostile_replay.specs.Plays.{Plays};
 ghost use Rattle.hostile_replay.specs.Sinks.{reply_of_foreign};
 
 use begun_commands::begin_by_hand;
@@ -16,7 +17,7 @@ use worm_memory::MemoryDevice;
 pub fn play_foreign(at: u32, cell: Cell, device: &mut MemoryDevice) -> Result<Reply, NoMemory>
     requires cells { (memory_of device.old).cells ≤ MAX_SCRIPT_CELLS }
     requires inside { at < (memory_of device.old).cells }
-    ensures { IfOk result (λ r. Turns (event.Foreign at cell) r (memory_of device.old) (memory_of device.new)) }
+    ensures { Plays (event.Foreign at cell) device.old device.new result }
 {
     begin_by_hand(device)?;
     let Ok(written) = device.foreign(at, cell) else {

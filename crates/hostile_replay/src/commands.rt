@@ -5,7 +5,7 @@ ghost use Rattle.worm_memory.specs.Device.{memory_of};
 ghost use Rattle.script_events.specs.Events.{IsPlanOn};
 ghost use Rattle.script_events.specs.declared.event.Event.TheVariants as event;
 ghost use Rattle.script_events.specs.declared.limits.TheConstants.{MAX_SCRIPT_CELLS};
-ghost use Rattle.replayed_worlds.specs.Turns.{Turns};
+ghost use Rattle.hostile_replay.specs.Plays.{Plays};
 
 use begun_commands::begin_with;
 use cell_types::NoMemory;
@@ -27,7 +27,7 @@ pub fn play_format(
 ) -> Result<Reply, NoMemory>
     requires cells { (memory_of device.old).cells ≤ MAX_SCRIPT_CELLS }
     requires inside { IsPlanOn (memory_of device.old).cells plan.now }
-    ensures { IfOk result (λ r. Turns (event.Format slots lists plan.now) r (memory_of device.old) (memory_of device.new)) }
+    ensures { Plays (event.Format slots lists plan.now) device.old device.new result }
 {
     a_plan_is_kept();
     begin_with(device, plan)?;
@@ -49,7 +49,7 @@ pub fn play_ingest(
     requires inside { IsPlanOn (memory_of device.old).cells plan.now }
     requires identifier { IsIdentifier id.now }
     requires body { IsBody body.now }
-    ensures { IfOk result (λ r. Turns (event.Ingest id.now body.now plan.now) r (memory_of device.old) (memory_of device.new)) }
+    ensures { Plays (event.Ingest id.now body.now plan.now) device.old device.new result }
 {
     a_plan_is_kept();
     begin_with(device, plan)?;
@@ -63,7 +63,7 @@ pub fn play_ingest(
 pub fn play_recover(plan: &Schedule, device: &mut MemoryDevice) -> Result<Reply, NoMemory>
     requires cells { (memory_of device.old).cells ≤ MAX_SCRIPT_CELLS }
     requires inside { IsPlanOn (memory_of device.old).cells plan.now }
-    ensures { IfOk result (λ r. Turns (event.Recover plan.now) r (memory_of device.old) (memory_of device.new)) }
+    ensures { Plays (event.Recover plan.now) device.old device.new result }
 {
     a_plan_is_kept();
     begin_with(device, plan)?;
@@ -81,7 +81,7 @@ pub fn play_audit(
 ) -> Result<Reply, NoMemory>
     requires cells { (memory_of device.old).cells ≤ MAX_SCRIPT_CELLS }
     requires inside { IsPlanOn (memory_of device.old).cells plan.now }
-    ensures { IfOk result (λ r. Turns (event.Audit plan.now) r (memory_of device.old) (memory_of device.new)) }
+    ensures { Plays (event.Audit plan.now) device.old device.new result }
 {
     a_plan_is_kept();
     begin_with(device, plan)?;

@@ -4,7 +4,7 @@ ghost use Rattle.worm_memory.specs.Device.{memory_of};
 ghost use Rattle.script_events.specs.Events.{IsPlanOn};
 ghost use Rattle.script_events.specs.declared.event.Event.TheVariants as event;
 ghost use Rattle.script_events.specs.declared.limits.TheConstants.{MAX_SCRIPT_CELLS};
-ghost use Rattle.replayed_worlds.specs.Turns.{Turns};
+ghost use Rattle.hostile_replay.specs.Plays.{Plays};
 ghost use Rattle.hostile_replay.specs.Sinks.{without_sink};
 
 use begun_commands::begin_with;
@@ -31,7 +31,7 @@ pub fn play_find(
     requires cells { (memory_of device.old).cells ≤ MAX_SCRIPT_CELLS }
     requires inside { IsPlanOn (memory_of device.old).cells plan.now }
     requires some { 1 ≤ length terms.now }
-    ensures { IfOk result (λ r. Turns (event.Find terms.now plan.now) r (memory_of device.old) (memory_of device.new)) }
+    ensures { Plays (event.Find terms.now plan.now) device.old device.new result }
 {
     a_plan_is_kept();
     begin_with(device, plan)?;
@@ -50,7 +50,7 @@ pub fn play_lookup(
 ) -> Result<Reply, NoMemory>
     requires cells { (memory_of device.old).cells ≤ MAX_SCRIPT_CELLS }
     requires inside { IsPlanOn (memory_of device.old).cells plan.now }
-    ensures { IfOk result (λ r. Turns (event.Lookup id.now plan.now) r (memory_of device.old) (memory_of device.new)) }
+    ensures { Plays (event.Lookup id.now plan.now) device.old device.new result }
 {
     a_plan_is_kept();
     begin_with(device, plan)?;

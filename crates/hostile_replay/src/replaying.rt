@@ -4,8 +4,8 @@ ghost use Rattle.worm_device.specs.State.{IsDevice};
 ghost use Rattle.worm_memory.specs.Device.{memory_of};
 ghost use Rattle.script_events.specs.Events.{AreEventsOn, IsEventOn};
 ghost use Rattle.script_events.specs.declared.limits.TheConstants.{MAX_SCRIPT_CELLS};
-ghost use Rattle.replayed_worlds.specs.Turns.{Turns};
 ghost use Rattle.replayed_worlds.specs.Worlds.{IsWorld};
+ghost use Rattle.hostile_replay.specs.Plays.{Plays};
 
 use crate::by_hand::{play_crash, play_foreign};
 use crate::commands::{play_audit, play_format, play_ingest, play_recover};
@@ -17,7 +17,8 @@ use std::alloc::Global;
 use worm_device::Device;
 use worm_memory::MemoryDevice;
 
-/// Replays the events in order, and answers each. The replies are those of a world, which begins with the device as it was.
+/// Replays the events in order, and answers each. The replies are those of a world, which begins with the device as it
+/// was.
 pub fn replay(
     alloc: Global,
     events: &[Event],
@@ -25,7 +26,8 @@ pub fn replay(
 ) -> Result<Vec<Reply>, NoMemory>
     requires cells { (memory_of device.old).cells ≤ MAX_SCRIPT_CELLS }
     requires events { AreEventsOn (memory_of device.old).cells events.now }
-    ensures { IfOk result (λ replies. IsWorld events.now replies.items (memory_of device.old) (memory_of device.new)) }
+    ensures { IfOk result (λ replies.
+        IsWorld events.now replies.items (memory_of device.old) (memory_of device.new)) }
 {
     let mut replies = Vec::new(alloc);
     for event in events {
@@ -49,7 +51,7 @@ fn is_device<D: Device>(device: &D)
 fn play(alloc: Global, event: &Event, device: &mut MemoryDevice) -> Result<Reply, NoMemory>
     requires cells { (memory_of device.old).cells ≤ MAX_SCRIPT_CELLS }
     requires event { IsEventOn (memory_of device.old).cells event.now }
-    ensures { IfOk result (λ r. Turns event.now r (memory_of device.old) (memory_of device.new)) }
+    ensures { Plays event.now device.old device.new result }
 {
     match event {
         Event::Format { slots, lists, plan } => play_format(*slots, *lists, plan, device),
