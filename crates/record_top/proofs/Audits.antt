@@ -1,6 +1,5 @@
 -- How an audit ends: never with `Usage`, and where nothing hinders it with no refusal but want of memory.
-use Rattle.std.proofs.Common.{◌≡◌, Result, Ok, Err, refl, subst, sym, ap}
-use Rattle.std.specs.Prelude.{IsTrue}
+use Rattle.std.proofs.Common.{Result, Ok, Err, subst, sym}
 use Rattle.cell_types.specs.Layout.{Layout}
 use Rattle.cell_types.specs.declared.refusal.Refusal.{Refusal}
 use Rattle.cell_types.specs.declared.refusal.Refusal.TheVariants as refusals

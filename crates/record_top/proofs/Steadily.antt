@@ -5,7 +5,7 @@ use Rattle.cell_types.specs.Layout.{Layout}
 use Rattle.cell_types.specs.declared.refusal.Evidence.{Evidence}
 use Rattle.cell_types.specs.declared.refusal.Refusal.{Refusal}
 use Rattle.cell_types.specs.declared.refusal.Refusal.TheVariants as refusals
-use Rattle.worm_device.specs.State.{DeviceState, IsDevice}
+use Rattle.worm_device.specs.State.{IsDevice}
 use Rattle.recovery_engine.specs.Settling.{Settles, SettlesFirst}
 use Rattle.recovery_engine.specs.declared.settling.Ready.{Ready}
 use Rattle.settling_laws.proofs.LeftWhole.{held_unmoved}

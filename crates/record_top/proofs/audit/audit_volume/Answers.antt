@@ -1,5 +1,5 @@
 -- Each exit, by how far the command came.
-use Rattle.std.proofs.Common.{Err, List, Ok, ap, refl, subst, ◌∙◌, ℕ}
+use Rattle.std.proofs.Common.{Err, List, Ok, refl, subst, ◌∙◌, ℕ}
 use Rattle.cell_types.specs.declared.refusal.Refusal.TheVariants.{NoMemory, SinkFault}
 use Rattle.cell_types.proofs.Passed.{handed}
 use Rattle.host_ports.specs.Sinks.{Gets, PutsPart}

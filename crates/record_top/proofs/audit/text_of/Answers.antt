@@ -1,5 +1,5 @@
 -- Four pieces, one behind the other.
-use Rattle.std.proofs.Common.{◌≡◌, ◌++◌, ◌∙◌, ℕ, List, [], ap}
+use Rattle.std.proofs.Common.{◌++◌, ◌∙◌, ℕ, List, ap}
 use Rattle.std.specs.Prelude.{codes}
 use Rattle.record_top.specs.Auditing.{count_text}
 use Rattle.record_top.proofs.Reports.{joined}

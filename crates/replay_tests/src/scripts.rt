@@ -1,0 +1,85 @@
+//! Scripts, and the lines that they print.
+ghost use Rattle.std.specs.Prelude.{◌≡◌, ◌≤◌, IfOk};
+ghost use Rattle.script_events.specs.Events.{IsInLimits};
+
+use cell_types::Refusal;
+use hostile_replay::{Script, read_script, replay};
+use script_events::scripts_are_in_limits;
+use script_replies::text_of_replies;
+use std::alloc::Global;
+use std::test::Fail;
+use worm_memory::MemoryDevice;
+
+/// The script of a text.
+fn script_of(alloc: Global, text: &str) -> Result<Script, Refusal>
+    ensures { IfOk result IsInLimits }
+{
+    scripts_are_in_limits();
+    read_script(alloc, text.as_bytes())
+}
+
+/// The lines that a script prints.
+fn printed(alloc: Global, text: &str) -> Result<String, Fail> {
+    let script = script_of(alloc, text)?;
+    let mut device = MemoryDevice::new(alloc, script.cells)?;
+    let replies = replay(alloc, script.events.as_slice(), &mut device)?;
+    Ok(text_of_replies(alloc, replies.as_slice())?)
+}
+
+/// An ingest is cut short before the third cell of its index; a crash leaves the second. Recovery completes the slot.
+#[test]
+fn a_cut_ingest_is_completed(rt: HostRuntime) -> Result<(), Fail> {
+    let script = "{\"cells\": 1000, \"events\": [
+        {\"do\": \"format\", \"slots\": 8, \"lists\": 2},
+        {\"do\": \"ingest\", \"id\": \"a\", \"body\": \"hello world\", \"stop\": {\"step\": 12}},
+        {\"do\": \"crash\", \"keep\": [37]},
+        {\"do\": \"recover\"},
+        {\"do\": \"find\", \"words\": [\"hello\"]}]}";
+    let lines = "1 0 formatted\n2 5 refused\n3 0 kept 1 of 2\n4 0 slot 0 completed\n5 0 found 0\n";
+    assert!(rt; printed(rt.alloc(), script)?.as_str() == lines);
+    Ok(())
+}
+
+/// Recovery is cut short, too, after it has written the three cells of the index; a crash leaves the bucket alone.
+#[test]
+fn a_cut_recovery_is_completed(rt: HostRuntime) -> Result<(), Fail> {
+    let script = "{\"cells\": 1000, \"events\": [
+        {\"do\": \"format\", \"slots\": 8, \"lists\": 2},
+        {\"do\": \"ingest\", \"id\": \"a\", \"body\": \"hello world\", \"stop\": {\"step\": 12}},
+        {\"do\": \"crash\", \"keep\": []},
+        {\"do\": \"recover\", \"stop\": {\"step\": 4}},
+        {\"do\": \"crash\", \"keep\": [560]},
+        {\"do\": \"recover\"},
+        {\"do\": \"find\", \"words\": [\"hello\"]}]}";
+    let lines = "1 0 formatted\n2 5 refused\n3 0 kept 0 of 2\n4 5 refused\n5 0 kept 1 of 3\n6 0 slot 0 completed\n7 0 found 0\n";
+    assert!(rt; printed(rt.alloc(), script)?.as_str() == lines);
+    Ok(())
+}
+
+/// What somebody else writes into a written cell changes nothing; an identifier that no document has is refused.
+#[test]
+fn a_written_cell_stays(rt: HostRuntime) -> Result<(), Fail> {
+    let script = "{\"cells\": 1000, \"events\": [
+        {\"do\": \"format\", \"slots\": 8, \"lists\": 2},
+        {\"do\": \"ingest\", \"id\": \"a\", \"body\": \"hello world\"},
+        {\"do\": \"foreign\", \"at\": 36, \"cell\": \"06ffffffffffffffffffffffffffffff\"},
+        {\"do\": \"lookup\", \"id\": \"a\"},
+        {\"do\": \"lookup\", \"id\": \"b\"},
+        {\"do\": \"audit\"}]}";
+    let lines = "1 0 formatted\n2 0 acknowledged 0\n3 0 taken 0600000000012cf24dba5fb000000024\n4 0 slot 0, 11 bytes\n5 10 refused\n6 0 sound: 1 done, 0 abandoned, 11 written cells\n";
+    assert!(rt; printed(rt.alloc(), script)?.as_str() == lines);
+    Ok(())
+}
+
+/// Somebody else writes an abandon cell before the ingest's commit cell: it is named, and the document is absent.
+#[test]
+fn a_foreign_outcome_is_named(rt: HostRuntime) -> Result<(), Fail> {
+    let script = "{\"cells\": 1000, \"events\": [
+        {\"do\": \"format\", \"slots\": 8, \"lists\": 2},
+        {\"do\": \"ingest\", \"id\": \"a\", \"body\": \"hello world\", \"foreign\": [
+            {\"before\": {\"step\": 9}, \"at\": 5, \"cell\": \"04000000000000000000000000000005\"}]},
+        {\"do\": \"find\", \"words\": [\"hello\"]}]}";
+    let lines = "1 0 formatted\n2 4 tampered 2 5 04000000000000000000000000000005\n3 0 found\n";
+    assert!(rt; printed(rt.alloc(), script)?.as_str() == lines);
+    Ok(())
+}
