@@ -3,7 +3,7 @@
 //! They run `record_top::run` over devices in memory, by `test_volumes`, whose decoder reads what stands afterwards
 //! and shares nothing with the crates. `commands` has each command with its answers; `rows` an ingest with its index,
 //! cell by cell; `sweeps` all cuts of an ingest and of `recover`, with crashes that keep each subset of what was not
-//! sure; `journals` a slot whose journal was written by hand; and `scripts` what the program replays.
+//! sure; and `journals` a slot whose journal was written by hand.
 #![tactic(auto)]
 
 #[cfg(test)]
@@ -12,7 +12,5 @@ mod commands;
 mod journals;
 #[cfg(test)]
 mod rows;
-#[cfg(test)]
-mod scripts;
 #[cfg(test)]
 mod sweeps;
