@@ -3,8 +3,8 @@
 //! They run `record_top::run` over devices in memory, by `test_volumes`, whose decoder reads what stands afterwards
 //! and shares nothing with the crates. `commands` has each command with its answers; `rows` an ingest with its index,
 //! cell by cell; `sweeps` all cuts of an ingest and of `recover`, with crashes that keep each subset of what was not
-//! sure; `faults` each failed call of an ingest, of `recover` and of a find, with an audit behind it; `journals` a slot
-//! whose journal was written by hand; and `scripts` what the program replays.
+//! sure; `faults` each failed call of an ingest, of `recover` and of a find, with an audit behind it; and `journals` a
+//! slot whose journal was written by hand.
 #![tactic(auto)]
 
 #[cfg(test)]
@@ -15,7 +15,5 @@ mod faults;
 mod journals;
 #[cfg(test)]
 mod rows;
-#[cfg(test)]
-mod scripts;
 #[cfg(test)]
 mod sweeps;

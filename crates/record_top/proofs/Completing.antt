@@ -100,7 +100,8 @@ module _ (id body : List ℕ) (g : Layout) (slot : ℕ) (old new : Ports)
     pub ingest_completes : (result : Result Unit Refusal) → DoesIngest id old new result → IsOkOrNoMemory result
     ingest_completes result (misnamed bad is same) = absurd (bad ready.identifier)
     ingest_completes result (untaken given fault name gives fails is same keeps) =
-        subst IsOkOrNoMemory (sym is) (body_taken body old new ready.source ready.is_body ready.no_source_fault given fault gives fails)
+        subst IsOkOrNoMemory (sym is)
+        (body_taken body old new ready.source ready.is_body ready.no_source_fault given fault gives fails)
     ingest_completes result (taken given answer name is gives end ingests tells) =
         let all = gives_all old.source.left body given new.source.left ready.source gives end in
         ends_told ready device device_new result answer ingests.called

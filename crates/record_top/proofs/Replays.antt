@@ -16,7 +16,7 @@ use Rattle.script_replies.specs.Lines.{replies_text}
 use Rattle.script_replies.specs.declared.reply.Reply.{Reply}
 use Rattle.record_top.specs.Ports.{IsOkOrNoMemory, Ports, TellsFromMemory}
 use Rattle.record_top.specs.Replaying.{DoesReplay, IsReadyToReplay, ReplayEnds, replayed, unread, untaken}
-use Rattle.record_top.specs.Taking.{BodyFails, refusal_of_body_fault}
+use Rattle.record_top.specs.Taking.{refusal_of_body_fault}
 use Rattle.record_top.specs.declared.body.BodyFault.{BodyFault}
 use Rattle.record_top.specs.declared.body.BodyFault.TheVariants as faults
 use Rattle.record_top.proofs.Completing.{body_taken, gives_all}
@@ -29,7 +29,8 @@ module _ (old new : Ports) where
   replay_keeps result (replayed text script answer is gives end are ends same tells) = same
 
   pub replay_called : (result : Result Unit Refusal) → DoesReplay old new result → Called old.device new.device
-  replay_called result does = subst (λ (d : DeviceState). Called old.device d) (sym (replay_keeps result does)) (called_self old.device)
+  replay_called result does =
+      subst (λ (d : DeviceState). Called old.device d) (sym (replay_keeps result does)) (called_self old.device)
 
   no_fault : (other : Refusal) (fault : BodyFault) → refusal_of_body_fault fault ≡ other
       → (refusals.TooLong ≡ other → ⊥) → (refusals.SourceFault ≡ other → ⊥) → (refusals.NoMemory ≡ other → ⊥) → ⊥
@@ -49,10 +50,12 @@ module _ (old new : Ports) where
   -- it never ends with `Usage`
   pub replay_is_used : DoesReplay old new (Err refusals.Usage) → ⊥
   replay_is_used (untaken given fault gives fails is same keeps) =
-      no_fault refusals.Usage fault (sym (one_refusal (Err refusals.Usage) refusals.Usage (refusal_of_body_fault fault) refl is))
+      no_fault refusals.Usage fault
+      (sym (one_refusal (Err refusals.Usage) refusals.Usage (refusal_of_body_fault fault) refl is))
       (λ e. absurd cc) (λ e. absurd cc) (λ e. absurd cc)
   replay_is_used (unread text refusal is gives end ends named same keeps) =
-      subst (λ (r : Refusal). ReadScriptEnds text (Err r)) (sym (one_refusal (Err refusals.Usage) refusals.Usage refusal refl named)) ends
+      subst (λ (r : Refusal). ReadScriptEnds text (Err r))
+      (sym (one_refusal (Err refusals.Usage) refusals.Usage refusal refl named)) ends
   replay_is_used (replayed text script answer is gives end are ends same tells) =
       told_is answer script refusals.Usage ends tells (λ e. absurd cc) (λ e. absurd cc)
 

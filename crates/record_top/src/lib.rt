@@ -23,9 +23,9 @@
 //! own there and here, and one arm in `command.rt`.
 //!
 //! Stands on `ingest_engine` and `recovery_engine`, which write, on `record_query`, which searches and looks up, on
-//! `volume_audit`, on `script_events`, `script_replies` and `hostile_replay`, on `command_laws`, and on `host_ports`. Begin
-//! with `command.rt`; specs/Commands.antt says which commands there are, and leads to what each does;
-//! specs/Steadiness.antt says what a crash leaves of it, and which documents stand behind it.
+//! `volume_audit`, on `hostile_replay`, on `command_laws`, and on `host_ports`. Begin with `command.rt`;
+//! specs/Commands.antt says which commands there are, and leads to what each does; specs/Steadiness.antt says what a crash
+//! leaves of it, and which documents stand behind it.
 #![tactic(auto)]
 
 mod audit;

@@ -1,5 +1,5 @@
 -- Each exit, by how far the command came.
-use Rattle.std.proofs.Common.{ℕ, List, Ok, Err, ap, refl, subst, ◌∙◌}
+use Rattle.std.proofs.Common.{ℕ, List, Ok, Err, refl, subst, ◌∙◌}
 use Rattle.cell_types.specs.declared.refusal.Refusal.TheVariants.{NoMemory, SinkFault}
 use Rattle.cell_types.proofs.Passed.{handed}
 use Rattle.host_ports.specs.Sinks.{Gets, PutsPart}
