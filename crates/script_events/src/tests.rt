@@ -49,7 +49,16 @@ fn a_script_is_read(rt: HostRuntime) -> Result<(), Fail> {
     let [format, ingest, crash, recover, find] = script.events.as_slice() else {
         return Err(Fail::from("not five events"));
     };
-    assert!(rt; matches!(format, Event::Format { slots: 8, lists: 2, .. }));
+    assert!(rt;
+        matches!(
+            format,
+            Event::Format {
+                slots: 8,
+                lists: 2,
+                ..
+            }
+        )
+    );
     assert!(rt; matches!(recover, Event::Recover { .. }));
     let Event::Ingest { id, body, plan } = ingest else {
         return Err(Fail::from("no ingest"));
@@ -90,7 +99,10 @@ fn plans_are_read(rt: HostRuntime) -> Result<(), Fail> {
         return Err(Fail::from("no audit"));
     };
     assert_eq!(rt; plan.stop, None);
-    assert_eq!(rt; plan.fail.as_slice(), [Moment::Call(1), Moment::Step(1_000_000)].as_slice());
+    assert_eq!(rt;
+        plan.fail.as_slice(),
+        [Moment::Call(1), Moment::Step(1_000_000)].as_slice()
+    );
     let timed = Timed {
         before: Moment::Call(3),
         at: 8,
@@ -138,13 +150,19 @@ fn a_text_is_a_script_as_a_whole_or_none(rt: HostRuntime) -> Result<(), Fail> {
         let text = json(rt.alloc(), text)?;
         assert_eq!(rt; fault(rt.alloc(), &text), expected);
     }
-    assert_eq!(rt; fault(rt.alloc(), b"{\"cells\": 1, \"events\": [\"\xff\"]}"), Some(0));
+    assert_eq!(rt;
+        fault(rt.alloc(), b"{\"cells\": 1, \"events\": [\"\xff\"]}"),
+        Some(0)
+    );
     Ok(())
 }
 
 /// Events on nine cells, and the number of the first that is none.
 const EVENTS: [(&str, Option<u32>); 42] = [
-    ("{'do': 'audit'}, {'do': 'audit'}, {'do': 'fly'}, {'do': 'flee'}", Some(3)),
+    (
+        "{'do': 'audit'}, {'do': 'audit'}, {'do': 'fly'}, {'do': 'flee'}",
+        Some(3),
+    ),
     ("{}", Some(1)),
     ("7", Some(1)),
     ("{'do': 'audit', 'note': 1}", Some(1)),
@@ -158,12 +176,21 @@ const EVENTS: [(&str, Option<u32>); 42] = [
     ("{'do': 'ingest', 'id': 'a b', 'body': ''}", Some(1)),
     ("{'do': 'ingest', 'id': 'a', 'body': ''}", None),
     ("{'do': 'ingest', 'id': 'a'}", Some(1)),
-    ("{'do': 'ingest', 'id': 'a', 'body': '', 'hex': ''}", Some(1)),
+    (
+        "{'do': 'ingest', 'id': 'a', 'body': '', 'hex': ''}",
+        Some(1),
+    ),
     ("{'do': 'ingest', 'id': 'a', 'hex': '000'}", Some(1)),
     ("{'do': 'ingest', 'id': 'a', 'hex': '0g'}", Some(1)),
     ("{'do': 'find', 'words': []}", Some(1)),
-    ("{'do': 'find', 'words': ['a', 'b', 'c', 'd', 'e', 'f', 'g', 'h']}", None),
-    ("{'do': 'find', 'words': ['a', 'b', 'c', 'd', 'e', 'f', 'g', 'h', 'i']}", Some(1)),
+    (
+        "{'do': 'find', 'words': ['a', 'b', 'c', 'd', 'e', 'f', 'g', 'h']}",
+        None,
+    ),
+    (
+        "{'do': 'find', 'words': ['a', 'b', 'c', 'd', 'e', 'f', 'g', 'h', 'i']}",
+        Some(1),
+    ),
     ("{'do': 'find', 'words': ['a,b']}", Some(1)),
     ("{'do': 'find', 'words': ['']}", Some(1)),
     ("{'do': 'lookup', 'id': 1}", Some(1)),
@@ -172,13 +199,34 @@ const EVENTS: [(&str, Option<u32>); 42] = [
     ("{'do': 'recover', 'stop': {'step': 1, 'call': 1}}", Some(1)),
     ("{'do': 'recover', 'stop': {}}", Some(1)),
     ("{'do': 'recover', 'fail': {}}", Some(1)),
-    ("{'do': 'recover', 'foreign': [{'before': {'step': 1}, 'at': 8}]}", Some(1)),
-    ("{'do': 'foreign', 'at': 8, 'cell': '00000000000000000000000000000001'}", None),
-    ("{'do': 'foreign', 'at': 9, 'cell': '00000000000000000000000000000001'}", Some(1)),
-    ("{'do': 'foreign', 'at': 8, 'cell': '00000000000000000000000000000000'}", Some(1)),
-    ("{'do': 'foreign', 'at': 8, 'cell': '000000000000000000000000000001'}", Some(1)),
-    ("{'do': 'foreign', 'at': 8, 'cell': '0000000000000000000000000000001'}", Some(1)),
-    ("{'do': 'foreign', 'at': 8, 'cell': '00000000000000000000000000000001', 'stop': {'step': 1}}", Some(1)),
+    (
+        "{'do': 'recover', 'foreign': [{'before': {'step': 1}, 'at': 8}]}",
+        Some(1),
+    ),
+    (
+        "{'do': 'foreign', 'at': 8, 'cell': '00000000000000000000000000000001'}",
+        None,
+    ),
+    (
+        "{'do': 'foreign', 'at': 9, 'cell': '00000000000000000000000000000001'}",
+        Some(1),
+    ),
+    (
+        "{'do': 'foreign', 'at': 8, 'cell': '00000000000000000000000000000000'}",
+        Some(1),
+    ),
+    (
+        "{'do': 'foreign', 'at': 8, 'cell': '000000000000000000000000000001'}",
+        Some(1),
+    ),
+    (
+        "{'do': 'foreign', 'at': 8, 'cell': '0000000000000000000000000000001'}",
+        Some(1),
+    ),
+    (
+        "{'do': 'foreign', 'at': 8, 'cell': '00000000000000000000000000000001', 'stop': {'step': 1}}",
+        Some(1),
+    ),
     ("{'do': 'crash', 'keep': [4294967295]}", None),
     ("{'do': 'crash', 'keep': [4294967296]}", Some(1)),
     ("{'do': 'crash', 'keep': [-1]}", Some(1)),
@@ -215,7 +263,13 @@ const LONG: [(&str, &str, &str, u32, Option<u32>); 8] = [
     ("{'do': 'crash', 'keep': [", "0", "]}", 65_536, None),
     ("{'do': 'crash', 'keep': [", "0", "]}", 65_537, Some(1)),
     ("{'do': 'audit', 'fail': [", "{'call': 1}", "]}", 16, None),
-    ("{'do': 'audit', 'fail': [", "{'call': 1}", "]}", 17, Some(1)),
+    (
+        "{'do': 'audit', 'fail': [",
+        "{'call': 1}",
+        "]}",
+        17,
+        Some(1),
+    ),
     (
         "{'do': 'audit', 'foreign': [",
         "{'before': {'call': 1}, 'at': 0, 'cell': '00000000000000000000000000000001'}",

@@ -5,5 +5,4 @@ ghost use Rattle.script_replies.specs.Lines.{OneLineEach};
 #[tactic(auto, using(crate::proofs::OneByOne::one_line_each))]
 pub fn one_line_each()
     ensures { OneLineEach }
-{
-}
+{}

@@ -50,7 +50,8 @@ fn a_cut_ingest_is_told(rt: HostRuntime) -> Result<(), Fail> {
         Reply::Settled(Step::Completed(0)),
         Reply::Found(matches(alloc, &[0])?),
     ];
-    let expected = "1 0 formatted\n2 5 refused\n3 0 kept 1 of 2\n4 0 slot 0 completed\n5 0 found 0\n";
+    let expected =
+        "1 0 formatted\n2 5 refused\n3 0 kept 1 of 2\n4 0 slot 0 completed\n5 0 found 0\n";
     assert!(rt; prints(alloc, &replies, expected)?);
     Ok(())
 }
