@@ -3,11 +3,10 @@ ghost use Rattle.std.specs.Prelude.{◌≤◌};
 ghost use Rattle.cell_types.specs.declared.geometry.TheConstants.{MAX_CELLS};
 
 use cell_types::{Cell, Refusal};
-use record_top::run;
 use std::alloc::Global;
 use std::test::Fail;
 use stored_documents::{MAX_BODY_BYTES, MAX_IDENTIFIER_BYTES};
-use test_volumes::{State, outcome_of, sink, source_of, state_of_slot, words_of};
+use test_volumes::{State, outcome_of, run, sink, source_of, state_of_slot, words_of};
 use worm_device::{Device, Written};
 use worm_memory::{Change, MemoryDevice};
 

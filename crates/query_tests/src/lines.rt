@@ -1,11 +1,11 @@
 //! What the two queries put out, and how they refuse.
 use cell_types::{Cell, Evidence, Refusal};
 use host_ports::MemorySink;
-use record_top::run;
 use std::alloc::Global;
 use std::test::Fail;
 use test_volumes::{
-    begin, outcome_of, sink, small_volume, source_of, volume_with_a, words_of, write_foreign,
+    Outcome, begin, outcome_of, run, sink, small_volume, source_of, volume_with_a, words_of,
+    write_foreign,
 };
 use worm_device::Device;
 use worm_memory::{MemoryDevice, Moment};
@@ -165,7 +165,7 @@ fn with_failing_sink(
     words: &str,
     device: &mut MemoryDevice,
     call: u32,
-) -> Result<(record_top::Outcome, MemorySink), Fail> {
+) -> Result<(Outcome, MemorySink), Fail> {
     let words = words_of(alloc, words)?;
     let mut source = source_of(alloc, b"")?;
     let mut sink = sink(alloc)?;

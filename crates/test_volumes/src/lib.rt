@@ -13,6 +13,7 @@ mod decoder;
 mod volume;
 
 pub use decoder::{State, bytes_at, digits_at, holds_alone, state_of_slot};
+pub use record_top::{Outcome, run};
 pub use volume::{
     begin, formatted, holds, ingest, outcome_of, sink, small_volume, source_of, unsure,
     volume_with, volume_with_a, words_of, write_foreign,
