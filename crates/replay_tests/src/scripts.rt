@@ -51,7 +51,8 @@ fn a_cut_recovery_is_completed(rt: HostRuntime) -> Result<(), Fail> {
         {\"do\": \"crash\", \"keep\": [560]},
         {\"do\": \"recover\"},
         {\"do\": \"find\", \"words\": [\"hello\"]}]}";
-    let lines = "1 0 formatted\n2 5 refused\n3 0 kept 0 of 2\n4 5 refused\n5 0 kept 1 of 3\n6 0 slot 0 completed\n7 0 found 0\n";
+    let lines =
+        "1 0 formatted\n2 5 refused\n3 0 kept 0 of 2\n4 5 refused\n5 0 kept 1 of 3\n6 0 slot 0 completed\n7 0 found 0\n";
     assert!(rt; printed(rt.alloc(), script)?.as_str() == lines);
     Ok(())
 }
@@ -66,7 +67,8 @@ fn a_written_cell_stays(rt: HostRuntime) -> Result<(), Fail> {
         {\"do\": \"lookup\", \"id\": \"a\"},
         {\"do\": \"lookup\", \"id\": \"b\"},
         {\"do\": \"audit\"}]}";
-    let lines = "1 0 formatted\n2 0 acknowledged 0\n3 0 taken 0600000000012cf24dba5fb000000024\n4 0 slot 0, 11 bytes\n5 10 refused\n6 0 sound: 1 done, 0 abandoned, 11 written cells\n";
+    let lines =
+        "1 0 formatted\n2 0 acknowledged 0\n3 0 taken 0600000000012cf24dba5fb000000024\n4 0 slot 0, 11 bytes\n5 10 refused\n6 0 sound: 1 done, 0 abandoned, 11 written cells\n";
     assert!(rt; printed(rt.alloc(), script)?.as_str() == lines);
     Ok(())
 }
