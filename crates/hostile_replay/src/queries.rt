@@ -15,11 +15,9 @@ use record_query::{find, lookup_into};
 use script_events::{Schedule, Sequence};
 use script_replies::Reply;
 use std::alloc::Global;
+use stored_documents::MAX_BODY_BYTES;
 use word_reader::Term;
 use worm_memory::{MemoryDevice, a_plan_is_kept};
-
-/// The greatest number of bytes of a body.
-const MAX_BODY: u32 = 1_048_576;
 
 /// Searches.
 pub fn play_find(
@@ -56,7 +54,7 @@ pub fn play_lookup(
     begin_with(device, plan)?;
     let mut sink = MemorySink::new(alloc);
     // Where there is no room for a body, the look-up finds that out when it puts one.
-    let _room = sink.reserve(MAX_BODY);
+    let _room = sink.reserve(MAX_BODY_BYTES as u32);
     match lookup_into(device, id.bytes(), &mut sink) {
         Ok(found) => {
             let mut body = Vec::new(alloc);
