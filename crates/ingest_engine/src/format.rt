@@ -1,28 +1,36 @@
 //! A volume, made on a blank device.
-ghost use Rattle.cell_types.specs.declared.geometry.TheConstants.{FIRST_VERSION};
+ghost use Rattle.std.specs.Prelude.{◌≤◌};
+ghost use Rattle.cell_types.specs.declared.geometry.TheConstants.{FIRST_VERSION, NEWEST_VERSION};
 ghost use Rattle.worm_device.specs.State.{DeviceState};
 ghost use Rattle.ingest_engine.specs.Formats.{Formats, Looks};
 
-use cell_types::{FIRST_VERSION, Geometry, RecordCell, Refusal, encode};
+use cell_types::{Geometry, RecordCell, Refusal, encode};
 use worm_device::{Device, Written};
 
-/// Makes the device a volume of so many slots and lists: reads every cell, writes cell 0, and syncs. Takes no
-/// memory.
-pub fn format_volume<D: Device>(device: &mut D, slots: u32, lists: u16) -> Result<(), Refusal>
+/// Makes the device a volume of so many slots and lists, and of this version: reads every cell, writes cell 0, and
+/// syncs. Takes no memory.
+pub fn format_volume<D: Device>(
+    device: &mut D,
+    slots: u32,
+    lists: u16,
+    version: u8,
+) -> Result<(), Refusal>
+    requires some { FIRST_VERSION ≤ version }
+    requires most { version ≤ NEWEST_VERSION }
     ensures { Formats (record {
       slots = slots;
       lists = lists;
       cells = (D.state device.old).cells;
-      version = FIRST_VERSION;
+      version = version;
     }) (D.state device.old) (D.state device.new) result }
 {
     let cells = device.cells();
-    if Geometry::new(slots, lists, cells, FIRST_VERSION).is_none() {
+    if Geometry::new(slots, lists, cells, version).is_none() {
         return Err(Refusal::TooSmall);
     }
     look_for_written_cells(device)?;
     let volume = RecordCell::Volume {
-        version: FIRST_VERSION,
+        version,
         slots,
         lists,
         cells,
