@@ -1,5 +1,6 @@
 //! Commands of a script, carried out on a device in memory: each is begun with the event's plan.
 ghost use Rattle.std.specs.Prelude.{◌≡◌, ◌≤◌, IfOk};
+ghost use Rattle.cell_types.specs.declared.geometry.TheConstants.{FIRST_VERSION, NEWEST_VERSION};
 ghost use Rattle.stored_documents.specs.Documents.{IsBody, IsIdentifier};
 ghost use Rattle.worm_memory.specs.Device.{memory_of};
 ghost use Rattle.script_events.specs.Events.{IsPlanOn};
@@ -22,16 +23,19 @@ use worm_memory::{MemoryDevice, a_plan_is_kept};
 pub fn play_format(
     slots: u32,
     lists: u16,
+    version: u8,
     plan: &Schedule,
     device: &mut MemoryDevice,
 ) -> Result<Reply, NoMemory>
     requires cells { (memory_of device.old).cells ≤ MAX_SCRIPT_CELLS }
     requires inside { IsPlanOn (memory_of device.old).cells plan.now }
-    ensures { Plays (event.Format slots lists plan.now) device.old device.new result }
+    requires from { FIRST_VERSION ≤ version }
+    requires to { version ≤ NEWEST_VERSION }
+    ensures { Plays (event.Format slots lists version plan.now) device.old device.new result }
 {
     a_plan_is_kept();
     begin_with(device, plan)?;
-    match format_volume(device, slots, lists) {
+    match format_volume(device, slots, lists, version) {
         Ok(()) => Ok(Reply::Formatted),
         Err(refusal) => Ok(Reply::Refused(refusal)),
     }

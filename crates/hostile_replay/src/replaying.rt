@@ -54,7 +54,12 @@ fn play(alloc: Global, event: &Event, device: &mut MemoryDevice) -> Result<Reply
     ensures { Plays event.now device.old device.new result }
 {
     match event {
-        Event::Format { slots, lists, plan } => play_format(*slots, *lists, plan, device),
+        Event::Format {
+            slots,
+            lists,
+            version,
+            plan,
+        } => play_format(*slots, *lists, *version, plan, device),
         Event::Ingest { id, body, plan } => play_ingest(alloc, id, body, plan, device),
         Event::Find { terms, plan } => play_find(alloc, terms, plan, device),
         Event::Lookup { id, plan } => play_lookup(alloc, id, plan, device),

@@ -18,7 +18,7 @@ use Rattle.record_top.specs.declared.words.Command.TheVariants.{Audit, Find, For
 
 -- what may be asked for, with what is given
 pub data Request : Type 0 where
-  ToFormat : (slots lists : ℕ) → Request
+  ToFormat : (slots lists version : ℕ) → Request
   ToIngest : (id : List ℕ) → Request
   ToFind : (asked : List (List ℕ)) → Request
   ToLookUp : (id : List ℕ) → Request
@@ -28,7 +28,7 @@ pub data Request : Type 0 where
 
 -- the request that a command stands for
 abbrev pub request_of : Command → Request
-request_of (Format slots lists) = ToFormat slots lists
+request_of (Format slots lists version) = ToFormat slots lists version
 request_of (Ingest id) = ToIngest id.now
 request_of (Find asked) = ToFind (map string_bytes asked.now)
 request_of (LookUp id) = ToLookUp id.now
@@ -38,7 +38,7 @@ request_of Replay = ToReplay
 
 -- the words ask for this
 abbrev pub Asks : List (List ℕ) → Request → Type 0
-Asks words (ToFormat slots lists) = AsksToFormat words slots lists
+Asks words (ToFormat slots lists version) = AsksToFormat words slots lists version
 Asks words (ToIngest id) = AsksToIngest words id
 Asks words (ToFind asked) = AsksToFind words asked
 Asks words (ToLookUp id) = AsksToLookUp words id
@@ -54,13 +54,14 @@ AsksNothing words = (request : Request) → Asks words request → ⊥
 abbrev pub IsAskedFor : Request → Type 0
 IsAskedFor request = (words : List (List ℕ)) × Asks words request
 
--- the layout of so many slots and lists on the whole device
-abbrev pub layout_on : Ports → ℕ → ℕ → Layout
-layout_on ports slots lists = record { slots = slots; lists = lists; cells = ports.device.cells; version = 1 }
+-- the layout of so many slots and lists on the whole device, of this version
+abbrev pub layout_on : Ports → ℕ → ℕ → ℕ → Layout
+layout_on ports slots lists version =
+    record { slots = slots; lists = lists; cells = ports.device.cells; version = version }
 
 -- this is done, and ends for a cause that is named
 abbrev pub Does : Request → Ports → Ports → Result Unit Refusal → Type 0
-Does (ToFormat slots lists) old new result = DoesFormat (layout_on old slots lists) old new result
+Does (ToFormat slots lists version) old new result = DoesFormat (layout_on old slots lists version) old new result
 Does (ToIngest id) old new result = DoesIngest id old new result
 Does (ToFind asked) old new result = DoesFind asked old new result
 Does (ToLookUp id) old new result = DoesLookUp id old new result
@@ -70,7 +71,7 @@ Does ToReplay old new result = DoesReplay old new result
 
 -- nothing hinders this
 abbrev pub IsUnhindered : Request → Ports → Ports → Type 0
-IsUnhindered (ToFormat slots lists) old new = IsReadyToFormat (layout_on old slots lists) old new
+IsUnhindered (ToFormat slots lists version) old new = IsReadyToFormat (layout_on old slots lists version) old new
 IsUnhindered (ToIngest id) old new =
     (body : List ℕ) × (g : Layout) × (slot : ℕ) × IsReadyToIngest id body g slot old new
 IsUnhindered (ToFind asked) old new = (g : Layout) × IsReadyToFind asked g old new
@@ -82,7 +83,7 @@ IsUnhindered ToReplay old new = (text : List ℕ) × (script : Script) × IsRead
 -- What is answered where nothing hinders this: it is done; or, where memory is taken, none was to be had; or, where a
 -- document is looked up, none has the identifier.
 abbrev pub IsAnswered : Request → Result Unit Refusal → Type 0
-IsAnswered (ToFormat slots lists) result = IsOkAlone result
+IsAnswered (ToFormat slots lists version) result = IsOkAlone result
 IsAnswered (ToIngest id) result = IsOkOrNoMemory result
 IsAnswered (ToFind asked) result = IsOkOrNoMemory result
 IsAnswered (ToLookUp id) result = IsOkOrAbsent result

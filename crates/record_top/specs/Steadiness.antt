@@ -87,7 +87,7 @@ pub record AddsOne (id : List ℕ) (old new : Ports) (result : Result Unit Refus
 
 -- what a command leaves, and of a query what it tells, by what was asked for
 abbrev pub LeavesWhole : Request → Ports → Ports → Result Unit Refusal → Type 0
-LeavesWhole (ToFormat slots lists) old new result = AddsNone old new result × LeavesFormatted new result
+LeavesWhole (ToFormat slots lists version) old new result = AddsNone old new result × LeavesFormatted new result
 LeavesWhole (ToIngest id) old new result = AddsOne id old new result
 LeavesWhole (ToFind asked) old new result = AddsNone old new result × FindsHeld asked old new result
 LeavesWhole (ToLookUp id) old new result = AddsNone old new result × LooksUpHeld id old new result

@@ -76,7 +76,11 @@ fn carry_out<D: Device, S: Source, K: Sink>(
         (ports_of (D.state device.new) (S.state source.new) (K.state sink.new)) result }
 {
     match command {
-        Command::Format { slots, lists } => format_device(slots, lists, device, source, sink),
+        Command::Format {
+            slots,
+            lists,
+            version,
+        } => format_device(slots, lists, version, device, source, sink),
         Command::Ingest { id } => ingest_body(alloc, id, device, source, sink),
         Command::Find { words } => find_documents(alloc, words, device, source, sink),
         Command::LookUp { id } => look_up_document(id, device, source, sink),

@@ -4,14 +4,14 @@ ghost use Rattle.std.specs.String.{string_bytes};
 ghost use Rattle.record_top.specs.Auditing.{AsksToAudit};
 ghost use Rattle.record_top.specs.Commands.{Asks, AsksNothing, request_of};
 ghost use Rattle.record_top.specs.Finding.{AsksToFind};
-ghost use Rattle.record_top.specs.Formatting.{AsksToFormat};
+ghost use Rattle.record_top.specs.Formatting.{AsksByVersion, AsksPlainly};
 ghost use Rattle.record_top.specs.Ingesting.{AsksToIngest};
 ghost use Rattle.record_top.specs.LookingUp.{AsksToLookUp};
 ghost use Rattle.record_top.specs.Recovering.{AsksToRecover};
 ghost use Rattle.record_top.specs.Replaying.{AsksToReplay};
 ghost use Rattle.record_top.specs.Words.{IsNoOption, IsNumberUpTo};
 
-use cell_types::{MAX_LISTS, MAX_SLOTS};
+use cell_types::{FIRST_VERSION, MAX_LISTS, MAX_SLOTS, NEWEST_VERSION};
 
 /// The greatest number of words that a `find` may have.
 pub const MAX_QUERY_WORDS: usize = 8;
@@ -22,8 +22,12 @@ const MAX_DIGITS: usize = 10;
 /// A command, with what it was given.
 #[derive(Clone, Copy, Debug, PartialEq, Eq)]
 pub enum Command<'a> {
-    /// Make the device a volume of so many slots and lists, each in its range.
-    Format { slots: u32, lists: u16 },
+    /// Make the device a volume of so many slots and lists, and of this version, each in its range.
+    Format {
+        slots: u32,
+        lists: u16,
+        version: u8,
+    },
     /// Store a document by this name, which may be an identifier or not.
     Ingest { id: &'a [u8] },
     /// Search the documents for 1 to 8 words, each of which may hold one term or not.
@@ -43,6 +47,9 @@ pub fn command_of(words: &[String]) -> Option<Command<'_>>
     ensures some { IfSome result (λ command. Asks (map string_bytes words.now) (request_of command)) }
     ensures none { IfNone result (AsksNothing (map string_bytes words.now)) }
 {
+    if let Some(command) = plain_format_of(words) {
+        return Some(command);
+    }
     if let Some(command) = format_of(words) {
         return Some(command);
     }
@@ -64,10 +71,10 @@ pub fn command_of(words: &[String]) -> Option<Command<'_>>
     replay_of(words)
 }
 
-/// The command `format`, where the words are this and two numbers in range.
-fn format_of(words: &[String]) -> Option<Command<'_>>
+/// The command `format`, where the words are this and two numbers in range. The version is the first.
+fn plain_format_of(words: &[String]) -> Option<Command<'_>>
     ensures some { IfSome result (λ command. Asks (map string_bytes words.now) (request_of command)) }
-    ensures none { IfNone result ((slots lists : ℕ) → AsksToFormat (map string_bytes words.now) slots lists → ⊥) }
+    ensures none { IfNone result ((slots lists : ℕ) → AsksPlainly (map string_bytes words.now) slots lists → ⊥) }
 {
     let [command, slots, lists] = words else {
         return None;
@@ -80,6 +87,29 @@ fn format_of(words: &[String]) -> Option<Command<'_>>
     Some(Command::Format {
         slots,
         lists: lists as u16,
+        version: FIRST_VERSION,
+    })
+}
+
+/// The command `format`, where the words are this and three numbers in range.
+fn format_of(words: &[String]) -> Option<Command<'_>>
+    ensures some { IfSome result (λ command. Asks (map string_bytes words.now) (request_of command)) }
+    ensures none { IfNone result ((slots lists version : ℕ)
+        → AsksByVersion (map string_bytes words.now) slots lists version → ⊥) }
+{
+    let [command, slots, lists, version] = words else {
+        return None;
+    };
+    if command.as_str() != "format" {
+        return None;
+    }
+    let slots = number_up_to(MAX_SLOTS, slots.as_bytes())?;
+    let lists = number_up_to(u32::from(MAX_LISTS), lists.as_bytes())?;
+    let version = number_up_to(u32::from(NEWEST_VERSION), version.as_bytes())?;
+    Some(Command::Format {
+        slots,
+        lists: lists as u16,
+        version: version as u8,
     })
 }
 

@@ -17,7 +17,7 @@ use Rattle.script_replies.specs.declared.reply.Reply.{Reply}
 use Rattle.script_replies.specs.declared.reply.Reply.TheVariants as reply
 use Rattle.begun_commands.specs.Beginnings.{begun_with}
 use Rattle.replayed_worlds.specs.Completeness.{CommandsComplete, IsAcknowledgedReply, IsDoneWherePossible, IsFoundReply, IsLookedUpReply, IsSoundReply}
-use Rattle.replayed_worlds.specs.Turns.{LookUpRefused, Turns, first_layout}
+use Rattle.replayed_worlds.specs.Turns.{LookUpRefused, Turns, layout_on}
 
 module _ (plan : Schedule) (old new : Memory) (device : IsDevice (device_of (begun_with plan old)))
     (device_new : IsDevice (device_of new)) (steady : IsSteady (device_of (begun_with plan old)))
@@ -34,11 +34,11 @@ module _ (plan : Schedule) (old new : Memory) (device : IsDevice (device_of (beg
   log : (g : Layout) → IsVolume s.cells s.image g → HasSteadyVolume g s t
   log g volume = record { tells = refl; volume = volume; is = steady; alone = alone; no_fault = no_fault }
 
-  format_done : (slots lists : ℕ) (r : Reply) → Turns (event.Format slots lists plan) r old new
-      → IsDoneWherePossible (event.Format slots lists plan) r s
+  format_done : (slots lists version : ℕ) (r : Reply) → Turns (event.Format slots lists version plan) r old new
+      → IsDoneWherePossible (event.Format slots lists version plan) r s
   format_done slots lists reply.Formatted turned = λ is blank. tt
   format_done slots lists (reply.Refused refusal) turned = λ is blank.
-      formats_whole (first_layout slots lists old.cells) s t
+      formats_whole (layout_on slots lists version old.cells) s t
       (record { layout = is; tells = refl; blank = blank; alone = alone }) no_fault refusal turned.answers.ends
   format_done slots lists r turned = absurd turned.answers
 
@@ -91,7 +91,7 @@ module _ (plan : Schedule) (old new : Memory) (device : IsDevice (device_of (beg
   recover_done r turned = absurd turned.answers
 
 pub commands_complete : CommandsComplete
-commands_complete (event.Format slots lists plan) r old new device device_new steady alone no_fault t =
+commands_complete (event.Format slots lists version plan) r old new device device_new steady alone no_fault t =
     format_done plan old new device device_new steady alone no_fault slots lists r t
 commands_complete (event.Ingest id body plan) r old new device device_new steady alone no_fault t =
     ingest_done plan old new device device_new steady alone no_fault id body r t

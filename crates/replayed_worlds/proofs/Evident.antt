@@ -60,7 +60,7 @@ at_entry plan old new e l = record {
 
 turn_named : (d : Event) (old new : Memory) (e : Evidence) → Turns d (reply.Refused (refusals.Tampered e)) old new
     → IsLicensed (device_of old) (device_of new) e × (old.foreign_writes ≤ new.foreign_writes)
-turn_named (event.Format slots lists plan) old new e t = absurd t.answers.ends
+turn_named (event.Format slots lists version plan) old new e t = absurd t.answers.ends
 turn_named (event.Ingest id body plan) old new e t =
     (at_entry plan old new e (named_licensed (t.answers.ends refl)), t.called.foreign_writes)
 turn_named (event.Find terms plan) old new e t =

@@ -17,7 +17,7 @@ use Rattle.replayed_worlds.proofs.HeldIngests.{stands_from, whole_turn}
 query_is_command : (e : Event) (r : Reply) → IsDoneQuery e r → IsCommand e
 query_is_command (event.Find terms plan) r done = tt
 query_is_command (event.Lookup id plan) r done = tt
-query_is_command (event.Format slots lists plan) r done = tt
+query_is_command (event.Format slots lists version plan) r done = tt
 query_is_command (event.Ingest id body plan) r done = tt
 query_is_command (event.Audit plan) r done = tt
 query_is_command (event.Recover plan) r done = tt

@@ -264,7 +264,7 @@ begun_stands plan m stands =
     record { steady = begun_steady plan m stands.steady; image = stands.image; sure = stands.sure }
 
 pub begun_by_device : (e : Event) (m : Memory) → IsDevice (device_of m) → IsDevice (device_of (begun_by e m))
-begun_by_device (event.Format slots lists plan) m d = begun_device plan m d
+begun_by_device (event.Format slots lists version plan) m d = begun_device plan m d
 begun_by_device (event.Ingest id body plan) m d = begun_device plan m d
 begun_by_device (event.Find terms plan) m d = begun_device plan m d
 begun_by_device (event.Lookup id plan) m d = begun_device plan m d
@@ -276,7 +276,7 @@ begun_by_device (event.Crash keep) m d =
     record { sure = d.sure; inside = d.inside; some_cells = d.some_cells; cells = d.cells }
 
 pub begun_by_steady : (e : Event) (m : Memory) → IsSteady (device_of m) → IsSteady (device_of (begun_by e m))
-begun_by_steady (event.Format slots lists plan) m s = begun_steady plan m s
+begun_by_steady (event.Format slots lists version plan) m s = begun_steady plan m s
 begun_by_steady (event.Ingest id body plan) m s = begun_steady plan m s
 begun_by_steady (event.Find terms plan) m s = begun_steady plan m s
 begun_by_steady (event.Lookup id plan) m s = begun_steady plan m s
@@ -305,8 +305,8 @@ module _ (whole : CommandsAreWhole) {turns : List Turn} (old new : Memory) (devi
       (same_cells e r t) (begun_stands plan old stands) adds
 
   step : (e : Event) (r : Reply) → Turns e r old new → IsSteadyFrom (turns ++ turn_of e r old new ∷ []) (device_of new)
-  step (event.Format slots lists plan) r t = adds_none (event.Format slots lists plan) r plan
-      (said.none (event.Format slots lists plan) r tt) t (whole_turn (event.Format slots lists plan) r tt t).leaves
+  step (event.Format slots lists version plan) r t = adds_none (event.Format slots lists version plan) r plan
+      (said.none (event.Format slots lists version plan) r tt) t (whole_turn (event.Format slots lists version plan) r tt t).leaves
   step (event.Find terms plan) r t = adds_none (event.Find terms plan) r plan
       (said.none (event.Find terms plan) r tt) t (whole_turn (event.Find terms plan) r tt t).leaves
   step (event.Lookup id plan) r t = adds_none (event.Lookup id plan) r plan

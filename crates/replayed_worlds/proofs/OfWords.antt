@@ -15,7 +15,7 @@ use Rattle.volume_audit.specs.Audits.{SettlesThenAudits}
 use Rattle.volume_audit.proofs.Comes.{refuses}
 use Rattle.replayed_worlds.specs.Headline.{Headline}
 use Rattle.replayed_worlds.specs.Refusals.{IsOfWords, NoneIsOfWords}
-use Rattle.replayed_worlds.specs.Turns.{LookUpRefused, first_layout}
+use Rattle.replayed_worlds.specs.Turns.{LookUpRefused, layout_on}
 use Rattle.begun_commands.specs.Beginnings.{begun_with}
 use Rattle.script_events.specs.declared.event.Event.TheVariants as event
 use Rattle.replayed_worlds.proofs.Evident.{tampering_evident}
@@ -94,8 +94,8 @@ no_audit old new refusals.SinkFault comes of = refuses refusals.SinkFault comes 
 no_audit old new refusal comes of = of
 
 pub none_of_words : NoneIsOfWords
-none_of_words (event.Format slots lists plan) refusal old new t of =
-    no_format (first_layout slots lists old.cells) (device_of (begun_with plan old)) (device_of new)
+none_of_words (event.Format slots lists version plan) refusal old new t of =
+    no_format (layout_on slots lists version old.cells) (device_of (begun_with plan old)) (device_of new)
     refusal t.answers.ends of
 none_of_words (event.Ingest id body plan) refusal old new t of =
     no_ingest id body (device_of (begun_with plan old)) (device_of new) refusal t.answers.ends of

@@ -33,7 +33,7 @@ use Rattle.script_replies.specs.declared.reply.Reply.{Reply}
 use Rattle.script_replies.specs.declared.reply.Reply.TheVariants as reply
 use Rattle.begun_commands.specs.Beginnings.{begun_with}
 use Rattle.replayed_worlds.specs.Steadily.{CommandsAreWhole, IsTurnedDown, IsWholeTurn}
-use Rattle.replayed_worlds.specs.Turns.{LookUpRefused, Turns, first_layout}
+use Rattle.replayed_worlds.specs.Turns.{LookUpRefused, Turns, layout_on}
 use Rattle.replayed_worlds.proofs.Standing.{body_is}
 
 same_refusal : (a b : Refusal) → reply.Refused a ≡ reply.Refused b → a ≡ b
@@ -52,19 +52,19 @@ module _ (plan : Schedule) (old new : Memory) (device : IsDevice (device_of (beg
   begins = record { tells = refl; steady = steady; alone = alone }
 
   -- no reply but a refusal names tampering
-  format_whole : (slots lists : ℕ) (r : Reply) → Turns (event.Format slots lists plan) r old new
-      → IsWholeTurn (event.Format slots lists plan) r old new
+  format_whole : (slots lists version : ℕ) (r : Reply) → Turns (event.Format slots lists version plan) r old new
+      → IsWholeTurn (event.Format slots lists version plan) r old new
   format_whole slots lists reply.Formatted turned = record {
-    leaves = format_leaves (first_layout slots lists old.cells) s t refl device begins turned.answers.called
+    leaves = format_leaves (layout_on slots lists version old.cells) s t refl device begins turned.answers.called
         turned.answers.only (Ok tt) turned.answers.ends;
     tells = λ done. absurd done;
     no_alarm = λ e named. absurd cc;
   }
   format_whole slots lists (reply.Refused refusal) turned = record {
-    leaves = format_leaves (first_layout slots lists old.cells) s t refl device begins turned.answers.called
+    leaves = format_leaves (layout_on slots lists version old.cells) s t refl device begins turned.answers.called
         turned.answers.only (Err refusal) turned.answers.ends;
     tells = λ done. absurd done;
-    no_alarm = λ e named. (subst (λ (r : Refusal). Formats (first_layout slots lists old.cells) s t (Err r))
+    no_alarm = λ e named. (subst (λ (r : Refusal). Formats (layout_on slots lists version old.cells) s t (Err r))
         (same_refusal refusal (refusals.Tampered e) named) turned.answers).ends;
   }
   format_whole slots lists r turned = absurd turned.answers
@@ -205,7 +205,7 @@ module _ (plan : Schedule) (old new : Memory) (device : IsDevice (device_of (beg
   recover_whole r turned = absurd turned.answers
 
 pub commands_whole : CommandsAreWhole
-commands_whole (event.Format slots lists plan) r old new device device_new steady alone command turned =
+commands_whole (event.Format slots lists version plan) r old new device device_new steady alone command turned =
     format_whole plan old new device device_new steady alone slots lists r turned
 commands_whole (event.Ingest id body plan) r old new device device_new steady alone command turned =
     ingest_whole plan old new device device_new steady alone id body r turned

@@ -14,7 +14,7 @@ use Rattle.script_events.specs.declared.event.Event.TheVariants as event
 use Rattle.script_replies.specs.declared.reply.Reply.{Reply}
 use Rattle.script_replies.specs.declared.reply.Reply.TheVariants as reply
 use Rattle.replayed_worlds.specs.Steadily.{begun_by}
-use Rattle.replayed_worlds.specs.Turns.{Turns, first_layout}
+use Rattle.replayed_worlds.specs.Turns.{Turns, layout_on}
 
 -- the answers of commands that are done, or for which no memory was to be had
 
@@ -50,8 +50,8 @@ IsSettledReply r = ⊥
 -- What each event is answered where it can be done: a format on a blank device with a layout that may be, an ingest where
 -- its document has a place, the others on a volume.
 abbrev pub IsDoneWherePossible : Event → Reply → DeviceState → Type 0
-IsDoneWherePossible (event.Format slots lists plan) r old =
-    IsLayout (first_layout slots lists old.cells) → ((cell : ℕ) → old.image cell ≡ None) → IsFormattedReply r
+IsDoneWherePossible (event.Format slots lists version plan) r old =
+    IsLayout (layout_on slots lists version old.cells) → ((cell : ℕ) → old.image cell ≡ None) → IsFormattedReply r
 IsDoneWherePossible (event.Ingest id body plan) r old =
     (g : Layout) (slot : ℕ) → HasPlaceFor id body g slot old → IsAcknowledgedReply r
 IsDoneWherePossible (event.Find terms plan) r old = (g : Layout) → IsVolume old.cells old.image g → IsFoundReply r

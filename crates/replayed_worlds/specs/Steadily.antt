@@ -52,7 +52,7 @@ TellsHeld e r old new =
 
 -- the device as an event begins
 abbrev pub begun_by : Event → Memory → Memory
-begun_by (event.Format slots lists plan) m = begun_with plan m
+begun_by (event.Format slots lists version plan) m = begun_with plan m
 begun_by (event.Ingest id body plan) m = begun_with plan m
 begun_by (event.Find terms plan) m = begun_with plan m
 begun_by (event.Lookup id plan) m = begun_with plan m

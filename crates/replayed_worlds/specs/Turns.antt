@@ -29,17 +29,18 @@ use Rattle.script_replies.specs.declared.reply.Reply.{Reply}
 use Rattle.script_replies.specs.declared.reply.Reply.TheVariants as reply
 use Rattle.begun_commands.specs.Beginnings.{begun_with, plan_by}
 
--- the layout that a format of the first version makes on a device of so many cells
-abbrev pub first_layout : ℕ → ℕ → ℕ → Layout
-first_layout slots lists cells = record { slots = slots; lists = lists; cells = cells; version = 1 }
+-- the layout that a format makes on a device of so many cells
+abbrev pub layout_on : ℕ → ℕ → ℕ → ℕ → Layout
+layout_on slots lists version cells = record { slots = slots; lists = lists; cells = cells; version = version }
 
 -- how each command is answered, by what its engine did between two states of the device
 
-abbrev pub FormatAnswers : ℕ → ℕ → DeviceState → DeviceState → Reply → Type 0
-FormatAnswers slots lists old new reply.Formatted = Formats (first_layout slots lists old.cells) old new (Ok tt)
-FormatAnswers slots lists old new (reply.Refused refusal) =
-    Formats (first_layout slots lists old.cells) old new (Err refusal)
-FormatAnswers slots lists old new other = ⊥
+abbrev pub FormatAnswers : ℕ → ℕ → ℕ → DeviceState → DeviceState → Reply → Type 0
+FormatAnswers slots lists version old new reply.Formatted =
+    Formats (layout_on slots lists version old.cells) old new (Ok tt)
+FormatAnswers slots lists version old new (reply.Refused refusal) =
+    Formats (layout_on slots lists version old.cells) old new (Err refusal)
+FormatAnswers slots lists version old new other = ⊥
 
 abbrev pub IngestAnswers : List ℕ → List ℕ → DeviceState → DeviceState → Reply → Type 0
 IngestAnswers id body old new (reply.Acknowledged n) = Ingests id body old new (Ok n)
@@ -128,7 +129,8 @@ CrashAnswers keep old new other = ⊥
 
 -- what an event does, and how it is answered
 abbrev pub Turns : Event → Reply → Memory → Memory → Type 0
-Turns (event.Format slots lists plan) r old new = CarriesOut plan old new (λ s t. FormatAnswers slots lists s t r)
+Turns (event.Format slots lists version plan) r old new =
+    CarriesOut plan old new (λ s t. FormatAnswers slots lists version s t r)
 Turns (event.Ingest id body plan) r old new = CarriesOut plan old new (λ s t. IngestAnswers id body s t r)
 Turns (event.Find terms plan) r old new = CarriesOut plan old new (λ s t. FindAnswers terms s t r)
 Turns (event.Lookup id plan) r old new = CarriesOut plan old new (λ s t. LookUpAnswers id s t r)

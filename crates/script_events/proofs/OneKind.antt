@@ -6,8 +6,8 @@ use Rattle.serde_json.specs.Find.{get, as_str}
 use Rattle.script_events.specs.declared.event.Event.{Event}
 use Rattle.script_events.specs.declared.event.Event.TheVariants.{Format, Ingest, Find, Lookup, Foreign}
 use Rattle.script_events.specs.declared.event.Schedule.{Schedule}
-use Rattle.stored_documents.specs.Words.{AreWords}
-use Rattle.stored_documents.specs.declared.word_rules.WordRule.TheVariants.{Ascii}
+use Rattle.stored_documents.specs.Words.{AreWords, rule_of}
+use Rattle.stored_documents.specs.declared.word_rules.WordRule.{WordRule}
 use Rattle.script_events.specs.Grammar.{SaysEvent, SaysFind, SaysForeign, SaysFormat, SaysIngest, SaysLookup, SaysTerm}
 use Rattle.script_events.specs.Json.{Exactly}
 
@@ -25,33 +25,33 @@ two_texts a b o is other differ =
     let same : a ≡ b = ap text_in (sym is ∙ other) in
     true≢false (sym ((bytes_eq-Decides a b).1 same) ∙ differ)
 
-pub none_format : (cells : ℕ) (d : Data) → get (codes "do") d ≡ Some (string (codes "format"))
-    → ((x : ℕ × ℕ × Schedule) → SaysFormat cells x.0 x.1 x.2 d → ⊥) → (e : Event) → SaysEvent cells e d → ⊥
-none_format cells d said none (Format slots lists plan) h = none (slots, lists, plan) h.1
-none_format cells d said none e h = two_texts _ _ _ said h.0 refl
+pub none_format : (cells stated : ℕ) (d : Data) → get (codes "do") d ≡ Some (string (codes "format"))
+    → ((x : ℕ × ℕ × Schedule) → SaysFormat cells x.0 x.1 x.2 d → ⊥) → (e : Event) → SaysEvent cells stated e d → ⊥
+none_format cells stated d said none (Format slots lists version plan) h = none (slots, lists, plan) h.1.1
+none_format cells stated d said none e h = two_texts _ _ _ said h.0 refl
 
-pub none_ingest : (cells : ℕ) (d : Data) → get (codes "do") d ≡ Some (string (codes "ingest"))
-    → ((x : List ℕ × List ℕ × Schedule) → SaysIngest cells x.0 x.1 x.2 d → ⊥) → (e : Event) → SaysEvent cells e d → ⊥
-none_ingest cells d said none (Ingest id body plan) h = none (id, body, plan) h.1
-none_ingest cells d said none e h = two_texts _ _ _ said h.0 refl
+pub none_ingest : (cells stated : ℕ) (d : Data) → get (codes "do") d ≡ Some (string (codes "ingest"))
+    → ((x : List ℕ × List ℕ × Schedule) → SaysIngest cells x.0 x.1 x.2 d → ⊥) → (e : Event) → SaysEvent cells stated e d → ⊥
+none_ingest cells stated d said none (Ingest id body plan) h = none (id, body, plan) h.1
+none_ingest cells stated d said none e h = two_texts _ _ _ said h.0 refl
 
-pub none_find : (cells : ℕ) (d : Data) → get (codes "do") d ≡ Some (string (codes "find"))
-    → ((x : List (List ℕ) × Schedule) → SaysFind cells x.0 x.1 d → ⊥) → (e : Event) → SaysEvent cells e d → ⊥
-none_find cells d said none (Find terms plan) h = none (terms, plan) h.1
-none_find cells d said none e h = two_texts _ _ _ said h.0 refl
+pub none_find : (cells stated : ℕ) (d : Data) → get (codes "do") d ≡ Some (string (codes "find"))
+    → ((x : List (List ℕ) × Schedule) → SaysFind cells (rule_of stated) x.0 x.1 d → ⊥) → (e : Event) → SaysEvent cells stated e d → ⊥
+none_find cells stated d said none (Find terms plan) h = none (terms, plan) h.1
+none_find cells stated d said none e h = two_texts _ _ _ said h.0 refl
 
-pub none_lookup : (cells : ℕ) (d : Data) → get (codes "do") d ≡ Some (string (codes "lookup"))
-    → ((x : List ℕ × Schedule) → SaysLookup cells x.0 x.1 d → ⊥) → (e : Event) → SaysEvent cells e d → ⊥
-none_lookup cells d said none (Lookup id plan) h = none (id, plan) h.1
-none_lookup cells d said none e h = two_texts _ _ _ said h.0 refl
+pub none_lookup : (cells stated : ℕ) (d : Data) → get (codes "do") d ≡ Some (string (codes "lookup"))
+    → ((x : List ℕ × Schedule) → SaysLookup cells x.0 x.1 d → ⊥) → (e : Event) → SaysEvent cells stated e d → ⊥
+none_lookup cells stated d said none (Lookup id plan) h = none (id, plan) h.1
+none_lookup cells stated d said none e h = two_texts _ _ _ said h.0 refl
 
-pub none_foreign : (cells : ℕ) (d : Data) → get (codes "do") d ≡ Some (string (codes "foreign"))
-    → ((x : ℕ × List ℕ) → SaysForeign cells x.0 x.1 d → ⊥) → (e : Event) → SaysEvent cells e d → ⊥
-none_foreign cells d said none (Foreign at cell) h = none (at, cell) h.1
-none_foreign cells d said none e h = two_texts _ _ _ said h.0 refl
+pub none_foreign : (cells stated : ℕ) (d : Data) → get (codes "do") d ≡ Some (string (codes "foreign"))
+    → ((x : ℕ × List ℕ) → SaysForeign cells x.0 x.1 d → ⊥) → (e : Event) → SaysEvent cells stated e d → ⊥
+none_foreign cells stated d said none (Foreign at cell) h = none (at, cell) h.1
+none_foreign cells stated d said none e h = two_texts _ _ _ said h.0 refl
 
 -- the term that a text holds is the one that the value says
-pub term_said : {E : Type 0} (word : List ℕ) (d : Data) (found : Result (Option (List ℕ)) E) → as_str d ≡ Some word
-    → IfOk found (Exactly (λ term. AreWords Ascii word (term ∷ []))) → IfOk found (Exactly (λ term. SaysTerm term d))
-term_said word d found is h =
-    subst (λ text. IfOk found (Exactly (λ term. MatchOption text ⊥ (λ bytes. AreWords Ascii bytes (term ∷ []))))) (sym is) h
+pub term_said : {E : Type 0} (rule : WordRule) (word : List ℕ) (d : Data) (found : Result (Option (List ℕ)) E) → as_str d ≡ Some word
+    → IfOk found (Exactly (λ term. AreWords rule word (term ∷ []))) → IfOk found (Exactly (λ term. SaysTerm rule term d))
+term_said rule word d found is h =
+    subst (λ text. IfOk found (Exactly (λ term. MatchOption text ⊥ (λ bytes. AreWords rule bytes (term ∷ []))))) (sym is) h

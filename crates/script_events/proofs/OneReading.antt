@@ -2,7 +2,8 @@
 use Rattle.std.proofs.Common.{◌≡◌, ℕ, List, [], ◌∷◌, Option, Some, None, Result, Ok, MatchOption, codes, get_or, refl, ap, sym, ◌∙◌, subst}
 use Rattle.serde_json.specs.Data.{Data, number, string, unsigned, Items, no_items, item}
 use Rattle.serde_json.specs.Find.{get, as_array, as_str}
-use Rattle.stored_documents.specs.declared.word_rules.WordRule.TheVariants.{Ascii}
+use Rattle.stored_documents.specs.Words.{rule_of}
+use Rattle.stored_documents.specs.declared.word_rules.WordRule.{WordRule}
 use Rattle.stored_documents.proofs.Words.{words_are_one}
 use Rattle.worm_memory.specs.declared.moment.Moment.{Moment}
 use Rattle.worm_memory.specs.declared.moment.Moment.TheVariants.{Step, Call}
@@ -106,10 +107,10 @@ plan_one cells a b d h k =
 identifier_one : (a b : List ℕ) (d : Data) → SaysIdentifier a d → SaysIdentifier b d → a ≡ b
 identifier_one a b d h k = ap string_in (sym h.0 ∙ k.0)
 
-term_one : (a b : List ℕ) (d : Data) → SaysTerm a d → SaysTerm b d → a ≡ b
-term_one a b d h k =
+term_one : (rule : WordRule) (a b : List ℕ) (d : Data) → SaysTerm rule a d → SaysTerm rule b d → a ≡ b
+term_one rule a b d h k =
     both (as_str d) _ _ h k
-    (λ word p q. ap (λ terms. get_or terms 0 a) (words_are_one.one Ascii word (a ∷ []) p ∙ sym (words_are_one.one Ascii word (b ∷ []) q)))
+    (λ word p q. ap (λ terms. get_or terms 0 a) (words_are_one.one rule word (a ∷ []) p ∙ sym (words_are_one.one rule word (b ∷ []) q)))
 
 body_by : (a b : List ℕ) (d : Data) (o : Option Data)
     → MatchOption o (HasMember (codes "hex") (SaysBytes a) d) (λ e. (get (codes "hex") d ≡ None) × (e ≡ string a))
@@ -129,24 +130,26 @@ member_identifier : (a b : List ℕ) (d : Data) → HasMember (codes "id") (Says
     → HasMember (codes "id") (SaysIdentifier b) d → a ≡ b
 member_identifier a b d h k = both (get (codes "id") d) _ _ h k (λ e p q. identifier_one a b e p q)
 
-pub event_one : (cells : ℕ) (a b : Event) (d : Data) → SaysEvent cells a d → SaysEvent cells b d → a ≡ b
-event_one cells (Format s l p) (Format t m q) d h k =
-    ap (λ x. Format x l p) (member_number (codes "slots") _ _ s t d h.1.1 k.1.1)
-    ∙ ap (λ x. Format t x p) (member_number (codes "lists") _ _ l m d h.1.2 k.1.2)
-    ∙ ap (Format t m) (plan_one cells p q d h.1.3 k.1.3)
-event_one cells (Ingest i b p) (Ingest j c q) d h k =
+pub event_one : (cells stated : ℕ) (a b : Event) (d : Data) → SaysEvent cells stated a d → SaysEvent cells stated b d
+    → a ≡ b
+event_one cells stated (Format s l v p) (Format t m w q) d h k =
+    ap (λ x. Format x l v p) (member_number (codes "slots") _ _ s t d h.1.1.1 k.1.1.1)
+    ∙ ap (λ x. Format t x v p) (member_number (codes "lists") _ _ l m d h.1.1.2 k.1.1.2)
+    ∙ ap (λ x. Format t m x p) (h.1.0 ∙ sym k.1.0)
+    ∙ ap (Format t m w) (plan_one cells p q d h.1.1.3 k.1.1.3)
+event_one cells stated (Ingest i b p) (Ingest j c q) d h k =
     ap (λ x. Ingest x b p) (member_identifier i j d h.1.1 k.1.1) ∙ ap (λ x. Ingest j x p) (body_one b c d h.1.2 k.1.2)
     ∙ ap (Ingest j c) (plan_one cells p q d h.1.3 k.1.3)
-event_one cells (Find t p) (Find u q) d h k =
-    ap (λ x. Find x p) (both (get (codes "words") d) _ _ h.1.1 k.1.1 (λ e a b. array_one SaysTerm term_one _ _ t u e a b))
+event_one cells stated (Find t p) (Find u q) d h k =
+    ap (λ x. Find x p) (both (get (codes "words") d) _ _ h.1.1 k.1.1 (λ e a b. array_one (SaysTerm (rule_of stated)) (term_one (rule_of stated)) _ _ t u e a b))
     ∙ ap (Find u) (plan_one cells p q d h.1.2 k.1.2)
-event_one cells (Lookup i p) (Lookup j q) d h k =
+event_one cells stated (Lookup i p) (Lookup j q) d h k =
     ap (λ x. Lookup x p) (member_identifier i j d h.1.1 k.1.1) ∙ ap (Lookup j) (plan_one cells p q d h.1.2 k.1.2)
-event_one cells (Audit p) (Audit q) d h k = ap Audit (plan_one cells p q d h.1.1 k.1.1)
-event_one cells (Recover p) (Recover q) d h k = ap Recover (plan_one cells p q d h.1.1 k.1.1)
-event_one cells (Foreign m a) (Foreign n b) d h k =
+event_one cells stated (Audit p) (Audit q) d h k = ap Audit (plan_one cells p q d h.1.1 k.1.1)
+event_one cells stated (Recover p) (Recover q) d h k = ap Recover (plan_one cells p q d h.1.1 k.1.1)
+event_one cells stated (Foreign m a) (Foreign n b) d h k =
     ap (λ x. Foreign x a) (both (get (codes "at") d) _ _ h.1.1 k.1.1 (λ e p q. below_one cells m n e p q))
     ∙ ap (Foreign n) (both (get (codes "cell") d) _ _ h.1.2 k.1.2 (λ e p q. cell_one a b e p q))
-event_one cells (Crash a) (Crash b) d h k =
+event_one cells stated (Crash a) (Crash b) d h k =
     ap Crash (both (get (codes "keep") d) _ _ h.1.1 k.1.1 (λ e p q. array_one (IsNumberIn _ _) (number_one _ _) _ _ a b e p q))
-event_one cells a b d h k = absurd (two_texts _ _ _ h.0 k.0 refl)
+event_one cells stated a b d h k = absurd (two_texts _ _ _ h.0 k.0 refl)

@@ -4,12 +4,14 @@ use Rattle.std.proofs.lemmas.List.Elements.{All-nil, All-cons}
 use Rattle.serde_json.specs.Data.{Data, Items, no_items, item}
 use Rattle.serde_json.specs.Events.{items_len}
 use Rattle.serde_json.specs.Find.{get, as_array, as_str}
-use Rattle.cell_types.specs.declared.geometry.TheConstants.{MAX_LISTS, MAX_SLOTS}
+use Rattle.cell_types.specs.declared.geometry.TheConstants.{FIRST_VERSION, MAX_LISTS, MAX_SLOTS, NEWEST_VERSION}
+use Rattle.stored_documents.specs.Words.{rule_of}
+use Rattle.stored_documents.specs.declared.word_rules.WordRule.{WordRule}
 use Rattle.worm_memory.specs.declared.moment.Moment.{Moment}
 use Rattle.worm_memory.specs.declared.moment.Moment.TheVariants.{Step, Call}
 use Rattle.script_events.specs.Events.{IsEventOn, IsPlanOn, IsScriptMoment, IsScriptStop, IsTermOfWord, IsTimedOn}
 use Rattle.script_events.specs.Grammar.{SaysEvent, SaysMoment, SaysPlan, SaysTerm, SaysTimed}
-use Rattle.script_events.specs.Json.{AreItems, IsArrayOf, MayHaveMember}
+use Rattle.script_events.specs.Json.{AreItems, IsArrayOf, IsNumberIn, MayHaveMember}
 use Rattle.script_events.specs.Scripts.{ScriptsAreInLimits}
 use Rattle.script_events.specs.declared.event.Event.{Event}
 use Rattle.script_events.specs.declared.event.Event.TheVariants.{Format, Ingest, Find, Lookup, Audit, Recover, Foreign, Crash}
@@ -79,36 +81,54 @@ plan_so cells plan d h =
       each_foreign = foreign.2;
     }
 
-term_so : (term : List ℕ) (d : Data) → SaysTerm term d → IsTermOfWord term
-term_so term d h = member (as_str d) _ h (λ word p. (word, p))
+term_so : (rule : WordRule) (term : List ℕ) (d : Data) → SaysTerm rule term d → IsTermOfWord term
+term_so rule term d h = member (as_str d) _ h (λ word p. (rule, word, p))
 
-event_so : (cells : ℕ) (event : Event) (d : Data) → SaysEvent cells event d → IsEventOn cells event
-event_so cells (Format slots lists plan) d h =
-    let s = member {C = (1 ≤ slots) × (slots ≤ MAX_SLOTS)} (get (codes "slots") d) _ h.1.1 (λ e p. (p.1, p.2)) in
-    let l = member {C = (1 ≤ lists) × (lists ≤ MAX_LISTS)} (get (codes "lists") d) _ h.1.2 (λ e p. (p.1, p.2)) in
-    (s.0, s.1, l.0, l.1, plan_so cells plan d h.1.3)
-event_so cells (Ingest id body plan) d h =
+-- the version that is stated may be, and the first is one
+version_so : (version : ℕ) (o : Option Data)
+    → MatchOption o (version ≡ FIRST_VERSION) (IsNumberIn FIRST_VERSION NEWEST_VERSION version)
+    → (FIRST_VERSION ≤ version) × (version ≤ NEWEST_VERSION)
+version_so version None first = (omega (arith, first), omega (arith, first))
+version_so version (Some d) stated = (stated.1, stated.2)
+
+event_so : (cells stated : ℕ) → FIRST_VERSION ≤ stated → stated ≤ NEWEST_VERSION → (event : Event) (d : Data)
+    → SaysEvent cells stated event d → IsEventOn cells event
+event_so cells stated from to (Format slots lists version plan) d h =
+    let s = member {C = (1 ≤ slots) × (slots ≤ MAX_SLOTS)} (get (codes "slots") d) _ h.1.1.1 (λ e p. (p.1, p.2)) in
+    let l = member {C = (1 ≤ lists) × (lists ≤ MAX_LISTS)} (get (codes "lists") d) _ h.1.1.2 (λ e p. (p.1, p.2)) in
+    (
+      s.0,
+      s.1,
+      l.0,
+      l.1,
+      omega (arith, h.1.0, from),
+      omega (arith, h.1.0, to),
+      plan_so cells plan d h.1.1.3,
+    )
+event_so cells stated from to (Ingest id body plan) d h =
     (member (get (codes "id") d) _ h.1.1 (λ e p. p.1), h.1.2.0, plan_so cells plan d h.1.3)
-event_so cells (Find terms plan) d h =
-    let so = member (get (codes "words") d) _ h.1.1 (array_so SaysTerm IsTermOfWord term_so _ _ terms) in
+event_so cells stated from to (Find terms plan) d h =
+    let so = member (get (codes "words") d) _ h.1.1 (array_so (SaysTerm (rule_of stated)) IsTermOfWord (term_so (rule_of stated)) _ _ terms) in
     (so.0, so.1, so.2, plan_so cells plan d h.1.2)
-event_so cells (Lookup id plan) d h =
+event_so cells stated from to (Lookup id plan) d h =
     (member (get (codes "id") d) _ h.1.1 (λ e p. p.1), plan_so cells plan d h.1.2)
-event_so cells (Audit plan) d h = plan_so cells plan d h.1.1
-event_so cells (Recover plan) d h = plan_so cells plan d h.1.1
-event_so cells (Foreign at cell) d h = member (get (codes "at") d) _ h.1.1 (λ e p. p.1)
-event_so cells (Crash keep) d h =
+event_so cells stated from to (Audit plan) d h = plan_so cells plan d h.1.1
+event_so cells stated from to (Recover plan) d h = plan_so cells plan d h.1.1
+event_so cells stated from to (Foreign at cell) d h = member (get (codes "at") d) _ h.1.1 (λ e p. p.1)
+event_so cells stated from to (Crash keep) d h =
     member (get (codes "keep") d) _ h.1.1
     (λ e p. member (as_array e) _ p (λ ds q. omega (arith, q.1, items_long _ keep ds q.2)))
 
 pub scripts_are_in_limits : ScriptsAreInLimits
 scripts_are_in_limits text script h =
     let cells =
-    member {C = (1 ≤ script.cells) × (script.cells ≤ MAX_SCRIPT_CELLS)} (get (codes "cells") h.1.0) _ h.1.2.1
+    member {C = (1 ≤ script.cells) × (script.cells ≤ MAX_SCRIPT_CELLS)} (get (codes "cells") h.2.0) _ h.2.2.1
     (λ e p. (p.1, p.2)) in
+    let version = version_so h.0 (get (codes "version") h.2.0) h.2.2.2 in
+    let says = SaysEvent script.cells h.0 in
     record {
       some = cells.0;
       most = cells.1;
-      few = omega (arith, h.1.2.3, items_long (SaysEvent script.cells) script.events h.0 h.2);
-      each = items_all (SaysEvent script.cells) (IsEventOn script.cells) (event_so script.cells) script.events h.0 h.2;
+      few = omega (arith, h.2.2.4, items_long says script.events h.1 h.3);
+      each = items_all says (IsEventOn script.cells) (event_so script.cells h.0 version.0 version.1) script.events h.1 h.3;
     }

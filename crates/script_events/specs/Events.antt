@@ -1,10 +1,10 @@
 -- Which events are of the grammar on a device of so many cells.
 use Rattle.std.specs.Prelude.{◌<◌, ◌≤◌, ℕ, List, [], ◌∷◌, length, Option, Some, None, ⊤}
 use Rattle.std.specs.List.{All}
-use Rattle.cell_types.specs.declared.geometry.TheConstants.{MAX_LISTS, MAX_SLOTS}
+use Rattle.cell_types.specs.declared.geometry.TheConstants.{FIRST_VERSION, MAX_LISTS, MAX_SLOTS, NEWEST_VERSION}
 use Rattle.stored_documents.specs.Documents.{IsBody, IsIdentifier}
 use Rattle.stored_documents.specs.Words.{AreWords}
-use Rattle.stored_documents.specs.declared.word_rules.WordRule.TheVariants.{Ascii}
+use Rattle.stored_documents.specs.declared.word_rules.WordRule.{WordRule}
 use Rattle.worm_memory.specs.declared.moment.Moment.{Moment}
 use Rattle.worm_memory.specs.declared.moment.Moment.TheVariants.{Step, Call}
 use Rattle.script_events.specs.declared.event.Event.{Event}
@@ -40,14 +40,15 @@ pub record IsPlanOn (cells : ℕ) (plan : Schedule) : Type 0 where
   pub few_foreign : length plan.foreign ≤ MAX_CALLED_FOR
   pub each_foreign : All (IsTimedOn cells) plan.foreign
 
--- the one term of some word, by the words of bytes
+-- the one term of some word, by some rule of words
 abbrev pub IsTermOfWord : List ℕ → Type 0
-IsTermOfWord term = (word : List ℕ) × AreWords Ascii word (term ∷ [])
+IsTermOfWord term = (rule : WordRule) × (word : List ℕ) × AreWords rule word (term ∷ [])
 
 -- an event of a script, on a device of so many cells
 abbrev pub IsEventOn : ℕ → Event → Type 0
-IsEventOn cells (event.Format slots lists plan) =
-    (1 ≤ slots) × (slots ≤ MAX_SLOTS) × (1 ≤ lists) × (lists ≤ MAX_LISTS) × IsPlanOn cells plan
+IsEventOn cells (event.Format slots lists version plan) =
+    (1 ≤ slots) × (slots ≤ MAX_SLOTS) × (1 ≤ lists) × (lists ≤ MAX_LISTS)
+    × (FIRST_VERSION ≤ version) × (version ≤ NEWEST_VERSION) × IsPlanOn cells plan
 IsEventOn cells (event.Ingest id body plan) = IsIdentifier id × IsBody body × IsPlanOn cells plan
 IsEventOn cells (event.Find terms plan) =
     (1 ≤ length terms) × (length terms ≤ MAX_WORDS) × All IsTermOfWord terms × IsPlanOn cells plan

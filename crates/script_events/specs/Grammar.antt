@@ -1,12 +1,13 @@
--- The grammar of events: which JSON value is which event, on a device of so many cells.
+-- The grammar of events: which JSON value is which event, on a device of so many cells, where volumes are of the
+-- script's version.
 use Rattle.std.specs.Prelude.{◌≡◌, ◌≢◌, ◌^◌, ◌-◌, ℕ, List, [], ◌∷◌, codes, replicate, Some, None, Ok, MatchOption, option_map, true}
 use Rattle.hex.specs.Hex.{decode_of, decode_sized}
 use Rattle.serde_json.specs.Data.{Data, string}
 use Rattle.serde_json.specs.Find.{get, as_str}
 use Rattle.cell_types.specs.declared.geometry.TheConstants.{MAX_LISTS, MAX_SLOTS}
 use Rattle.stored_documents.specs.Documents.{IsBody, IsIdentifier}
-use Rattle.stored_documents.specs.Words.{AreWords}
-use Rattle.stored_documents.specs.declared.word_rules.WordRule.TheVariants.{Ascii}
+use Rattle.stored_documents.specs.Words.{AreWords, rule_of}
+use Rattle.stored_documents.specs.declared.word_rules.WordRule.{WordRule}
 use Rattle.worm_memory.specs.declared.moment.Moment.{Moment}
 use Rattle.worm_memory.specs.declared.moment.Moment.TheVariants.{Step, Call}
 use Rattle.script_events.specs.Json.{HasArray, HasMember, IsArrayOf, IsNumberBelow, IsNumberIn, MayHaveMember, is_object_of}
@@ -55,9 +56,9 @@ plan_names = codes "stop" ∷ codes "fail" ∷ codes "foreign" ∷ []
 abbrev pub SaysIdentifier : List ℕ → Data → Type 0
 SaysIdentifier id d = (d ≡ string id) × IsIdentifier id
 
--- a text that holds exactly one term, by the words of bytes
-abbrev pub SaysTerm : List ℕ → Data → Type 0
-SaysTerm term d = MatchOption (as_str d) ⊥ (λ word. AreWords Ascii word (term ∷ []))
+-- a text that holds exactly one term, by this rule of words
+abbrev pub SaysTerm : WordRule → List ℕ → Data → Type 0
+SaysTerm rule term d = MatchOption (as_str d) ⊥ (λ word. AreWords rule word (term ∷ []))
 
 -- a text of hexadecimal digits, two for each byte
 abbrev pub SaysBytes : List ℕ → Data → Type 0
@@ -86,10 +87,10 @@ SaysIngest cells id body plan d =
     × SaysBody body d
     × SaysPlan cells plan d
 
-abbrev pub SaysFind : ℕ → List (List ℕ) → Schedule → Data → Type 0
-SaysFind cells terms plan d =
+abbrev pub SaysFind : ℕ → WordRule → List (List ℕ) → Schedule → Data → Type 0
+SaysFind cells rule terms plan d =
     (is_object_of (codes "do" ∷ codes "words" ∷ plan_names) d ≡ true)
-    × HasMember (codes "words") (IsArrayOf SaysTerm 1 MAX_WORDS terms) d
+    × HasMember (codes "words") (IsArrayOf (SaysTerm rule) 1 MAX_WORDS terms) d
     × SaysPlan cells plan d
 
 abbrev pub SaysLookup : ℕ → List ℕ → Schedule → Data → Type 0
@@ -114,7 +115,7 @@ SaysCrash keep d =
 
 -- what an event does
 abbrev pub kind_of_event : Event → EventKind
-kind_of_event (event.Format slots lists plan) = kind.Format
+kind_of_event (event.Format slots lists version plan) = kind.Format
 kind_of_event (event.Ingest id body plan) = kind.Ingest
 kind_of_event (event.Find terms plan) = kind.Find
 kind_of_event (event.Lookup id plan) = kind.Lookup
@@ -137,17 +138,18 @@ kind_name kind.Crash = codes "crash"
 abbrev pub SaysKind : EventKind → Data → Type 0
 SaysKind kind d = get (codes "do") d ≡ Some (string (kind_name kind))
 
--- the members of the event
-abbrev pub SaysMembers : ℕ → Event → Data → Type 0
-SaysMembers cells (event.Format slots lists plan) d = SaysFormat cells slots lists plan d
-SaysMembers cells (event.Ingest id body plan) d = SaysIngest cells id body plan d
-SaysMembers cells (event.Find terms plan) d = SaysFind cells terms plan d
-SaysMembers cells (event.Lookup id plan) d = SaysLookup cells id plan d
-SaysMembers cells (event.Audit plan) d = SaysPlanAlone cells plan d
-SaysMembers cells (event.Recover plan) d = SaysPlanAlone cells plan d
-SaysMembers cells (event.Foreign at cell) d = SaysForeign cells at cell d
-SaysMembers cells (event.Crash keep) d = SaysCrash keep d
+-- The members of the event. A volume is made in the script's version, and words are those of its rule.
+abbrev pub SaysMembers : ℕ → ℕ → Event → Data → Type 0
+SaysMembers cells stated (event.Format slots lists version plan) d =
+    (version ≡ stated) × SaysFormat cells slots lists plan d
+SaysMembers cells stated (event.Ingest id body plan) d = SaysIngest cells id body plan d
+SaysMembers cells stated (event.Find terms plan) d = SaysFind cells (rule_of stated) terms plan d
+SaysMembers cells stated (event.Lookup id plan) d = SaysLookup cells id plan d
+SaysMembers cells stated (event.Audit plan) d = SaysPlanAlone cells plan d
+SaysMembers cells stated (event.Recover plan) d = SaysPlanAlone cells plan d
+SaysMembers cells stated (event.Foreign at cell) d = SaysForeign cells at cell d
+SaysMembers cells stated (event.Crash keep) d = SaysCrash keep d
 
--- one event of a script, on a device of so many cells
-abbrev pub SaysEvent : ℕ → Event → Data → Type 0
-SaysEvent cells event d = SaysKind (kind_of_event event) d × SaysMembers cells event d
+-- one event of a script of this version, on a device of so many cells
+abbrev pub SaysEvent : ℕ → ℕ → Event → Data → Type 0
+SaysEvent cells stated event d = SaysKind (kind_of_event event) d × SaysMembers cells stated event d

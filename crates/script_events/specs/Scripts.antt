@@ -1,10 +1,11 @@
 -- Which text is which script, and where a text is none.
-use Rattle.std.specs.Prelude.{◌≡◌, ◌≤◌, ℕ, suc, zero, List, [], ◌∷◌, codes, Some, Result, Ok, Err, option_and_then, ⊤, true}
+use Rattle.std.specs.Prelude.{◌≡◌, ◌≤◌, ℕ, suc, zero, List, [], ◌∷◌, codes, MatchOption, Some, Result, Ok, Err, option_and_then, ⊤, true}
 use Rattle.std.specs.Str.{IsUtf8}
 use Rattle.serde_json.specs.Data.{Data, Items}
 use Rattle.serde_json.specs.Events.{items_len}
 use Rattle.serde_json.specs.Find.{get, as_array}
 use Rattle.serde_json.specs.Read.{read}
+use Rattle.cell_types.specs.declared.geometry.TheConstants.{FIRST_VERSION, NEWEST_VERSION}
 use Rattle.cell_types.specs.declared.refusal.Refusal.{Refusal}
 use Rattle.cell_types.specs.declared.refusal.Refusal.TheVariants.{NoMemory, BadScript}
 use Rattle.script_events.specs.Events.{IsInLimits}
@@ -17,29 +18,38 @@ use Rattle.script_events.specs.declared.limits.TheConstants.{MAX_EVENTS, MAX_SCR
 abbrev pub IsTextOf : List ℕ → Data → Type 0
 IsTextOf text d = IsUtf8 text × (read text ≡ Some d)
 
--- an object with exactly these two members, the second an array of so many items at most
-abbrev pub SaysFrame : ℕ → Items → Data → Type 0
-SaysFrame cells items d =
-    (is_object_of (codes "cells" ∷ codes "events" ∷ []) d ≡ true)
+-- the version of the volumes that the script makes, which is the first where none is stated
+abbrev pub SaysVersion : ℕ → Data → Type 0
+SaysVersion version d =
+    MatchOption (get (codes "version") d) (version ≡ FIRST_VERSION) (IsNumberIn FIRST_VERSION NEWEST_VERSION version)
+
+-- an object with the members `cells` and `events`, the second an array of so many items at most, and none besides but
+-- `version`, which may be left out
+abbrev pub SaysFrame : ℕ → ℕ → Items → Data → Type 0
+SaysFrame cells version items d =
+    (is_object_of (codes "cells" ∷ codes "version" ∷ codes "events" ∷ []) d ≡ true)
     × HasMember (codes "cells") (IsNumberIn 1 MAX_SCRIPT_CELLS cells) d
+    × SaysVersion version d
     × (option_and_then as_array (get (codes "events") d) ≡ Some items)
     × (items_len items ≤ MAX_EVENTS)
 
--- the text is a script as a whole, on so many cells, with these items in the places of its events
-abbrev pub IsFramed : List ℕ → ℕ → Items → Type 0
-IsFramed text cells items = (d : Data) × IsTextOf text d × SaysFrame cells items d
+-- the text is a script as a whole, on so many cells and of this version, with these items in the places of its events
+abbrev pub IsFramed : List ℕ → ℕ → ℕ → Items → Type 0
+IsFramed text cells version items = (d : Data) × IsTextOf text d × SaysFrame cells version items d
 
 -- the text is this script
 abbrev pub IsScript : List ℕ → Script → Type 0
 IsScript text script =
-    (items : Items) × IsFramed text script.cells items × AreItems (SaysEvent script.cells) script.events items
+    (version : ℕ) × (items : Items) × IsFramed text script.cells version items
+    × AreItems (SaysEvent script.cells version) script.events items
 
 -- The text is none: as a whole, which is the number 0, or since the event of this number, from 1, is the first that is
 -- not of the grammar.
 abbrev pub IsScriptFault : List ℕ → ℕ → Type 0
-IsScriptFault text zero = (cells : ℕ) (items : Items) → IsFramed text cells items → ⊥
+IsScriptFault text zero = (cells version : ℕ) (items : Items) → IsFramed text cells version items → ⊥
 IsScriptFault text (suc n) =
-    (cells : ℕ) × (items : Items) × IsFramed text cells items × IsFirstOther (SaysEvent cells) (suc n) items
+    (cells : ℕ) × (version : ℕ) × (items : Items) × IsFramed text cells version items
+    × IsFirstOther (SaysEvent cells version) (suc n) items
 
 -- How reading a script ends: with the script that the text is, or with the fault for which it is none. Want of memory
 -- is free.

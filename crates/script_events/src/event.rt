@@ -24,14 +24,15 @@ pub struct Schedule {
     pub foreign: Sequence<Timed>,
 }
 
-/// One event of a script. All are of volumes of the first version: once a volume can be made in a later one, a version
-/// stands here beside the slots of `Format`, and a stamp beside the identifier of `Ingest`.
+/// One event of a script. A volume whose documents are stamped can't be made yet: once it can, a stamp stands here
+/// beside the identifier of `Ingest`.
 #[derive(Debug, Drop)]
 pub enum Event {
-    /// Make the device a volume.
+    /// Make the device a volume of this version, which is the script's.
     Format {
         slots: u32,
         lists: u16,
+        version: u8,
         plan: Schedule,
     },
     /// Take a document in.

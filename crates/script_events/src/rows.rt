@@ -16,6 +16,7 @@ use cell_types::{Cell, MAX_LISTS, MAX_SLOTS};
 use document_store::Text;
 use serde_json::Value;
 use std::alloc::{AllocError, Global};
+use stored_documents::WordRule;
 use word_reader::Term;
 
 /// The slots, the lists and the plan of a `format`.
@@ -76,13 +77,14 @@ pub(crate) fn ingest(
     Ok(Some((id, body, plan)))
 }
 
-/// The terms and the plan of a `find`.
+/// The terms and the plan of a `find`, its words read by this rule.
 pub(crate) fn find(
     alloc: Global,
     value: &Value,
     cells: u32,
+    rule: WordRule,
 ) -> Result<Option<(Sequence<Term>, Schedule)>, AllocError>
-    ensures { IfOk result (Exactly (λ said. SaysFind cells said.0 said.1 (view value.now))) }
+    ensures { IfOk result (Exactly (λ said. SaysFind cells rule said.0 said.1 (view value.now))) }
 {
     if !has_only(value, &["do", "words", "stop", "fail", "foreign"]) {
         return Ok(None);
@@ -90,7 +92,7 @@ pub(crate) fn find(
     let Some(words) = value.get("words") else {
         return Ok(None);
     };
-    let Some(terms) = terms(alloc, words)? else {
+    let Some(terms) = terms(alloc, words, rule)? else {
         return Ok(None);
     };
     let Some(plan) = plan(alloc, value, cells)? else {

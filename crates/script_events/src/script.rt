@@ -2,10 +2,11 @@
 ghost use Rattle.std.specs.Prelude.{◌≡◌, ◌≤◌, ◌⊎◌, ℕ, length, IfOk, IfErr, IfSome, IfNone};
 ghost use Rattle.serde_json.specs.Data.{Items};
 ghost use Rattle.serde_json.specs.View.{view, items_view};
+ghost use Rattle.cell_types.specs.declared.geometry.TheConstants.{FIRST_VERSION, NEWEST_VERSION};
 ghost use Rattle.cell_types.specs.declared.refusal.Refusal.TheVariants.{BadScript, NoMemory};
 ghost use Rattle.script_events.specs.Grammar.{SaysEvent};
-ghost use Rattle.script_events.specs.Json.{AreItems, IsFirstOther};
-ghost use Rattle.script_events.specs.Scripts.{ReadScriptEnds, SaysFrame};
+ghost use Rattle.script_events.specs.Json.{AreItems, Exactly, IsFirstOther};
+ghost use Rattle.script_events.specs.Scripts.{ReadScriptEnds, SaysFrame, SaysVersion};
 ghost use Rattle.script_events.specs.declared.limits.TheConstants.{MAX_EVENTS};
 
 use crate::event::{Event, Script};
@@ -15,7 +16,7 @@ use crate::members::has_only;
 use crate::reader::event;
 use crate::sequence::Sequence;
 use crate::values::number;
-use cell_types::Refusal;
+use cell_types::{FIRST_VERSION, NEWEST_VERSION, Refusal};
 use serde_json::Value;
 use std::alloc::Global;
 
@@ -35,28 +36,34 @@ pub fn read_script(alloc: Global, text: &[u8]) -> Result<Script, Refusal>
             return Err(Refusal::BadScript(0));
         }
     };
-    let Some((cells, array)) = frame(&value) else {
+    let Some((cells, version, array)) = frame(&value) else {
         return Err(Refusal::BadScript(0));
     };
-    match events(alloc, array, cells) {
+    match events(alloc, array, cells, version) {
         Ok(events) => Ok(Script { cells, events }),
         Err(refusal) => Err(refusal),
     }
 }
 
-/// The cells of a script, and what stands in the places of its events.
-fn frame(value: &Value) -> Option<(u32, &Vec<Value>)>
-    ensures some { IfSome result (λ said. SaysFrame said.0 (items_view said.1.now.items) (view value.now)) }
-    ensures few { IfSome result (λ said. length said.1.now.items ≤ MAX_EVENTS) }
-    ensures none { IfNone result ((cells : ℕ) (items : Items) → SaysFrame cells items (view value.now) → ⊥) }
+/// The cells of a script, its version, and what stands in the places of its events.
+fn frame(value: &Value) -> Option<(u32, u8, &Vec<Value>)>
+    ensures some { IfSome result (λ said. SaysFrame said.0 said.1 (items_view said.2.now.items) (view value.now)) }
+    ensures from { IfSome result (λ said. FIRST_VERSION ≤ said.1) }
+    ensures to { IfSome result (λ said. said.1 ≤ NEWEST_VERSION) }
+    ensures few { IfSome result (λ said. length said.2.now.items ≤ MAX_EVENTS) }
+    ensures none { IfNone result ((cells version : ℕ) (items : Items) → SaysFrame cells version items (view value.now)
+        → ⊥) }
 {
-    if !has_only(value, &["cells", "events"]) {
+    if !has_only(value, &["cells", "version", "events"]) {
         return None;
     }
     let Some(cells) = value.get("cells") else {
         return None;
     };
     let Some(cells) = number(cells, 1, MAX_SCRIPT_CELLS) else {
+        return None;
+    };
+    let Some(version) = version(value) else {
         return None;
     };
     let Some(events) = value.get("events") else {
@@ -68,21 +75,43 @@ fn frame(value: &Value) -> Option<(u32, &Vec<Value>)>
     if count(array) > MAX_EVENTS {
         return None;
     }
-    Some((cells, array))
+    Some((cells, version, array))
+}
+
+/// The version of the volumes that a script makes: the first where it states none.
+fn version(value: &Value) -> Option<u8>
+    ensures said { Exactly (λ version. SaysVersion version (view value.now)) result }
+    ensures from { IfSome result (λ version. FIRST_VERSION ≤ version) }
+    ensures to { IfSome result (λ version. version ≤ NEWEST_VERSION) }
+{
+    let Some(stated) = value.get("version") else {
+        return Some(FIRST_VERSION);
+    };
+    match number(stated, u32::from(FIRST_VERSION), u32::from(NEWEST_VERSION)) {
+        Some(version) => Some(version as u8),
+        None => None,
+    }
 }
 
 /// The events that these are, or the number of the first that is none.
-fn events(alloc: Global, array: &Vec<Value>, cells: u32) -> Result<Sequence<Event>, Refusal>
-    requires { length array.now.items ≤ MAX_EVENTS }
-    ensures found { IfOk result (λ found. AreItems (SaysEvent cells) found (items_view array.now.items)) }
+fn events(
+    alloc: Global,
+    array: &Vec<Value>,
+    cells: u32,
+    version: u8,
+) -> Result<Sequence<Event>, Refusal>
+    requires few { length array.now.items ≤ MAX_EVENTS }
+    requires from { FIRST_VERSION ≤ version }
+    requires to { version ≤ NEWEST_VERSION }
+    ensures found { IfOk result (λ found. AreItems (SaysEvent cells version) found (items_view array.now.items)) }
     ensures other { IfErr result (λ refusal. (refusal ≡ NoMemory)
         ⊎ ((i : ℕ) × (refusal ≡ BadScript i) × (1 ≤ i)
-        × IsFirstOther (SaysEvent cells) i (items_view array.now.items))) }
+        × IsFirstOther (SaysEvent cells version) i (items_view array.now.items))) }
 {
     let mut found = Vec::new(alloc);
     let mut passed = 0;
     for value in array {
-        let Ok(next) = event(alloc, value, cells) else {
+        let Ok(next) = event(alloc, value, cells, version) else {
             return Err(Refusal::NoMemory);
         };
         let Some(next) = next else {

@@ -4,7 +4,6 @@ ghost use Rattle.serde_json.specs.Data.{string};
 ghost use Rattle.serde_json.specs.View.{view, items_view};
 ghost use Rattle.stored_documents.specs.Documents.{IsBody};
 ghost use Rattle.stored_documents.specs.Words.{AreWords};
-ghost use Rattle.stored_documents.specs.declared.word_rules.WordRule.TheVariants.{Ascii};
 ghost use Rattle.script_events.specs.Grammar.{SaysBody, SaysBytes, SaysIdentifier, SaysTerm};
 ghost use Rattle.script_events.specs.Json.{AreItems, Exactly, IsArrayOf};
 ghost use Rattle.script_events.specs.declared.limits.TheConstants.{MAX_WORDS};
@@ -89,9 +88,13 @@ fn hex_bytes(alloc: Global, value: &Value) -> Result<Option<Text>, AllocError>
     }
 }
 
-/// The terms of the words that the array has, one to eight.
-pub(crate) fn terms(alloc: Global, value: &Value) -> Result<Option<Sequence<Term>>, AllocError>
-    ensures { IfOk result (Exactly (λ terms. IsArrayOf SaysTerm 1 MAX_WORDS terms (view value.now))) }
+/// The terms of the words that the array has, one to eight, by this rule.
+pub(crate) fn terms(
+    alloc: Global,
+    value: &Value,
+    rule: WordRule,
+) -> Result<Option<Sequence<Term>>, AllocError>
+    ensures { IfOk result (Exactly (λ terms. IsArrayOf (SaysTerm rule) 1 MAX_WORDS terms (view value.now))) }
 {
     let Some(array) = value.as_array() else {
         return Ok(None);
@@ -103,16 +106,20 @@ pub(crate) fn terms(alloc: Global, value: &Value) -> Result<Option<Sequence<Term
     if many > MAX_WORDS {
         return Ok(None);
     }
-    terms_in(alloc, array)
+    terms_in(alloc, array, rule)
 }
 
 /// The terms of these words.
-fn terms_in(alloc: Global, array: &Vec<Value>) -> Result<Option<Sequence<Term>>, AllocError>
-    ensures { IfOk result (Exactly (λ terms. AreItems SaysTerm terms (items_view array.now.items))) }
+fn terms_in(
+    alloc: Global,
+    array: &Vec<Value>,
+    rule: WordRule,
+) -> Result<Option<Sequence<Term>>, AllocError>
+    ensures { IfOk result (Exactly (λ terms. AreItems (SaysTerm rule) terms (items_view array.now.items))) }
 {
     let mut found = Vec::new(alloc);
     for value in array {
-        let Some(next) = term(alloc, value)? else {
+        let Some(next) = term(alloc, value, rule)? else {
             return Ok(None);
         };
         found.push(next)?;
@@ -121,20 +128,20 @@ fn terms_in(alloc: Global, array: &Vec<Value>) -> Result<Option<Sequence<Term>>,
 }
 
 /// The one term of the word that the value is.
-fn term(alloc: Global, value: &Value) -> Result<Option<Term>, AllocError>
-    ensures { IfOk result (Exactly (λ term. SaysTerm term (view value.now))) }
+fn term(alloc: Global, value: &Value, rule: WordRule) -> Result<Option<Term>, AllocError>
+    ensures { IfOk result (Exactly (λ term. SaysTerm rule term (view value.now))) }
 {
     let Some(text) = value.as_str() else {
         return Ok(None);
     };
-    term_of(alloc, text.as_bytes())
+    term_of(alloc, text.as_bytes(), rule)
 }
 
 /// The one term of a word.
-fn term_of(alloc: Global, word: &[u8]) -> Result<Option<Term>, AllocError>
-    ensures { IfOk result (Exactly (λ term. AreWords Ascii word.now (term ∷ []))) }
+fn term_of(alloc: Global, word: &[u8], rule: WordRule) -> Result<Option<Term>, AllocError>
+    ensures { IfOk result (Exactly (λ term. AreWords rule word.now (term ∷ []))) }
 {
-    match single_term(alloc, word, WordRule::Ascii) {
+    match single_term(alloc, word, rule) {
         Ok(term) => Ok(Some(term)),
         Err(WordFault::BadWord) => Ok(None),
         Err(WordFault::NoMemory) => Err(AllocError),

@@ -11,7 +11,7 @@ returns-in_default-next-clause-other c =
       c.loop-value.passed + 1,
       refl,
       omega arith,
-      first_other (SaysEvent c.args.cells) c.in-Ok.next c.loop-value.found.items c.args.array.now.items c.deref-value-items.result.now c.loop-value.value-index _ c.value-item.result
+      first_other (SaysEvent c.args.cells c.args.version) c.in-Ok.next c.loop-value.found.items c.args.array.now.items c.deref-value-items.result.now c.loop-value.value-index _ c.value-item.result
           c.loop-value-test.true c.value-item.is (sym c.deref-value-items.ensures.value) c.loop-value.invariant.found c.in_default-next.not-Some c.in-Ok.ensures count,
     )
 
@@ -19,7 +19,7 @@ pub loop-value-preserved : goal.loop-value-preserved
 loop-value-preserved c =
     record {
       found =
-          one_more (SaysEvent c.args.cells) c.loop-value.found.items _ _ _ _ c.value-item.result c.loop-value-test.true c.value-item.is c.loop-value.invariant.found
-          (is_such (λ e. SaysEvent c.args.cells e (view c.value-item.result)) _ _ c.in-Ok.ensures c.in-Some.is) c.in-Ok-push.ensures.items;
+          one_more (SaysEvent c.args.cells c.args.version) c.loop-value.found.items _ _ _ _ c.value-item.result c.loop-value-test.true c.value-item.is c.loop-value.invariant.found
+          (is_such (λ e. SaysEvent c.args.cells c.args.version e (view c.value-item.result)) _ _ c.in-Ok.ensures c.in-Some.is) c.in-Ok-push.ensures.items;
       counted = omega (arith, c.loop-value.invariant.counted);
     }

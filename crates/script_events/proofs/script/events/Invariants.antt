@@ -8,6 +8,6 @@ use Rattle.script_events.proofs.script.events.Given as goal
 abbrev pub invariant-loop-value : goal.invariant-loop-value
 invariant-loop-value l =
     record {
-      found : AreItems (SaysEvent l.cells) l.found.items (items_view (take l.value-index l.value-items));
+      found : AreItems (SaysEvent l.cells l.version) l.found.items (items_view (take l.value-index l.value-items));
       counted : l.passed ≡ l.value-index;
     }

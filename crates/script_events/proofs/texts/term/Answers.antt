@@ -5,5 +5,5 @@ use Rattle.script_events.proofs.texts.term.Goals as goal
 
 pub returns : goal.returns
 returns c =
-    term_said c.as_bytes.result.now (view c.args.value.now) c.term_of.result
+    term_said c.args.rule c.as_bytes.result.now (view c.args.value.now) c.term_of.result
     (sym c.in-Some.ensures ∙ ap Some (sym c.as_bytes.ensures.value)) c.term_of.ensures

@@ -6,4 +6,4 @@ use Rattle.script_events.proofs.texts.terms_in.Given as goal
 
 -- those found so far are the first items
 abbrev pub invariant-loop-value : goal.invariant-loop-value
-invariant-loop-value l = AreItems SaysTerm l.found.items (items_view (take l.value-index l.value-items))
+invariant-loop-value l = AreItems (SaysTerm l.rule) l.found.items (items_view (take l.value-index l.value-items))
