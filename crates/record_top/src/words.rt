@@ -4,7 +4,7 @@ ghost use Rattle.std.specs.String.{string_bytes};
 ghost use Rattle.record_top.specs.Auditing.{AsksToAudit};
 ghost use Rattle.record_top.specs.Commands.{Asks, AsksNothing, request_of};
 ghost use Rattle.record_top.specs.Finding.{AsksToFind};
-ghost use Rattle.record_top.specs.Formatting.{AsksByVersion, AsksPlainly};
+ghost use Rattle.record_top.specs.Formatting.{AsksByVersion, AsksPlainly, AsksToFormat};
 ghost use Rattle.record_top.specs.Ingesting.{AsksToIngest};
 ghost use Rattle.record_top.specs.LookingUp.{AsksToLookUp};
 ghost use Rattle.record_top.specs.Recovering.{AsksToRecover};
@@ -47,9 +47,6 @@ pub fn command_of(words: &[String]) -> Option<Command<'_>>
     ensures some { IfSome result (λ command. Asks (map string_bytes words.now) (request_of command)) }
     ensures none { IfNone result (AsksNothing (map string_bytes words.now)) }
 {
-    if let Some(command) = plain_format_of(words) {
-        return Some(command);
-    }
     if let Some(command) = format_of(words) {
         return Some(command);
     }
@@ -71,7 +68,19 @@ pub fn command_of(words: &[String]) -> Option<Command<'_>>
     replay_of(words)
 }
 
-/// The command `format`, where the words are this and two numbers in range. The version is the first.
+/// The command `format`, where the words are this and two or three numbers in range.
+fn format_of(words: &[String]) -> Option<Command<'_>>
+    ensures some { IfSome result (λ command. Asks (map string_bytes words.now) (request_of command)) }
+    ensures none { IfNone result ((slots lists version : ℕ)
+        → AsksToFormat (map string_bytes words.now) slots lists version → ⊥) }
+{
+    if let Some(command) = plain_format_of(words) {
+        return Some(command);
+    }
+    versioned_format_of(words)
+}
+
+/// The same where no version is stated, which asks for the first.
 fn plain_format_of(words: &[String]) -> Option<Command<'_>>
     ensures some { IfSome result (λ command. Asks (map string_bytes words.now) (request_of command)) }
     ensures none { IfNone result ((slots lists : ℕ) → AsksPlainly (map string_bytes words.now) slots lists → ⊥) }
@@ -91,8 +100,8 @@ fn plain_format_of(words: &[String]) -> Option<Command<'_>>
     })
 }
 
-/// The command `format`, where the words are this and three numbers in range.
-fn format_of(words: &[String]) -> Option<Command<'_>>
+/// The same where a version is stated.
+fn versioned_format_of(words: &[String]) -> Option<Command<'_>>
     ensures some { IfSome result (λ command. Asks (map string_bytes words.now) (request_of command)) }
     ensures none { IfNone result ((slots lists version : ℕ)
         → AsksByVersion (map string_bytes words.now) slots lists version → ⊥) }

@@ -6,7 +6,7 @@ use Rattle.cell_types.specs.declared.geometry.TheConstants.{MAX_LISTS, MAX_SLOTS
 use Rattle.worm_device.proofs.Compared.{alike}
 use Rattle.record_top.specs.Words.{IsNumberUpTo}
 use Rattle.record_top.proofs.Listed.{if_none, four, second_of_four, third_of_four, fourth_of_four}
-use Rattle.record_top.proofs.words.format_of.Goals as goal
+use Rattle.record_top.proofs.words.versioned_format_of.Goals as goal
 
 pub returns-clause-some : goal.returns-clause-some
 returns-clause-some c =
