@@ -4,7 +4,7 @@
 --     receipt 0 a
 --     36 0600000000012cf24dba5fb000000024
 --     end 1
-use Rattle.std.specs.Prelude.{◌≡◌, ◌≢◌, ◌<◌, ◌≤◌, ◌+◌, ℕ, List, [], ◌∷◌, ◌++◌, codes, decimal, length, map}
+use Rattle.std.specs.Prelude.{◌^◌, ◌≡◌, ◌≢◌, ◌<◌, ◌≤◌, ◌+◌, ℕ, List, [], ◌∷◌, ◌++◌, codes, decimal, length, map}
 use Rattle.hex.specs.Hex.{encode_lower}
 use Rattle.cell_types.specs.declared.geometry.TheConstants.{MAX_SLOTS}
 use Rattle.stored_documents.specs.Documents.{IsIdentifier}

@@ -52,9 +52,9 @@ impl ListedCells {
     {
         // Known of a cell once its bytes are asked for: there are sixteen, and not all of them are zero.
         let _bytes = value.bytes();
-        if self.cells.insert(at, value).is_err() {
+        let Ok(_replaced) = self.cells.insert(at, value) else {
             return Err(NoMemory);
-        }
+        };
         Ok(())
     }
 

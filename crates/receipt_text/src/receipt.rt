@@ -13,3 +13,13 @@ pub struct Receipt {
     pub identifier: Text,
     pub cells: ListedCells,
 }
+
+/// Why a text is not read as a receipt.
+#[derive(Clone, Copy, Debug, PartialEq, Eq)]
+pub enum ReceiptFault {
+    /// The line of this number, from 1, is the first that breaks the form, or has the first address that the device
+    /// does not have.
+    BadReceipt(u32),
+    /// No memory was to be had.
+    NoMemory,
+}
