@@ -7,11 +7,11 @@ use Rattle.receipt_text.proofs.ReceiptLines.{cells_once, head_once, receipt_is_l
 use Rattle.receipt_text.proofs.TextLines.{AreLines, goes_on, lines_before, nothing_next, same_lines}
 
 -- the rest of a list of lines
-abbrev rest_of : List (List ℕ) → List (List ℕ)
+abbrev pub rest_of : List (List ℕ) → List (List ℕ)
 rest_of lines = drop 1 lines
 
 -- a receipt of these parts
-abbrev receipt_with : ℕ → List ℕ → List (ℕ × List ℕ) → Receipt
+abbrev pub receipt_with : ℕ → List ℕ → List (ℕ × List ℕ) → Receipt
 receipt_with slot id cells = record { slot = slot; identifier = id; cells = cells }
 
 -- the same lines are those of the same receipt

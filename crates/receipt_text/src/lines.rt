@@ -83,6 +83,7 @@ pub(crate) fn head_of(line: &[u8]) -> Option<Head<'_>>
 /// The cell that the line lists, where it is the line of a cell.
 pub(crate) fn cell_of(line: &[u8]) -> Option<ListedCell>
     ensures some { IfSome result (λ cell. line.now ≡ cell_line (cell.at, cell.value)) }
+    ensures fits { IfSome result (λ cell. cell.at < 2 ^ 32) }
     ensures written { IfSome result (λ cell. IsCell cell.value) }
     ensures none { IfNone result
         ((at : ℕ) (value : List ℕ) → at < 2 ^ 32 → IsCell value → line.now ≢ cell_line (at, value)) }

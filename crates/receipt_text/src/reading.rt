@@ -33,7 +33,7 @@ pub fn read_receipt(alloc: Global, text: &[u8], cells: u32) -> Result<Receipt, R
     if !listing.behind.is_empty() {
         return Err(ReceiptFault::BadReceipt(listing.count + 3));
     }
-    let Ok(identifier) = head.identifier.to_vec(alloc) else {
+    let Ok(identifier) = Vec::from_slice(alloc, head.identifier) else {
         return Err(ReceiptFault::NoMemory);
     };
     Ok(Receipt {
