@@ -1,5 +1,5 @@
 -- Texts that are cut at a byte, and which bytes numbers and hexadecimal digits lack.
-use Rattle.std.proofs.Common.{Bool, true, false, cond, eqb, inl, inr, eq-eqb, ne_eqb, true≢false, ◌∙◌, ◌≡◌, ◌≢◌, ◌<◌, ◌≤◌, ◌+◌, ◌^◌, ◌/◌, ◌%◌, ℕ, zero, suc, List, [], ◌∷◌, ◌++◌, codes, decimal, get_or, length, refl, sym, ap, arith}
+use Rattle.std.proofs.Common.{Bool, true, false, cond, eqb, inl, inr, eq-eqb, ne_eqb, true≢false, ◌∙◌, ◌≡◌, ◌≢◌, ◌<◌, ◌+◌, ◌^◌, ◌/◌, ◌%◌, ℕ, zero, suc, List, [], ◌∷◌, ◌++◌, decimal, get_or, refl, sym, ap, arith}
 use Rattle.std.proofs.lemmas.Bool.{cases_eq}
 use Rattle.std.proofs.lemmas.Fmt.{decimal_by_steps}
 use Rattle.hex.specs.Hex.{encode_lower, encode_with, lower_digits}
@@ -55,8 +55,8 @@ number_lacks byte n below other =
     decimal_by_steps (λ m ds. Lacks byte ds)
     (λ m small. lacks_cons byte (48 + m) [] (other m small) (lacks_none byte))
     (λ m ds large front.
-      lacks_append byte ds ((48 + m % 10) ∷ []) front
-      (lacks_cons byte (48 + m % 10) [] (other (m % 10) (omega arith)) (lacks_none byte)))
+    lacks_append byte ds ((48 + m % 10) ∷ []) front
+    (lacks_cons byte (48 + m % 10) [] (other (m % 10) (omega arith)) (lacks_none byte)))
     n below
 
 -- a digit of a table is one of its bytes, or the 0 past its end

@@ -1,6 +1,7 @@
 pub mod Cutting
 pub mod Listing
 pub mod OneText
+pub mod PrintingOn
 pub mod ReadingOn
 pub mod ReceiptLines
 pub mod Spelling

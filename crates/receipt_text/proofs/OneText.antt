@@ -1,7 +1,7 @@
 -- A text spells one receipt, and has one first line that breaks the form.
-use Rattle.std.proofs.Common.{◌≡◌, ◌≢◌, ◌<◌, ◌≤◌, ◌+◌, ◌^◌, ◌⊎◌, inl, inr, ℕ, List, [], ◌∷◌, ◌++◌, append_assoc, append-nil, drop, length, map, refl, sym, ap, subst, arith, ◌∙◌}
+use Rattle.std.proofs.Common.{◌≡◌, ◌<◌, ◌^◌, inl, inr, ℕ, List, [], ◌∷◌, ◌++◌, append_assoc, append-nil, drop, length, sym, ap, subst, arith, ◌∙◌}
 use Rattle.std.proofs.lemmas.Bool.{cases_eq, cases_lt}
-use Rattle.receipt_text.specs.Form.{Begins, IsFirstBadLine, IsReceiptOn, TextsAreOne, cell_line, end_line, head_line, receipt_lines, text_of_lines, text_of_receipt}
+use Rattle.receipt_text.specs.Form.{Begins, IsFirstBadLine, IsReceiptOn, TextsAreOne, head_line, receipt_lines, text_of_lines}
 use Rattle.receipt_text.specs.declared.receipt.Receipt.{Receipt}
 use Rattle.receipt_text.proofs.ReceiptLines.{cells_once, head_once, receipt_is_lines}
 use Rattle.receipt_text.proofs.TextLines.{AreLines, goes_on, lines_before, nothing_next, same_lines}
@@ -21,7 +21,7 @@ lines_once cells r s small one two same =
     let head : head_line r.slot r.identifier ≡ head_line s.slot s.identifier = cc same in
     let parts = head_once r.slot s.slot r.identifier s.identifier one.slot two.slot head in
     let listed = cells_once cells 0 (length r.cells) (length s.cells) r.cells s.cells small one.listed two.listed
-        (ap rest_of same) in
+    (ap rest_of same) in
     ap (λ (n : ℕ). receipt_with n r.identifier r.cells) parts.0
     ∙ ap (λ (id : List ℕ). receipt_with s.slot id r.cells) parts.1
     ∙ ap (λ (l : List (ℕ × List ℕ)). receipt_with s.slot s.identifier l) listed
@@ -78,7 +78,7 @@ not_later : (cells : ℕ) (text : List ℕ) (i j : ℕ) → cells < 2 ^ 32 → (
     → (other : IsFirstBadLine cells text j) → length one.before < length other.before → ⊥
 not_later cells text i j small one other less =
     let on = goes_on one.before other.before one.rest other.rest (begun_are_lines cells one.before small one.begins)
-        (begun_are_lines cells other.before small other.begins) (sym one.splits ∙ other.splits) less in
+    (begun_are_lines cells other.before small other.begins) (sym one.splits ∙ other.splits) less in
     one.breaks on.line on.behind on.next
     (begins_before cells one.before on.line on.more (subst (Begins cells) on.lines other.begins))
 

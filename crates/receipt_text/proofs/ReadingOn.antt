@@ -4,7 +4,7 @@ use Rattle.std.specs.BTreeMap.{insert_entry}
 use Rattle.std.specs.Ordering.{nat_cmp}
 use Rattle.cell_types.specs.Bytes.{IsCell}
 use Rattle.receipt_text.specs.Form.{cell_line, end_line, text_of_lines}
-use Rattle.receipt_text.specs.Listed.{AreListed, AreListedFrom}
+use Rattle.receipt_text.specs.Listed.{AreListedFrom}
 use Rattle.receipt_text.specs.Reading.{IsListing, IsStuck, Lacks, ReadSoFar, next_of}
 use Rattle.receipt_text.specs.declared.reading.Listing.{Listing}
 use Rattle.receipt_text.specs.declared.receipt.TheConstants.{MAX_RECEIPT_CELLS}
@@ -131,8 +131,8 @@ module _ (size : ℕ) (text : List ℕ) (count next : ℕ) (cells : List (ℕ ×
     pub stuck_at_cell : (at : ℕ) (value : List ℕ) → at < 2 ^ 32 → IsCell value → front ≡ cell_line (at, value)
         → (next ≤ at → at < size → ⊥) → IsStuck size text (count + 2)
     stuck_at_cell at value fits is line never = stuck_at_line (λ a v room past below cell same.
-      let there = (cell_once (at, value) (a, v) fits (omega arith) is cell (sym line ∙ same)).0 in
-      never (omega (arith, there, past)) (omega (arith, there, below)))
+        let there = (cell_once (at, value) (a, v) fits (omega arith) is cell (sym line ∙ same)).0 in
+        never (omega (arith, there, past)) (omega (arith, there, below)))
 
     -- no cell may follow
     pub stuck_at_most : MAX_RECEIPT_CELLS ≤ count → IsStuck size text (count + 2)

@@ -1,5 +1,5 @@
 -- The lines of receipts: no two kinds are alike, and what follows the lines of some cells.
-use Rattle.std.proofs.Common.{◌≡◌, ◌≢◌, ◌<◌, ◌≤◌, ◌+◌, ◌^◌, ◌⊎◌, ℕ, List, [], ◌∷◌, ◌++◌, codes, decimal, drop, length, map, Ok, refl, sym, ap, subst, arith, ◌∙◌}
+use Rattle.std.proofs.Common.{◌≡◌, ◌≢◌, ◌<◌, ◌≤◌, ◌+◌, ◌^◌, ℕ, List, [], ◌∷◌, ◌++◌, codes, decimal, drop, length, map, Ok, refl, sym, ap, subst, arith, ◌∙◌}
 use Rattle.std.proofs.lemmas.Fmt.{decimal_injective, decimal_nonempty}
 use Rattle.hex.specs.Hex.{encode_lower}
 use Rattle.cell_types.specs.Bytes.{IsCell}
@@ -50,8 +50,8 @@ pub receipt_is_lines : (cells : ℕ) (r : Receipt) → cells < 2 ^ 32 → IsRece
 receipt_is_lines cells r small is = (
   head_is_line r.slot r.identifier is.slot is.identifier,
   lines_append (map cell_line r.cells) (end_line (length r.cells) ∷ [])
-  (cells_are_lines cells 0 r.cells small is.listed)
-  (end_is_line (length r.cells) (omega (arith, is.most)), tt),
+      (cells_are_lines cells 0 r.cells small is.listed)
+      (end_is_line (length r.cells) (omega (arith, is.most)), tt),
 )
 
 -- ---- lines of one kind
@@ -73,7 +73,7 @@ pub cell_once : (c e : ℕ × List ℕ) → c.0 < 2 ^ 32 → e.0 < 2 ^ 32 → Is
     → cell_line c ≡ cell_line e → (c.0 ≡ e.0) × (c.1 ≡ e.1)
 cell_once c e below other one two same =
     let cut = cut_once 32 (decimal c.0) (encode_lower c.1) (decimal e.0) (encode_lower e.1)
-        (number_lacks_space c.0 below) (number_lacks_space e.0 other) same in
+    (number_lacks_space c.0 below) (number_lacks_space e.0 other) same in
     let first = decodes (encode_lower c.1) c.1 one refl in
     let second = decodes (encode_lower c.1) e.1 two cut.1 in
     (decimal_injective c.0 e.0 (omega arith) (omega arith) cut.0, (let both : Ok c.1 ≡ Ok e.1 = sym first ∙ second in cc both))
@@ -83,7 +83,7 @@ pub head_once : (m n : ℕ) (a b : List ℕ) → m < MAX_SLOTS → n < MAX_SLOTS
     → (m ≡ n) × (a ≡ b)
 head_once m n a b below other same =
     let cut = cut_once 32 (decimal m) a (decimal n) b (number_lacks_space m (omega arith))
-        (number_lacks_space n (omega arith)) (ap (drop 8) same) in
+    (number_lacks_space n (omega arith)) (ap (drop 8) same) in
     (decimal_injective m n (omega arith) (omega arith) cut.0, cut.1)
 
 -- ---- what follows the lines of cells

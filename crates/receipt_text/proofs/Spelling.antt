@@ -1,5 +1,5 @@
 -- How numbers, digits and the lines of a receipt are spelled, each in one way.
-use Rattle.std.proofs.Common.{◌≡◌, ◌≢◌, ◌<◌, ◌≤◌, ◌+◌, ◌^◌, ℕ, List, [], ◌∷◌, ◌++◌, codes, decimal, Ok, arith, sym, ◌∙◌, ap, nat_eq, not, true, false, true≢false}
+use Rattle.std.proofs.Common.{◌≡◌, ◌<◌, ◌^◌, ℕ, List, ◌∷◌, ◌++◌, decimal, Ok, arith, sym, ◌∙◌, ap, nat_eq, not, true, true≢false}
 use Rattle.std.proofs.lemmas.Cmp.{nat_list_eq_equiv}
 use Rattle.std.proofs.lemmas.Fmt.{decimal_injective}
 use lib.Pointwise.{pointwise}
@@ -7,7 +7,7 @@ use Rattle.hex.specs.Hex.{decode_sized, encode_lower}
 use Rattle.hex.proofs.HexLemmas.{decode_sized-encode_lower}
 use Rattle.cell_types.specs.Bytes.{IsCell}
 use Rattle.cell_types.specs.declared.geometry.TheConstants.{MAX_SLOTS}
-use Rattle.receipt_text.specs.Form.{cell_line, end_line, head_line}
+use Rattle.receipt_text.specs.Form.{cell_line}
 use Rattle.receipt_text.specs.Reading.{Lacks}
 use Rattle.receipt_text.proofs.Cutting.{cut_once, number_lacks}
 

@@ -1,5 +1,5 @@
 -- Texts of lines, which are cut into their lines in one way.
-use Rattle.std.proofs.Common.{◌≡◌, ◌≢◌, ◌<◌, ◌≤◌, ◌+◌, ℕ, List, [], ◌∷◌, ◌++◌, codes, length, append_assoc, refl, sym, ap, arith, ◌∙◌}
+use Rattle.std.proofs.Common.{◌≡◌, ◌≢◌, ◌<◌, ℕ, List, [], ◌∷◌, ◌++◌, length, append_assoc, refl, sym, ap, arith, ◌∙◌}
 use Rattle.receipt_text.specs.Form.{text_of_lines}
 use Rattle.receipt_text.specs.Reading.{Lacks}
 use Rattle.receipt_text.proofs.Cutting.{cut_once, lacks_none, never_cut}
@@ -56,7 +56,7 @@ goes_on (b ∷ bs) (o ∷ os) rest end one two same less =
     let cut = first_cut b o bs os rest end one.0 two.0 same in
     let below = goes_on bs os rest end one.1 two.1 cut.1 (omega arith) in
     let lines : o ∷ os ≡ b ∷ (bs ++ (below.line ∷ below.more)) =
-        ap (λ (x : List ℕ). x ∷ os) (sym cut.0) ∙ ap (λ (l : List (List ℕ)). b ∷ l) below.lines in
+    ap (λ (x : List ℕ). x ∷ os) (sym cut.0) ∙ ap (λ (l : List (List ℕ)). b ∷ l) below.lines in
     record {
       line = below.line;
       more = below.more;

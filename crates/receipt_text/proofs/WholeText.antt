@@ -1,5 +1,5 @@
 -- A text that was read: the receipt that it spells, or its first line that breaks the form.
-use Rattle.std.proofs.Common.{◌≡◌, ◌≢◌, ◌<◌, ◌≤◌, ◌+◌, ◌^◌, inl, inr, ℕ, zero, suc, List, [], ◌∷◌, ◌++◌, append_assoc, append-nil, drop, length, length-append, map, slice_index, Err, true, ◌==◌, refl, sym, ap, subst, arith, ◌∙◌}
+use Rattle.std.proofs.Common.{◌≡◌, ◌≢◌, ◌<◌, ◌≤◌, ◌+◌, ◌^◌, inl, inr, ℕ, zero, suc, List, [], ◌∷◌, ◌++◌, append_assoc, append-nil, length, length-append, map, slice_index, Err, true, ◌==◌, refl, sym, ap, subst, arith, ◌∙◌}
 use Rattle.std.proofs.lemmas.Bool.{cases_eq, cases_lt, eqb-true}
 use Rattle.std.proofs.lemmas.List.{length-map}
 use Rattle.cell_types.specs.declared.geometry.TheConstants.{MAX_SLOTS}
@@ -15,7 +15,7 @@ use Rattle.receipt_text.specs.declared.receipt.TheConstants.{MAX_RECEIPT_CELLS}
 use Rattle.receipt_text.proofs.Cutting.{cut_once}
 use Rattle.receipt_text.proofs.OneText.{begun_are_lines, receipt_with, rest_of}
 use Rattle.receipt_text.proofs.ReceiptLines.{Follows, cell_no_end, ends, follows, head_is_line, lists, never_whole, receipt_is_lines}
-use Rattle.receipt_text.proofs.TextLines.{AreLines, GoesOn, goes_on, nothing_next, same_lines, text_append}
+use Rattle.receipt_text.proofs.TextLines.{GoesOn, goes_on, nothing_next, same_lines, text_append}
 
 -- a list without elements
 pub is_empty : (xs : List ℕ) → (length xs == 0) ≡ true → xs ≡ []
@@ -41,7 +41,7 @@ module _ (cells : ℕ) (text : List ℕ) (before : List (List ℕ)) (rest : List
       let lines = receipt_is_lines cells r small is in
       let front = begun_are_lines cells before small begins in
       let texts : text_of_lines before ++ rest ≡ text_of_lines (receipt_lines r) ++ [] =
-          sym splits ∙ same ∙ sym (append-nil (text_of_receipt r)) in
+      sym splits ∙ same ∙ sym (append-nil (text_of_receipt r)) in
       elim (cases_eq (length before) (length (receipt_lines r))) [
         | inl many ↦
             let alike = same_lines before (receipt_lines r) rest [] front lines texts many in
@@ -237,10 +237,10 @@ module _ (cells : ℕ) (text front tail : List ℕ) (slot : ℕ) (id : List ℕ)
       breaks line behind next begun =
           let s = begun.receipt in
           let behind_end : map cell_line s.cells ++ (end_line (length s.cells) ∷ [])
-              ≡ map cell_line listing.cells ++ (end_line (length listing.cells) ∷ (line ∷ begun.rest)) =
-              ap rest_of begun.same
-              ∙ append_assoc (map cell_line listing.cells ++ (end_line (length listing.cells) ∷ [])) (line ∷ []) begun.rest
-              ∙ append_assoc (map cell_line listing.cells) (end_line (length listing.cells) ∷ []) (line ∷ begun.rest) in
+          ≡ map cell_line listing.cells ++ (end_line (length listing.cells) ∷ (line ∷ begun.rest)) =
+          ap rest_of begun.same
+          ∙ append_assoc (map cell_line listing.cells ++ (end_line (length listing.cells) ∷ [])) (line ∷ []) begun.rest
+          ∙ append_assoc (map cell_line listing.cells) (end_line (length listing.cells) ∷ []) (line ∷ begun.rest) in
           nothing_behind cells listing.cells s.cells (length s.cells) line begun.rest small is.listed begun.is.listed
           behind_end
 
@@ -251,5 +251,5 @@ module _ (cells : ℕ) (text front tail : List ℕ) (slot : ℕ) (id : List ℕ)
   good_end listing is nothing = (
     receipt_is listing.cells is.listed (omega (arith, is.count, is.most)),
     whole_text listing is ∙ ap (λ (t : List ℕ). text_of_receipt (receipt_with slot id listing.cells) ++ t) nothing
-    ∙ append-nil (text_of_receipt (receipt_with slot id listing.cells)),
+        ∙ append-nil (text_of_receipt (receipt_with slot id listing.cells)),
   )

@@ -7,9 +7,13 @@
 use Rattle.std.specs.Prelude.{◌^◌, ◌≡◌, ◌≢◌, ◌<◌, ◌≤◌, ◌+◌, ℕ, List, [], ◌∷◌, ◌++◌, codes, decimal, length, map}
 use Rattle.hex.specs.Hex.{encode_lower}
 use Rattle.cell_types.specs.declared.geometry.TheConstants.{MAX_SLOTS}
+use Rattle.cell_types.specs.declared.refusal.Refusal.{Refusal}
+use Rattle.cell_types.specs.declared.refusal.Refusal.TheVariants as refusals
 use Rattle.stored_documents.specs.Documents.{IsIdentifier}
 use Rattle.receipt_text.specs.Listed.{AreListed}
 use Rattle.receipt_text.specs.declared.receipt.Receipt.{Receipt}
+use Rattle.receipt_text.specs.declared.receipt.ReceiptFault.{ReceiptFault}
+use Rattle.receipt_text.specs.declared.receipt.ReceiptFault.TheVariants.{BadReceipt, NoMemory}
 use Rattle.receipt_text.specs.declared.receipt.TheConstants.{MAX_RECEIPT_CELLS}
 
 -- the line of the document: its slot and its identifier
@@ -62,6 +66,11 @@ pub record IsFirstBadLine (cells : ℕ) (text : List ℕ) (i : ℕ) : Type 0 whe
   pub begins : Begins cells before
   pub breaks : (line behind : List ℕ) → rest ≡ line ++ (codes "\n" ++ behind) → Begins cells (before ++ (line ∷ [])) → ⊥
   pub none : (r : Receipt) → IsReceiptOn cells r → text ≢ text_of_receipt r
+
+-- what a fault of a receipt's text is to a command
+abbrev pub refusal_of_receipt : ReceiptFault → Refusal
+refusal_of_receipt (BadReceipt i) = refusals.BadReceipt i
+refusal_of_receipt NoMemory = refusals.NoMemory
 
 -- a text spells one receipt
 abbrev pub TextsAreOne : Type 0

@@ -20,12 +20,12 @@ next_of from (cell ∷ cells) = next_of (cell.0 + 1) cells
 
 -- So many cells were read, and their lines are what stood before the rest of the text.
 pub record ReadSoFar (size : ℕ) (text : List ℕ) (count next : ℕ) (cells : List (ℕ × List ℕ)) (rest : List ℕ) : Type 0
-    where
-  pub counted : length cells ≡ count
-  pub behind : next_of 0 cells ≡ next
-  pub listed : AreListed size cells
-  pub room : next ≤ size
-  pub splits : text ≡ text_of_lines (map cell_line cells) ++ rest
+  where
+    pub counted : length cells ≡ count
+    pub behind : next_of 0 cells ≡ next
+    pub listed : AreListed size cells
+    pub room : next ≤ size
+    pub splits : text ≡ text_of_lines (map cell_line cells) ++ rest
 
 -- Behind the line of the document, line i of the text is no line that can follow the lines of cells before it.
 pub record IsStuck (size : ℕ) (text : List ℕ) (i : ℕ) : Type 0 where

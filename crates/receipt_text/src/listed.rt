@@ -1,11 +1,13 @@
 //! Cells in a list, by rising address.
-ghost use Rattle.std.specs.Prelude.{◌≡◌, ◌≤◌, ◌^◌, ℕ, List, [], length, None, Some, IfNone, IfSome, IsSome, OnErr, OnOk};
+ghost use Rattle.std.specs.Prelude.{◌≡◌, ◌≤◌, ◌^◌, ℕ, List, [], length, map, ◌++◌, None, Some, IfNone, IfSome, IsSome, OnErr, OnOk};
 ghost use Rattle.std.specs.BTreeMap.{insert_entry};
 ghost use Rattle.std.specs.Ordering.{nat_cmp};
+ghost use Rattle.receipt_text.specs.Form.{cell_line, text_of_lines};
 ghost use Rattle.receipt_text.specs.Listed.{AreListed, ListsAlso, listed_image};
 
+use crate::printing::{line_of_cell, print_line};
 use cell_types::{Cell, NoMemory};
-use std::alloc::Global;
+use std::alloc::{AllocError, Global};
 use std::collections::BTreeMap;
 use std::marker::Model;
 
@@ -85,5 +87,16 @@ impl ListedCells {
             at: *at,
             value: *value,
         })
+    }
+
+    /// Appends the line of each cell to the text. Without memory some of them may be missing.
+    pub(crate) fn print(&self, alloc: Global, text: &mut Vec<u8>) -> Result<(), AllocError>
+        ensures { OnOk result (text.new.items ≡ text.old.items ++ text_of_lines (map cell_line self.now)) }
+    {
+        for (at, value) in self.cells.iter() {
+            let line = line_of_cell(alloc, *at, *value)?;
+            print_line(text, line.as_bytes())?;
+        }
+        Ok(())
     }
 }

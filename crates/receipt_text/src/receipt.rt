@@ -1,5 +1,9 @@
-//! A receipt.
+//! A receipt, and why a text is none.
+ghost use Rattle.std.specs.Prelude.{◌≡◌};
+ghost use Rattle.receipt_text.specs.Form.{refusal_of_receipt};
+
 use crate::ListedCells;
+use cell_types::Refusal;
 use document_store::Text;
 
 /// The greatest number of cells that a receipt may have.
@@ -22,4 +26,15 @@ pub enum ReceiptFault {
     BadReceipt(u32),
     /// No memory was to be had.
     NoMemory,
+}
+
+impl From<ReceiptFault> for Refusal {
+    ghost from_gives = { λ fault refusal. refusal ≡ refusal_of_receipt fault };
+
+    fn from(fault: ReceiptFault) -> Refusal {
+        match fault {
+            ReceiptFault::BadReceipt(line) => Refusal::BadReceipt(line),
+            ReceiptFault::NoMemory => Refusal::NoMemory,
+        }
+    }
 }

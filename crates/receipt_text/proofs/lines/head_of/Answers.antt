@@ -15,15 +15,15 @@ pub returns-then-slot-ge-MAX_SLOTS-clause-none : goal.returns-then-slot-ge-MAX_S
 returns-then-slot-ge-MAX_SLOTS-clause-none c = λ slot id below is same.
     let words : c.in-Some.words.now ≡ decimal slot ++ (32 ∷ id) = c.in-Some.ensures.cases.1 ∙ ap (drop 8) same in
     let cut = head_cut c.in-Some.words.now c.in-Some-cut_at.cut.front.now c.in-Some-cut_at.cut.rest.now slot id
-        c.in-Some-cut_at.ensures.some c.in-Some-cut_at.ensures.first below words in
+    c.in-Some-cut_at.ensures.some c.in-Some-cut_at.ensures.first below words in
     let there : c.in-Some-number_of.slot ≡ slot =
-        slot_is c.in-Some-number_of.slot slot c.in-Some-number_of.ensures.fits below (sym c.in-Some-number_of.ensures.some ∙ cut.0) in
+    slot_is c.in-Some-number_of.slot slot c.in-Some-number_of.ensures.fits below (sym c.in-Some-number_of.ensures.some ∙ cut.0) in
     omega (arith, there, below, c.if-slot-ge-MAX_SLOTS.true)
 
 pub returns-then-not-is_identifier-clause-none : goal.returns-then-not-is_identifier-clause-none
 returns-then-not-is_identifier-clause-none c = λ slot id below is same.
     let words : c.in-Some.words.now ≡ decimal slot ++ (32 ∷ id) = c.in-Some.ensures.cases.1 ∙ ap (drop 8) same in
     let cut = head_cut c.in-Some.words.now c.in-Some-cut_at.cut.front.now c.in-Some-cut_at.cut.rest.now slot id
-        c.in-Some-cut_at.ensures.some c.in-Some-cut_at.ensures.first below words in
+    c.in-Some-cut_at.ensures.some c.in-Some-cut_at.ensures.first below words in
     let there : IsIdentifier c.in-Some-cut_at.cut.rest.now = subst IsIdentifier (sym cut.1) is in
     true≢false (sym (c.is_identifier.ensures.1 there) ∙ c.if-not-is_identifier.true)

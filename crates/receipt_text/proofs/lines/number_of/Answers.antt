@@ -1,5 +1,5 @@
 -- The text of a number is ASCII, and is parsed as the number.
-use Rattle.std.proofs.Common.{◌≡◌, ◌<◌, ◌^◌, Result, Ok, decimal, ap, sym, subst, arith, IsUtf8, ◌∙◌}
+use Rattle.std.proofs.Common.{◌≡◌, ◌<◌, ◌^◌, decimal, ap, sym, subst, arith, IsUtf8, ◌∙◌}
 use Rattle.std.proofs.lemmas.Fmt.{IsAscii-decimal, parse-decimal}
 use Rattle.std.proofs.lemmas.Str.{IsUtf8-from_ascii}
 use Rattle.receipt_text.proofs.Spelling.{alike}
@@ -23,5 +23,5 @@ returns-then-ne-clause-none c = λ n below same.
     let read = parse-decimal 32 n c.in-Ok.text.now c.parse.result below wide (text ∙ same) c.parse.ensures.value.0 in
     let there : c.in-Ok-parse.n ≡ n = cc (read, c.in-Ok-parse.is) in
     let whole : c.as_bytes.result.now ≡ c.args.word.now =
-        c.as_bytes.ensures.value ∙ c.format.ensures.text ∙ ap decimal there ∙ sym same in
+    c.as_bytes.ensures.value ∙ c.format.ensures.text ∙ ap decimal there ∙ sym same in
     alike c.as_bytes.result.now c.args.word.now whole (sym c.ne.ensures ∙ c.if-ne.true)

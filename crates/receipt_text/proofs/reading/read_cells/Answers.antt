@@ -1,6 +1,5 @@
 -- One cell a turn, until a line ends the receipt or is none that can follow.
-use Rattle.std.proofs.Common.{◌≡◌, ◌≢◌, ◌∙◌, ℕ, arith, subst, sym, true≢false}
-use Rattle.receipt_text.specs.Form.{end_line}
+use Rattle.std.proofs.Common.{◌≡◌, ◌∙◌, ℕ, arith, subst, sym, true≢false}
 use Rattle.receipt_text.specs.Reading.{ReadSoFar}
 use Rattle.receipt_text.proofs.ReadingOn.{all_read, nothing_read, read_more, stuck_at_cell, stuck_at_most, stuck_without_cell, stuck_without_line}
 use Rattle.receipt_text.proofs.reading.read_cells.Goals as goal

@@ -1,5 +1,5 @@
 -- The line of the document, the cells, and what is behind them.
-use Rattle.std.proofs.Common.{◌≡◌, ◌==◌, ◌∙◌, ℕ, List, [], length, ap, sym, true≢false}
+use Rattle.std.proofs.Common.{◌≡◌, ◌==◌, ◌∙◌, ℕ, List, length, ap, sym, true≢false}
 use Rattle.receipt_text.proofs.WholeText.{bad_end, fault_ends, good_end, is_empty, no_head, no_line}
 use Rattle.receipt_text.proofs.reading.read_receipt.Goals as goal
 
@@ -35,7 +35,7 @@ returns-then-not-is_empty c =
 pub returns : goal.returns
 returns c =
     let identifier : c.new.result ≡ c.in-Some-head_of.head.identifier.now =
-        c.new.ensures ∙ c.in-Ok-from_slice.ensures.items in
+    c.new.ensures ∙ c.in-Ok-from_slice.ensures.items in
     rw identifier
     (good_end c.args.cells c.args.text.now c.in-Some.first.front.now c.in-Some.first.rest.now
     c.in-Some-head_of.head.slot c.in-Some-head_of.head.identifier.now c.ranges.cells.fits c.in-Some.ensures.some

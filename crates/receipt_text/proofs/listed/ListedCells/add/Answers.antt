@@ -1,7 +1,6 @@
 -- One cell more, in its place.
-use Rattle.std.proofs.Common.{arith, ◌≤◌, ◌^◌}
+use Rattle.std.proofs.Common.{arith, ◌^◌}
 use Rattle.receipt_text.proofs.Listing.{listed_with}
-use Rattle.receipt_text.specs.Listed.{AreListed}
 use Rattle.receipt_text.proofs.listed.ListedCells.add.Goals as goal
 
 pub invariant_of-self-2 : goal.invariant_of-self-2
