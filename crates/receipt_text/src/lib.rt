@@ -31,6 +31,8 @@ mod listed;
 mod printing;
 mod reading;
 mod receipt;
+#[cfg(test)]
+mod tests;
 
 pub use laws::{bad_is_one, texts_are_one};
 pub use listed::{ListedCell, ListedCells};
