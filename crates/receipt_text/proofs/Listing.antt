@@ -1,18 +1,12 @@
 -- A list with one cell more.
-use Rattle.std.proofs.Common.{◌≡◌, ◌<◌, ◌≤◌, ◌+◌, ℕ, List, [], ◌∷◌, ◌++◌, refl, ap, arith}
+use Rattle.std.proofs.Common.{◌≡◌, ◌<◌, ◌≤◌, ◌+◌, ℕ, List, [], ◌∷◌, ◌++◌, cond, Some, refl, ap, subst, arith}
 use Rattle.std.proofs.lemmas.Cmp.{ranked}
 use Rattle.std.specs.BTreeMap.{insert_entry}
-use Rattle.std.specs.Ordering.{MatchOrdering, match_ordering, nat_cmp}
+use Rattle.std.specs.Ordering.{is_eq, MatchOrdering, match_ordering, nat_cmp}
 use Rattle.std.specs.declared.cmp.Ordering.{Ordering}
 use Rattle.std.specs.declared.cmp.Ordering.TheVariants.{Equal, Greater, Less}
 use Rattle.cell_types.specs.Bytes.{IsCell}
-use Rattle.receipt_text.specs.Listed.{AreListedFrom}
-
--- a smaller first address is one, too
-pub listed_from : (size low from : ℕ) (cells : List (ℕ × List ℕ)) → low ≤ from → AreListedFrom size from cells
-    → AreListedFrom size low cells
-listed_from size low from [] below are = tt
-listed_from size low from (e ∷ es) below are = (omega (arith, below, are.0), are.1, are.2, are.3)
+use Rattle.receipt_text.specs.Listed.{AreListedFrom, listed_image}
 
 -- the list stays one with a cell put in
 pub listed_with : (size from at : ℕ) (value : List ℕ) (cells : List (ℕ × List ℕ)) → AreListedFrom size from cells
@@ -62,3 +56,17 @@ pub listed_below : (size larger from : ℕ) (cells : List (ℕ × List ℕ)) →
 listed_below size larger from [] below are = tt
 listed_below size larger from (e ∷ es) below are =
     (are.0, omega (arith, are.1, below), are.2, listed_below size larger (e.0 + 1) es below are.3)
+
+-- what listed cells show is listed
+pub shown_is_listed : (size from : ℕ) (cells : List (ℕ × List ℕ)) → AreListedFrom size from cells → (at : ℕ)
+    (value : List ℕ) → listed_image cells at ≡ Some value → (at < size) × IsCell value
+shown_is_listed size from [] are at value shown = cc shown
+shown_is_listed size from (e ∷ es) are at value shown =
+    go (nat_cmp at e.0) (ranked at e.0 (nat_cmp at e.0) refl) shown (shown_is_listed size (e.0 + 1) es are.3 at value)
+  where
+    go : (order : Ordering) → MatchOrdering order (at < e.0) (at ≡ e.0) (e.0 < at)
+        → cond (is_eq order) (Some e.1) (listed_image es at) ≡ Some value
+        → (listed_image es at ≡ Some value → (at < size) × IsCell value) → (at < size) × IsCell value
+    go Less less is rest = rest is
+    go Equal same is rest = (let one : e.1 ≡ value = cc is in (omega (arith, same, are.1), subst IsCell one are.2))
+    go Greater more is rest = rest is

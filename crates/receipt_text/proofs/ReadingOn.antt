@@ -10,7 +10,7 @@ use Rattle.receipt_text.specs.declared.reading.Listing.{Listing}
 use Rattle.receipt_text.specs.declared.receipt.TheConstants.{MAX_RECEIPT_CELLS}
 use Rattle.receipt_text.proofs.Cutting.{cut_once}
 use Rattle.receipt_text.proofs.Listing.{listed_behind, listed_below, listed_more}
-use Rattle.receipt_text.proofs.ReceiptLines.{cell_is_line, cell_once, end_is_line}
+use Rattle.receipt_text.proofs.ReceiptLines.{cell_is_line, end_is_line}
 use Rattle.receipt_text.proofs.TextLines.{text_append}
 
 -- no cell is read at the beginning
@@ -121,18 +121,6 @@ module _ (size : ℕ) (text : List ℕ) (count next : ℕ) (cells : List (ℕ ×
           (end_is_line (length cells) (omega (arith, so_far.counted, most))) (sym cut ∙ same)).0
           ∙ ap end_line so_far.counted);
     }
-
-    -- it lists no cell
-    pub stuck_without_cell : ((at : ℕ) (value : List ℕ) → at < 2 ^ 32 → IsCell value → front ≢ cell_line (at, value))
-        → IsStuck size text (count + 2)
-    stuck_without_cell never = stuck_at_line (λ at value room past below is. never at value (omega arith) is)
-
-    -- it lists a cell that can't follow, or that the device does not have
-    pub stuck_at_cell : (at : ℕ) (value : List ℕ) → at < 2 ^ 32 → IsCell value → front ≡ cell_line (at, value)
-        → (next ≤ at → at < size → ⊥) → IsStuck size text (count + 2)
-    stuck_at_cell at value fits is line never = stuck_at_line (λ a v room past below cell same.
-        let there = (cell_once (at, value) (a, v) fits (omega arith) is cell (sym line ∙ same)).0 in
-        never (omega (arith, there, past)) (omega (arith, there, below)))
 
     -- no cell may follow
     pub stuck_at_most : MAX_RECEIPT_CELLS ≤ count → IsStuck size text (count + 2)

@@ -25,3 +25,9 @@ AreListed size cells = AreListedFrom size 0 cells
 abbrev pub ListsAlso : ℕ → List ℕ → List (ℕ × List ℕ) → List (ℕ × List ℕ) → Type 0
 ListsAlso at value old new =
     (q : ℕ) → listed_image new q ≡ cond (q == at) (Some value) (listed_image old q)
+
+-- what listed cells of a device show are written cells of it
+abbrev pub ListedAreCells : Type 0
+ListedAreCells =
+    (size : ℕ) (cells : List (ℕ × List ℕ)) → AreListed size cells → (at : ℕ) (value : List ℕ)
+    → listed_image cells at ≡ Some value → (at < size) × IsCell value

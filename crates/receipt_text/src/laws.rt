@@ -1,5 +1,6 @@
 //! What the form of a receipt entails.
 ghost use Rattle.receipt_text.specs.Form.{BadIsOne, TextsAreOne};
+ghost use Rattle.receipt_text.specs.Listed.{ListedAreCells};
 
 /// A text spells one receipt.
 pub fn texts_are_one()
@@ -9,4 +10,9 @@ pub fn texts_are_one()
 /// A text has one first line that breaks the form, and one that has such a line spells no receipt.
 pub fn bad_is_one()
     ensures { BadIsOne }
+{}
+
+/// What listed cells show are written cells of the device whose cells they are.
+pub fn listed_are_cells()
+    ensures { ListedAreCells }
 {}

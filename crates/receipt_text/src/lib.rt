@@ -4,10 +4,10 @@
 //! somebody who has the device can compare them with what stands there. The document `a` of slot 0:
 //!
 //!     receipt 0 a
-//!     0 010100000008000203000003e800000000     the volume
+//!     0 0101000000080002000003e800000000       the volume
 //!     4 .. 6                                   the slot's log cells
 //!     36, 37, 560                              its postings and its bucket
-//!     580 1d016168656c6c6f20776f726c640000     its document
+//!     580 1d016168656c6c6f20776f726c640000     its stored bytes
 //!     end 8
 //!
 //! A receipt has one text, and a text spells one receipt at most (`texts_are_one`): numbers have no leading zeros, digits
@@ -34,7 +34,7 @@ mod receipt;
 #[cfg(test)]
 mod tests;
 
-pub use laws::{bad_is_one, texts_are_one};
+pub use laws::{bad_is_one, listed_are_cells, texts_are_one};
 pub use listed::{ListedCell, ListedCells};
 pub use printing::text_of_receipt;
 pub use reading::read_receipt;

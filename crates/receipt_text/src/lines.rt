@@ -1,5 +1,5 @@
 //! The lines of a receipt, read one by one.
-ghost use Rattle.std.specs.Prelude.{◌≡◌, ◌≢◌, ◌<◌, ◌^◌, ◌↔◌, ◌∷◌, ◌++◌, ℕ, List, decimal, length, slice_index, IfNone, IfSome, IsTrue};
+ghost use Rattle.std.specs.Prelude.{◌≡◌, ◌≢◌, ◌<◌, ◌≤◌, ◌^◌, ◌↔◌, ◌∷◌, ◌++◌, ℕ, List, decimal, length, slice_index, IfNone, IfSome, IsTrue};
 ghost use Rattle.hex.specs.Hex.{encode_lower};
 ghost use Rattle.cell_types.specs.Bytes.{IsCell};
 ghost use Rattle.cell_types.specs.declared.geometry.TheConstants.{MAX_SLOTS};
@@ -81,7 +81,7 @@ pub(crate) fn head_of(line: &[u8]) -> Option<Head<'_>>
 }
 
 /// The cell that the line lists, where it is the line of a cell.
-pub(crate) fn cell_of(line: &[u8]) -> Option<ListedCell>
+fn cell_of(line: &[u8]) -> Option<ListedCell>
     ensures some { IfSome result (λ cell. line.now ≡ cell_line (cell.at, cell.value)) }
     ensures fits { IfSome result (λ cell. cell.at < 2 ^ 32) }
     ensures written { IfSome result (λ cell. IsCell cell.value) }
@@ -98,6 +98,27 @@ pub(crate) fn cell_of(line: &[u8]) -> Option<ListedCell>
         return None;
     };
     Some(ListedCell { at, value })
+}
+
+/// The cell that the line lists, where its address is this one or past it, and one of a device of so many cells.
+pub(crate) fn cell_within(line: &[u8], next: u32, size: u32) -> Option<ListedCell>
+    ensures some { IfSome result (λ cell. line.now ≡ cell_line (cell.at, cell.value)) }
+    ensures from { IfSome result (λ cell. next ≤ cell.at) }
+    ensures below { IfSome result (λ cell. cell.at < size) }
+    ensures written { IfSome result (λ cell. IsCell cell.value) }
+    ensures none { IfNone result
+        ((at : ℕ) (value : List ℕ) → next ≤ at → at < size → IsCell value → line.now ≢ cell_line (at, value)) }
+{
+    let Some(cell) = cell_of(line) else {
+        return None;
+    };
+    if cell.at < next {
+        return None;
+    }
+    if cell.at >= size {
+        return None;
+    }
+    Some(cell)
 }
 
 /// Whether the line ends a receipt of so many cells.

@@ -1,7 +1,7 @@
 //! A text, read as a receipt.
 ghost use Rattle.receipt_text.specs.Reading.{ListingEnds, ReadEnds};
 
-use crate::lines::{cell_of, cut_at, head_of, is_end_line};
+use crate::lines::{cell_within, cut_at, head_of, is_end_line};
 use crate::{ListedCells, MAX_RECEIPT_CELLS, Receipt, ReceiptFault};
 use document_store::Text;
 use std::alloc::Global;
@@ -61,15 +61,9 @@ fn read_cells(alloc: Global, text: &[u8], size: u32) -> Result<Listing<'_>, Rece
                 behind: cut.rest,
             });
         }
-        let Some(found) = cell_of(cut.front) else {
+        let Some(found) = cell_within(cut.front, next, size) else {
             return Err(ReceiptFault::BadReceipt(count + 2));
         };
-        if found.at < next {
-            return Err(ReceiptFault::BadReceipt(count + 2));
-        }
-        if found.at >= size {
-            return Err(ReceiptFault::BadReceipt(count + 2));
-        }
         let Ok(()) = cells.add(found.at, found.value) else {
             return Err(ReceiptFault::NoMemory);
         };

@@ -44,7 +44,12 @@ fn the_receipt_of_the_small_volume_is_read(rt: HostRuntime) -> Result<(), Fail> 
     }
     assert!(rt; receipt.cells.first_from(next).is_none());
     let posting = receipt.cells.at(36).ok_or("cell 36 is missing")?;
-    assert!(rt; posting.bytes() == [6, 0, 0, 0, 0, 1, 0x2c, 0xf2, 0x4d, 0xba, 0x5f, 0xb0, 0, 0, 0, 0x24]);
+    assert!(rt;
+        posting.bytes()
+            == [
+                6, 0, 0, 0, 0, 1, 0x2c, 0xf2, 0x4d, 0xba, 0x5f, 0xb0, 0, 0, 0, 0x24
+            ]
+    );
     Ok(())
 }
 
@@ -60,7 +65,9 @@ fn what_is_read_is_printed_again(rt: HostRuntime) -> Result<(), Fail> {
 fn cells_are_printed_by_rising_address(rt: HostRuntime) -> Result<(), Fail> {
     let mut cells = ListedCells::new(rt.alloc());
     for at in [36, 4_294_967_295, 0, 36] {
-        let value = Cell::from_bytes([0, 0xab, 0, 0, 0, 0, 0, 0, 0, 0, 0, 0, 0, 0, 0, 1]).ok_or("a blank cell")?;
+        let value = Cell::from_bytes([0, 0xab, 0, 0, 0, 0, 0, 0, 0, 0, 0, 0, 0, 0, 0, 1]).ok_or(
+            "a blank cell",
+        )?;
         cells.add(at, value)?;
     }
     let receipt = Receipt {
@@ -97,10 +104,16 @@ fn each_fault_is_told_by_its_line(rt: HostRuntime) -> Result<(), Fail> {
         ("receipt 0 a\n36  H\nend 1\n", 2),
         ("receipt 0 a\n4294967332 H\nend 1\n", 2),
         ("receipt 0 a\n1000 H\nend 1\n", 2),
-        ("receipt 0 a\n36 0600000000012CF24dba5fb000000024\nend 1\n", 2),
+        (
+            "receipt 0 a\n36 0600000000012CF24dba5fb000000024\nend 1\n",
+            2,
+        ),
         ("receipt 0 a\n36 06000000000\nend 1\n", 2),
         ("receipt 0 a\n36 H00\nend 1\n", 2),
-        ("receipt 0 a\n36 00000000000000000000000000000000\nend 1\n", 2),
+        (
+            "receipt 0 a\n36 00000000000000000000000000000000\nend 1\n",
+            2,
+        ),
         ("receipt 0 a\n36 H\n36 H\nend 2\n", 3),
         ("receipt 0 a\n36 H\n35 H\nend 2\n", 3),
         // The line of the end, and what is behind it.
@@ -113,7 +126,12 @@ fn each_fault_is_told_by_its_line(rt: HostRuntime) -> Result<(), Fail> {
     ];
     for (text, line) in cases {
         let text = text.replace(rt.alloc(), "H", "0600000000012cf24dba5fb000000024")?;
-        assert_eq!(rt; bad_line(rt.alloc(), text.as_str()), Some(line), "{}", text.as_str());
+        assert_eq!(rt;
+            bad_line(rt.alloc(), text.as_str()),
+            Some(line),
+            "{}",
+            text.as_str()
+        );
     }
     let nine = SMALL.replace(rt.alloc(), "end 8", "end 9")?;
     assert_eq!(rt; bad_line(rt.alloc(), nine.as_str()), Some(10));
