@@ -70,7 +70,8 @@ digits_lack : (byte : ℕ) (table bytes : List ℕ) → Lacks byte table → 0 �
 unfolding encode_with
 digits_lack byte table [] lacks other = lacks_none byte
 digits_lack byte table (b ∷ bytes) lacks other =
-    lacks_cons byte (get_or table (b / 16) 0) (get_or table (b % 16) 0 ∷ encode_with table bytes) (digit_other byte table (b / 16) lacks other)
+    lacks_cons byte (get_or table (b / 16) 0) (get_or table (b % 16) 0 ∷ encode_with table bytes)
+    (digit_other byte table (b / 16) lacks other)
     (lacks_cons byte (get_or table (b % 16) 0) (encode_with table bytes) (digit_other byte table (b % 16) lacks other)
     (digits_lack byte table bytes lacks other))
 

@@ -24,7 +24,8 @@ print_all start text left cells none so_far =
 
 -- the line of the document, the lines of the cells and the line of the end are the text of the receipt
 pub print_whole : (r : Receipt) (count : ℕ) (first middle whole end : List ℕ)
-    → first ≡ text_of_lines (head_line r.slot r.identifier ∷ []) → middle ≡ first ++ text_of_lines (map cell_line r.cells)
+    → first ≡ text_of_lines (head_line r.slot r.identifier ∷ [])
+    → middle ≡ first ++ text_of_lines (map cell_line r.cells)
     → end ≡ end_line count → count ≡ length r.cells → whole ≡ middle ++ text_of_lines (end ∷ [])
     → whole ≡ text_of_receipt r
 print_whole r count first middle whole end head cells is many appended =

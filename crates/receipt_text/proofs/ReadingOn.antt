@@ -30,7 +30,8 @@ listed_tight size from (e ∷ es) are =
     next_past first [] listed = omega arith
     next_past first (c ∷ cs) listed = omega (arith, listed.0, next_past (c.0 + 1) cs listed.3)
 
-next_more : (from at : ℕ) (value : List ℕ) (cells : List (ℕ × List ℕ)) → next_of from (cells ++ ((at, value) ∷ [])) ≡ at + 1
+next_more : (from at : ℕ) (value : List ℕ) (cells : List (ℕ × List ℕ))
+    → next_of from (cells ++ ((at, value) ∷ [])) ≡ at + 1
 next_more from at value [] = refl
 next_more from at value (e ∷ es) = next_more (e.0 + 1) at value es
 
@@ -71,6 +72,15 @@ read_more size text count next at value cells new rest front behind so_far cut l
 
 -- ---- the end
 
+-- as many cells were read as may be
+pub read_most : (size : ℕ) (text : List ℕ) (count next : ℕ) (cells : List (ℕ × List ℕ)) (rest : List ℕ)
+    → ReadSoFar size text count next cells rest → count ≤ MAX_RECEIPT_CELLS → MAX_RECEIPT_CELLS ≤ count
+    → ReadSoFar size text MAX_RECEIPT_CELLS next cells rest
+read_most size text count next cells rest so_far most full =
+    subst (λ (n : ℕ). ReadSoFar size text n next cells rest)
+    (let same : count ≡ MAX_RECEIPT_CELLS = omega (arith, most, full) in same) so_far
+
+-- the line of the end was read
 pub all_read : (size : ℕ) (text : List ℕ) (next : ℕ) (listing : Listing) (rest front : List ℕ)
     → ReadSoFar size text listing.count next listing.cells rest → rest ≡ front ++ (10 ∷ listing.behind.now)
     → front ≡ end_line listing.count → listing.count ≤ MAX_RECEIPT_CELLS → IsListing size text listing

@@ -76,7 +76,8 @@ cell_once c e below other one two same =
     (number_lacks_space c.0 below) (number_lacks_space e.0 other) same in
     let first = decodes (encode_lower c.1) c.1 one refl in
     let second = decodes (encode_lower c.1) e.1 two cut.1 in
-    (decimal_injective c.0 e.0 (omega arith) (omega arith) cut.0, (let both : Ok c.1 ≡ Ok e.1 = sym first ∙ second in cc both))
+    let both : Ok c.1 ≡ Ok e.1 = sym first ∙ second in
+    (decimal_injective c.0 e.0 (omega arith) (omega arith) cut.0, cc both)
 
 -- a line spells one slot and one identifier
 pub head_once : (m n : ℕ) (a b : List ℕ) → m < MAX_SLOTS → n < MAX_SLOTS → head_line m a ≡ head_line n b
@@ -119,7 +120,8 @@ follows size from count (e ∷ es) (c ∷ cs) line more small one two same =
     go (lists a v past below cell longer is) at value = lists a v past below cell (omega arith) is
 
 -- cells with the line of the end are no cells alone
-pub never_whole : (size from count : ℕ) (before cells : List (ℕ × List ℕ)) → size < 2 ^ 32 → AreListedFrom size from before
+pub never_whole : (size from count : ℕ) (before cells : List (ℕ × List ℕ)) → size < 2 ^ 32
+    → AreListedFrom size from before
     → map cell_line cells ++ (end_line count ∷ []) ≢ map cell_line before
 never_whole size from count [] [] small are same = cc same
 never_whole size from count [] (c ∷ cs) small are same = cc same

@@ -17,7 +17,9 @@ decodes word value is same = rw same (decode_sized-encode_lower value 16 is.sixt
 
 -- equal bytes compare as equal
 pub alike : (xs ys : List ℕ) → xs ≡ ys → not (pointwise nat_eq xs ys) ≡ true → ⊥
-alike xs ys same unlike = true≢false (sym unlike ∙ ap not (ap (λ l. pointwise nat_eq l ys) same ∙ nat_list_eq_equiv.refl ys))
+alike xs ys same unlike =
+    let equal = ap (λ (l : List ℕ). pointwise nat_eq l ys) same ∙ nat_list_eq_equiv.refl ys in
+    true≢false (sym unlike ∙ ap not equal)
 
 -- a space is no digit of a number
 pub number_lacks_space : (n : ℕ) → n < 2 ^ 32 → Lacks 32 (decimal n)

@@ -17,7 +17,8 @@ pub lines_before : (lines more : List (List ℕ)) → AreLines (lines ++ more) �
 lines_before [] more are = tt
 lines_before (line ∷ lines) more are = (are.0, lines_before lines more are.1)
 
-pub text_append : (lines more : List (List ℕ)) → text_of_lines (lines ++ more) ≡ text_of_lines lines ++ text_of_lines more
+pub text_append : (lines more : List (List ℕ))
+    → text_of_lines (lines ++ more) ≡ text_of_lines lines ++ text_of_lines more
 text_append [] more = refl
 text_append (line ∷ lines) more =
     ap (λ (t : List ℕ). line ++ (10 ∷ t)) (text_append lines more)

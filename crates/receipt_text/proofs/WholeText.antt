@@ -197,8 +197,10 @@ module _ (cells : ℕ) (text front tail : List ℕ) (slot : ℕ) (id : List ℕ)
       ∙ sym (joined (end_line (length listing.cells)))
     where
       joined : (last : List ℕ)
-          → (head_line slot id ++ (10 ∷ text_of_lines (map cell_line listing.cells ++ (last ∷ [])))) ++ listing.behind.now
-          ≡ head_line slot id ++ (10 ∷ (text_of_lines (map cell_line listing.cells) ++ (last ++ (10 ∷ listing.behind.now))))
+          → (head_line slot id ++ (10 ∷ text_of_lines (map cell_line listing.cells ++ (last ∷ []))))
+          ++ listing.behind.now
+          ≡ head_line slot id ++ (10 ∷ (text_of_lines (map cell_line listing.cells)
+          ++ (last ++ (10 ∷ listing.behind.now))))
       joined last =
           append_assoc (head_line slot id) (10 ∷ text_of_lines (map cell_line listing.cells ++ (last ∷ [])))
           listing.behind.now

@@ -17,7 +17,8 @@ returns-then-slot-ge-MAX_SLOTS-clause-none c = λ slot id below is same.
     let cut = head_cut c.in-Some.words.now c.in-Some-cut_at.cut.front.now c.in-Some-cut_at.cut.rest.now slot id
     c.in-Some-cut_at.ensures.some c.in-Some-cut_at.ensures.first below words in
     let there : c.in-Some-number_of.slot ≡ slot =
-    slot_is c.in-Some-number_of.slot slot c.in-Some-number_of.ensures.fits below (sym c.in-Some-number_of.ensures.some ∙ cut.0) in
+    slot_is c.in-Some-number_of.slot slot c.in-Some-number_of.ensures.fits below
+    (sym c.in-Some-number_of.ensures.some ∙ cut.0) in
     omega (arith, there, below, c.if-slot-ge-MAX_SLOTS.true)
 
 pub returns-then-not-is_identifier-clause-none : goal.returns-then-not-is_identifier-clause-none

@@ -7,7 +7,8 @@ use Rattle.receipt_text.proofs.lines.number_of.Goals as goal
 
 pub returns-in_default-clause-none : goal.returns-in_default-clause-none
 returns-in_default-clause-none c = λ n below same.
-    c.in_default.ensures.cases.0 (subst IsUtf8 (sym same) (IsUtf8-from_ascii (decimal n) (IsAscii-decimal n (omega arith))))
+    let text = IsUtf8-from_ascii (decimal n) (IsAscii-decimal n (omega arith)) in
+    c.in_default.ensures.cases.0 (subst IsUtf8 (sym same) text)
 
 pub returns-in_default-parse-clause-none : goal.returns-in_default-parse-clause-none
 returns-in_default-parse-clause-none c = λ n below same.

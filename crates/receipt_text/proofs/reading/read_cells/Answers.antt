@@ -1,7 +1,7 @@
 -- One cell a turn, until a line ends the receipt or is none that can follow.
-use Rattle.std.proofs.Common.{◌≡◌, ◌∙◌, ℕ, arith, subst, sym, true≢false}
-use Rattle.receipt_text.specs.Reading.{ReadSoFar}
-use Rattle.receipt_text.proofs.ReadingOn.{all_read, nothing_read, read_more, stuck_at_line, stuck_at_most, stuck_without_line}
+use Rattle.std.proofs.Common.{◌∙◌, arith, sym, true≢false}
+use Rattle.receipt_text.proofs.ReadingOn.{all_read, nothing_read, read_more, read_most, stuck_at_line, stuck_at_most, stuck_without_line}
+use Rattle.receipt_text.specs.declared.receipt.TheConstants.{MAX_RECEIPT_CELLS}
 use Rattle.receipt_text.proofs.reading.read_cells.Goals as goal
 
 pub loop-count-init : goal.loop-count-init
@@ -39,30 +39,25 @@ loop-count-preserved c =
 -- as many cells were read as may be, and no newline is left
 pub returns-in_default-cut_at : goal.returns-in_default-cut_at
 returns-in_default-cut_at c =
-    let full : c.loop-count.count ≡ 1000000 = omega (arith, c.loop-count-test.false, c.loop-count.auto.count-end) in
-    stuck_without_line c.args.size c.args.text.now 1000000 c.loop-count.next c.loop-count.cells c.loop-count.rest.now
-    c.ranges.size.fits
-    (subst (λ (n : ℕ). ReadSoFar c.args.size c.args.text.now n c.loop-count.next c.loop-count.cells c.loop-count.rest.now)
-    full c.loop-count.invariant)
-    (omega arith) c.in_default-cut_at.ensures.none
+    let so_far = read_most c.args.size c.args.text.now c.loop-count.count c.loop-count.next c.loop-count.cells
+    c.loop-count.rest.now c.loop-count.invariant c.loop-count.auto.count-end c.loop-count-test.false in
+    stuck_without_line c.args.size c.args.text.now MAX_RECEIPT_CELLS c.loop-count.next c.loop-count.cells
+    c.loop-count.rest.now c.ranges.size.fits so_far (omega arith) c.in_default-cut_at.ensures.none
 
 -- or the line does not end the receipt
 pub returns-then-not-is_end_line : goal.returns-then-not-is_end_line
 returns-then-not-is_end_line c =
-    let full : c.loop-count.count ≡ 1000000 = omega (arith, c.loop-count-test.false, c.loop-count.auto.count-end) in
-    stuck_at_most c.args.size c.args.text.now 1000000 c.loop-count.next c.loop-count.cells c.loop-count.rest.now
-    c.ranges.size.fits
-    (subst (λ (n : ℕ). ReadSoFar c.args.size c.args.text.now n c.loop-count.next c.loop-count.cells c.loop-count.rest.now)
-    full c.loop-count.invariant)
-    (omega arith) c.in-Some-cut_at.cut.front.now c.in-Some-cut_at.cut.rest.now c.in-Some-cut_at.ensures.some
-    c.in-Some-cut_at.ensures.first
+    let so_far = read_most c.args.size c.args.text.now c.loop-count.count c.loop-count.next c.loop-count.cells
+    c.loop-count.rest.now c.loop-count.invariant c.loop-count.auto.count-end c.loop-count-test.false in
+    stuck_at_most c.args.size c.args.text.now MAX_RECEIPT_CELLS c.loop-count.next c.loop-count.cells
+    c.loop-count.rest.now c.ranges.size.fits so_far (omega arith) c.in-Some-cut_at.cut.front.now
+    c.in-Some-cut_at.cut.rest.now c.in-Some-cut_at.ensures.some c.in-Some-cut_at.ensures.first
     (λ same. true≢false (sym (c.is_end_line-2.ensures.1 same) ∙ c.if-not-is_end_line.true)) (omega arith)
 
 -- or it does
 pub returns : goal.returns
 returns c =
-    let full : c.loop-count.count ≡ 1000000 = omega (arith, c.loop-count-test.false, c.loop-count.auto.count-end) in
-    all_read c.args.size c.args.text.now c.loop-count.next _ c.loop-count.rest.now c.in-Some-cut_at.cut.front.now
-    (subst (λ (n : ℕ). ReadSoFar c.args.size c.args.text.now n c.loop-count.next c.loop-count.cells c.loop-count.rest.now)
-    full c.loop-count.invariant)
+    let so_far = read_most c.args.size c.args.text.now c.loop-count.count c.loop-count.next c.loop-count.cells
+    c.loop-count.rest.now c.loop-count.invariant c.loop-count.auto.count-end c.loop-count-test.false in
+    all_read c.args.size c.args.text.now c.loop-count.next _ c.loop-count.rest.now c.in-Some-cut_at.cut.front.now so_far
     c.in-Some-cut_at.ensures.some (c.is_end_line-2.ensures.0 c.if-not-is_end_line.false) (omega arith)

@@ -5,4 +5,5 @@ use Rattle.receipt_text.proofs.listed.ListedCells.print.Given as goal
 
 abbrev pub invariant-loop-at : goal.invariant-loop-at
 invariant-loop-at l =
-    l.text.items ++ text_of_lines (map cell_line l.at-iterator) ≡ l.fn.text.items ++ text_of_lines (map cell_line l.self)
+    l.text.items ++ text_of_lines (map cell_line l.at-iterator)
+    ≡ l.fn.text.items ++ text_of_lines (map cell_line l.self)
