@@ -9,8 +9,10 @@ use document_store::Text;
 /// The greatest number of cells that a receipt may have.
 pub const MAX_RECEIPT_CELLS: u32 = 1_000_000;
 
-/// A document's slot and identifier, and the cells that are to show that it is kept. Whether they are those of a device
-/// of so many cells, contracts say by `IsReceiptOn`; whether they show the document, no word of this crate says.
+/// A document's slot and identifier, and the cells that are to show that it is kept.
+///
+/// The fields may hold anything. That they are a slot, an identifier and cells of a device of so many, contracts say by
+/// `IsReceiptOn`; whether the cells show the document, no word of this crate says.
 #[derive(Drop)]
 pub struct Receipt {
     pub slot: u32,
