@@ -1,0 +1,9 @@
+pub mod Cutting
+pub mod Listing
+pub mod OneText
+pub mod PrintingOn
+pub mod ReadingOn
+pub mod ReceiptLines
+pub mod Spelling
+pub mod TextLines
+pub mod WholeText
