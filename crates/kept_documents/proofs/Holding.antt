@@ -1,27 +1,23 @@
 -- Whether a document is kept, part by part, over plain values.
-use Rattle.std.proofs.Common.{◌≡◌, ◌≢◌, ◌<◌, ◌≤◌, ◌+◌, ℕ, List, Bool, true, false, Option, Some, None, Result, Ok, Err, refl, ap, sym, subst, arith, ◌∙◌}
-use Rattle.std.specs.Prelude.{IsTrue, length, [], ◌∷◌}
-use Rattle.cell_types.specs.Image.{Image, Extends}
+use Rattle.std.proofs.Common.{◌≡◌, ◌≤◌, ℕ, List, true, false, Option, Some, None, Result, Ok, Err, refl, sym, subst, arith}
+use Rattle.std.specs.Prelude.{IsTrue, length}
 use Rattle.cell_types.specs.Layout.{Layout}
-use Rattle.cell_types.specs.declared.refusal.Evidence.{Evidence}
 use Rattle.cell_types.specs.declared.refusal.Fault.{Fault}
 use Rattle.cell_types.specs.declared.refusal.Fault.TheVariants as faults
-use Rattle.stored_documents.specs.Documents.{Stands}
 use Rattle.stored_documents.specs.Volumes.{IsVolume}
-use Rattle.stored_documents.proofs.OneDocument.{one_document}
 use Rattle.index_paths.specs.Keeping.{IsKept}
 use Rattle.index_paths.proofs.KeepingLaws.{is_kept_on}
 use Rattle.worm_device.specs.Views.{ViewState, Viewed}
-use Rattle.worm_device.proofs.Resting.{viewed_self, viewed_then}
+use Rattle.worm_device.proofs.Resting.{viewed_then}
 use Rattle.jump_block.proofs.Counting as counts
 use Rattle.document_store.specs.Looks.{HoldsBody, HoldsIdentifier, LookFails, PartEnds, SameEnds}
 use Rattle.document_store.specs.Standing.{HoldsDocument}
 use Rattle.document_store.proofs.Holding.{held_is_done, held_is_one, held_on, held_stands, stands_held}
-use Rattle.kept_documents.proofs.PassedBuckets.{names_none, stands_later, volume_later}
+use Rattle.kept_documents.proofs.PassedBuckets.{names_none, volume_later}
 use Rattle.kept_documents.specs.Indexed.{AsksIndexed, IsLedTo}
 use Rattle.kept_documents.specs.declared.fault.AskFault.{AskFault}
 use Rattle.kept_documents.specs.declared.fault.AskFault.TheVariants.{NoMemory, ReadFault}
-use Rattle.kept_documents.specs.Kept.{AsksKeptIn, IsRefused, KeepsNoneIn, KeptInAnswer, document_of}
+use Rattle.kept_documents.specs.Kept.{AsksKeptIn, IsRefused, KeptInAnswer, document_of}
 
 no_yes : false ≡ true → ⊥
 no_yes e = cc
@@ -77,6 +73,12 @@ module _ (g : Layout) (n : ℕ) (id : List ℕ) (old mid : ViewState) (looked : 
         let one = held_is_one g mid.image n found.own found.holds.body id body found.holds.holds now in
         no_yes (found.says.1 one.0);
   }
+
+  -- it holds this one
+  pub holds_this : SameEnds g n id old mid (Ok true) → IsTrue mid.base.tells → HoldsIdentifier g mid.image n id
+  holds_this ends tells =
+      let found = ends.1 (subst IsTrue looked.called.tells tells) in
+      subst (λ (i : List ℕ). HoldsIdentifier g mid.image n i) (found.says.0 refl) found.holds
 
   -- more was asked later
   pub and_then : (new : ViewState) (result : Result (Option ℕ) AskFault) → AsksKeptIn g n id mid new result

@@ -1,11 +1,10 @@
 -- Whether the index leads to a document, over plain values.
-use Rattle.std.proofs.Common.{◌≡◌, ◌<◌, ◌≤◌, ◌+◌, ℕ, List, Bool, true, false, Option, Some, None, Result, Ok, Err, refl, ap, sym, subst, arith, ◌∙◌}
-use Rattle.std.specs.Prelude.{IsTrue, slice_get}
-use Rattle.cell_types.specs.Image.{Image, Extends}
+use Rattle.std.proofs.Common.{◌≡◌, ℕ, List, Bool, true, false, Option, Some, None, Ok, Err, sym, subst}
+use Rattle.std.specs.Prelude.{IsTrue}
 use Rattle.cell_types.specs.Layout.{Layout, all_lists, root_at}
 use Rattle.cell_types.specs.declared.refusal.Refusal.TheVariants.{TooManyTerms}
-use Rattle.stored_documents.specs.Slots.{IsStampOf}
 use Rattle.stored_documents.specs.Words.{AreWords, rule_of}
+use Rattle.stored_documents.specs.declared.word_rules.WordRule.{WordRule}
 use Rattle.stored_documents.proofs.Stamps.{one, stamp_on}
 use Rattle.index_paths.specs.Postings.{ArePostings, ListedPosting}
 use Rattle.worm_device.specs.Views.{ViewState, Viewed}
@@ -14,7 +13,7 @@ use Rattle.jump_block.proofs.Counting as counts
 use Rattle.term_tags.specs.Listing.{GivesListed, GivesNone, MayHaveStamp}
 use Rattle.term_tags.proofs.TooMany.{too_many_is_one}
 use Rattle.kept_documents.specs.HashTrails.{AsksPath}
-use Rattle.kept_documents.specs.Indexed.{AsksIndexed, IndexedAnswer, IsLedTo}
+use Rattle.kept_documents.specs.Indexed.{AsksIndexed, IsLedTo}
 use Rattle.kept_documents.specs.Postings.{AreListed, AreTrailed, AsksPostings, AsksRows}
 use Rattle.kept_documents.specs.Stamps.{AsksStamp}
 use Rattle.kept_documents.specs.declared.fault.AskFault.{AskFault}
@@ -40,13 +39,21 @@ led_later {g} {n} viewed led = record {
   path = hash_trail_later g viewed led.path;
 }
 
+-- the words that were handed in are those of the volume's rule
+words_of_rule : (g : Layout) (body : List ℕ) (rule : WordRule) → rule ≡ rule_of g.version
+    → (terms words : List (List ℕ)) → AreWords rule body terms → words ≡ terms → AreWords (rule_of g.version) body words
+words_of_rule g body rule is_rule terms words are same =
+    subst (λ (r : WordRule). AreWords r body words) is_rule
+    (subst (λ (w : List (List ℕ)). AreWords rule body w) (sym same) are)
+
 -- the rows that were asked for are the postings of the body whose words were handed in
-pub given : (g : Layout) (body : List ℕ) (n : ℕ) (stamp : Option ℕ) (lists : ℕ) (terms words : List (List ℕ))
-    (rows handed : List ListedPosting) → lists ≡ g.lists → MayHaveStamp g stamp → AreWords (rule_of g.version) body terms
+pub given : (g : Layout) (body : List ℕ) (n : ℕ) (stamp : Option ℕ) (rule : WordRule)
+    (is_rule : rule ≡ rule_of g.version) (lists : ℕ) (terms words : List (List ℕ))
+    (rows handed : List ListedPosting) → lists ≡ g.lists → MayHaveStamp g stamp → AreWords rule body terms
     → words ≡ terms → GivesListed lists n stamp words rows → handed ≡ rows → ArePostings g stamp body n handed
-given g body n stamp lists terms words rows handed count may are same gives is =
+given g body n stamp rule is_rule lists terms words rows handed count may are same gives is =
     subst (λ (r : List ListedPosting). ArePostings g stamp body n r) (sym is)
-    (gives g body (sym count) may (subst (λ (w : List (List ℕ)). AreWords (rule_of g.version) body w) (sym same) are))
+    (gives g body (sym count) may (words_of_rule g body rule is_rule terms words are same))
 
 -- each posting is of one of the lists
 pub are_listed : {g : Layout} {body : List ℕ} {n : ℕ} {stamp : Option ℕ} {rows : List ListedPosting}
@@ -55,13 +62,13 @@ are_listed are i row is = (are.each i row is).0
 
 module _ (g : Layout) (n : ℕ) (body : List ℕ) (stamp : Option ℕ) (old : ViewState) where
   -- the postings don't exist
-  pub not_listed : (lists : ℕ) (terms words : List (List ℕ)) (l count : ℕ) → lists ≡ g.lists
-      → AreWords (rule_of g.version) body terms → words ≡ terms → GivesNone lists words (TooManyTerms l count)
-      → AsksPostings g n body stamp old old (Ok false)
-  not_listed lists terms words l count is are same gives = record {
+  pub not_listed : (rule : WordRule) (is_rule : rule ≡ rule_of g.version) (lists : ℕ) (terms words : List (List ℕ))
+      (l count : ℕ) → lists ≡ g.lists → AreWords rule body terms → words ≡ terms
+      → GivesNone lists words (TooManyTerms l count) → AsksPostings g n body stamp old old (Ok false)
+  not_listed rule is_rule lists terms words l count is are same gives = record {
     viewed = viewed_self old;
     ends = λ tells exist trailed. too_many_is_one.none g body l count
-        (gives g body (sym is) (subst (λ (w : List (List ℕ)). AreWords (rule_of g.version) body w) (sym same) are)) exist;
+        (gives g body (sym is) (words_of_rule g body rule is_rule terms words are same)) exist;
   }
 
   -- each of them was asked
@@ -69,8 +76,11 @@ module _ (g : Layout) (n : ℕ) (body : List ℕ) (stamp : Option ℕ) (old : Vi
       → AsksRows g rows old new (Ok answer) → AsksPostings g n body stamp old new (Ok answer)
   all_listed rows are new true asked = record {
     viewed = asked.viewed;
-    ends = (are.exist, λ tells l p less is. let at = are.all l p less is in
-        asked.ends tells at.0 (record { list = l; posting = p }) at.1);
+    ends = (
+      are.exist,
+      λ tells l p less is. let at = are.all l p less is in
+          asked.ends tells at.0 (record { list = l; posting = p }) at.1,
+    );
   }
   all_listed rows are new false asked = record {
     viewed = asked.viewed;

@@ -1,5 +1,5 @@
 -- Whether a posting has a trail from a block, over plain values.
-use Rattle.std.proofs.Common.{◌≡◌, ◌<◌, ◌≤◌, ◌+◌, ◌*◌, ◌^◌, ⊎_elim, ◌⊎◌, ℕ, List, Bool, true, false, Option, Some, None, Result, Ok, Err, refl, ap, sym, subst, arith, ◌∙◌}
+use Rattle.std.proofs.Common.{◌≡◌, ◌<◌, ◌≤◌, ◌+◌, ◌^◌, ⊎_elim, ◌⊎◌, ℕ, List, Bool, true, false, Option, Some, None, Result, Ok, Err, refl, ap, sym, subst, arith, ◌∙◌}
 use Rattle.std.specs.Prelude.{IsTrue, ◌↔◌}
 use Rattle.std.proofs.lemmas.Bool.{cases_lt}
 use Rattle.std.proofs.lemmas.Option.{none-some}
@@ -12,14 +12,14 @@ use Rattle.stored_documents.specs.Volumes.{Holds}
 use Rattle.stored_documents.proofs.Extending.{holds_on}
 use Rattle.stored_documents.proofs.Holding.{one_record_holds, some_is}
 use Rattle.index_paths.specs.Blocks.{PostingFields, posting_record, InFront, InSpan, Hop, Trail, here, on, pointer_at}
-use Rattle.index_paths.proofs.Fronts.{front_holds, front_on, one_place, one_posting, rises, rises_or_same}
+use Rattle.index_paths.proofs.Fronts.{front_holds, front_on, one_place, one_posting, rises}
 use Rattle.index_paths.proofs.Spans.{apart, span_above}
 use Rattle.index_paths.proofs.Trails.{trail_on}
 use Rattle.worm_device.specs.Views.{ViewState, Viewed}
 use Rattle.worm_device.specs.declared.device.Failed.{Failed}
 use Rattle.worm_device.proofs.Resting.{viewed_then}
 use Rattle.jump_block.specs.Entries.{posting_of}
-use Rattle.jump_block.specs.Fronts.{AreBelow, FindsFirst, FirstEnds, IsBadEntry, does_not_rise, no_posting}
+use Rattle.jump_block.specs.Fronts.{AreBelow, FirstEnds, IsBadEntry, does_not_rise, no_posting}
 use Rattle.jump_block.specs.Pointers.{ReadsPointer}
 use Rattle.jump_block.specs.Spans.{IsSpan}
 use Rattle.jump_block.specs.declared.held_entry.Entry.{Entry}

@@ -9,7 +9,6 @@ use Rattle.stored_documents.proofs.Extending.{holds_on}
 use Rattle.stored_documents.proofs.Holding.{one_record_holds, some_is}
 use Rattle.worm_device.specs.Looks.{IsSeen, LookEnds}
 use Rattle.worm_device.specs.Views.{ViewState, Viewed}
-use Rattle.worm_device.specs.declared.looks.Found.{Found}
 use Rattle.worm_device.specs.declared.looks.Found.TheVariants.{Blank, Record, Stray}
 use Rattle.kept_documents.specs.NodeCells.{AsksBucketCell, AsksChildCell, IsBucketOf, IsChildOf}
 use Rattle.kept_documents.specs.declared.node_cells.HeldBucket.{HeldBucket}

@@ -1,12 +1,11 @@
 -- Whether a document is kept, by the volume that cell 0 states, over plain values.
-use Rattle.std.proofs.Common.{◌≡◌, ◌≢◌, ◌<◌, ℕ, suc, zero, List, Option, Some, None, Result, Ok, Err, refl, ap, sym, subst, arith, ◌∙◌}
-use Rattle.std.specs.Prelude.{IsTrue, [], ◌∷◌, ◌++◌, Contains, length}
-use Rattle.cell_types.specs.Image.{Image}
+use Rattle.std.proofs.Common.{◌≡◌, ℕ, suc, zero, List, Option, Some, None, Result, Ok, Err, ap, sym, subst, arith, ◌∙◌}
+use Rattle.std.specs.Prelude.{IsTrue, [], ◌∷◌, ◌++◌, Contains}
 use Rattle.cell_types.specs.Layout.{Layout}
 use Rattle.stored_documents.specs.Documents.{Document}
 use Rattle.stored_documents.specs.Volumes.{IsVolume}
 use Rattle.tamper_rules.proofs.GivenUp.{one_layout}
-use Rattle.index_paths.specs.Keeping.{IsKept, Kept}
+use Rattle.index_paths.specs.Keeping.{IsKept}
 use Rattle.tamper_rules.proofs.DocumentLists.{the_one}
 use Rattle.worm_device.specs.Views.{ViewState, Viewed}
 use Rattle.worm_device.proofs.Resting.{viewed_then}

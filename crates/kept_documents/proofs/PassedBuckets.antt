@@ -1,6 +1,5 @@
 -- Whether a bucket is passed, over plain values.
-use Rattle.std.proofs.Common.{◌≡◌, ◌≢◌, ◌<◌, ◌≤◌, ⊎_elim, inl, inr, ℕ, List, Bool, true, false, None, Some, Result, Ok, Err, refl, ap, sym, subst, arith, ◌∙◌}
-use Rattle.std.specs.Prelude.{IsTrue, ◌↔◌}
+use Rattle.std.proofs.Common.{◌≡◌, ◌≢◌, ◌≤◌, ⊎_elim, inl, inr, ℕ, List, Bool, true, false, None, Result, Ok, Err, refl, ap, sym, subst, arith, ◌∙◌}
 use Rattle.std.proofs.lemmas.Option.{none-some}
 use Rattle.sha2.specs.Sha256.{sha256}
 use Rattle.cell_types.specs.Image.{Image, Extends}
@@ -12,15 +11,15 @@ use Rattle.cell_types.specs.declared.refusal.Fault.TheVariants as faults
 use Rattle.stored_documents.specs.Documents.{Stands}
 use Rattle.stored_documents.specs.Slots.{IsDoneSlot}
 use Rattle.stored_documents.specs.Volumes.{IsVolume}
-use Rattle.stored_documents.proofs.Extending.{commits_on, done_on, holds_on, reserves_on, stands_on, volume_on}
+use Rattle.stored_documents.proofs.Extending.{commits_on, holds_on, reserves_on, stands_on, volume_on}
 use Rattle.stored_documents.proofs.Holding.{one_record_holds}
 use Rattle.stored_documents.proofs.OneDocument.{one_document}
 use Rattle.index_paths.specs.HashPaths.{fingerprint_of}
 use Rattle.worm_device.specs.Views.{ViewState, Viewed}
 use Rattle.worm_device.specs.declared.device.Failed.{Failed}
-use Rattle.worm_device.proofs.Resting.{viewed_self, viewed_then}
+use Rattle.worm_device.proofs.Resting.{viewed_self}
 use Rattle.commit_record.specs.States.{IsNoState, done_abandoned, done_unended, done_unreserved, done_wrongly, ends_unreserved, ends_wrongly, reserves_none}
-use Rattle.commit_record.proofs.Breaking.{no_both, no_holds}
+use Rattle.commit_record.proofs.Breaking.{no_both}
 use Rattle.document_store.specs.Looks.{LookFails, Names, PartEnds, SameEnds, of_document, of_state}
 use Rattle.document_store.specs.Standing.{HoldsDocument}
 use Rattle.document_store.proofs.Holding.{held_is_done, held_stands, stands_held}

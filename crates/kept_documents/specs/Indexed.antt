@@ -1,5 +1,5 @@
 -- Whether the index leads to a document, as a call over a view answers it.
-use Rattle.std.specs.Prelude.{◌≡◌, ℕ, Bool, true, false, List, Option, Result, Ok, Err, IsTrue, ⊤}
+use Rattle.std.specs.Prelude.{ℕ, Bool, true, false, List, Option, Result, Ok, Err, IsTrue, ⊤}
 use Rattle.cell_types.specs.Layout.{Layout, root_at}
 use Rattle.stored_documents.specs.Slots.{IsStampOf}
 use Rattle.stored_documents.specs.Volumes.{IsVolume}

@@ -33,7 +33,15 @@ pub fn has_hash_trail<V: View>(
         (V.seen view.new) result }
 {
     let digest = Sha256::digest(id);
-    leads_down(view, volume, slot, id, &digest, volume.geometry.root_at(), 0)
+    leads_down(
+        view,
+        volume,
+        slot,
+        id,
+        &digest,
+        volume.geometry.root_at(),
+        0,
+    )
 }
 
 /// The same from a node of this level.

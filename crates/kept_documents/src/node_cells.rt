@@ -17,7 +17,8 @@ pub(crate) fn bucket_at<V: View>(view: &mut V, at: u32) -> Result<Option<HeldBuc
     requires { at < (V.seen view.old).cells }
     ensures { AsksBucketCell at (V.seen view.old) (V.seen view.new) result }
 {
-    match look(view, at)? {
+    let seen = look(view, at)?;
+    match seen {
         Found::Blank => Ok(None),
         Found::Stray(_found) => Ok(None),
         Found::Record(_found, held) => Ok(bucket_of(held)),
@@ -29,7 +30,8 @@ pub(crate) fn child_at<V: View>(view: &mut V, at: u32) -> Result<Option<u32>, Fa
     requires { at < (V.seen view.old).cells }
     ensures { AsksChildCell at (V.seen view.old) (V.seen view.new) result }
 {
-    match look(view, at)? {
+    let seen = look(view, at)?;
+    match seen {
         Found::Blank => Ok(None),
         Found::Stray(_found) => Ok(None),
         Found::Record(_found, held) => Ok(child_of(held)),

@@ -25,7 +25,8 @@ pub(crate) fn stamp_of<V: View>(
     if geometry.version() != STAMPED_VERSION {
         return Ok(Some(SlotStamp { seconds: None }));
     }
-    match look(view, geometry.spare_at(slot))? {
+    let seen = look(view, geometry.spare_at(slot))?;
+    match seen {
         Found::Blank => Ok(None),
         Found::Stray(_found) => Ok(None),
         Found::Record(_found, held) => Ok(stamp_in(held)),

@@ -1,5 +1,5 @@
 -- Each ending, by the lemma of its kind.
-use Rattle.std.proofs.Common.{◌≤◌, ◌+◌, inl, inr, arith}
+use Rattle.std.proofs.Common.{inl, inr, arith}
 use Rattle.jump_block.proofs.OneBlock.{level_falls}
 use Rattle.kept_documents.specs.Trails.{wanted_posting}
 use Rattle.kept_documents.proofs.Leading.{at_blank, at_entry, at_fault, at_low, leads_out, lost_pointer, no_pointer, onward}
