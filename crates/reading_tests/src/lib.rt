@@ -1,9 +1,11 @@
-//! Tests of what reads a volume: words and tags, slots of the log, documents, and the paths of identifiers. What is
-//! expected was written by hand, or is a value of the Unicode tables and of SHA-256.
+//! Tests of what reads a volume: words and tags, slots of the log, documents, the paths of identifiers, and what is kept.
+//! What is expected was written by hand, or is a value of the Unicode tables and of SHA-256.
 #![tactic(auto)]
 
 #[cfg(test)]
 mod documents;
+#[cfg(test)]
+mod kept;
 #[cfg(test)]
 mod paths;
 #[cfg(test)]

@@ -1,0 +1,9 @@
+pub mod AskingRows
+pub mod Holding
+pub mod Indexing
+pub mod Leading
+pub mod NodeCells
+pub mod Opening
+pub mod PassedBuckets
+pub mod Pathing
+pub mod Stamping

@@ -1,0 +1,59 @@
+//! Whether a bucket is passed.
+ghost use Rattle.std.specs.Prelude.{◌≡◌, ◌≤◌};
+ghost use Rattle.sha2.specs.Sha256.{sha256};
+ghost use Rattle.kept_documents.specs.HashTrails.{AsksPassed, HasFingerprint, IsOwnBucket};
+
+use crate::node_cells::HeldBucket;
+use crate::refuted::refuted;
+use cell_types::Volume;
+use document_store::{part_has_identifier, slot_part};
+use worm_device::{Failed, View};
+
+/// Whether the bucket has the first seven bytes of the digest.
+pub(crate) fn has_fingerprint(bucket: &HeldBucket, digest: &[u8; 32]) -> bool
+    ensures { HasFingerprint bucket.now digest.now result }
+{
+    bucket.fingerprint[..] == digest[..7]
+}
+
+/// Whether the bucket is the slot's own.
+pub(crate) fn is_own(bucket: &HeldBucket, slot: u32, digest: &[u8; 32]) -> bool
+    ensures { IsOwnBucket bucket.now slot digest.now result }
+{
+    if bucket.slot != slot {
+        return false;
+    }
+    has_fingerprint(bucket, digest)
+}
+
+/// Whether the bucket is passed: it has another fingerprint, or its slot stands with another identifier.
+pub(crate) fn is_passed<V: View>(
+    view: &mut V,
+    volume: &Volume,
+    bucket: &HeldBucket,
+    id: &[u8],
+    digest: &[u8; 32],
+) -> Result<bool, Failed>
+    requires size { volume.now.geometry.cells ≤ (V.seen view.old).cells }
+    requires digest { digest.now ≡ sha256 id.now }
+    ensures { AsksPassed volume.now.geometry id.now bucket.now (V.seen view.old) (V.seen view.new) result }
+{
+    if !has_fingerprint(bucket, digest) {
+        return Ok(true);
+    }
+    if bucket.slot >= volume.geometry.slots() {
+        return Ok(false);
+    }
+    let found = match slot_part(view, volume, bucket.slot) {
+        Ok(found) => found,
+        Err(fault) => return refuted(fault),
+    };
+    let Some(part) = found else {
+        return Ok(false);
+    };
+    match part_has_identifier(view, &volume.geometry, &part, id) {
+        Ok(true) => Ok(false),
+        Ok(false) => Ok(true),
+        Err(fault) => refuted(fault),
+    }
+}

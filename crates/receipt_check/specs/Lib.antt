@@ -1,0 +1,4 @@
+pub mod Checks
+pub mod Holding
+pub mod Listing
+pub mod Viewing
