@@ -1,0 +1,4 @@
+mod Counted
+mod EventsOn
+mod Rows
+mod Words
