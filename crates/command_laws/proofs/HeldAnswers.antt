@@ -21,7 +21,6 @@ use Rattle.record_query.specs.LookingUp.{IsAbsent, NoneHas}
 use Rattle.record_query.specs.declared.found.Match.{Match}
 use Rattle.command_laws.specs.Begins.{BeginsSteady}
 use Rattle.command_laws.specs.Telling.{AreMatchesOf}
-use Rattle.command_laws.proofs.ByBytes.{has_by_bytes, matches_by_bytes}
 use Rattle.command_laws.proofs.Results.{no_answer, one_refusal}
 
 module _ (old new : DeviceState) (device : IsDevice old) (device_new : IsDevice new) (begins : BeginsSteady old new) where
@@ -62,16 +61,15 @@ module _ (old new : DeviceState) (device : IsDevice old) (device_new : IsDevice 
 
     -- a search has found just those of them that have the terms
     pub just_these : (terms : List (List ℕ)) (matches : List Match) → Finds terms old new matches
-        → AreMatchesOf terms documents matches
+        → AreMatchesOf new terms documents matches
     just_these terms matches finds = record {
-      all = λ d among matches.
-          finds.alone begins.alone documents all_kept d among (has_by_bytes whole.layout whole.volume matches);
+      all = λ d among has. finds.alone begins.alone documents all_kept d among has;
       only = λ found among.
           let is = finds.only found among in (
             is.body,
             stands_among found.slot found.identifier is.body is.stands,
             is.bytes_is,
-            matches_by_bytes is.has,
+            is.has,
           );
       rise = finds.rise;
     }

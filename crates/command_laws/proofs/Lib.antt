@@ -1,8 +1,8 @@
 pub mod Alarms
-pub mod ByBytes
 pub mod Completing
 pub mod Formatting
 pub mod HeldAnswers
+pub mod LookedFirst
 pub mod Queries
 pub mod Results
 pub mod WholeLogs

@@ -40,4 +40,4 @@ abbrev pub FindsTellHeld : Type 0
 FindsTellHeld =
     (terms : List (List ℕ)) (old new : DeviceState) (matches : Vec Match) (documents : List Document) → IsDevice old
     → IsDevice new → BeginsSteady old new → Searches terms old new (Ok matches) → Held old.cells old.image documents
-    → AreDocuments new.cells new.image documents × AreMatchesOf terms documents matches.items
+    → AreDocuments new.cells new.image documents × AreMatchesOf new terms documents matches.items

@@ -13,6 +13,9 @@ use worm_memory::{Change, MemoryDevice};
 /// The volume cell of 8 slots and 2 lists on 1,000 cells.
 const VOLUME: [u8; 16] = [1, 1, 0, 0, 0, 8, 0, 2, 0, 0, 3, 0xe8, 0, 0, 0, 0];
 
+/// The same of the version whose words are folded.
+const FOLDED_VOLUME: [u8; 16] = [1, 2, 0, 0, 0, 8, 0, 2, 0, 0, 3, 0xe8, 0, 0, 0, 0];
+
 /// Slot 0 is done.
 const DONE: [u8; 16] = [5, 0, 0, 0, 0, 0, 0, 0, 0, 0, 0, 0, 0, 0, 0, 6];
 
@@ -66,14 +69,19 @@ fn a_volume_has_so_many_slots(rt: HostRuntime) -> Result<(), Fail> {
 #[test]
 fn format_writes_cell_0_alone(rt: HostRuntime) -> Result<(), Fail> {
     let alloc = rt.alloc();
-    for words in ["format|8|2", "format|08|2"] {
+    for (words, bytes) in [
+        ("format|8|2", VOLUME),
+        ("format|08|2", VOLUME),
+        ("format|8|2|1", VOLUME),
+        ("format|8|2|2", FOLDED_VOLUME),
+    ] {
         let mut device = blank(alloc, 1_000, 8)?;
         let (outcome, put) = outcome_of(alloc, words, &mut device, b"")?;
         assert_eq!(rt; outcome, Ok(()), "{words}");
         assert_eq!(rt; put.as_slice(), b"formatted\n".as_slice());
         let written = Change::Wrote {
             at: 0,
-            value: cell(VOLUME)?,
+            value: cell(bytes)?,
         };
         let changes = [written, Change::Synced];
         assert_eq!(rt; device.changes(), changes.as_slice());
@@ -163,7 +171,9 @@ fn words_that_are_no_command_are_usage(rt: HostRuntime) -> Result<(), Fail> {
         "format|16777217|1",
         "format|00000000008|2",
         "format|8",
-        "format|8|2|9",
+        "format|8|2|0",
+        "format|8|2|3",
+        "format|8|2|1|1",
         "format|-8|2",
         "format|+8|2",
         "format|8|",

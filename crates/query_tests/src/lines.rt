@@ -108,7 +108,7 @@ fn nothing_is_found_on_a_volume_without_documents(rt: HostRuntime) -> Result<(),
 }
 
 #[test]
-fn words_are_refused_before_the_device_is_asked(rt: HostRuntime) -> Result<(), Fail> {
+fn words_are_refused_before_anything_is_written(rt: HostRuntime) -> Result<(), Fail> {
     let alloc = rt.alloc();
     let mut device = volume_with_a(alloc)?;
     let changes = device.changes().len();
@@ -141,7 +141,8 @@ fn cell_0_has_to_state_the_device(rt: HostRuntime) -> Result<(), Fail> {
         stated: 1_000,
         real: 999,
     };
-    for words in ["find|hello", "lookup|a"] {
+    // The words of a find are read by the volume's rule, so there has to be one.
+    for words in ["find|hello", "find|a-b", "lookup|a"] {
         let mut blank = MemoryDevice::new(alloc, 1_000)?;
         begin(&mut blank)?;
         let (outcome, _) = outcome_of(alloc, words, &mut blank, b"")?;

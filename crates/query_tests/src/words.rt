@@ -71,6 +71,35 @@ fn words_end_at_each_byte_that_is_none_of_theirs(rt: HostRuntime) -> Result<(), 
 }
 
 #[test]
+fn words_of_the_second_version_are_folded(rt: HostRuntime) -> Result<(), Fail> {
+    let alloc = rt.alloc();
+    let body = "M\u{dc}LLER Stra\u{df}e";
+    for (version, found) in [(1, "0 found\n"), (2, "0 a 15\n1 found\n")] {
+        let mut device = MemoryDevice::new(alloc, 1_000)?;
+        begin(&mut device)?;
+        let words = format!(in alloc; "format|8|2|{version}")?;
+        let (outcome, _) = outcome_of(alloc, words.as_str(), &mut device, b"")?;
+        assert_eq!(rt; outcome, Ok(()));
+        begin(&mut device)?;
+        let (_, put) = outcome_of(alloc, "ingest|a", &mut device, body.as_bytes())?;
+        assert_eq!(rt; put.as_slice(), b"acknowledged 0\n".as_slice());
+        for words in ["find|m\u{fc}ller", "find|m\u{fc}ller|STRASSE"] {
+            begin(&mut device)?;
+            let (outcome, put) = outcome_of(alloc, words, &mut device, b"")?;
+            assert_eq!(rt; outcome, Ok(()), "{words}");
+            assert_eq!(rt; put.as_slice(), found.as_bytes(), "{words}");
+        }
+        begin(&mut device)?;
+        let (_, put) = outcome_of(alloc, "audit", &mut device, b"")?;
+        assert_eq!(rt;
+            put.as_slice(),
+            b"sound: 1 done, 0 abandoned, 12 written cells\n".as_slice()
+        );
+    }
+    Ok(())
+}
+
+#[test]
 fn a_word_may_be_a_whole_body(rt: HostRuntime) -> Result<(), Fail> {
     let alloc = rt.alloc();
     let long = vec![in alloc; b'q'; LONG]?;

@@ -45,9 +45,24 @@ fn words_end_where_no_letter_or_digit_stands(rt: HostRuntime) -> Result<(), Fail
 
 #[test]
 fn characters_are_folded(rt: HostRuntime) -> Result<(), Fail> {
-    let bodies: [(&[u8], &[u8]); 8] = [
+    let bodies: [(&[u8], &[u8]); 16] = [
         (b"", b""),
         (b"Hello, world! 9a", b"hello world 9a"),
+        // From CaseFolding.txt: capital i with a dot above becomes i and a combining dot, which no rule joins again
+        (b"\xc4\xb0x", b"i\xcc\x87x"),
+        // final sigma as sigma, a capital sharp s as ss
+        (b"\xce\xa3\xcf\x82 \xe1\xba\x9e", b"\xcf\x83\xcf\x83 ss"),
+        // the ligature ffi, and a long s
+        (b"\xef\xac\x83 \xc5\xbf", b"ffi s"),
+        // DZ with caron, as a title-case letter
+        (b"\xc7\x85", b"\xc7\x86"),
+        // small Cherokee letters fold to capital ones
+        (b"\xea\xad\xb0\xe1\x8e\xa0", b"\xe1\x8e\xa0\xe1\x8e\xa0"),
+        // Devanagari and full-width digits are digits, a Roman numeral is a letter
+        (b"\xe0\xa5\xa7 \xef\xbc\x91 \xe2\x85\xa0", b"\xe0\xa5\xa7 \xef\xbc\x91 \xe2\x85\xb0"),
+        // a combining mark alone, and a letter of which it is none
+        (b"\xcc\x81", b""),
+        (b"e\xcc\x81\xc3\xa9", b"e \xc3\xa9"),
         // a byte that begins no character, and a combining accent, separate
         (b"\xff\x61\xcc\x81\x62", b"a b"),
         // MÜLLER Straße

@@ -1,7 +1,8 @@
 -- Words ask for one thing at most, and what holds of all that may be asked for.
-use Rattle.std.proofs.Common.{◌≡◌, ℕ, List, [], ◌∷◌, Option, Some, None, Result, Err, cond, sym, ap, ◌∙◌}
+use Rattle.std.proofs.Common.{◌≡◌, ℕ, List, [], ◌∷◌, Option, Some, None, Result, Err, cond, sym, ap, ◌∙◌, inl, inr}
 use Rattle.std.specs.Prelude.{codes}
 use Rattle.std.specs.Str.{bytes_eq}
+use Rattle.cell_types.specs.declared.geometry.TheConstants.{FIRST_VERSION}
 use Rattle.cell_types.specs.declared.refusal.Refusal.{Refusal}
 use Rattle.cell_types.specs.declared.refusal.Refusal.TheVariants.{Usage}
 use Rattle.worm_device.specs.Calls.{Called}
@@ -17,7 +18,9 @@ use Rattle.record_top.proofs.LookUps.{look_up_called, look_up_completes, look_up
 use Rattle.record_top.proofs.Replays.{replay_called, replay_completes, replay_is_used}
 
 to_format : List (List ℕ) → Option Request
-to_format (slots ∷ lists ∷ []) = Some (ToFormat (digits_value slots) (digits_value lists))
+to_format (slots ∷ lists ∷ []) = Some (ToFormat (digits_value slots) (digits_value lists) FIRST_VERSION)
+to_format (slots ∷ lists ∷ version ∷ []) =
+    Some (ToFormat (digits_value slots) (digits_value lists) (digits_value version))
 to_format _ = None
 
 to_ingest : List (List ℕ) → Option Request
@@ -54,9 +57,17 @@ read (command ∷ words) =
 
 asks_reads : (words : List (List ℕ)) (request : Request) → Asks words request → read words ≡ Some request
 unfolding read to_format to_ingest to_look_up to_recover to_audit to_replay
-asks_reads words (ToFormat slots lists) asks =
-    ap read asks.asked ∙ ap (λ (n : ℕ). Some (ToFormat n (digits_value asks.second))) (sym asks.slots_word.number.value)
-    ∙ ap (λ (n : ℕ). Some (ToFormat slots n)) (sym asks.lists_word.number.value)
+asks_reads words (ToFormat slots lists version) (inl (asks, first)) =
+    ap read asks.asked
+    ∙ ap (λ (n : ℕ). Some (ToFormat n (digits_value asks.second) FIRST_VERSION)) (sym asks.slots_word.number.value)
+    ∙ ap (λ (n : ℕ). Some (ToFormat slots n FIRST_VERSION)) (sym asks.lists_word.number.value)
+    ∙ ap (λ (n : ℕ). Some (ToFormat slots lists n)) (sym first)
+asks_reads words (ToFormat slots lists version) (inr asks) =
+    ap read asks.asked
+    ∙ ap (λ (n : ℕ). Some (ToFormat n (digits_value asks.second) (digits_value asks.third)))
+    (sym asks.slots_word.number.value)
+    ∙ ap (λ (n : ℕ). Some (ToFormat slots n (digits_value asks.third))) (sym asks.lists_word.number.value)
+    ∙ ap (λ (n : ℕ). Some (ToFormat slots lists n)) (sym asks.version_word.number.value)
 asks_reads words (ToIngest id) asks = ap read asks.asked
 asks_reads words (ToFind asked) asks = ap read asks.asked_is
 asks_reads words (ToLookUp id) asks = ap read asks.asked
@@ -75,7 +86,7 @@ module _ (old new : Ports) where
   -- whatever is done keeps what every call of the device keeps
   pub called_of : (request : Request) (result : Result Unit Refusal) → Does request old new result
       → Called old.device new.device
-  called_of (ToFormat slots lists) result does = does.called
+  called_of (ToFormat slots lists version) result does = does.called
   called_of (ToIngest id) result does = ingest_called id old new result does
   called_of (ToFind asked) result does = find_called asked old new result does
   called_of (ToLookUp id) result does = look_up_called id old new result does
@@ -85,7 +96,7 @@ module _ (old new : Ports) where
 
   -- what is done never ends with `Usage`
   pub is_used : (request : Request) → Does request old new (Err Usage) → ⊥
-  is_used (ToFormat slots lists) does = does.ends.0
+  is_used (ToFormat slots lists version) does = does.ends.0
   is_used (ToIngest id) does = ingest_is_used id old new does
   is_used (ToFind asked) does = find_is_used asked old new does
   is_used (ToLookUp id) does = look_up_is_used id old new does
@@ -96,7 +107,7 @@ module _ (old new : Ports) where
   -- where nothing keeps it from being done, it is, or ends for the one cause that is left
   pub completes : IsDevice old.device → IsDevice new.device → (request : Request) (result : Result Unit Refusal)
       → Does request old new result → IsUnhindered request old new → IsAnswered request result
-  completes device device_new (ToFormat slots lists) result does free = format_completes _ old new free result does
+  completes device device_new (ToFormat slots lists version) result does free = format_completes _ old new free result does
   completes device device_new (ToIngest id) result does free =
       ingest_completes id free.0 free.1 free.2 old new free.3 device device_new result does
   completes device device_new (ToFind asked) result does free = find_completes asked free.0 old new free.1 device device_new

@@ -1,44 +1,65 @@
 -- From a steady device, where nobody else writes, a query answers by just the documents that the volume held at entry.
-use Rattle.std.proofs.Common.{◌≡◌, ℕ, List, Result, Ok, Err, refl, ap, subst}
+use Rattle.std.proofs.Common.{◌≡◌, ℕ, List, Result, Ok, Err, refl, ap, sym, subst}
 use Rattle.std.specs.Global.{Vec}
 use Rattle.cell_types.specs.declared.refusal.Refusal.{Refusal}
 use Rattle.cell_types.specs.declared.refusal.Refusal.TheVariants as refusals
-use Rattle.worm_device.specs.State.{IsDevice}
+use Rattle.stored_documents.specs.Volumes.{IsVolume}
+use Rattle.stored_documents.specs.declared.word_rules.WordRule.{WordRule}
+use Rattle.stored_documents.proofs.Extending.{volume_on}
+use Rattle.worm_device.specs.Calls.{Called}
+use Rattle.worm_device.specs.State.{DeviceState, IsDevice}
 use Rattle.record_query.specs.Finding.{Searches}
 use Rattle.record_query.specs.LookingUp.{LookUpEnds, LooksUp}
 use Rattle.record_query.specs.declared.found.Found.{Found}
 use Rattle.record_query.specs.declared.found.Match.{Match}
 use Rattle.command_laws.specs.Begins.{BeginsSteady}
-use Rattle.record_top.specs.Finding.{AreTermsOf, DoesFind, found_text, misworded, searched, unread}
+use Rattle.record_top.specs.Finding.{AreTermsOf, DoesFind, found_text, misworded, searched, unread, unruled}
+use Rattle.record_top.specs.Ruling.{AsksRule, HasRule}
 use Rattle.record_top.specs.LookingUp.{Answers, DoesLookUp, looked, misnamed}
 use Rattle.record_top.specs.Ports.{Ports, TellsFromMemory}
 use Rattle.record_top.specs.Steadiness.{FindsHeld, LooksUpHeld}
+use Rattle.command_laws.proofs.LookedFirst.{begins_mid, held_mid}
 use Rattle.command_laws.proofs.HeldAnswers.{just_these, none_held, stand_now, stands_among}
 use Rattle.command_laws.proofs.Results.{no_answer, one_refusal, other_refusal}
 
 module _ (old new : Ports) (device : IsDevice old.device) (device_new : IsDevice new.device)
     (begins : BeginsSteady old.device new.device) where
-  find_told : (asked terms : List (List ℕ)) (answer : Result (Vec Match) Refusal) → AreTermsOf asked terms
-      → Searches terms old.device new.device answer → TellsFromMemory found_text answer old new (Ok tt)
-      → FindsHeld asked old new (Ok tt)
-  find_told asked terms (Ok matches) are searches tells = λ documents held.
-      let stand = stand_now old.device new.device device device_new begins matches documents held (Ok matches) refl
-      searches.comes in (
-        terms,
-        matches.items,
-        are,
-        just_these old.device new.device device device_new begins stand.0 documents stand.1 terms matches.items
-            (searches.ends begins.tells),
-        tells,
-      )
-  find_told asked terms (Err refusal) are searches tells = absurd tells
+  module _ (mid : DeviceState) (rule : WordRule) (asks : AsksRule old.device mid (Ok rule)) where
+    -- the volume that stands behind the search has the rule that was read
+    rule_now : Called mid new.device → HasRule new.device.cells new.device.image rule
+    rule_now called =
+        let has = asks.ends.1 begins.tells in
+        (has.0, subst (λ (k : ℕ). IsVolume k new.device.image has.0) (sym called.cells) (volume_on called.image has.1), has.2)
+
+    find_told : (asked terms : List (List ℕ)) (answer : Result (Vec Match) Refusal) → AreTermsOf rule asked terms
+        → Searches terms mid new.device answer → TellsFromMemory found_text answer old new (Ok tt)
+        → FindsHeld asked old new (Ok tt)
+    find_told asked terms (Ok matches) are searches tells = λ documents held.
+        let first = begins_mid old.device mid new.device device asks.called searches.called asks.quiet begins in
+        let held_then = held_mid old.device mid new.device device asks.called searches.called asks.quiet begins
+        documents held in
+        let stand = stand_now mid new.device asks.device device_new first matches documents held_then (Ok matches) refl
+        searches.comes in (
+          rule,
+          terms,
+          matches.items,
+          rule_now searches.called,
+          are,
+          just_these mid new.device asks.device device_new first stand.0 documents stand.1 terms matches.items
+              (searches.ends first.tells),
+          tells,
+        )
+    find_told asked terms (Err refusal) are searches tells = absurd tells
 
   pub find_held : (asked : List (List ℕ)) (result : Result Unit Refusal) → DoesFind asked old new result
       → FindsHeld asked old new result
   find_held asked (Err refusal) does = tt
-  find_held asked (Ok u) (misworded i bad is same) = absurd (no_answer (Ok u) u (refusals.BadWord i) refl is)
-  find_held asked (Ok u) (unread is same) = absurd (no_answer (Ok u) u refusals.NoMemory refl is)
-  find_held asked (Ok u) (searched terms answer are searches source tells) = find_told asked terms answer are searches tells
+  find_held asked (Ok u) (unruled refusal asks is source sink) = absurd (no_answer (Ok u) u refusal refl is)
+  find_held asked (Ok u) (misworded rule i asks bad is source sink) =
+      absurd (no_answer (Ok u) u (refusals.BadWord i) refl is)
+  find_held asked (Ok u) (unread rule asks is source sink) = absurd (no_answer (Ok u) u refusals.NoMemory refl is)
+  find_held asked (Ok u) (searched mid rule terms answer asks are searches kept source tells) =
+      find_told mid rule asks asked terms answer are searches tells
 
   looked_up : (id : List ℕ) (answer : Result Found Refusal)
       → LooksUp id old.device new.device old.sink new.sink answer → Answers answer (Ok tt)

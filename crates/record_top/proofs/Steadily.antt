@@ -5,6 +5,8 @@ use Rattle.cell_types.specs.Layout.{Layout}
 use Rattle.cell_types.specs.declared.refusal.Evidence.{Evidence}
 use Rattle.cell_types.specs.declared.refusal.Refusal.{Refusal}
 use Rattle.cell_types.specs.declared.refusal.Refusal.TheVariants as refusals
+use Rattle.stored_documents.specs.declared.word_rules.WordRule.{WordRule}
+use Rattle.worm_device.proofs.Elapsing.{called_self}
 use Rattle.worm_device.specs.State.{IsDevice}
 use Rattle.recovery_engine.specs.Settling.{Settles, SettlesFirst}
 use Rattle.recovery_engine.specs.declared.settling.Ready.{Ready}
@@ -20,7 +22,8 @@ use Rattle.volume_audit.specs.declared.report.AuditReport.{AuditReport}
 use Rattle.volume_audit.proofs.Comes.{licensed, settles_first}
 use Rattle.record_top.specs.Auditing.{DoesAudit, report_text}
 use Rattle.record_top.specs.Commands.{Does, Request, ToAudit, ToFind, ToFormat, ToIngest, ToLookUp, ToRecover, ToReplay, layout_on}
-use Rattle.record_top.specs.Finding.{DoesFind, found_text, misworded, searched, unread}
+use Rattle.record_top.specs.Finding.{DoesFind, found_text, misworded, searched, unread, unruled}
+use Rattle.record_top.specs.Ruling.{AsksRule, RuleEnds}
 use Rattle.record_top.specs.Formatting.{DoesFormat, FormatCommandEnds}
 use Rattle.record_top.specs.LookingUp.{Answers, DoesLookUp, looked, misnamed}
 use Rattle.record_top.specs.Replaying.{DoesReplay}
@@ -35,6 +38,7 @@ use Rattle.command_laws.specs.Begins.{BeginsSteady}
 use Rattle.record_top.specs.Steadiness.{AddsNone, LeavesFormatted, LeavesWhole}
 use Rattle.command_laws.specs.Telling.{IsFormatted, LeavesHeld}
 use Rattle.command_laws.proofs.Formatting.{format_leaves, format_makes, unused_steady}
+use Rattle.command_laws.proofs.LookedFirst.{begins_mid, leaves_both, looked_leaves}
 use Rattle.command_laws.proofs.Queries.{query_leaves, settling_leaves}
 
 -- formatting the device ended so
@@ -103,22 +107,40 @@ module _ (old new : Ports) (device : IsDevice old.device) (device_new : IsDevice
   query_names comes e named found =
       query_alarms old.device new.device device begins.tells begins.alone begins.steady device_new comes e named found
 
+  -- asking for the rule of words alone leaves what was held, and names no tampering
+  rule_adds : {answer : Result WordRule Refusal} {result : Result Unit Refusal}
+      → AsksRule old.device new.device answer → ((e : Evidence) → result ≡ Err (refusals.Tampered e) → ⊥)
+      → AddsNone old new result
+  rule_adds asks no_alarm = leaves_none
+      (looked_leaves old.device new.device new.device device asks.called (called_self new.device) asks.quiet begins asks.device)
+      no_alarm
+
   find_adds : (asked : List (List ℕ)) (result : Result Unit Refusal) → DoesFind asked old new result
       → AddsNone old new result
-  find_adds asked result (misworded i bad is same) = unused_adds same
+  find_adds asked result (unruled refusal asks is source sink) = rule_adds asks (λ e named.
+      subst (λ (r : Refusal). RuleEnds old.device new.device (Err r))
+      (one_refusal result refusal (refusals.Tampered e) is named) asks.ends)
+  find_adds asked result (misworded rule i asks bad is source sink) = rule_adds asks
       (λ e named. other_refusal result (refusals.BadWord i) (refusals.Tampered e) (λ s. absurd cc) is named)
-  find_adds asked result (unread is same) = unused_adds same
+  find_adds asked result (unread rule asks is source sink) = rule_adds asks
       (λ e named. other_refusal result refusals.NoMemory (refusals.Tampered e) (λ s. absurd cc) is named)
-  find_adds asked result (searched terms answer are searches source tells) = leaves_none (query_adds searches.comes)
+  find_adds asked result (searched mid rule terms answer asks are searches kept source tells) = leaves_none
+      (leaves_both old.device mid new.device device asks.called searches.called asks.quiet begins asks.device
+      (query_leaves mid new.device asks.device device_new first searches.comes))
       (λ e named. told answer searches.comes searches.ends e
       (subst (TellsFromMemory found_text answer old new) named tells))
     where
-      told : (a : Result (Vec Match) Refusal) → SettlesFirst (Vec Match) old.device new.device a
-          → FindEnds terms old.device new.device a → (e : Evidence)
+      first : BeginsSteady mid new.device
+      first = begins_mid old.device mid new.device device asks.called searches.called asks.quiet begins
+
+      told : (a : Result (Vec Match) Refusal) → SettlesFirst (Vec Match) mid new.device a
+          → FindEnds terms mid new.device a → (e : Evidence)
           → TellsFromMemory found_text a old new (Err (refusals.Tampered e)) → ⊥
       told (Ok matches) comes ends e tells = tells
-      told (Err refused) comes ends e tells = query_names comes e (ap Err (sym tells.0))
-          ((subst (λ (r : Refusal). FindEnds terms old.device new.device (Err r)) (sym tells.0) ends) begins.tells)
+      told (Err refused) comes ends e tells =
+          query_alarms mid new.device asks.device first.tells first.alone first.steady device_new comes e
+          (ap Err (sym tells.0))
+          ((subst (λ (r : Refusal). FindEnds terms mid new.device (Err r)) (sym tells.0) ends) first.tells)
 
   look_up_adds : (id : List ℕ) (result : Result Unit Refusal) → DoesLookUp id old new result → AddsNone old new result
   look_up_adds id result (misnamed bad is same) = unused_adds same
@@ -160,9 +182,9 @@ module _ (old new : Ports) (device : IsDevice old.device) (device_new : IsDevice
   -- whatever was asked for
   pub leaves_whole : (request : Request) (result : Result Unit Refusal) → Does request old new result
       → LeavesWhole request old new result
-  leaves_whole (ToFormat slots lists) result does = (
-    format_adds (layout_on old slots lists) result refl does,
-    leaves_formatted (layout_on old slots lists) result refl does,
+  leaves_whole (ToFormat slots lists version) result does = (
+    format_adds (layout_on old slots lists version) result refl does,
+    leaves_formatted (layout_on old slots lists version) result refl does,
   )
   leaves_whole (ToIngest id) result does = ingest_adds id old new device device_new begins result does
   leaves_whole (ToFind asked) result does =

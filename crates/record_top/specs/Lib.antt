@@ -7,6 +7,7 @@ pub mod LookingUp
 pub mod Ports
 pub mod Recovering
 pub mod Replaying
+pub mod Ruling
 pub mod Steadiness
 pub mod Taking
 pub mod Words

@@ -9,6 +9,7 @@ use Rattle.host_ports.specs.Sources.{Gives}
 use Rattle.stored_documents.specs.Documents.{Document}
 use Rattle.stored_documents.specs.Slots.{IsEdge, IsHorizon}
 use Rattle.stored_documents.specs.Volumes.{IsVolume}
+use Rattle.stored_documents.specs.declared.word_rules.WordRule.{WordRule}
 use Rattle.tamper_rules.specs.Settling.{Held, Sound}
 use Rattle.ingest_laws.specs.Needs.{IsNeed}
 use Rattle.worm_device.specs.State.{DeviceState}
@@ -20,6 +21,7 @@ use Rattle.record_top.specs.Commands.{Request, ToAudit, ToFind, ToFormat, ToInge
 use Rattle.record_top.specs.Ingesting.{HasRefused, HasStored, acknowledgement}
 use Rattle.record_top.specs.Finding.{AreTermsOf, find_text}
 use Rattle.record_top.specs.Ports.{Ports, PutsOut, Tells}
+use Rattle.record_top.specs.Ruling.{HasRule}
 
 -- A crash in the command leaves an image that is blank or sound, with the documents that were sure at entry or those
 -- that stood there. Behind it, whatever it answers, the device is steady and holds the documents that stood at entry; and
@@ -30,12 +32,14 @@ pub record AddsNone (old new : Ports) (result : Result Unit Refusal) : Type 0 wh
       → Held new.device.cells new.device.image documents
   pub no_alarm : (e : Evidence) → result ≡ Err (Tampered e) → ⊥
 
--- A find that is done has told of just those documents that the volume held at entry and that have the words.
+-- A find that is done has told of just those documents that the volume held at entry and that have the words, by the
+-- volume's rule.
 abbrev pub FindsHeld : List (List ℕ) → Ports → Ports → Result Unit Refusal → Type 0
 FindsHeld asked old new (Ok u) =
     (documents : List Document) → Held old.device.cells old.device.image documents
-    → (terms : List (List ℕ)) × (matches : List Match) × AreTermsOf asked terms × AreMatchesOf terms documents matches
-    × PutsOut (find_text matches) old new
+    → (rule : WordRule) × (terms : List (List ℕ)) × (matches : List Match)
+    × HasRule new.device.cells new.device.image rule × AreTermsOf rule asked terms
+    × AreMatchesOf new.device terms documents matches × PutsOut (find_text matches) old new
 FindsHeld asked old new (Err refusal) = ⊤
 
 -- A look-up that is done has put out the body of a document that the volume held at entry, with the identifier; and where

@@ -3,21 +3,23 @@ ghost use Rattle.std.specs.Prelude.{◌≡◌, ◌≤◌, ◌++◌, length, map,
 ghost use Rattle.std.specs.String.{string_bytes};
 ghost use Rattle.record_top.specs.Finding.{DoesFind, TermsEnd, find_text, match_line};
 ghost use Rattle.record_top.specs.Ports.{ports_of};
+ghost use Rattle.record_top.specs.Ruling.{AsksRule};
 ghost use Rattle.record_top.specs.declared.words.TheConstants.{MAX_QUERY_WORDS};
 
 use crate::command::Outcome;
 use crate::text::put_text;
 use cell_types::Refusal;
+use commit_record::volume_of;
 use host_ports::{Sink, Source};
 use itoa::Buffer;
 use record_query::{Match, find};
 use std::alloc::{AllocError, Global};
-use stored_documents::WordRule;
+use stored_documents::{WordRule, rule_of};
 use word_reader::{Term, WordFault, single_term};
 use worm_device::Device;
 
-/// Searches the documents for the words, 8 at most, and puts out which have them all. The text is made before its first
-/// byte goes out.
+/// Searches the documents for the words, 8 at most, and puts out which have them all. The words are read by the volume's
+/// rule, and the text is made before its first byte goes out.
 pub fn find_documents<D: Device, S: Source, K: Sink>(
     alloc: Global,
     words: &[String],
@@ -31,23 +33,33 @@ pub fn find_documents<D: Device, S: Source, K: Sink>(
         (ports_of (D.state device.old) (S.state source.old) (K.state sink.old))
         (ports_of (D.state device.new) (S.state source.new) (K.state sink.new)) result }
 {
-    let terms = terms_of(alloc, words)?;
+    let rule = rule_on(device)?;
+    let terms = terms_of(alloc, words, rule)?;
     let matches = find(alloc, device, &terms)?;
     let text = text_of(alloc, &matches)?;
     put_text(sink, &text)?;
     Ok(())
 }
 
-/// The terms of the words, each once. `BadWord` names the first word, from 1, that does not hold exactly one.
-fn terms_of(alloc: Global, words: &[String]) -> Result<Vec<Term>, Refusal>
+/// The rule of words of the volume on the device, which cell 0 tells.
+fn rule_on<D: Device>(device: &mut D) -> Result<WordRule, Refusal>
+    ensures { AsksRule (D.state device.old) (D.state device.new) result }
+{
+    let found = device.read(0)?;
+    let volume = volume_of(found, device.cells())?;
+    Ok(rule_of(volume.version))
+}
+
+/// The terms of the words by this rule, each once. `BadWord` names the first word, from 1, that does not hold exactly one.
+fn terms_of(alloc: Global, words: &[String], rule: WordRule) -> Result<Vec<Term>, Refusal>
     requires { length words.now ≤ MAX_QUERY_WORDS }
-    ensures { TermsEnd (map string_bytes words.now) result }
+    ensures { TermsEnd rule (map string_bytes words.now) result }
 {
     let mut terms: Vec<Term> = Vec::new(alloc);
     let mut number = 0;
     for word in words {
         number += 1;
-        let term = match single_term(alloc, word.as_bytes(), WordRule::Ascii) {
+        let term = match single_term(alloc, word.as_bytes(), rule) {
             Ok(term) => term,
             Err(WordFault::BadWord) => return Err(Refusal::BadWord(number)),
             Err(WordFault::NoMemory) => return Err(Refusal::NoMemory),

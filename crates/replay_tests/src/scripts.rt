@@ -73,6 +73,22 @@ fn a_written_cell_stays(rt: HostRuntime) -> Result<(), Fail> {
     Ok(())
 }
 
+/// A script that states the second version makes volumes of it, and its words are read by that rule.
+#[test]
+fn a_script_states_its_version(rt: HostRuntime) -> Result<(), Fail> {
+    for (version, lines) in [
+        (1, "1 0 formatted\n2 0 acknowledged 0\n3 0 found\n"),
+        (2, "1 0 formatted\n2 0 acknowledged 0\n3 0 found 0\n"),
+    ] {
+        let script = format!(in rt.alloc(); "{{\"cells\": 1000, \"version\": {version}, \"events\": [
+            {{\"do\": \"format\", \"slots\": 8, \"lists\": 2}},
+            {{\"do\": \"ingest\", \"id\": \"a\", \"body\": \"M\u{dc}LLER Stra\u{df}e\"}},
+            {{\"do\": \"find\", \"words\": [\"m\u{fc}ller\", \"STRASSE\"]}}]}}")?;
+        assert!(rt; printed(rt.alloc(), script.as_str())?.as_str() == lines);
+    }
+    Ok(())
+}
+
 /// Somebody else writes an abandon cell before the ingest's commit cell: it is named, and the document is absent.
 #[test]
 fn a_foreign_outcome_is_named(rt: HostRuntime) -> Result<(), Fail> {

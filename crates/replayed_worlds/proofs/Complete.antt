@@ -36,11 +36,11 @@ module _ (plan : Schedule) (old new : Memory) (device : IsDevice (device_of (beg
 
   format_done : (slots lists version : ℕ) (r : Reply) → Turns (event.Format slots lists version plan) r old new
       → IsDoneWherePossible (event.Format slots lists version plan) r s
-  format_done slots lists reply.Formatted turned = λ is blank. tt
-  format_done slots lists (reply.Refused refusal) turned = λ is blank.
+  format_done slots lists version reply.Formatted turned = λ is blank. tt
+  format_done slots lists version (reply.Refused refusal) turned = λ is blank.
       formats_whole (layout_on slots lists version old.cells) s t
       (record { layout = is; tells = refl; blank = blank; alone = alone }) no_fault refusal turned.answers.ends
-  format_done slots lists r turned = absurd turned.answers
+  format_done slots lists version r turned = absurd turned.answers
 
   ingest_done : (id body : List ℕ) (r : Reply) → Turns (event.Ingest id body plan) r old new
       → IsDoneWherePossible (event.Ingest id body plan) r s
@@ -92,7 +92,7 @@ module _ (plan : Schedule) (old new : Memory) (device : IsDevice (device_of (beg
 
 pub commands_complete : CommandsComplete
 commands_complete (event.Format slots lists version plan) r old new device device_new steady alone no_fault t =
-    format_done plan old new device device_new steady alone no_fault slots lists r t
+    format_done plan old new device device_new steady alone no_fault slots lists version r t
 commands_complete (event.Ingest id body plan) r old new device device_new steady alone no_fault t =
     ingest_done plan old new device device_new steady alone no_fault id body r t
 commands_complete (event.Find terms plan) r old new device device_new steady alone no_fault t =

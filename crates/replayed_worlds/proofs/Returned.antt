@@ -17,7 +17,6 @@ use Rattle.ingest_engine.specs.Ingesting.{IsIngested, document_in}
 use Rattle.record_query.specs.Finding.{HasMatch}
 use Rattle.record_query.specs.LookingUp.{IsAbsent, LookUpEnds}
 use Rattle.record_query.specs.declared.found.Match.{Match}
-use Rattle.command_laws.proofs.ByBytes.{has_by_bytes}
 use Rattle.replayed_worlds.specs.Headline.{AcknowledgedAreReturned, Returns}
 use Rattle.replayed_worlds.specs.Turns.{LookUpRefused, Turns}
 use Rattle.replayed_worlds.specs.Worlds.{AreInTurn, Turn, acknowledged, acknowledged_by}
@@ -89,13 +88,13 @@ absent_told {id} {old} {new} a tells = ⊎_elim
 -- a query by the index returns what is kept
 kept_returned : (e : Event) (r : Reply) (old new : Memory) (documents : List Document) → IsDevice (device_of old)
     → ((d : Document) → Contains documents d → IsSurelyKept (device_of old) d) → Turns e r old new
-    → Returns documents e r
+    → Returns documents e r (device_of old)
 kept_returned (event.Find terms plan) (reply.Found matches) old new documents device kept t =
-    λ d among words.
+    λ d among has.
     let is = kept_on device.sure (kept d among) in
     let finds = t.answers.searches.ends refl in
     subst (λ (l : List Match). HasMatch l d.slot d.id d.body) (sym t.answers.matches_are)
-    (finds.all (d ∷ []) is d (one_of d) (has_by_bytes is.layout is.volume words))
+    (finds.all (d ∷ []) is d (one_of d) has)
 kept_returned (event.Lookup id plan) (reply.Body slot body) old new documents device kept t =
     λ d among named.
     let a = t.answers in

@@ -7,7 +7,6 @@ use Rattle.worm_memory.specs.Memory.{Memory, device_of}
 use Rattle.host_ports.specs.Sinks.{Gets}
 use Rattle.record_query.specs.Finding.{IsMatch, Rises}
 use Rattle.record_query.specs.declared.found.Match.{Match}
-use Rattle.command_laws.proofs.ByBytes.{matches_by_bytes}
 use Rattle.replayed_worlds.specs.Headline.{ReturnedStand, ReturnsStanding, StandsAndMatches}
 use Rattle.replayed_worlds.specs.Turns.{BodyAnswered, Turns}
 use Rattle.script_events.specs.declared.event.Event.{Event}
@@ -27,10 +26,10 @@ pub body_is : {id : List ℕ} {old new : DeviceState} {slot : ℕ} {body : List 
     → body ≡ a.looks.ends.body
 body_is a = got a.empty a.held a.looks.ends.gets
 
--- a match of a search stands, and has the terms by bytes
+-- a match of a search stands, and has the terms
 match_stands : {terms : List (List ℕ)} {s : DeviceState} {found : Match} → IsMatch s.cells s.image terms found
     → StandsAndMatches s terms found
-match_stands m = record { body = m.body; stands = m.stands; bytes_is = m.bytes_is; matches = matches_by_bytes m.has }
+match_stands m = record { body = m.body; stands = m.stands; bytes_is = m.bytes_is; has = m.has }
 
 turn_stands : (e : Event) (r : Reply) (old new : Memory) → Turns e r old new → ReturnsStanding e r (device_of new)
 turn_stands (event.Find terms plan) (reply.Found matches) old new t =

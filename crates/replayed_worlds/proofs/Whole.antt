@@ -54,20 +54,20 @@ module _ (plan : Schedule) (old new : Memory) (device : IsDevice (device_of (beg
   -- no reply but a refusal names tampering
   format_whole : (slots lists version : ℕ) (r : Reply) → Turns (event.Format slots lists version plan) r old new
       → IsWholeTurn (event.Format slots lists version plan) r old new
-  format_whole slots lists reply.Formatted turned = record {
+  format_whole slots lists version reply.Formatted turned = record {
     leaves = format_leaves (layout_on slots lists version old.cells) s t refl device begins turned.answers.called
         turned.answers.only (Ok tt) turned.answers.ends;
     tells = λ done. absurd done;
     no_alarm = λ e named. absurd cc;
   }
-  format_whole slots lists (reply.Refused refusal) turned = record {
+  format_whole slots lists version (reply.Refused refusal) turned = record {
     leaves = format_leaves (layout_on slots lists version old.cells) s t refl device begins turned.answers.called
         turned.answers.only (Err refusal) turned.answers.ends;
     tells = λ done. absurd done;
     no_alarm = λ e named. (subst (λ (r : Refusal). Formats (layout_on slots lists version old.cells) s t (Err r))
         (same_refusal refusal (refusals.Tampered e) named) turned.answers).ends;
   }
-  format_whole slots lists r turned = absurd turned.answers
+  format_whole slots lists version r turned = absurd turned.answers
 
   ingest_whole : (id body : List ℕ) (r : Reply) → Turns (event.Ingest id body plan) r old new
       → IsWholeTurn (event.Ingest id body plan) r old new
@@ -106,7 +106,7 @@ module _ (plan : Schedule) (old new : Memory) (device : IsDevice (device_of (beg
         tells = λ done documents held.
             let stand = stand_now s t device device_new begins a.found documents held (Ok a.found) refl a.searches.comes in (
               stand.1,
-              subst (AreMatchesOf terms documents) (sym a.matches_are)
+              subst (AreMatchesOf t terms documents) (sym a.matches_are)
                   (just_these s t device device_new begins stand.0 documents stand.1 terms a.found.items (a.searches.ends refl)),
             );
         no_alarm = λ e named. absurd cc;
@@ -206,7 +206,7 @@ module _ (plan : Schedule) (old new : Memory) (device : IsDevice (device_of (beg
 
 pub commands_whole : CommandsAreWhole
 commands_whole (event.Format slots lists version plan) r old new device device_new steady alone command turned =
-    format_whole plan old new device device_new steady alone slots lists r turned
+    format_whole plan old new device device_new steady alone slots lists version r turned
 commands_whole (event.Ingest id body plan) r old new device device_new steady alone command turned =
     ingest_whole plan old new device device_new steady alone id body r turned
 commands_whole (event.Find terms plan) r old new device device_new steady alone command turned =

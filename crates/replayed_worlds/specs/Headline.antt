@@ -12,15 +12,13 @@ use Rattle.cell_types.specs.declared.refusal.Evidence.{Evidence}
 use Rattle.cell_types.specs.declared.refusal.Refusal.TheVariants as refusals
 use Rattle.stored_documents.specs.Documents.{AreDocuments, Document, Stands}
 use Rattle.stored_documents.specs.Volumes.{IsVolume}
-use Rattle.stored_documents.specs.Words.{Matches}
-use Rattle.stored_documents.specs.declared.word_rules.WordRule.TheVariants.{Ascii}
 use Rattle.tamper_rules.specs.Rules.{IsBroken, IsPlaceOf}
 use Rattle.tamper_rules.specs.Settling.{Held}
 use Rattle.worm_device.specs.Counts.{Rose}
 use Rattle.worm_device.specs.State.{DeviceState, IsDevice}
 use Rattle.worm_memory.specs.Memory.{Memory, device_of}
 use Rattle.ingest_engine.specs.Ingesting.{document_in}
-use Rattle.record_query.specs.Finding.{HasMatch, Rises}
+use Rattle.record_query.specs.Finding.{HasMatch, HasTerms, Rises}
 use Rattle.record_query.specs.declared.found.Match.{Match}
 use Rattle.script_events.specs.declared.event.Event.{Event}
 use Rattle.script_events.specs.declared.event.Event.TheVariants as event
@@ -31,29 +29,30 @@ use Rattle.command_laws.specs.Telling.{AreMatchesOf}
 use Rattle.replayed_worlds.specs.Worlds.{AreInTurn, Turn, acknowledged}
 
 -- A query that completes returns every acknowledged document that matches, or names a cell. A find that is done tells of
--- each of these documents that has the terms. A look-up of the identifier of one of them answers just this one; never is it
--- absent. What else a query may answer is that it names a cell, or that it was not completed.
-abbrev pub Returns : List Document → Event → Reply → Type 0
-Returns documents (event.Find terms plan) (reply.Found matches) =
-    (d : Document) → Contains documents d → Matches Ascii d.body terms → HasMatch matches d.slot d.id d.body
-Returns documents (event.Lookup id plan) (reply.Body slot body) =
+-- each of these documents that has the terms, by the rule of words of the volume that stands. A look-up of the identifier of
+-- one of them answers just this one; never is it absent. What else a query may answer is that it names a cell, or that it
+-- was not completed.
+abbrev pub Returns : List Document → Event → Reply → DeviceState → Type 0
+Returns documents (event.Find terms plan) (reply.Found matches) s =
+    (d : Document) → Contains documents d → HasTerms s.cells s.image d.body terms → HasMatch matches d.slot d.id d.body
+Returns documents (event.Lookup id plan) (reply.Body slot body) s =
     (d : Document) → Contains documents d → d.id ≡ id → (slot ≡ d.slot) × (body ≡ d.body)
-Returns documents (event.Lookup id plan) (reply.Refused refusals.Absent) =
+Returns documents (event.Lookup id plan) (reply.Refused refusals.Absent) s =
     (d : Document) → Contains documents d → d.id ≡ id → ⊥
-Returns documents e r = ⊤
+Returns documents e r s = ⊤
 
 -- whoever writes in the meantime, and whatever crashes fall, each document that was acknowledged before is returned
 abbrev pub AcknowledgedAreReturned : Type 0
 AcknowledgedAreReturned =
     (from to : Memory) (before after : List Turn) (t : Turn) → IsDevice (device_of from)
-    → AreInTurn from (before ++ t ∷ after) to → Returns (acknowledged before) t.event t.reply
+    → AreInTurn from (before ++ t ∷ after) to → Returns (acknowledged before) t.event t.reply (device_of t.old)
 
--- the match is of a document that stands in the image, and that has the terms
+-- the match is of a document that stands in the image, and that has the terms by the volume's rule of words
 pub record StandsAndMatches (s : DeviceState) (terms : List (List ℕ)) (found : Match) : Type 0 where
   pub body : List ℕ
   pub stands : Stands s.cells s.image found.slot found.identifier body
   pub bytes_is : found.bytes ≡ length body
-  pub matches : Matches Ascii body terms
+  pub has : HasTerms s.cells s.image body terms
 
 -- Every document that is returned stands on the device and matches; slots rise.
 abbrev pub ReturnsStanding : Event → Reply → DeviceState → Type 0
@@ -101,13 +100,13 @@ IsDoneQuery e r = ⊥
 
 -- The answer is the one over these documents: the matches of just those that have the terms, a document with the
 -- identifier, or that there is none.
-abbrev pub TellsExactly : List Document → Event → Reply → Type 0
-TellsExactly documents (event.Find terms plan) (reply.Found matches) = AreMatchesOf terms documents matches
-TellsExactly documents (event.Lookup id plan) (reply.Body slot body) =
+abbrev pub TellsExactly : List Document → Event → Reply → DeviceState → Type 0
+TellsExactly documents (event.Find terms plan) (reply.Found matches) s = AreMatchesOf s terms documents matches
+TellsExactly documents (event.Lookup id plan) (reply.Body slot body) s =
     Contains documents (record { slot = slot; id = id; body = body })
-TellsExactly documents (event.Lookup id plan) (reply.Refused refusals.Absent) =
+TellsExactly documents (event.Lookup id plan) (reply.Refused refusals.Absent) s =
     (d : Document) → Contains documents d → d.id ≡ id → ⊥
-TellsExactly documents e r = ⊤
+TellsExactly documents e r s = ⊤
 
 -- Without foreign writes no cell is named, and a query that is done answers over just the documents that were held before
 -- it, which stand behind it.
@@ -118,7 +117,7 @@ pub record ToldIsExact : Type 0 where
   pub exact : (from to : Memory) (before after : List Turn) (t : Turn) → IsDevice (device_of from)
       → IsNew from → AreInTurn from (before ++ t ∷ after) to → IsUndisturbed t.new → IsDoneQuery t.event t.reply
       → (documents : List Document) × Held t.old.cells (device_of t.old).image documents
-      × AreDocuments t.new.cells (device_of t.new).image documents × TellsExactly documents t.event t.reply
+      × AreDocuments t.new.cells (device_of t.new).image documents × TellsExactly documents t.event t.reply (device_of t.new)
 
 -- an event gives no document, unless it is an ingest that was acknowledged
 abbrev pub MayGiveNone : Event → Reply → Type 0

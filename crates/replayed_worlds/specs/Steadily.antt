@@ -48,7 +48,7 @@ IsCommand e = ⊤
 abbrev pub TellsHeld : Event → Reply → DeviceState → DeviceState → Type 0
 TellsHeld e r old new =
     IsDoneQuery e r → (documents : List Document) → Held old.cells old.image documents
-    → AreDocuments new.cells new.image documents × TellsExactly documents e r
+    → AreDocuments new.cells new.image documents × TellsExactly documents e r new
 
 -- the device as an event begins
 abbrev pub begun_by : Event → Memory → Memory

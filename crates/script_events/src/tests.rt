@@ -126,7 +126,7 @@ fn plans_are_read(rt: HostRuntime) -> Result<(), Fail> {
 }
 
 /// Texts, and the fault for which each is no script; none for a script.
-const WHOLES: [(&str, Option<u32>); 15] = [
+const WHOLES: [(&str, Option<u32>); 20] = [
     ("{'cells': 1, 'events': []}", None),
     ("{'cells': 65536, 'events': []}", None),
     ("{'cells': 0, 'events': []}", Some(0)),
@@ -138,6 +138,11 @@ const WHOLES: [(&str, Option<u32>); 15] = [
     ("{'cells': 1, 'events': {}}", Some(0)),
     ("{'cells': 1}", Some(0)),
     ("{'events': []}", Some(0)),
+    ("{'cells': 1, 'version': 1, 'events': []}", None),
+    ("{'cells': 1, 'version': 2, 'events': []}", None),
+    ("{'cells': 1, 'version': 3, 'events': []}", Some(0)),
+    ("{'cells': 1, 'version': 0, 'events': []}", Some(0)),
+    ("{'cells': 1, 'version': '2', 'events': []}", Some(0)),
     ("{'cells': 1, 'events': [], 'note': 1}", Some(0)),
     ("[1]", Some(0)),
     ("", Some(0)),

@@ -6,7 +6,6 @@ use Rattle.std.proofs.lemmas.List.Elements.{Contains-from_at}
 use Rattle.std.specs.Bool.{MatchBool, ⊤}
 use Rattle.std.specs.List.{AllWithin, HoldsAt}
 use Rattle.std.specs.String.{string_bytes}
-use Rattle.stored_documents.specs.declared.word_rules.WordRule.TheVariants.{Ascii}
 use Rattle.word_reader.specs.Single.{SingleEnds}
 use Rattle.word_reader.specs.declared.reader.WordFault.{WordFault}
 use Rattle.record_top.specs.Finding.{IsFirstBadWord, IsOneTerm}
@@ -26,11 +25,11 @@ returns-in-Err-BadWord c =
     let asked = map string_bytes c.args.words.now in
     let word = c.word-item.result in
     let at = word_at c.args.words.now c.loop-word.word-index word (omega arith) c.word-item.is in
-    let ends = subst (λ (w : List ℕ). SingleEnds Ascii w (Err c.in-Err-BadWord.field-0)) c.as_bytes.ensures.value
+    let ends = subst (λ (w : List ℕ). SingleEnds c.args.rule w (Err c.in-Err-BadWord.field-0)) c.as_bytes.ensures.value
     c.in-Err-BadWord.ensures in
-    let bad = subst (λ (fault : WordFault). SingleEnds Ascii (string_bytes word) (Err fault))
+    let bad = subst (λ (fault : WordFault). SingleEnds c.args.rule (string_bytes word) (Err fault))
     c.in-Err-BadWord.field-0-is ends in
-    subst (λ (i : ℕ). IsFirstBadWord asked (i + 1)) (sym c.loop-word.invariant.0)
+    subst (λ (i : ℕ). IsFirstBadWord c.args.rule asked (i + 1)) (sym c.loop-word.invariant.0)
     (first_bad c.loop-word.invariant.1 (string_bytes word) at bad)
 
 -- one that does
@@ -41,9 +40,9 @@ loop-word-preserved c =
     let term = c.in-Ok.term in
     let word = c.word-item.result in
     let at = word_at c.args.words.now c.loop-word.word-index word (omega arith) c.word-item.is in
-    let is = subst (λ (w : List ℕ). IsOneTerm w term) c.as_bytes.ensures.value c.in-Ok.ensures in
+    let is = subst (λ (w : List ℕ). IsOneTerm c.args.rule w term) c.as_bytes.ensures.value c.in-Ok.ensures in
     let so_far = c.loop-word.invariant.1 in
-    let more = λ (ts : List (List ℕ)). TermsSoFar asked ts (c.loop-word.word-index + 1) in
+    let more = λ (ts : List (List ℕ)). TermsSoFar c.args.rule asked ts (c.loop-word.word-index + 1) in
     elim c.if-all.branch [
       | then-all+in-Ok-push w ↦
           let items = ap (λ v. v.items) w.terms-is ∙ w.in-Ok-push.ensures.items in (

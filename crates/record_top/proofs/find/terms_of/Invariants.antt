@@ -6,4 +6,4 @@ use Rattle.record_top.proofs.find.terms_of.Given as goal
 
 abbrev pub invariant-loop-word : goal.invariant-loop-word
 invariant-loop-word l =
-    (l.number ≡ l.word-index) × TermsSoFar (map string_bytes l.words) l.terms.items l.word-index
+    (l.number ≡ l.word-index) × TermsSoFar l.rule (map string_bytes l.words) l.terms.items l.word-index
