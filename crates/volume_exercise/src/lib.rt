@@ -14,17 +14,17 @@
 //! Where an event was refused, the first refusal is handed on and no line is put out.
 //!
 //! Stands on `hostile_replay`, which carries the events out, and on `replayed_worlds`, which says what a world promises.
-//! Begin with `exercise.rt`; `specs/Documents.antt` has the documents, `specs/Events.antt` the events, and
+//! Begin with `exercising.rt`; `specs/Documents.antt` has the documents, `specs/Events.antt` the events, and
 //! `specs/Exercising.antt` says how an exercise ends.
 #![tactic(auto)]
 
 mod documents;
 mod events;
-mod exercise;
+mod exercising;
 mod limits;
 mod tallies;
 
-pub use exercise::exercise;
+pub use exercising::exercise;
 pub use limits::{
     BASE_CELLS, BODY_WORDS, CELLS_PER_DOCUMENT, DISTINCT_WORDS, LISTS, MAX_DOCUMENTS,
 };
