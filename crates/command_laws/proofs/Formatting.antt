@@ -36,7 +36,7 @@ module _ (old new : DeviceState) (device : IsDevice old) (steady : IsSteady old)
       ((elapses_of called).adds since image le left))
 
   -- calls that write nothing
-  quiet_steady : Called old new → new.image ≡ old.image → StaysSteady old new
+  pub quiet_steady : Called old new → new.image ≡ old.image → StaysSteady old new
   quiet_steady called same = calls_steady called (λ image b.
       left_between old device steady image (subst (λ (i : Image). Between old.sure i image) same b))
 
