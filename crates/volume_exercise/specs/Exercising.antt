@@ -6,6 +6,7 @@ use Rattle.host_ports.specs.Sinks.{Gets, PutsPart, SinkState}
 use Rattle.worm_memory.specs.Memory.{Memory}
 use Rattle.worm_memory.specs.Plans.{no_plan}
 use Rattle.script_replies.specs.declared.reply.Reply.{Reply}
+use Rattle.replayed_worlds.specs.Refusals.{IsOfWords}
 use Rattle.replayed_worlds.specs.Worlds.{IsWorld}
 use Rattle.volume_exercise.specs.Events.{exercise_events}
 use Rattle.volume_exercise.specs.Tallies.{counted_text, first_refusal}
@@ -35,9 +36,9 @@ exercise_device n = record {
 pub data ExerciseEnds (n : ℕ) (from to : Memory) (old new : SinkState) (result : Result Unit Refusal) : Type 0 where
   -- no memory was to be had for the exercise itself
   unmade : result ≡ Err NoMemory → new ≡ old → ExerciseEnds n from to old new result
-  -- an event was refused: the first refusal is handed on
+  -- an event was refused: the first refusal is handed on, which is none of words, of a source or of a sink
   refused : (replies : List Reply) (refusal : Refusal) → IsWorld (exercise_events n) replies from to
-      → first_refusal replies ≡ Some refusal → result ≡ Err refusal → new ≡ old
+      → first_refusal replies ≡ Some refusal → (IsOfWords refusal → ⊥) → result ≡ Err refusal → new ≡ old
       → ExerciseEnds n from to old new result
   -- none was refused, and the lines were put out
   told : (replies : List Reply) → IsWorld (exercise_events n) replies from to → first_refusal replies ≡ None

@@ -9,6 +9,7 @@ use crate::tallies::{first_refusal, text_of};
 use cell_types::Refusal;
 use host_ports::{Sink, put_all};
 use hostile_replay::replay;
+use replayed_worlds::none_is_of_words;
 use std::alloc::Global;
 use worm_memory::MemoryDevice;
 
@@ -32,6 +33,7 @@ pub fn exercise<K: Sink>(
     let Ok(replies) = replay(alloc, &events, device) else {
         return Err(Refusal::NoMemory);
     };
+    none_is_of_words();
     if let Some(refusal) = first_refusal(&replies) {
         return Err(refusal);
     }

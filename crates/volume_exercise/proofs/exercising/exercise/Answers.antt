@@ -7,10 +7,11 @@ use Rattle.script_replies.specs.declared.reply.Reply.{Reply}
 use Rattle.worm_memory.specs.Device.{memory_of}
 use Rattle.worm_memory.specs.Memory.{Memory}
 use Rattle.replayed_worlds.specs.Worlds.{IsWorld}
+use Rattle.volume_exercise.specs.Events.{exercise_events}
 use Rattle.volume_exercise.specs.Exercising.{ExerciseEnds, refused, told, unmade, untold}
 use Rattle.volume_exercise.specs.Tallies.{counted_text, first_refusal}
 use Rattle.volume_exercise.proofs.EventsOn.{exercise_events_on}
-use Rattle.volume_exercise.proofs.Exercised.{replies_count}
+use Rattle.volume_exercise.proofs.Exercised.{not_of_words, replies_count}
 use Rattle.volume_exercise.proofs.exercising.exercise.Goals as goal
 
 pub replay-requires-clause-cells : goal.replay-requires-clause-cells
@@ -43,9 +44,12 @@ returns-in-Some g c =
     let from = memory_of c.args.device.now in
     let to = memory_of c.replay.new.device in
     let replies = c.in-Ok-replay.replies.items in
-    refused replies c.in-Some.refusal
-    (subst (λ (l : List Event). IsWorld l replies from to) (c.deref.ensures.value ∙ c.in-Ok.ensures) c.in-Ok-replay.ensures)
-    (ap first_refusal (sym c.deref-2.ensures.value) ∙ sym c.first_refusal.ensures ∙ c.in-Some.is) refl refl
+    let world = subst (λ (l : List Event). IsWorld l replies from to) (c.deref.ensures.value ∙ c.in-Ok.ensures)
+        c.in-Ok-replay.ensures in
+    let first = ap first_refusal (sym c.deref-2.ensures.value) ∙ sym c.first_refusal.ensures ∙ c.in-Some.is in
+    refused replies c.in-Some.refusal world first
+    (not_of_words c.none_is_of_words.ensures (exercise_events c.args.documents) replies from to c.in-Some.refusal world first)
+    refl refl
 
 -- the sink failed
 pub returns-in_default-put_all : goal.returns-in_default-put_all
