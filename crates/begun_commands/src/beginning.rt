@@ -4,8 +4,8 @@ ghost use Rattle.std.specs.List.{All};
 ghost use Rattle.worm_memory.specs.Device.{IsReady, memory_of, room_of};
 ghost use Rattle.worm_memory.specs.Memory.{is_early, with_begin};
 ghost use Rattle.script_events.specs.Events.{IsPlanOn, IsTimedOn};
-ghost use Rattle.script_events.specs.declared.limits.TheConstants.{MAX_SCRIPT_CELLS};
 ghost use Rattle.begun_commands.specs.Beginnings.{begun_with, with_failures, with_foreign_planned};
+ghost use Rattle.begun_commands.specs.declared.beginning.TheConstants.{MAX_REPLAYED_CELLS};
 
 use cell_types::NoMemory;
 use script_events::{Schedule, Timed};
@@ -15,9 +15,13 @@ use worm_memory::{MemoryDevice, Moment};
 /// How many changes are reserved for one event, beside two for each cell.
 pub const SPARE_CHANGES: u32 = 32;
 
+/// The greatest number of cells of a device on which events are carried out: the number of changes that are reserved for
+/// one event has 32 bits.
+pub const MAX_REPLAYED_CELLS: u32 = 2_147_483_631;
+
 /// Begins a command with this plan, and with room for all that its calls may record.
 pub fn begin_with(device: &mut MemoryDevice, plan: &Schedule) -> Result<(), NoMemory>
-    requires cells { (memory_of device.old).cells ≤ MAX_SCRIPT_CELLS }
+    requires cells { (memory_of device.old).cells ≤ MAX_REPLAYED_CELLS }
     requires inside { IsPlanOn (memory_of device.old).cells plan.now }
     ensures { OnOk result (memory_of device.new ≡ begun_with plan.now (memory_of device.old)) }
 {
@@ -31,7 +35,7 @@ pub fn begin_with(device: &mut MemoryDevice, plan: &Schedule) -> Result<(), NoMe
 
 /// Begins a command with no plan, and with room for a crash or a foreign write besides.
 pub fn begin_by_hand(device: &mut MemoryDevice) -> Result<(), NoMemory>
-    requires cells { (memory_of device.old).cells ≤ MAX_SCRIPT_CELLS }
+    requires cells { (memory_of device.old).cells ≤ MAX_REPLAYED_CELLS }
     ensures begins { OnOk result (memory_of device.new ≡ with_begin true (memory_of device.old)) }
     ensures room { OnOk result (2 * (memory_of device.old).cells + SPARE_CHANGES ≤ room_of device.new) }
 {

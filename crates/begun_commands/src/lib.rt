@@ -16,4 +16,4 @@
 
 mod beginning;
 
-pub use beginning::{SPARE_CHANGES, begin_by_hand, begin_with};
+pub use beginning::{MAX_REPLAYED_CELLS, SPARE_CHANGES, begin_by_hand, begin_with};

@@ -2,7 +2,7 @@
 ghost use Rattle.std.specs.Prelude.{◌≡◌, ◌≤◌, ◌<◌, IfOk};
 ghost use Rattle.worm_memory.specs.Device.{memory_of};
 ghost use Rattle.script_events.specs.declared.event.Event.TheVariants as event;
-ghost use Rattle.script_events.specs.declared.limits.TheConstants.{MAX_SCRIPT_CELLS};
+ghost use Rattle.begun_commands.specs.declared.beginning.TheConstants.{MAX_REPLAYED_CELLS};
 ghost use Rattle.replayed_worlds.specs.Turns.{CrashAnswers};
 ghost use Rattle.hostile_replay.specs.Plays.{Plays};
 ghost use Rattle.hostile_replay.specs.Sinks.{reply_of_foreign};
@@ -15,7 +15,7 @@ use worm_memory::MemoryDevice;
 
 /// Somebody else writes.
 pub fn play_foreign(at: u32, cell: Cell, device: &mut MemoryDevice) -> Result<Reply, NoMemory>
-    requires cells { (memory_of device.old).cells ≤ MAX_SCRIPT_CELLS }
+    requires cells { (memory_of device.old).cells ≤ MAX_REPLAYED_CELLS }
     requires inside { at < (memory_of device.old).cells }
     ensures { Plays (event.Foreign at cell) device.old device.new result }
 {
@@ -38,7 +38,7 @@ fn reply_of_foreign(written: Written) -> Reply
 
 /// A crash.
 pub fn play_crash(keep: &[u32], device: &mut MemoryDevice) -> Result<Reply, NoMemory>
-    requires cells { (memory_of device.old).cells ≤ MAX_SCRIPT_CELLS }
+    requires cells { (memory_of device.old).cells ≤ MAX_REPLAYED_CELLS }
     ensures { IfOk result (λ r. CrashAnswers keep.now (memory_of device.old) (memory_of device.new) r) }
 {
     begin_by_hand(device)?;

@@ -5,7 +5,7 @@ ghost use Rattle.stored_documents.specs.Documents.{IsBody, IsIdentifier};
 ghost use Rattle.worm_memory.specs.Device.{memory_of};
 ghost use Rattle.script_events.specs.Events.{IsPlanOn};
 ghost use Rattle.script_events.specs.declared.event.Event.TheVariants as event;
-ghost use Rattle.script_events.specs.declared.limits.TheConstants.{MAX_SCRIPT_CELLS};
+ghost use Rattle.begun_commands.specs.declared.beginning.TheConstants.{MAX_REPLAYED_CELLS};
 ghost use Rattle.hostile_replay.specs.Plays.{Plays};
 
 use begun_commands::begin_with;
@@ -27,7 +27,7 @@ pub fn play_format(
     plan: &Schedule,
     device: &mut MemoryDevice,
 ) -> Result<Reply, NoMemory>
-    requires cells { (memory_of device.old).cells ≤ MAX_SCRIPT_CELLS }
+    requires cells { (memory_of device.old).cells ≤ MAX_REPLAYED_CELLS }
     requires inside { IsPlanOn (memory_of device.old).cells plan.now }
     requires from { FIRST_VERSION ≤ version }
     requires to { version ≤ NEWEST_VERSION }
@@ -49,7 +49,7 @@ pub fn play_ingest(
     plan: &Schedule,
     device: &mut MemoryDevice,
 ) -> Result<Reply, NoMemory>
-    requires cells { (memory_of device.old).cells ≤ MAX_SCRIPT_CELLS }
+    requires cells { (memory_of device.old).cells ≤ MAX_REPLAYED_CELLS }
     requires inside { IsPlanOn (memory_of device.old).cells plan.now }
     requires identifier { IsIdentifier id.now }
     requires body { IsBody body.now }
@@ -65,7 +65,7 @@ pub fn play_ingest(
 
 /// Settles.
 pub fn play_recover(plan: &Schedule, device: &mut MemoryDevice) -> Result<Reply, NoMemory>
-    requires cells { (memory_of device.old).cells ≤ MAX_SCRIPT_CELLS }
+    requires cells { (memory_of device.old).cells ≤ MAX_REPLAYED_CELLS }
     requires inside { IsPlanOn (memory_of device.old).cells plan.now }
     ensures { Plays (event.Recover plan.now) device.old device.new result }
 {
@@ -83,7 +83,7 @@ pub fn play_audit(
     plan: &Schedule,
     device: &mut MemoryDevice,
 ) -> Result<Reply, NoMemory>
-    requires cells { (memory_of device.old).cells ≤ MAX_SCRIPT_CELLS }
+    requires cells { (memory_of device.old).cells ≤ MAX_REPLAYED_CELLS }
     requires inside { IsPlanOn (memory_of device.old).cells plan.now }
     ensures { Plays (event.Audit plan.now) device.old device.new result }
 {

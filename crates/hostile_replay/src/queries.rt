@@ -3,7 +3,7 @@ ghost use Rattle.std.specs.Prelude.{◌≡◌, ◌≤◌, IfOk, List, ℕ, lengt
 ghost use Rattle.worm_memory.specs.Device.{memory_of};
 ghost use Rattle.script_events.specs.Events.{IsPlanOn};
 ghost use Rattle.script_events.specs.declared.event.Event.TheVariants as event;
-ghost use Rattle.script_events.specs.declared.limits.TheConstants.{MAX_SCRIPT_CELLS};
+ghost use Rattle.begun_commands.specs.declared.beginning.TheConstants.{MAX_REPLAYED_CELLS};
 ghost use Rattle.hostile_replay.specs.Plays.{Plays};
 ghost use Rattle.hostile_replay.specs.Sinks.{without_sink};
 
@@ -26,7 +26,7 @@ pub fn play_find(
     plan: &Schedule,
     device: &mut MemoryDevice,
 ) -> Result<Reply, NoMemory>
-    requires cells { (memory_of device.old).cells ≤ MAX_SCRIPT_CELLS }
+    requires cells { (memory_of device.old).cells ≤ MAX_REPLAYED_CELLS }
     requires inside { IsPlanOn (memory_of device.old).cells plan.now }
     requires some { 1 ≤ length terms.now }
     ensures { Plays (event.Find terms.now plan.now) device.old device.new result }
@@ -46,7 +46,7 @@ pub fn play_lookup(
     plan: &Schedule,
     device: &mut MemoryDevice,
 ) -> Result<Reply, NoMemory>
-    requires cells { (memory_of device.old).cells ≤ MAX_SCRIPT_CELLS }
+    requires cells { (memory_of device.old).cells ≤ MAX_REPLAYED_CELLS }
     requires inside { IsPlanOn (memory_of device.old).cells plan.now }
     ensures { Plays (event.Lookup id.now plan.now) device.old device.new result }
 {

@@ -3,7 +3,7 @@ ghost use Rattle.std.specs.Prelude.{◌≡◌, ◌≤◌, IfOk};
 ghost use Rattle.worm_device.specs.State.{IsDevice};
 ghost use Rattle.worm_memory.specs.Device.{memory_of};
 ghost use Rattle.script_events.specs.Events.{AreEventsOn, IsEventOn};
-ghost use Rattle.script_events.specs.declared.limits.TheConstants.{MAX_SCRIPT_CELLS};
+ghost use Rattle.begun_commands.specs.declared.beginning.TheConstants.{MAX_REPLAYED_CELLS};
 ghost use Rattle.replayed_worlds.specs.Worlds.{IsWorld};
 ghost use Rattle.hostile_replay.specs.Plays.{Plays};
 
@@ -24,7 +24,7 @@ pub fn replay(
     events: &[Event],
     device: &mut MemoryDevice,
 ) -> Result<Vec<Reply>, NoMemory>
-    requires cells { (memory_of device.old).cells ≤ MAX_SCRIPT_CELLS }
+    requires cells { (memory_of device.old).cells ≤ MAX_REPLAYED_CELLS }
     requires events { AreEventsOn (memory_of device.old).cells events.now }
     ensures { IfOk result (λ replies.
         IsWorld events.now replies.items (memory_of device.old) (memory_of device.new)) }
@@ -49,7 +49,7 @@ fn is_device<D: Device>(device: &D)
 
 /// Carries out an event.
 fn play(alloc: Global, event: &Event, device: &mut MemoryDevice) -> Result<Reply, NoMemory>
-    requires cells { (memory_of device.old).cells ≤ MAX_SCRIPT_CELLS }
+    requires cells { (memory_of device.old).cells ≤ MAX_REPLAYED_CELLS }
     requires event { IsEventOn (memory_of device.old).cells event.now }
     ensures { Plays event.now device.old device.new result }
 {

@@ -2,6 +2,7 @@ pub mod Asking
 pub mod Audits
 pub mod Completing
 pub mod Ending
+pub mod Exercises
 pub mod Finds
 pub mod HeldAnswers
 pub mod Listed

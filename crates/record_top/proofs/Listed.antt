@@ -52,6 +52,10 @@ third_of_four a b c d x y z w e = cc
 pub fourth_of_four : {A : Type 0} (a b c d x y z w : A) → a ∷ b ∷ c ∷ d ∷ [] ≡ x ∷ y ∷ z ∷ w ∷ [] → d ≡ w
 fourth_of_four a b c d x y z w e = cc
 
+-- lists of two that are the same have the same second
+pub last_is : {A : Type 0} (a b x y : A) → a ∷ b ∷ [] ≡ x ∷ y ∷ [] → b ≡ y
+last_is a b x y e = cc
+
 -- what holds anyway holds where there is none
 pub if_none : {A : Type 0} (o : Option A) {P : Type 0} → P → IfNone o P
 if_none None p = p

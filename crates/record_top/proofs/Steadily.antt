@@ -21,7 +21,7 @@ use Rattle.volume_audit.specs.Audits.{SettlesThenAudits}
 use Rattle.volume_audit.specs.declared.report.AuditReport.{AuditReport}
 use Rattle.volume_audit.proofs.Comes.{licensed, settles_first}
 use Rattle.record_top.specs.Auditing.{DoesAudit, report_text}
-use Rattle.record_top.specs.Commands.{Does, Request, ToAudit, ToFind, ToFormat, ToIngest, ToLookUp, ToRecover, ToReplay, layout_on}
+use Rattle.record_top.specs.Commands.{Does, Request, ToAudit, ToExercise, ToFind, ToFormat, ToIngest, ToLookUp, ToRecover, ToReplay, layout_on}
 use Rattle.record_top.specs.Finding.{DoesFind, found_text, misworded, searched, unread, unruled}
 use Rattle.record_top.specs.Ruling.{AsksRule, RuleEnds}
 use Rattle.record_top.specs.Formatting.{DoesFormat, FormatCommandEnds}
@@ -194,3 +194,7 @@ module _ (old new : Ports) (device : IsDevice old.device) (device_new : IsDevice
   leaves_whole ToRecover result does = recover_adds result does
   leaves_whole ToAudit result does = audit_adds result does
   leaves_whole ToReplay result does = replay_adds result does
+  leaves_whole (ToExercise documents) result does = record {
+    stays = unused_steady old.device new.device device begins.steady does.device;
+    keeps = held_unmoved does.device;
+  }

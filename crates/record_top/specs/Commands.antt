@@ -6,6 +6,7 @@ use Rattle.cell_types.specs.Layout.{Layout}
 use Rattle.cell_types.specs.declared.refusal.Refusal.{Refusal}
 use Rattle.script_events.specs.declared.event.Script.{Script}
 use Rattle.record_top.specs.Auditing.{AsksToAudit, DoesAudit, IsReadyToAudit}
+use Rattle.record_top.specs.Exercising.{AsksToExercise, DoesExercise, IsOkOrOfAnEvent, IsReadyToExercise}
 use Rattle.record_top.specs.Finding.{AsksToFind, DoesFind, IsReadyToFind}
 use Rattle.record_top.specs.Formatting.{AsksToFormat, DoesFormat, IsReadyToFormat}
 use Rattle.record_top.specs.Ingesting.{AsksToIngest, DoesIngest, IsReadyToIngest}
@@ -14,7 +15,7 @@ use Rattle.record_top.specs.Ports.{IsOkAlone, IsOkOrAbsent, IsOkOrNoMemory, Port
 use Rattle.record_top.specs.Recovering.{AsksToRecover, DoesRecover, IsReadyToRecover}
 use Rattle.record_top.specs.Replaying.{AsksToReplay, DoesReplay, IsReadyToReplay}
 use Rattle.record_top.specs.declared.words.Command.{Command}
-use Rattle.record_top.specs.declared.words.Command.TheVariants.{Audit, Find, Format, Ingest, LookUp, Recover, Replay}
+use Rattle.record_top.specs.declared.words.Command.TheVariants.{Audit, Exercise, Find, Format, Ingest, LookUp, Recover, Replay}
 
 -- what may be asked for, with what is given
 pub data Request : Type 0 where
@@ -25,6 +26,7 @@ pub data Request : Type 0 where
   ToRecover : Request
   ToAudit : Request
   ToReplay : Request
+  ToExercise : (documents : ℕ) → Request
 
 -- the request that a command stands for
 abbrev pub request_of : Command → Request
@@ -35,6 +37,7 @@ request_of (LookUp id) = ToLookUp id.now
 request_of Recover = ToRecover
 request_of Audit = ToAudit
 request_of Replay = ToReplay
+request_of (Exercise documents) = ToExercise documents
 
 -- the words ask for this
 abbrev pub Asks : List (List ℕ) → Request → Type 0
@@ -45,6 +48,7 @@ Asks words (ToLookUp id) = AsksToLookUp words id
 Asks words ToRecover = AsksToRecover words
 Asks words ToAudit = AsksToAudit words
 Asks words ToReplay = AsksToReplay words
+Asks words (ToExercise documents) = AsksToExercise words documents
 
 -- the words ask for nothing
 abbrev pub AsksNothing : List (List ℕ) → Type 0
@@ -68,6 +72,7 @@ Does (ToLookUp id) old new result = DoesLookUp id old new result
 Does ToRecover old new result = DoesRecover old new result
 Does ToAudit old new result = DoesAudit old new result
 Does ToReplay old new result = DoesReplay old new result
+Does (ToExercise documents) old new result = DoesExercise documents old new result
 
 -- nothing hinders this
 abbrev pub IsUnhindered : Request → Ports → Ports → Type 0
@@ -79,9 +84,10 @@ IsUnhindered (ToLookUp id) old new = (g : Layout) × IsReadyToLookUp id g old ne
 IsUnhindered ToRecover old new = (g : Layout) × IsReadyToRecover g old new
 IsUnhindered ToAudit old new = (g : Layout) × IsReadyToAudit g old new
 IsUnhindered ToReplay old new = (text : List ℕ) × (script : Script) × IsReadyToReplay text script old new
+IsUnhindered (ToExercise documents) old new = IsReadyToExercise old new
 
 -- What is answered where nothing hinders this: it is done; or, where memory is taken, none was to be had; or, where a
--- document is looked up, none has the identifier.
+-- document is looked up, none has the identifier. Of an exercise it is only said which refusals are not its own.
 abbrev pub IsAnswered : Request → Result Unit Refusal → Type 0
 IsAnswered (ToFormat slots lists version) result = IsOkAlone result
 IsAnswered (ToIngest id) result = IsOkOrNoMemory result
@@ -90,3 +96,4 @@ IsAnswered (ToLookUp id) result = IsOkOrAbsent result
 IsAnswered ToRecover result = IsOkAlone result
 IsAnswered ToAudit result = IsOkOrNoMemory result
 IsAnswered ToReplay result = IsOkOrNoMemory result
+IsAnswered (ToExercise documents) result = IsOkOrOfAnEvent result

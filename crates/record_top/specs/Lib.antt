@@ -1,5 +1,6 @@
 pub mod Auditing
 pub mod Commands
+pub mod Exercising
 pub mod Finding
 pub mod Formatting
 pub mod Ingesting

@@ -8,6 +8,7 @@ ghost use Rattle.record_top.specs.Ports.{ports_of};
 ghost use Rattle.record_top.specs.Steadiness.{LeavesWhole};
 
 use crate::audit::audit_volume;
+use crate::exercise::exercise_volume;
 use crate::find::find_documents;
 use crate::format::format_device;
 use crate::ingest::ingest_body;
@@ -87,5 +88,8 @@ fn carry_out<D: Device, S: Source, K: Sink>(
         Command::Recover => recover_device(device, source, sink),
         Command::Audit => audit_volume(alloc, device, source, sink),
         Command::Replay => replay_script(alloc, device, source, sink),
+        Command::Exercise { documents } => {
+            exercise_volume(alloc, documents, device, source, sink)
+        }
     }
 }

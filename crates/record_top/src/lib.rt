@@ -11,7 +11,8 @@
 //!     audit           checks each rule at each written cell      sound: 1 done, 0 abandoned, 11 written cells
 //!
 //! A `replay` leaves the device alone. It takes a script from the source, replays its events on a device in memory of its
-//! own, and puts out a line for each.
+//! own, and puts out a line for each. Nor does an `exercise` touch it: it makes a volume of so many documents on a device
+//! in memory of its own, searches, reads and audits it, and puts out what came of it.
 //!
 //! A `find` makes its text before the first byte goes out, and a `lookup` checks the document whole before that.
 //! Whatever keeps a command from being done is a refusal that names its cause. And where nobody else writes, whatever a
@@ -23,7 +24,7 @@
 //! own there and here, and one arm in `command.rt`.
 //!
 //! Stands on `ingest_engine` and `recovery_engine`, which write, on `record_query`, which searches and looks up, on
-//! `volume_audit`, on `hostile_replay`, on `command_laws`, and on `host_ports`. Begin with `command.rt`;
+//! `volume_audit`, on `hostile_replay` and `volume_exercise`, on `command_laws`, and on `host_ports`. Begin with `command.rt`;
 //! specs/Commands.antt says which commands there are, and leads to what each does; specs/Steadiness.antt says what a crash
 //! leaves of it, and which documents stand behind it.
 #![tactic(auto)]
@@ -31,6 +32,7 @@
 mod audit;
 mod body;
 mod command;
+mod exercise;
 mod find;
 mod format;
 mod ingest;

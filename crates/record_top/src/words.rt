@@ -3,6 +3,7 @@ ghost use Rattle.std.specs.Prelude.{◌≡◌, ◌≢◌, ◌<◌, ◌≤◌, �
 ghost use Rattle.std.specs.String.{string_bytes};
 ghost use Rattle.record_top.specs.Auditing.{AsksToAudit};
 ghost use Rattle.record_top.specs.Commands.{Asks, AsksNothing, request_of};
+ghost use Rattle.record_top.specs.Exercising.{AsksToExercise};
 ghost use Rattle.record_top.specs.Finding.{AsksToFind};
 ghost use Rattle.record_top.specs.Formatting.{AsksByVersion, AsksPlainly, AsksToFormat};
 ghost use Rattle.record_top.specs.Ingesting.{AsksToIngest};
@@ -12,6 +13,7 @@ ghost use Rattle.record_top.specs.Replaying.{AsksToReplay};
 ghost use Rattle.record_top.specs.Words.{IsNoOption, IsNumberUpTo};
 
 use cell_types::{FIRST_VERSION, MAX_LISTS, MAX_SLOTS, NEWEST_VERSION};
+use volume_exercise::MAX_DOCUMENTS;
 
 /// The greatest number of words that a `find` may have.
 pub const MAX_QUERY_WORDS: usize = 8;
@@ -40,6 +42,8 @@ pub enum Command<'a> {
     Audit,
     /// Replay a script on a device in memory.
     Replay,
+    /// Do the exercise with so many documents on a device in memory.
+    Exercise { documents: u32 },
 }
 
 /// The command that the words ask for.
@@ -65,7 +69,10 @@ pub fn command_of(words: &[String]) -> Option<Command<'_>>
     if let Some(command) = audit_of(words) {
         return Some(command);
     }
-    replay_of(words)
+    if let Some(command) = replay_of(words) {
+        return Some(command);
+    }
+    exercise_of(words)
 }
 
 /// The command `format`, where the words are this and two or three numbers in range.
@@ -214,6 +221,21 @@ fn replay_of(words: &[String]) -> Option<Command<'_>>
         return None;
     }
     Some(Command::Replay)
+}
+
+/// The command `exercise`, where the words are this and a number in range.
+fn exercise_of(words: &[String]) -> Option<Command<'_>>
+    ensures some { IfSome result (λ command. Asks (map string_bytes words.now) (request_of command)) }
+    ensures none { IfNone result ((documents : ℕ) → AsksToExercise (map string_bytes words.now) documents → ⊥) }
+{
+    let [command, documents] = words else {
+        return None;
+    };
+    if command.as_str() != "exercise" {
+        return None;
+    }
+    let documents = number_up_to(MAX_DOCUMENTS, documents.as_bytes())?;
+    Some(Command::Exercise { documents })
 }
 
 /// The number that the word stands for, where it is 1 to 10 digits and the number from 1 to the most.

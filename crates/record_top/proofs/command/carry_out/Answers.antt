@@ -12,3 +12,9 @@ returns-in-LookUp g c = rw c.in-LookUp.is c.look_up_document.ensures
 
 pub returns-in-Replay : goal.returns-in-Replay
 returns-in-Replay g c = rw c.in-Replay.is c.replay_script.ensures
+
+pub exercise_volume-requires-clause-some : goal.exercise_volume-requires-clause-some
+exercise_volume-requires-clause-some g c = ?
+
+pub exercise_volume-requires-clause-most : goal.exercise_volume-requires-clause-most
+exercise_volume-requires-clause-most g c = ?

@@ -1,0 +1,34 @@
+-- The command `exercise`: it does the exercise with so many documents on a new device in memory, and puts out its lines. The
+-- device that it is handed is left alone.
+use Rattle.std.specs.Prelude.{◌≡◌, ℕ, List, [], ◌∷◌, codes, Result, Ok, Err, ⊤}
+use Rattle.cell_types.specs.declared.refusal.Refusal.{Refusal}
+use Rattle.worm_device.specs.Counts.{IsStill}
+use Rattle.worm_memory.specs.Memory.{Memory}
+use Rattle.replayed_worlds.specs.Refusals.{IsOfWords}
+use Rattle.volume_exercise.specs.Exercising.{ExerciseEnds, exercise_device}
+use Rattle.volume_exercise.specs.declared.limits.TheConstants.{MAX_DOCUMENTS}
+use Rattle.record_top.specs.Ports.{Ports}
+use Rattle.record_top.specs.Words.{IsNumberUpTo}
+
+-- the words are `exercise` and this number of documents
+pub record AsksToExercise (words : List (List ℕ)) (n : ℕ) : Type 0 where
+  pub first : List ℕ
+  pub asked : words ≡ codes "exercise" ∷ first ∷ []
+  pub documents_word : IsNumberUpTo MAX_DOCUMENTS first n
+
+-- The exercise was done on a new device, and what it tells went into the sink; nothing was taken from the source.
+pub record DoesExercise (n : ℕ) (old new : Ports) (result : Result Unit Refusal) : Type 0 where
+  pub left : Memory
+  pub ends : ExerciseEnds n (exercise_device n) left old.sink new.sink result
+  pub device : new.device ≡ old.device
+  pub source : new.source ≡ old.source
+
+-- no call of the sink fails
+abbrev pub IsReadyToExercise : Ports → Ports → Type 0
+IsReadyToExercise old new = IsStill old.sink.faults new.sink.faults
+
+-- The answer is Ok, or a refusal that is none of words, of a source or of a sink: want of memory, or what an event was
+-- refused with.
+abbrev pub IsOkOrOfAnEvent : Result Unit Refusal → Type 0
+IsOkOrOfAnEvent (Ok _) = ⊤
+IsOkOrOfAnEvent (Err refusal) = IsOfWords refusal → ⊥

@@ -1,0 +1,5 @@
+mod Counted
+mod EventsOn
+mod Exercised
+mod Rows
+mod Words

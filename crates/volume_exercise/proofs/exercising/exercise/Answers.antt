@@ -1,0 +1,78 @@
+-- The events are of the grammar; and each exit, by how far the exercise came.
+use Rattle.std.proofs.Common.{List, ap, length, refl, subst, sym, ◌∙◌, ℕ, arith}
+use Rattle.host_ports.specs.Sinks.{Gets, PutsPart}
+use Rattle.script_events.specs.Events.{AreEventsOn}
+use Rattle.script_events.specs.declared.event.Event.{Event}
+use Rattle.script_replies.specs.declared.reply.Reply.{Reply}
+use Rattle.worm_memory.specs.Device.{memory_of}
+use Rattle.worm_memory.specs.Memory.{Memory}
+use Rattle.replayed_worlds.specs.Worlds.{IsWorld}
+use Rattle.volume_exercise.specs.Events.{exercise_events}
+use Rattle.volume_exercise.specs.Exercising.{ExerciseEnds, refused, told, unmade, untold}
+use Rattle.volume_exercise.specs.Tallies.{counted_text, first_refusal}
+use Rattle.volume_exercise.proofs.EventsOn.{exercise_events_on}
+use Rattle.volume_exercise.proofs.Exercised.{not_of_words, replies_count}
+use Rattle.volume_exercise.proofs.exercising.exercise.Goals as goal
+
+pub replay-requires-clause-cells : goal.replay-requires-clause-cells
+replay-requires-clause-cells g c = omega (arith, c.requires.most, ap (λ (m : Memory). m.cells) c.requires.new)
+
+pub replay-requires-clause-events : goal.replay-requires-clause-events
+replay-requires-clause-events g c =
+    let cells = (memory_of c.args.device.now).cells in
+    subst (AreEventsOn cells) (sym (c.deref.ensures.value ∙ c.in-Ok.ensures))
+    (exercise_events_on cells c.args.documents c.requires.some c.requires.most)
+
+pub text_of-requires-clause-all : goal.text_of-requires-clause-all
+text_of-requires-clause-all g c =
+    let from = memory_of c.args.device.now in
+    let to = memory_of c.replay.new.device in
+    let replies = c.in-Ok-replay.replies.items in
+    ap (λ (l : List Reply). length l) c.deref-3.ensures.value
+    ∙ replies_count c.args.documents replies from to
+    (subst (λ (l : List Event). IsWorld l replies from to) (c.deref.ensures.value ∙ c.in-Ok.ensures) c.in-Ok-replay.ensures)
+
+pub returns-in_default : goal.returns-in_default
+returns-in_default g c = unmade refl refl
+
+pub returns-in_default-replay : goal.returns-in_default-replay
+returns-in_default-replay g c = unmade refl refl
+
+-- an event was refused
+pub returns-in-Some : goal.returns-in-Some
+returns-in-Some g c =
+    let from = memory_of c.args.device.now in
+    let to = memory_of c.replay.new.device in
+    let replies = c.in-Ok-replay.replies.items in
+    let world = subst (λ (l : List Event). IsWorld l replies from to) (c.deref.ensures.value ∙ c.in-Ok.ensures)
+        c.in-Ok-replay.ensures in
+    let first = ap first_refusal (sym c.deref-2.ensures.value) ∙ sym c.first_refusal.ensures ∙ c.in-Some.is in
+    refused replies c.in-Some.refusal world first
+    (not_of_words c.none_is_of_words.ensures (exercise_events c.args.documents) replies from to c.in-Some.refusal world first)
+    refl refl
+
+-- the sink failed
+pub returns-in_default-put_all : goal.returns-in_default-put_all
+returns-in_default-put_all g c =
+    let from = memory_of c.args.device.now in
+    let to = memory_of c.replay.new.device in
+    let replies = c.in-Ok-replay.replies.items in
+    untold replies
+    (subst (λ (l : List Event). IsWorld l replies from to) (c.deref.ensures.value ∙ c.in-Ok.ensures) c.in-Ok-replay.ensures)
+    (ap first_refusal (sym c.deref-2.ensures.value) ∙ sym c.first_refusal.ensures ∙ c.in_default-first_refusal.is) refl
+    (subst (λ (l : List ℕ). PutsPart l (g.K.Sink.state c.args.sink.now) (g.K.Sink.state c.put_all.new.sink))
+    (c.as_bytes.ensures.value ∙ c.in-Ok-text_of.ensures ∙ ap (counted_text c.args.documents) c.deref-3.ensures.value)
+    c.in_default-put_all.ensures.part)
+
+-- the lines were put out
+pub returns : goal.returns
+returns g c =
+    let from = memory_of c.args.device.now in
+    let to = memory_of c.replay.new.device in
+    let replies = c.in-Ok-replay.replies.items in
+    told replies
+    (subst (λ (l : List Event). IsWorld l replies from to) (c.deref.ensures.value ∙ c.in-Ok.ensures) c.in-Ok-replay.ensures)
+    (ap first_refusal (sym c.deref-2.ensures.value) ∙ sym c.first_refusal.ensures ∙ c.in_default-first_refusal.is) refl
+    (subst (λ (l : List ℕ). Gets (g.K.Sink.state c.args.sink.now).held (g.K.Sink.state c.put_all.new.sink).held l)
+    (c.as_bytes.ensures.value ∙ c.in-Ok-text_of.ensures ∙ ap (counted_text c.args.documents) c.deref-3.ensures.value)
+    c.in-Ok-put_all.ensures.whole)

@@ -1,0 +1,4 @@
+pub mod Documents
+pub mod Events
+pub mod Exercising
+pub mod Tallies

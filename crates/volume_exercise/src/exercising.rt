@@ -1,0 +1,47 @@
+//! The exercise.
+ghost use Rattle.std.specs.Prelude.{◌≡◌, ◌≤◌};
+ghost use Rattle.worm_memory.specs.Device.{memory_of};
+ghost use Rattle.volume_exercise.specs.Exercising.{ExerciseEnds, exercise_device};
+ghost use Rattle.volume_exercise.specs.declared.limits.TheConstants.{MAX_DOCUMENTS};
+
+use crate::events::exercise_events;
+use crate::tallies::{first_refusal, text_of};
+use cell_types::Refusal;
+use host_ports::{Sink, put_all};
+use hostile_replay::replay;
+use replayed_worlds::none_is_of_words;
+use std::alloc::Global;
+use worm_memory::MemoryDevice;
+
+/// Does the exercise with so many documents on this new device, and puts its lines into the sink. The text is made before
+/// its first byte goes out.
+pub fn exercise<K: Sink>(
+    alloc: Global,
+    documents: u32,
+    device: &mut MemoryDevice,
+    sink: &mut K,
+) -> Result<(), Refusal>
+    requires some { 1 ≤ documents }
+    requires most { documents ≤ MAX_DOCUMENTS }
+    requires new { memory_of device.old ≡ exercise_device documents }
+    ensures { ExerciseEnds documents (memory_of device.old) (memory_of device.new) (K.state sink.old) (K.state sink.new)
+        result }
+{
+    let Ok(events) = exercise_events(alloc, documents) else {
+        return Err(Refusal::NoMemory);
+    };
+    let Ok(replies) = replay(alloc, &events, device) else {
+        return Err(Refusal::NoMemory);
+    };
+    none_is_of_words();
+    if let Some(refusal) = first_refusal(&replies) {
+        return Err(refusal);
+    }
+    let Ok(text) = text_of(alloc, documents, &replies) else {
+        return Err(Refusal::NoMemory);
+    };
+    let Ok(()) = put_all(sink, text.as_bytes()) else {
+        return Err(Refusal::SinkFault);
+    };
+    Ok(())
+}

@@ -1,0 +1,30 @@
+//! The exercise: a volume of so many documents, made, searched, read and audited on a device in memory.
+//!
+//! `exercise` with 200 documents puts out
+//!
+//!     documents 200       document i is `d` and i in six digits, with twenty words w0 to w199
+//!     acknowledged 200    each was taken in
+//!     single 3800         the documents that the 200 words find, each word alone
+//!     pairs 199           those that the 199 pairs of a word and the next one find
+//!     looked up 200       each identifier gave a body of its document's length
+//!     sound               and the audit found each rule kept
+//!
+//! It is a replay of events that are made in memory, on a new device: a format, the ingests, the finds, the look-ups and
+//! an audit. So whatever it tells is counted from the replies of a world, of which all is true that is promised of worlds.
+//! Where an event was refused, the first refusal is handed on and no line is put out.
+//!
+//! Stands on `hostile_replay`, which carries the events out, and on `replayed_worlds`, which says what a world promises.
+//! Begin with `exercising.rt`; `specs/Documents.antt` has the documents, `specs/Events.antt` the events, and
+//! `specs/Exercising.antt` says how an exercise ends.
+#![tactic(auto)]
+
+mod documents;
+mod events;
+mod exercising;
+mod limits;
+mod tallies;
+
+pub use exercising::exercise;
+pub use limits::{
+    BASE_CELLS, BODY_WORDS, CELLS_PER_DOCUMENT, DISTINCT_WORDS, LISTS, MAX_DOCUMENTS,
+};
