@@ -7,10 +7,12 @@
 //!     worm volume.img lookup invoice-4711 > invoice.txt
 //!     worm volume.img recover
 //!     worm volume.img audit
+//!     worm - replay < script.json
+//!     worm - exercise 200
 //!
-//! IMAGE is the path of a file that exists; a new device is a file of zeros. Where IMAGE is `-`, the device is one
-//! in memory that holds a small volume, so what is stored there is gone when the program ends. No other IMAGE begins
-//! with a hyphen.
+//! IMAGE is the path of a file that exists; a new device is a file of zeros. Where IMAGE is `-`, the device is one blank
+//! cell in memory, which suffices for `replay` and `exercise`: these leave the device alone, and work on one of their own.
+//! No other IMAGE begins with a hyphen.
 //!
 //! One program at a time works on a file: the second waits, from its first look at the file on, until the first has
 //! ended. Where standard input, output or error is closed, the file does not take its place.
@@ -19,9 +21,6 @@
 //! words that are no command, 5 a file that cannot be opened, and every other is that of `run`'s refusal.
 #![tactic(auto)]
 
-mod small;
-
-use crate::small::small_volume;
 use cell_types::Refusal;
 use file_top::run_over_file;
 use host_files::{FileDevice, Hold, Pages};
@@ -34,6 +33,7 @@ use std::rt::{Env, Files};
 use std::{env, io};
 use thiserror::Error;
 use worm_device::Device;
+use worm_memory::MemoryDevice;
 
 /// Why a command was not done.
 #[derive(Clone, Copy, Debug, Error)]
@@ -75,7 +75,7 @@ fn carry_out(
     let mut source = StdSource::new(rt.reader());
     let mut sink = StdSink::new(io::writer(rt));
     if image.as_str() == "-" {
-        let mut device = small_volume(alloc)?;
+        let mut device = MemoryDevice::new(alloc, 1).map_err(|_| Refusal::NoMemory)?;
         run(alloc, command, &mut device, &mut source, &mut sink)?;
         return Ok(());
     }
