@@ -83,7 +83,11 @@ fn a_document_is_kept_by_eight_cells(rt: HostRuntime) -> Result<(), Fail> {
     ] {
         let mut device = volume_without(rt.alloc(), left_out)?;
         let mut view = Direct::new(&mut device);
-        assert_eq!(rt; is_kept(rt.alloc(), &mut view, 0, b"a"), Ok(kept), "without cell {left_out}");
+        assert_eq!(rt;
+            is_kept(rt.alloc(), &mut view, 0, b"a"),
+            Ok(kept),
+            "without cell {left_out}"
+        );
         assert_eq!(rt; is_kept(rt.alloc(), &mut view, 0, b"b"), Ok(None));
         assert_eq!(rt; is_kept(rt.alloc(), &mut view, 1, b"a"), Ok(None));
         assert_eq!(rt; is_kept(rt.alloc(), &mut view, 16_777_216, b"a"), Ok(None));
@@ -143,7 +147,11 @@ fn a_posting_is_found_behind_its_pointer_alone(rt: HostRuntime) -> Result<(), Fa
         let mut device = full_block(rt.alloc())?;
         put(&mut device, 164, pointer)?;
         put_posting(&mut device, at, 128)?;
-        assert_eq!(rt; trailed(&mut device, 128, [1; 6])?, found, "posting in {at}");
+        assert_eq!(rt;
+            trailed(&mut device, 128, [1; 6])?,
+            found,
+            "posting in {at}"
+        );
         assert_eq!(rt; trailed(&mut device, 129, [1; 6])?, false);
         assert_eq!(rt; trailed(&mut device, 5, [1; 6])?, true);
         assert_eq!(rt; trailed(&mut device, 5, [2; 6])?, false);
@@ -165,7 +173,9 @@ fn led_to_b(device: &mut MemoryDevice, slot: u32) -> Result<bool, Fail> {
 
 /// The digest of `b` begins 3e: bucket 551 of the root, and bucket 14 of the node below its child cell 567.
 #[test]
-fn a_bucket_with_the_fingerprint_is_passed_by_its_slots_document(rt: HostRuntime) -> Result<(), Fail> {
+fn a_bucket_with_the_fingerprint_is_passed_by_its_slots_document(
+    rt: HostRuntime,
+) -> Result<(), Fail> {
     for (slot, passed) in [(0, true), (3, false)] {
         let mut device = volume_without(rt.alloc(), 1)?;
         for (at, named) in [(551, slot), (614, 1)] {
@@ -175,7 +185,11 @@ fn a_bucket_with_the_fingerprint_is_passed_by_its_slots_document(rt: HostRuntime
             };
             put(&mut device, at, encode(bucket, at))?;
         }
-        put(&mut device, 567, encode(RecordCell::Child { target: 600 }, 567))?;
+        put(
+            &mut device,
+            567,
+            encode(RecordCell::Child { target: 600 }, 567),
+        )?;
         assert_eq!(rt; led_to_b(&mut device, slot)?, true);
         assert_eq!(rt; led_to_b(&mut device, 1)?, passed, "bucket of slot {slot}");
         assert_eq!(rt; led_to_b(&mut device, 2)?, false);

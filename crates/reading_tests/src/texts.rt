@@ -59,7 +59,10 @@ fn characters_are_folded(rt: HostRuntime) -> Result<(), Fail> {
         // small Cherokee letters fold to capital ones
         (b"\xea\xad\xb0\xe1\x8e\xa0", b"\xe1\x8e\xa0\xe1\x8e\xa0"),
         // Devanagari and full-width digits are digits, a Roman numeral is a letter
-        (b"\xe0\xa5\xa7 \xef\xbc\x91 \xe2\x85\xa0", b"\xe0\xa5\xa7 \xef\xbc\x91 \xe2\x85\xb0"),
+        (
+            b"\xe0\xa5\xa7 \xef\xbc\x91 \xe2\x85\xa0",
+            b"\xe0\xa5\xa7 \xef\xbc\x91 \xe2\x85\xb0",
+        ),
         // a combining mark alone, and a letter of which it is none
         (b"\xcc\x81", b""),
         (b"e\xcc\x81\xc3\xa9", b"e \xc3\xa9"),

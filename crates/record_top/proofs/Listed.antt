@@ -60,3 +60,8 @@ last_is a b x y e = cc
 pub if_none : {A : Type 0} (o : Option A) {P : Type 0} → P → IfNone o P
 if_none None p = p
 if_none (Some a) p = tt
+
+-- and where what holds for none leads on, what it leads to holds for none
+pub if_none_then : {A : Type 0} (o : Option A) {P Q : Type 0} → (P → Q) → IfNone o P → IfNone o Q
+if_none_then None f p = f p
+if_none_then (Some a) f p = tt

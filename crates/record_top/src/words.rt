@@ -25,11 +25,7 @@ const MAX_DIGITS: usize = 10;
 #[derive(Clone, Copy, Debug, PartialEq, Eq)]
 pub enum Command<'a> {
     /// Make the device a volume of so many slots and lists, and of this version, each in its range.
-    Format {
-        slots: u32,
-        lists: u16,
-        version: u8,
-    },
+    Format { slots: u32, lists: u16, version: u8 },
     /// Store a document by this name, which may be an identifier or not.
     Ingest { id: &'a [u8] },
     /// Search the documents for 1 to 8 words, each of which may hold one term or not.

@@ -80,10 +80,12 @@ fn a_script_states_its_version(rt: HostRuntime) -> Result<(), Fail> {
         (1, "1 0 formatted\n2 0 acknowledged 0\n3 0 found\n"),
         (2, "1 0 formatted\n2 0 acknowledged 0\n3 0 found 0\n"),
     ] {
-        let script = format!(in rt.alloc(); "{{\"cells\": 1000, \"version\": {version}, \"events\": [
+        let script = format!(in rt.alloc();
+            "{{\"cells\": 1000, \"version\": {version}, \"events\": [
             {{\"do\": \"format\", \"slots\": 8, \"lists\": 2}},
             {{\"do\": \"ingest\", \"id\": \"a\", \"body\": \"M\u{dc}LLER Stra\u{df}e\"}},
-            {{\"do\": \"find\", \"words\": [\"m\u{fc}ller\", \"STRASSE\"]}}]}}")?;
+            {{\"do\": \"find\", \"words\": [\"m\u{fc}ller\", \"STRASSE\"]}}]}}"
+        )?;
         assert!(rt; printed(rt.alloc(), script.as_str())?.as_str() == lines);
     }
     Ok(())

@@ -63,7 +63,7 @@ script_one text a b h k =
     let same = frame_one text a.cells b.cells h.0 k.0 h.1 k.1 h.2 k.2 in
     let says = SaysEvent a.cells h.0 in
     let others : AreItems says b.events h.1 =
-        moved (λ R ds. AreItems R b.events ds) a.cells b.cells h.0 k.0 h.1 k.1 same k.3 in
+    moved (λ R ds. AreItems R b.events ds) a.cells b.cells h.0 k.0 h.1 k.1 same k.3 in
     let events : a.events ≡ b.events = items_one says (event_one a.cells h.0) a.events b.events h.1 h.3 others in
     ap (λ n. script_with n a.events) same.0 ∙ ap (script_with b.cells) events
 

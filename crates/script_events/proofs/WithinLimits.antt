@@ -95,8 +95,7 @@ event_so : (cells stated : ℕ) → FIRST_VERSION ≤ stated → stated ≤ NEWE
     → SaysEvent cells stated event d → IsEventOn cells event
 event_so cells stated from to (Format slots lists version plan) d h =
     let s = member {C = (1 ≤ slots) × (slots ≤ MAX_SLOTS)} (get (codes "slots") d) _ h.1.1.1 (λ e p. (p.1, p.2)) in
-    let l = member {C = (1 ≤ lists) × (lists ≤ MAX_LISTS)} (get (codes "lists") d) _ h.1.1.2 (λ e p. (p.1, p.2)) in
-    (
+    let l = member {C = (1 ≤ lists) × (lists ≤ MAX_LISTS)} (get (codes "lists") d) _ h.1.1.2 (λ e p. (p.1, p.2)) in (
       s.0,
       s.1,
       l.0,

@@ -133,12 +133,20 @@ exercise_events_on cells n some most =
     (All-append On (ingests n) (singles ++ (pairs ++ (look_ups n ++ audit_event ∷ [])))
     (each_of On ingest_event n (λ i below. (identifier_is_identifier i, body_is_body i, plan)))
     (All-append On singles (pairs ++ (look_ups n ++ audit_event ∷ []))
-    (each_of On single_event 200 (λ k below. (omega arith, omega arith,
-    all_one IsTermOfWord (word_of k) (Ascii, word_of k, word_is_one k below), plan)))
+    (each_of On single_event 200 (λ k below. (
+      omega arith,
+      omega arith,
+      all_one IsTermOfWord (word_of k) (Ascii, word_of k, word_is_one k below),
+      plan,
+    )))
     (All-append On pairs (look_ups n ++ audit_event ∷ [])
-    (each_of On pair_event 199 (λ k below. (omega arith, omega arith,
-    all_two IsTermOfWord (word_of k) (word_of (k + 1)) (Ascii, word_of k, word_is_one k (omega (arith, below)))
-    (Ascii, word_of (k + 1), word_is_one (k + 1) (omega (arith, below))), plan)))
+    (each_of On pair_event 199 (λ k below. (
+      omega arith,
+      omega arith,
+      all_two IsTermOfWord (word_of k) (word_of (k + 1)) (Ascii, word_of k, word_is_one k (omega (arith, below)))
+          (Ascii, word_of (k + 1), word_is_one (k + 1) (omega (arith, below))),
+      plan,
+    )))
     (All-append On (look_ups n) (audit_event ∷ [])
     (each_of On look_up_event n (λ i below. (identifier_is_identifier i, plan)))
     (all_one On audit_event plan)))))

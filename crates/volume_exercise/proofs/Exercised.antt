@@ -66,5 +66,5 @@ pub not_of_words : NoneIsOfWords → (events : List Event) (replies : List Reply
     → IsWorld events replies from to → first_refusal replies ≡ Some refusal → IsOfWords refusal → ⊥
 not_of_words none events replies from to refusal world first of =
     let turned = refused_turn world.turns from to refusal world.in_turn
-        (ap first_refusal (sym world.replies_are) ∙ first) in
+    (ap first_refusal (sym world.replies_are) ∙ first) in
     none turned.0.event refusal turned.0.old turned.0.new turned.1 of

@@ -71,7 +71,7 @@ behind f small at (suc n) = (
 -- words with one space between
 spaced : (f : ℕ → ℕ) (small : (j : ℕ) → f j < 200) (n : ℕ)
     → AreRuns Ascii (word_of (f 0) ++ flat_map (λ j. 32 ∷ word_of (f j)) (range_with_len 1 n))
-      (map (λ j. word_of (f j)) (range_with_len 0 (suc n)))
+    (map (λ j. word_of (f j)) (range_with_len 0 (suc n)))
 spaced f small n = (
   [],
   119,
@@ -92,18 +92,22 @@ document_has_words i =
 
 -- a word has itself alone
 pub word_is_one : (k : ℕ) → k < 200 → AreWords Ascii (word_of k) (word_of k ∷ [])
-word_is_one k small = (word_of k, refl, (
-  [],
-  119,
-  decimal k,
-  [],
-  sym (append-nil (word_of k)),
-  tt,
-  of_words k small,
-  tt,
-  spelled_so k small,
-  tt,
-))
+word_is_one k small = (
+  word_of k,
+  refl,
+  (
+    [],
+    119,
+    decimal k,
+    [],
+    sym (append-nil (word_of k)),
+    tt,
+    of_words k small,
+    tt,
+    spelled_so k small,
+    tt,
+  ),
+)
 
 -- the term of a word is the word
 pub only_term : (k : ℕ) → k < 200 → (word term : List ℕ) → word ≡ word_of k → AreWords Ascii word (term ∷ [])

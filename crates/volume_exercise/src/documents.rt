@@ -48,8 +48,7 @@ fn digit_of(number: u32, power: u32) -> u8
 pub(crate) fn identifier(alloc: Global, document: u32) -> Result<Vec<u8>, AllocError>
     ensures { IfOk result (λ id. id.items ≡ identifier_of document) }
 {
-    let id = vec![
-        in alloc;
+    let id = vec![in alloc;
         b'd',
         digit_of(document, 100_000),
         digit_of(document, 10_000),

@@ -4,9 +4,9 @@ ghost use Rattle.volume_exercise.specs.Events.{audit_event, exercise_events, for
 ghost use Rattle.volume_exercise.specs.Documents.{word_of};
 ghost use Rattle.volume_exercise.specs.declared.limits.TheConstants.{DISTINCT_WORDS, MAX_DOCUMENTS};
 
-use cell_types::FIRST_VERSION;
 use crate::documents::{body, identifier, word};
 use crate::limits::{DISTINCT_WORDS, LISTS};
+use cell_types::FIRST_VERSION;
 use document_store::Text;
 use script_events::{Event, Schedule, Sequence};
 use std::alloc::{AllocError, Global};

@@ -60,12 +60,7 @@ pub(crate) fn text_of(
 }
 
 /// The lines of the exercise with so many documents.
-fn lines(
-    alloc: Global,
-    documents: u32,
-    tally: &Tally,
-    sound: &str,
-) -> Result<String, AllocError>
+fn lines(alloc: Global, documents: u32, tally: &Tally, sound: &str) -> Result<String, AllocError>
     ensures { IfOk result (λ text. string_bytes text ≡ lines_of documents tally.now.acknowledged tally.now.single
         tally.now.pairs tally.now.looked_up sound.now) }
 {
@@ -75,7 +70,9 @@ fn lines(
         pairs,
         looked_up,
     } = tally;
-    format!(in alloc; "documents {documents}\nacknowledged {acknowledged}\nsingle {single}\npairs {pairs}\nlooked up {looked_up}\n{sound}")
+    format!(in alloc;
+        "documents {documents}\nacknowledged {acknowledged}\nsingle {single}\npairs {pairs}\nlooked up {looked_up}\n{sound}"
+    )
 }
 
 /// How many documents were acknowledged.

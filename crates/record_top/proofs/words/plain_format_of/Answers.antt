@@ -18,17 +18,20 @@ returns-clause-some c =
     c.slots-item.is c.lists-item.is in
     let slots = c.in_ok-slots in
     let lists = c.in_ok-lists in
-    inl (record {
-      first = string_bytes first;
-      second = string_bytes second;
-      asked = ap (map string_bytes) words
-          ∙ ap (λ (w : List ℕ). w ∷ string_bytes first ∷ string_bytes second ∷ []) command;
-      slots_word = subst (λ (w : List ℕ). IsNumberUpTo MAX_SLOTS w slots.slots) c.as_bytes.ensures.value
-          slots.ensures.some;
-      lists_word = subst (λ (w : List ℕ). IsNumberUpTo MAX_LISTS w lists.lists) c.as_bytes-2.ensures.value
-          (subst (λ (most : ℕ). IsNumberUpTo most c.as_bytes-2.result.now lists.lists) c.from.ensures
-          lists.ensures.some);
-    }, refl)
+    inl (
+      record {
+        first = string_bytes first;
+        second = string_bytes second;
+        asked = ap (map string_bytes) words
+            ∙ ap (λ (w : List ℕ). w ∷ string_bytes first ∷ string_bytes second ∷ []) command;
+        slots_word = subst (λ (w : List ℕ). IsNumberUpTo MAX_SLOTS w slots.slots) c.as_bytes.ensures.value
+            slots.ensures.some;
+        lists_word = subst (λ (w : List ℕ). IsNumberUpTo MAX_LISTS w lists.lists) c.as_bytes-2.ensures.value
+            (subst (λ (most : ℕ). IsNumberUpTo most c.as_bytes-2.result.now lists.lists) c.from.ensures
+            lists.ensures.some);
+      },
+      refl,
+    )
 
 -- a word that stands for no number of slots
 pub returns-in_err-slots-clause-none : goal.returns-in_err-slots-clause-none

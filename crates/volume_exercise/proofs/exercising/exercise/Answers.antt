@@ -45,7 +45,7 @@ returns-in-Some g c =
     let to = memory_of c.replay.new.device in
     let replies = c.in-Ok-replay.replies.items in
     let world = subst (λ (l : List Event). IsWorld l replies from to) (c.deref.ensures.value ∙ c.in-Ok.ensures)
-        c.in-Ok-replay.ensures in
+    c.in-Ok-replay.ensures in
     let first = ap first_refusal (sym c.deref-2.ensures.value) ∙ sym c.first_refusal.ensures ∙ c.in-Some.is in
     refused replies c.in-Some.refusal world first
     (not_of_words c.none_is_of_words.ensures (exercise_events c.args.documents) replies from to c.in-Some.refusal world first)
