@@ -1,6 +1,6 @@
 -- How an exercise ends: the device that was handed in is untouched, never with `Usage`, and with no refusal of words, of a
 -- source or of a sink where no call of the sink fails.
-use Rattle.std.proofs.Common.{◌≡◌, ℕ, Result, Ok, Err, subst, sym}
+use Rattle.std.proofs.Common.{◌≡◌, ℕ, Result, Ok, Err, refl, subst, sym}
 use Rattle.cell_types.specs.declared.refusal.Refusal.{Refusal}
 use Rattle.cell_types.specs.declared.refusal.Refusal.TheVariants as refusals
 use Rattle.host_ports.specs.Sinks.{SinkState}
@@ -10,6 +10,7 @@ use Rattle.worm_device.specs.State.{DeviceState}
 use Rattle.worm_device.proofs.Counting.{rose_or_still}
 use Rattle.worm_device.proofs.Elapsing.{called_self}
 use Rattle.worm_memory.specs.Memory.{Memory}
+use Rattle.command_laws.proofs.Results.{one_refusal}
 use Rattle.replayed_worlds.specs.Refusals.{IsOfWords}
 use Rattle.volume_exercise.specs.Exercising.{ExerciseEnds, exercise_device, refused, told, unmade, untold}
 use Rattle.record_top.specs.Exercising.{DoesExercise, IsOkOrOfAnEvent}
@@ -21,13 +22,10 @@ pub exercise_called : (n : ℕ) (old new : Ports) (result : Result Unit Refusal)
 exercise_called n old new result does =
     subst (λ (d : DeviceState). Called old.device d) (sym does.device) (called_self old.device)
 
-one_refused : (a b : Refusal) → Err {A = Unit} a ≡ Err b → b ≡ a
-one_refused a b e = cc
-
 ends_used : (n : ℕ) (from to : Memory) (old new : SinkState) → ExerciseEnds n from to old new (Err refusals.Usage) → ⊥
 ends_used n from to old new (unmade is same) = absurd cc
 ends_used n from to old new (refused replies refusal world first not is same) =
-    not (subst IsOfWords (sym (one_refused refusals.Usage refusal is)) tt)
+    not (subst IsOfWords (one_refusal (Err refusals.Usage) refusals.Usage refusal refl is) tt)
 ends_used n from to old new (told replies world first is gets) = absurd cc
 ends_used n from to old new (untold replies world first is part) = absurd cc
 
@@ -41,7 +39,8 @@ ends_complete n from to old new result still (unmade is same) = subst IsOkOrOfAn
 ends_complete n from to old new result still (refused replies refusal world first not is same) =
     subst IsOkOrOfAnEvent (sym is) not
 ends_complete n from to old new result still (told replies world first is gets) = subst IsOkOrOfAnEvent (sym is) tt
-ends_complete n from to old new result still (untold replies world first is part) = rose_or_still _ _ part.faults still
+ends_complete n from to old new result still (untold replies world first is part) =
+    absurd (rose_or_still _ _ part.faults still)
 
 -- the answer is Ok, or of an event
 pub exercise_completes : (n : ℕ) (old new : Ports) (result : Result Unit Refusal) → DoesExercise n old new result

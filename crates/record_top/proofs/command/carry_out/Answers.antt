@@ -1,4 +1,7 @@
 -- The command is the one that was asked for.
+use Rattle.std.proofs.Common.{subst}
+use Rattle.record_top.specs.Commands.{IsAskedFor, request_of}
+use Rattle.record_top.specs.declared.words.Command.{Command}
 use Rattle.record_top.proofs.command.carry_out.Goals as goal
 
 pub returns-in-Ingest : goal.returns-in-Ingest
@@ -14,7 +17,9 @@ pub returns-in-Replay : goal.returns-in-Replay
 returns-in-Replay g c = rw c.in-Replay.is c.replay_script.ensures
 
 pub exercise_volume-requires-clause-some : goal.exercise_volume-requires-clause-some
-exercise_volume-requires-clause-some g c = ?
+exercise_volume-requires-clause-some g c =
+    (subst (λ (command : Command). IsAskedFor (request_of command)) c.in-Exercise.is c.requires).1.documents_word.from
 
 pub exercise_volume-requires-clause-most : goal.exercise_volume-requires-clause-most
-exercise_volume-requires-clause-most g c = ?
+exercise_volume-requires-clause-most g c =
+    (subst (λ (command : Command). IsAskedFor (request_of command)) c.in-Exercise.is c.requires).1.documents_word.to
