@@ -1,8 +1,5 @@
 //! What is kept on a volume of 8 slots and 2 lists on 1,000 cells, built by hand in memory: the lists begin at 36, the
 //! root is at 548, the pool at 580. Slot 0 holds the document `a`, `hello world` with its index.
-ghost use Rattle.std.specs.Prelude.{◌≡◌, IfOk};
-ghost use Rattle.worm_memory.specs.Device.{memory_of};
-
 use cell_types::{Cell, RecordCell, encode};
 use commit_record::open;
 use kept_documents::{Wanted, has_hash_trail, has_trail, is_kept};
@@ -44,9 +41,7 @@ const CELLS: [Written; 8] = [
 const OF_B: [u8; 7] = [0x3e, 0x23, 0xe8, 0x16, 0x00, 0x39, 0x59];
 
 /// Puts a cell where the device has it.
-fn put(device: &mut MemoryDevice, at: u32, value: Cell) -> Result<(), Fail>
-    ensures { (memory_of device.new).cells ≡ (memory_of device.old).cells }
-{
+fn put(device: &mut MemoryDevice, at: u32, value: Cell) -> Result<(), Fail> {
     if at < device.cells() {
         let _ = device.write(at, value)?;
     }
@@ -54,9 +49,7 @@ fn put(device: &mut MemoryDevice, at: u32, value: Cell) -> Result<(), Fail>
 }
 
 /// The volume with these cells but one, and room for further ones.
-fn volume_without(alloc: Global, left_out: u32) -> Result<MemoryDevice, Fail>
-    ensures { IfOk result (λ made. (memory_of made).cells ≡ 1000) }
-{
+fn volume_without(alloc: Global, left_out: u32) -> Result<MemoryDevice, Fail> {
     let mut device = MemoryDevice::new(alloc, 1_000)?;
     device.reserve(160)?;
     for (at, bytes) in CELLS {
@@ -83,7 +76,11 @@ fn a_document_is_kept_by_eight_cells(rt: HostRuntime) -> Result<(), Fail> {
     ] {
         let mut device = volume_without(rt.alloc(), left_out)?;
         let mut view = Direct::new(&mut device);
-        assert_eq!(rt; is_kept(rt.alloc(), &mut view, 0, b"a"), Ok(kept), "without cell {left_out}");
+        assert_eq!(rt;
+            is_kept(rt.alloc(), &mut view, 0, b"a"),
+            Ok(kept),
+            "without cell {left_out}"
+        );
         assert_eq!(rt; is_kept(rt.alloc(), &mut view, 0, b"b"), Ok(None));
         assert_eq!(rt; is_kept(rt.alloc(), &mut view, 1, b"a"), Ok(None));
         assert_eq!(rt; is_kept(rt.alloc(), &mut view, 16_777_216, b"a"), Ok(None));
@@ -92,9 +89,7 @@ fn a_document_is_kept_by_eight_cells(rt: HostRuntime) -> Result<(), Fail> {
 }
 
 /// Puts a posting with this key, where the device has the cell.
-fn put_posting(device: &mut MemoryDevice, at: u32, key: u32) -> Result<(), Fail>
-    ensures { (memory_of device.new).cells ≡ (memory_of device.old).cells }
-{
+fn put_posting(device: &mut MemoryDevice, at: u32, key: u32) -> Result<(), Fail> {
     let posting = RecordCell::Posting {
         key,
         last: 255,
@@ -104,9 +99,7 @@ fn put_posting(device: &mut MemoryDevice, at: u32, key: u32) -> Result<(), Fail>
 }
 
 /// A list whose first block, at 36, is full of the keys 0 to 127. Its pointer for key 128 is cell 164.
-fn full_block(alloc: Global) -> Result<MemoryDevice, Fail>
-    ensures { IfOk result (λ made. (memory_of made).cells ≡ 1000) }
-{
+fn full_block(alloc: Global) -> Result<MemoryDevice, Fail> {
     let mut device = MemoryDevice::new(alloc, 1_000)?;
     device.reserve(160)?;
     for key in 0..128u32 {
@@ -143,7 +136,11 @@ fn a_posting_is_found_behind_its_pointer_alone(rt: HostRuntime) -> Result<(), Fa
         let mut device = full_block(rt.alloc())?;
         put(&mut device, 164, pointer)?;
         put_posting(&mut device, at, 128)?;
-        assert_eq!(rt; trailed(&mut device, 128, [1; 6])?, found, "posting in {at}");
+        assert_eq!(rt;
+            trailed(&mut device, 128, [1; 6])?,
+            found,
+            "posting in {at}"
+        );
         assert_eq!(rt; trailed(&mut device, 129, [1; 6])?, false);
         assert_eq!(rt; trailed(&mut device, 5, [1; 6])?, true);
         assert_eq!(rt; trailed(&mut device, 5, [2; 6])?, false);
@@ -165,7 +162,9 @@ fn led_to_b(device: &mut MemoryDevice, slot: u32) -> Result<bool, Fail> {
 
 /// The digest of `b` begins 3e: bucket 551 of the root, and bucket 14 of the node below its child cell 567.
 #[test]
-fn a_bucket_with_the_fingerprint_is_passed_by_its_slots_document(rt: HostRuntime) -> Result<(), Fail> {
+fn a_bucket_with_the_fingerprint_is_passed_by_its_slots_document(
+    rt: HostRuntime,
+) -> Result<(), Fail> {
     for (slot, passed) in [(0, true), (3, false)] {
         let mut device = volume_without(rt.alloc(), 1)?;
         for (at, named) in [(551, slot), (614, 1)] {
@@ -175,7 +174,11 @@ fn a_bucket_with_the_fingerprint_is_passed_by_its_slots_document(rt: HostRuntime
             };
             put(&mut device, at, encode(bucket, at))?;
         }
-        put(&mut device, 567, encode(RecordCell::Child { target: 600 }, 567))?;
+        put(
+            &mut device,
+            567,
+            encode(RecordCell::Child { target: 600 }, 567),
+        )?;
         assert_eq!(rt; led_to_b(&mut device, slot)?, true);
         assert_eq!(rt; led_to_b(&mut device, 1)?, passed, "bucket of slot {slot}");
         assert_eq!(rt; led_to_b(&mut device, 2)?, false);
