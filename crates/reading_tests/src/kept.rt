@@ -1,8 +1,5 @@
 //! What is kept on a volume of 8 slots and 2 lists on 1,000 cells, built by hand in memory: the lists begin at 36, the
 //! root is at 548, the pool at 580. Slot 0 holds the document `a`, `hello world` with its index.
-ghost use Rattle.std.specs.Prelude.{◌≡◌, IfOk};
-ghost use Rattle.worm_memory.specs.Device.{memory_of};
-
 use cell_types::{Cell, RecordCell, encode};
 use commit_record::open;
 use kept_documents::{Wanted, has_hash_trail, has_trail, is_kept};
@@ -44,9 +41,7 @@ const CELLS: [Written; 8] = [
 const OF_B: [u8; 7] = [0x3e, 0x23, 0xe8, 0x16, 0x00, 0x39, 0x59];
 
 /// Puts a cell where the device has it.
-fn put(device: &mut MemoryDevice, at: u32, value: Cell) -> Result<(), Fail>
-    ensures { (memory_of device.new).cells ≡ (memory_of device.old).cells }
-{
+fn put(device: &mut MemoryDevice, at: u32, value: Cell) -> Result<(), Fail> {
     if at < device.cells() {
         let _ = device.write(at, value)?;
     }
@@ -54,9 +49,7 @@ fn put(device: &mut MemoryDevice, at: u32, value: Cell) -> Result<(), Fail>
 }
 
 /// The volume with these cells but one, and room for further ones.
-fn volume_without(alloc: Global, left_out: u32) -> Result<MemoryDevice, Fail>
-    ensures { IfOk result (λ made. (memory_of made).cells ≡ 1000) }
-{
+fn volume_without(alloc: Global, left_out: u32) -> Result<MemoryDevice, Fail> {
     let mut device = MemoryDevice::new(alloc, 1_000)?;
     device.reserve(160)?;
     for (at, bytes) in CELLS {
@@ -96,9 +89,7 @@ fn a_document_is_kept_by_eight_cells(rt: HostRuntime) -> Result<(), Fail> {
 }
 
 /// Puts a posting with this key, where the device has the cell.
-fn put_posting(device: &mut MemoryDevice, at: u32, key: u32) -> Result<(), Fail>
-    ensures { (memory_of device.new).cells ≡ (memory_of device.old).cells }
-{
+fn put_posting(device: &mut MemoryDevice, at: u32, key: u32) -> Result<(), Fail> {
     let posting = RecordCell::Posting {
         key,
         last: 255,
@@ -108,9 +99,7 @@ fn put_posting(device: &mut MemoryDevice, at: u32, key: u32) -> Result<(), Fail>
 }
 
 /// A list whose first block, at 36, is full of the keys 0 to 127. Its pointer for key 128 is cell 164.
-fn full_block(alloc: Global) -> Result<MemoryDevice, Fail>
-    ensures { IfOk result (λ made. (memory_of made).cells ≡ 1000) }
-{
+fn full_block(alloc: Global) -> Result<MemoryDevice, Fail> {
     let mut device = MemoryDevice::new(alloc, 1_000)?;
     device.reserve(160)?;
     for key in 0..128u32 {
