@@ -1,11 +1,11 @@
 -- From what is planned over a view of a device to what that says of the device.
-use Rattle.std.proofs.Common.{◌≡◌, ◌<◌, ◌≤◌, ◌+◌, ◌*◌, ⊎_elim, ℕ, Bool, List, [], Some, None, Result, Ok, Err, refl, ap, sym, subst, arith, ◌∙◌}
+use Rattle.std.proofs.Common.{◌≡◌, ◌<◌, ◌≤◌, ◌+◌, ◌*◌, ⊎_elim, ℕ, Bool, List, [], Option, Some, None, Result, Ok, Err, refl, ap, sym, subst, arith, ◌∙◌}
 use Rattle.std.specs.Prelude.{IsTrue, length, slice_get, if◌then◌else◌}
 use Rattle.std.proofs.Math.ListN.{get_or}
 use Rattle.std.proofs.lemmas.Bool.{cases_lt, le-ltb, lt-ltb}
 use Rattle.std.proofs.lemmas.Option.{slice_get-get_or, slice_get_within}
 use Rattle.cell_types.specs.Image.{Image}
-use Rattle.cell_types.specs.Layout.{Layout, pool_at, IsLayout}
+use Rattle.cell_types.specs.Layout.{Layout, pool_at}
 use Rattle.cell_types.specs.declared.refusal.Fault.TheVariants as faults
 use Rattle.cell_types.specs.declared.refusal.Refusal.{Refusal}
 use Rattle.cell_types.specs.declared.refusal.Refusal.TheVariants as refusals
@@ -34,16 +34,16 @@ use Rattle.ingest_plan.specs.Over.{IsPlannedOver, OverEnds, PlansOver}
 use Rattle.ingest_plan.specs.Planning.{KeepsDocument, PlanEnds, PlansIndex, StandsAtCost, cut_at, laid_over}
 use Rattle.ingest_plan.specs.declared.plan.PlannedIndex.{PlannedIndex}
 use Rattle.ingest_plan.proofs.Licence.{names_cell}
-use Rattle.ingest_plan.proofs.Postings.{few, in_order, key_of_slot}
+use Rattle.ingest_plan.proofs.Postings.{few, in_order, past}
 
-module _ (g : Layout) (n : ℕ) (body : List ℕ) (rows : List ListedPosting) (level : Level) (place : Open) (from to : ℕ) (old new : ViewState)
-    (layout : IsLayout g) (are : ArePostings g None body n rows) (indexed : IsIndexed g n rows level place from to old new) where
-  pub keeps : IsTrue old.base.tells → KeepsDocument g n body level place to new.lower new.planned
-  keeps tells id image digest below planned room stands passed = record {
+module _ (g : Layout) (n : ℕ) (stamp : Option ℕ) (body : List ℕ) (rows : List ListedPosting) (level : Level) (place : Open) (from to : ℕ) (old new : ViewState)
+    (are : ArePostings g stamp body n rows) (indexed : IsIndexed g n rows level place from to old new) where
+  pub keeps : IsTrue old.base.tells → KeepsDocument g n stamp body level place to new.lower new.planned
+  keeps tells id image digest below planned room stands stamped passed = record {
     stands = stands;
     postings = are.exist;
-    stamp = None;
-    is_stamp = omega (arith, layout.version);
+    stamp = stamp;
+    is_stamp = stamped;
     trails = λ l q less posting.
         let found = are.all l q less posting in
         let trail = indexed.trails tells image below planned found.0 (record { list = l; posting = q }) found.1 in
@@ -107,14 +107,14 @@ journal_each {rows = rows} {p = p} {new = new} nothing h =
     (omega (arith, count, taken.2), omega (arith, count, taken.3))
 
 -- what the rows are, whose words are the body's, gives what is said of the device
-pub plans_index : (g : Layout) (n edge : ℕ) (body : List ℕ) (rows : List ListedPosting) (level : Level) (place : Open)
+pub plans_index : (g : Layout) (n edge : ℕ) (stamp : Option ℕ) (body : List ℕ) (rows : List ListedPosting) (level : Level) (place : Open)
     (start : DeviceState) (old new : ViewState) (result : Result PlannedIndex Refusal) (done : DeviceState)
-    → IsLayout g → ArePostings g None body n rows → edge ≤ g.cells
+    → ArePostings g stamp body n rows → edge ≤ g.cells
     → PlansOver g n edge rows level place old new result
     → old.base ≡ start → done ≡ new.base → new.lower ≡ new.base.image
     → IsView old → ((cell : ℕ) → old.planned cell ≡ None) → old.fresh ≡ edge → old.lower ≡ start.image
-    → PlansIndex g n edge level place body start done result
-plans_index g n edge body rows level place start old new result done layout are inside over begins ends below view nothing
+    → PlansIndex g n edge level place stamp body start done result
+plans_index g n edge stamp body rows level place start old new result done are inside over begins ends below view nothing
     fresh lower = record {
       called = subst (λ (d : DeviceState). Called start d) (sym ends)
           (subst (λ (d : DeviceState). Called d new.base) begins over.called);
@@ -141,18 +141,18 @@ plans_index g n edge body rows level place start old new result done layout are 
           (subst (λ (d : DeviceState). IsStill start.foreign_writes d.foreign_writes) ends still)
 
       why : (result : Result PlannedIndex Refusal) → OverEnds g n edge rows level place old new result
-          → PlanEnds g n edge level place body start done result
+          → PlanEnds g n edge level place stamp body start done result
       why (Ok p) h = record {
         rows = rows;
         are = are;
-        few = few g body n rows are;
+        few = few g stamp body n rows are;
         least = (journal_each nothing h).0;
         most = omega (arith, (journal_each nothing h).1, h.blocks);
         planned = new.planned;
         journal = h.journal;
         grants = h.indexed.grants;
-        keeps = λ tells. subst (λ (i : Image). KeepsDocument g n body level place (edge + p.block_length) i new.planned) (sym there)
-            (keeps g n body rows level place edge (edge + p.block_length) old new layout are h.indexed (told tells));
+        keeps = λ tells. subst (λ (i : Image). KeepsDocument g n stamp body level place (edge + p.block_length) i new.planned) (sym there)
+            (keeps g n stamp body rows level place edge (edge + p.block_length) old new are h.indexed (told tells));
         blank = λ tells.
             subst (λ (i : Image). i (blank_of place) ≡ None → (cell : ℕ) (value : List ℕ) → new.planned cell ≡ Some value
             → i cell ≡ None) shown (h.indexed.blank (told tells));
@@ -164,7 +164,7 @@ plans_index g n edge body rows level place start old new result done layout are 
             (h.indexed.stands (told tells) (still_then still) bound behind between lists));
       }
       why (Err (refusals.Tampered e)) h = λ tells.
-          names_cell body start done are.exist (in_order g None body n rows are) (λ i p is. (key_of_slot g body n rows are i p is).0) inside
+          names_cell body start done are.exist (in_order g stamp body n rows are) (past g stamp body n rows are) inside
           (subst IsTrue (sym over.called.tells) (told tells)) (sym lower) there quiet (h (told tells))
       why (Err refusals.DeviceFault) h =
           omega (arith, h, ap (λ (d : DeviceState). d.faults) begins, ap (λ (d : DeviceState). d.faults) ends)

@@ -1,5 +1,5 @@
 -- What a plan names is licensed on the device, which stands below what was planned.
-use Rattle.std.proofs.Common.{◌≡◌, ◌≢◌, ◌≤◌, ◌*◌, ⊎_elim, inl, inr, ℕ, List, Option, Some, ap, sym, subst, arith, ◌∙◌}
+use Rattle.std.proofs.Common.{◌≡◌, ◌≢◌, ◌≤◌, ⊎_elim, inl, inr, ℕ, List, Option, Some, ap, sym, subst, arith, ◌∙◌}
 use Rattle.std.specs.Prelude.{IsTrue, slice_get}
 use Rattle.std.proofs.lemmas.Bool.{cases_eq}
 use Rattle.cell_types.specs.Image.{Image, IsUnchanged}
@@ -18,7 +18,7 @@ use Rattle.hash_tree.specs.Levels.{IsChildPlace, IsLedWithin}
 use Rattle.hash_tree.specs.declared.level.ChildCell.{ChildCell}
 use Rattle.hash_tree.specs.declared.level.Level.{Level}
 use Rattle.hash_tree.specs.declared.path.Open.{Open}
-use Rattle.jump_insertion.specs.Evidence.{AreInTheirPlaces, IsInItsPlace, IsLicensedBelow, NothingBelowPlans, ShowsBelow, bad_entry, bad_pointer, late, of_list, of_new, of_tree}
+use Rattle.jump_insertion.specs.Evidence.{AreInTheirPlaces, IsInItsPlace, IsLicensedBelow, IsPastSlots, NothingBelowPlans, ShowsBelow, bad_entry, bad_pointer, late, of_list, of_new, of_tree}
 use Rattle.jump_insertion.proofs.Licence.{licensed}
 use Rattle.hash_insertion.specs.Inserting.{IsTaken}
 use Rattle.hash_insertion.specs.Laws.{LiesByOwner, in_block, in_new, in_node}
@@ -26,7 +26,7 @@ use Rattle.hash_insertion.proofs.Licence as tree
 use Rattle.ingest_plan.specs.Indexes.{IsNamed, in_list, in_tree}
 use Rattle.ingest_plan.specs.Rows.{AreInOrder}
 use Rattle.ingest_plan.specs.Over.{NamesBelow}
-use Rattle.ingest_plan.specs.Planning.{IsGrowthRule, NamesCell}
+use Rattle.ingest_plan.specs.Planning.{IsGrowthRule, IsLater, NamesCell}
 
 -- the rule of what is shown in a list
 rule_shown : {s : ViewState} {head floor key : ℕ} {e : Evidence} → ShowsBelow s head floor key e → IsGrowthRule e.rule
@@ -41,16 +41,16 @@ lies (of_list l head block from to) = in_block l block head from to
 lies (of_tree v head node from to) = in_node v node head from to
 
 -- what is named is licensed over the image below
-record IsLicensedThere (g : Layout) (n : ℕ) (level : Level) (s : ViewState) (e : Evidence) : Type 0 where
+record IsLicensedThere (g : Layout) (n : ℕ) (stamp : Option ℕ) (level : Level) (s : ViewState) (e : Evidence) : Type 0 where
   pub rule : IsGrowthRule e.rule
   pub stands : s.lower e.cell ≡ Some e.found
   pub place : IsLedWithin g s.lower level.led_by → IsPlaceOf g e.rule e.cell
   pub broken : IsLedWithin g s.lower level.led_by → NothingBelowPlans s → AreInTheirPlaces g s
-      → IsVolume g.cells s.lower g → IsHorizon g s.lower s.lower n → IsEdge g s.lower s.lower s.fresh
-      → IsBroken g.cells s.lower e.rule e.cell
+      → IsVolume g.cells s.lower g → IsHorizon g s.lower s.lower n → IsLater g s.lower n stamp
+      → IsEdge g s.lower s.lower s.fresh → IsBroken g.cells s.lower e.rule e.cell
 
 -- where nothing is planned under a written cell, a list's evidence breaks its rule
-list_broken : {g : Layout} {s : ViewState} {n l key : ℕ} {e : Evidence} → IsLicensedBelow g s l key e → 256 * n ≤ key
+list_broken : {g : Layout} {s : ViewState} {n l key : ℕ} {e : Evidence} → IsLicensedBelow g s l key e → IsPastSlots g s.lower n l key
     → NothingBelowPlans s → AreInTheirPlaces g s → IsVolume g.cells s.lower g → IsHorizon g s.lower s.lower n
     → IsEdge g s.lower s.lower s.fresh → IsBroken g.cells s.lower e.rule e.cell
 list_broken {n = n} {e = e} licence past none places volume horizon edge = ⊎_elim
@@ -65,45 +65,47 @@ led_place {g} {s = s} taken within =
     subst (λ (c : ℕ). IsChildPlace g s.lower c) (sym taken.cell)
     (subst (λ (l : Option ChildCell). IsLedWithin g s.lower l) taken.led within)
 
--- the postings' keys are none of an earlier slot
-abbrev pub AreOfSlot : ℕ → List ListedPosting → Type 0
-AreOfSlot n rows = (i : ℕ) (p : ListedPosting) → slice_get rows i ≡ Some p → 256 * n ≤ p.posting.key
+-- the postings' keys are past those of earlier slots, where the stamp is
+abbrev pub ArePastSlots : Layout → ℕ → Option ℕ → List ListedPosting → Type 0
+ArePastSlots g n stamp rows =
+    (image : Image) → IsLater g image n stamp → (i : ℕ) (p : ListedPosting) → slice_get rows i ≡ Some p
+    → IsPastSlots g image n p.list p.posting.key
 
-licensed_there : {g : Layout} {n : ℕ} {rows : List ListedPosting} {level : Level} {place : Open} {s : ViewState}
-    {e : Evidence} → IsView s → AreInOrder g rows → AreOfSlot n rows → s.fresh ≤ g.cells → IsTrue s.base.tells
-    → IsNamed g rows level place s e → IsLicensedThere g n level s e
-licensed_there {g} {n} {rows} {level} {place} {s} {e} view order slot inside tells (in_list i p is shows) =
+licensed_there : {g : Layout} {n : ℕ} {stamp : Option ℕ} {rows : List ListedPosting} {level : Level} {place : Open}
+    {s : ViewState} {e : Evidence} → IsView s → AreInOrder g rows → ArePastSlots g n stamp rows → s.fresh ≤ g.cells
+    → IsTrue s.base.tells → IsNamed g rows level place s e → IsLicensedThere g n stamp level s e
+licensed_there {g} {n} {stamp} {rows} {level} {place} {s} {e} view order slot inside tells (in_list i p is shows) =
     let licence = licensed g s p.list p.posting.key e view (order.lists_are i p is) shows in
     record {
       rule = rule_shown shows;
       stands = licence.stands;
       place = λ within. licence.place inside;
-      broken = λ within none places volume horizon edge.
-          list_broken licence (slot i p is) none places volume horizon edge;
+      broken = λ within none places volume horizon later edge.
+          list_broken licence (slot s.lower later i p is) none places volume horizon edge;
     }
-licensed_there {g} {n} {rows} {level} {place} {s} {e} view order slot inside tells (in_tree taken) = record {
+licensed_there {g} {n} {stamp} {rows} {level} {place} {s} {e} view order slot inside tells (in_tree taken) = record {
   rule = inr (inr (inr taken.rule));
   stands = taken.stands tells;
   place = λ within.
       let at = led_place taken within in (Children, taken.rule, tree.child_inside at.is_node at.below at.at);
-  broken = λ within none places volume horizon edge.
+  broken = λ within none places volume horizon later edge.
       tree.broken g level place s e taken tells volume edge within (λ cell owner is. lies (places cell owner is));
 }
 
 -- So it is on a device that stands below the view.
-pub names_cell : {g : Layout} {n edge : ℕ} {rows : List ListedPosting} {level : Level} {place : Open} {old new : ViewState}
-    {e : Evidence} (body : List ℕ) (start done : DeviceState) → HasPostings g body → AreInOrder g rows
-    → AreOfSlot n rows → edge ≤ g.cells → IsTrue new.base.tells
+pub names_cell : {g : Layout} {n edge : ℕ} {stamp : Option ℕ} {rows : List ListedPosting} {level : Level} {place : Open}
+    {old new : ViewState} {e : Evidence} (body : List ℕ) (start done : DeviceState) → HasPostings g body → AreInOrder g rows
+    → ArePastSlots g n stamp rows → edge ≤ g.cells → IsTrue new.base.tells
     → start.image ≡ old.lower → done.image ≡ new.lower
     → (IsStill start.foreign_writes done.foreign_writes → IsUnchanged start.image done.image)
-    → NamesBelow g edge rows level place old new e → NamesCell g n edge level body start done e
-names_cell {g} {n} {edge} {rows} {level} {place} {old} {new} {e} body start done postings order slot inside tells before there quiet h =
+    → NamesBelow g edge rows level place old new e → NamesCell g n edge level stamp body start done e
+names_cell {g} {n} {edge} {stamp} {rows} {level} {place} {old} {new} {e} body start done postings order slot inside tells before there quiet h =
     record {
       postings = postings;
       rule = licence.rule;
       stands = ap (λ (i : Image). i e.cell) there ∙ licence.stands;
       place = λ within. licence.place (subst (λ (i : Image). IsLedWithin g i level.led_by) there within);
-      broken = λ within still volume horizon at.
+      broken = λ within still volume horizon later at.
           subst (λ (i : Image). IsBroken done.cells i e.rule e.cell) (sym there)
           (subst (λ (m : ℕ). IsBroken m new.lower e.rule e.cell) volume.size
           (licence.broken (subst (λ (i : Image). IsLedWithin g i level.led_by) there within)
@@ -111,6 +113,7 @@ names_cell {g} {n} {edge} {rows} {level} {place} {old} {new} {e} body start done
           (subst (λ (m : ℕ). IsVolume m new.lower g) (sym volume.size)
           (subst (λ (i : Image). IsVolume done.cells i g) there volume))
           (subst (λ (i : Image). IsHorizon g i i n) there horizon)
+          (subst (λ (i : Image). IsLater g i n stamp) there later)
           (subst (λ (m : ℕ). IsEdge g new.lower new.lower m) (sym h.fresh)
           (subst (λ (i : Image). IsEdge g i i edge) there at))));
     }
@@ -118,7 +121,7 @@ names_cell {g} {n} {edge} {rows} {level} {place} {old} {new} {e} body start done
     fits : new.fresh ≤ g.cells
     fits = omega (arith, h.fresh, inside)
 
-    licence : IsLicensedThere g n level new e
+    licence : IsLicensedThere g n stamp level new e
     licence = licensed_there h.view order slot fits tells h.is
 
     unchanged : IsStill start.foreign_writes done.foreign_writes → IsUnchanged old.lower new.lower

@@ -2,6 +2,7 @@
 ghost use Rattle.std.specs.Prelude.{◌≡◌, ◌<◌, ◌≤◌, ◌+◌, ◌*◌, ℕ, None, IsTrue, length};
 ghost use Rattle.cell_types.specs.Layout.{pool_at};
 ghost use Rattle.cell_types.specs.declared.geometry.TheConstants.{MAX_CELLS, MAX_SLOTS};
+ghost use Rattle.term_tags.specs.Listing.{MayHaveStamp};
 ghost use Rattle.hash_tree.specs.Levels.{IsLed, IsWithin};
 ghost use Rattle.hash_tree.specs.Steps.{IsOpenOf};
 ghost use Rattle.ingest_plan.specs.Rows.{AreInOrder};
@@ -28,8 +29,9 @@ pub struct PlannedIndex {
     pub journal: Vec<Cell>,
 }
 
-/// Plans the index of a document with this body in a slot: its postings, and its bucket at the place where the path of its
-/// identifier ends. New blocks begin at the edge, and may pass the device's end.
+/// Plans the index of a document with this body in a slot: its postings, with that of its stamp on a volume of stamped
+/// documents, and its bucket at the place where the path of its identifier ends. New blocks begin at the edge, and may pass
+/// the device's end.
 pub fn plan_index<D: Device>(
     alloc: Global,
     device: &mut D,
@@ -38,9 +40,11 @@ pub fn plan_index<D: Device>(
     edge: u32,
     place: Open,
     level: &Level,
+    stamp: Option<u32>,
     body: &[u8],
 ) -> Result<PlannedIndex, Refusal>
     requires slot { slot < MAX_SLOTS }
+    requires stamp { MayHaveStamp volume.now.geometry stamp }
     requires size { volume.now.geometry.cells ≤ (D.state device.old).cells }
     requires from { pool_at volume.now.geometry ≤ edge }
     requires to { edge ≤ volume.now.geometry.cells }
@@ -48,11 +52,11 @@ pub fn plan_index<D: Device>(
     requires open_at { IsOpenOf volume.now.geometry level.now place }
     requires within { IsWithin volume.now.geometry edge level.now.led_by }
     requires led { IsTrue (D.state device.old).tells → IsLed (D.state device.old).image level.now.led_by }
-    ensures { PlansIndex volume.now.geometry slot edge level.now place body.now (D.state device.old)
+    ensures { PlansIndex volume.now.geometry slot edge level.now place stamp body.now (D.state device.old)
         (D.state device.new) result }
 {
     let terms = words(alloc, body, rule_of(volume.geometry.version()))?;
-    let rows = document_postings(alloc, &terms, volume.geometry.lists(), slot, None)?;
+    let rows = document_postings(alloc, &terms, volume.geometry.lists(), slot, stamp)?;
     let mut own = PlannedCells::new(alloc);
     let mut overlay = Overlay::new(Direct::new(device), &mut own, edge);
     plan_over(alloc, &mut overlay, volume, slot, edge, &rows, place, level)

@@ -1,5 +1,5 @@
 -- The licence of what an insertion names: it stands below, in a place of its rule, and the rule is broken there.
-use Rattle.std.proofs.Common.{◌≡◌, ◌≢◌, ◌<◌, ◌≤◌, ◌+◌, ◌*◌, ◌⊎◌, ⊎_elim, inl, inr, ℕ, List, Some, None, refl, ap, sym, subst, arith, ◌∙◌}
+use Rattle.std.proofs.Common.{◌≡◌, ◌≢◌, ◌<◌, ◌≤◌, ◌+◌, ◌*◌, ◌⊎◌, ⊎_elim, inl, inr, ℕ, List, Option, Some, None, refl, ap, sym, subst, arith, ◌∙◌}
 use Rattle.std.proofs.lemmas.Bool.{cases_lt}
 use Rattle.std.proofs.lemmas.Option.{none-some}
 use Rattle.cell_types.specs.Image.{Image, Extends}
@@ -7,18 +7,20 @@ use Rattle.cell_types.specs.Layout.{Layout, FirstBlock, LiesIn, list_at, pool_at
 use Rattle.cell_types.specs.Records.{IsRecordCell}
 use Rattle.cell_types.specs.declared.record_cell.RecordCell.TheVariants.{Jump}
 use Rattle.cell_types.specs.declared.refusal.Evidence.{Evidence}
-use Rattle.stored_documents.specs.Slots.{IsEdge, IsHorizon, Reserves}
+use Rattle.stored_documents.specs.Slots.{IsEdge, IsHorizon, IsLive, Reserves}
 use Rattle.stored_documents.specs.Volumes.{Holds}
 use Rattle.stored_documents.proofs.Holding.{one_record_holds, some_is}
+use Rattle.stored_documents.proofs.Stamps.{stands_given}
 use Rattle.index_paths.specs.Blocks.{PostingFields, posting_record, InFront, InSpan, Leads, arrived, onwards, pointer_at}
 use Rattle.index_paths.specs.Nodes.{IsBlockOf}
-use Rattle.index_paths.proofs.Tags.{of_word, word_slot}
+use Rattle.index_paths.specs.Postings.{IsWordPosting, time_posting}
+use Rattle.index_paths.proofs.Tags.{word_slot}
 use Rattle.tamper_rules.specs.Rules.{Entries, IsOfPool, IsTruePosting, LeadsWell, Pointers, Postings}
 use Rattle.jump_block.proofs.OneBlock.{jump_target}
 use Rattle.jump_block.proofs.OneBlock.{in_place, leads_wider, not_in_order}
 use Rattle.worm_device.specs.Views.{ViewState, IsView}
 use Rattle.worm_device.specs.declared.owner.Owner.{Owner}
-use Rattle.jump_insertion.specs.Evidence.{StandsBelow, IsMet, IsBadHop, no_jump, outside, no_key, meets, meets_block, ShowsBelow, bad_entry, bad_pointer, late, IsInItsPlace, of_new, of_list, of_tree, AreInTheirPlaces, IsLicensedBelow}
+use Rattle.jump_insertion.specs.Evidence.{StandsBelow, IsMet, IsBadHop, no_jump, outside, no_key, meets, meets_block, ShowsBelow, bad_entry, bad_pointer, late, IsInItsPlace, of_new, of_list, of_tree, AreInTheirPlaces, IsLicensedBelow, IsPastSlots}
 use Rattle.jump_insertion.specs.Readiness.{IsReached, is_new, stands_below}
 use Rattle.jump_insertion.proofs.BelowPlans.{IsShown, is_shown, front_shown, order_shown, greatest_shown}
 use Rattle.jump_insertion.proofs.Showing.{leads_on}
@@ -189,20 +191,33 @@ cell_on_device g s l block off cell list edge leads below is =
     in_place g s.lower l (pool_at g) g.cells (list_at g l) block off cell list refl refl (omega arith)
     (leads_on_device g s.lower s.fresh block (list_at g l) edge leads) below is
 
--- no posting of a slot from the horizon on is a true one
-past_horizon : {g : Layout} {image : Image} {n l : ℕ} {p : PostingFields} → l < g.lists → IsHorizon g image image n
-    → 256 * n ≤ p.key → IsTruePosting g image l p → ⊥
-past_horizon {g} {image} {n} {l} {p} list horizon past it =
-    let slot = word_slot g it.body it.slot l p it.postings (of_word g it.stamp it.body it.slot l p list it.is) in
-    let free : image (reserve_at n) ≡ None = horizon.free (omega (arith, past, slot, it.live.slot)) in
-    ⊎_elim
-    (λ (less : n < it.slot).
-    let taken = it.live.taken n less in none-some taken.found (sym free ∙ taken.stands))
-    (λ (le : it.slot ≤ n).
-    let reserve = it.live.done.done.commits.reserves.reserve in
-    let same : it.slot ≡ n = omega (arith, le, past, slot) in
-    none-some reserve.cell (sym free ∙ ap (λ (m : ℕ). image (reserve_at m)) (sym same) ∙ reserve.stands))
-    (cases_lt n it.slot)
+-- a live slot lies below each horizon
+live_below : {g : Layout} {image : Image} {n m : ℕ} → IsHorizon g image image n → IsLive g image m → m < n
+live_below {g} {image} {n} {m} horizon live = ⊎_elim
+    (λ (less : m < n). less)
+    (λ (le : n ≤ m).
+    let free : image (reserve_at n) ≡ None = horizon.free (omega (arith, le, live.slot)) in
+    absurd (⊎_elim
+    (λ (less : n < m).
+    let taken = live.taken n less in none-some taken.found (sym free ∙ taken.stands))
+    (λ (other : m ≤ n).
+    let reserve = live.done.done.commits.reserves.reserve in
+    let same : m ≡ n = omega (arith, le, other) in
+    none-some reserve.cell (sym free ∙ ap (λ (k : ℕ). image (reserve_at k)) (sym same) ∙ reserve.stands))
+    (cases_lt n m)))
+    (cases_lt m n)
+
+-- no posting whose key is as great as one past those of the slots below the horizon is a true one
+past_horizon : {g : Layout} {image : Image} {n l key : ℕ} {p : PostingFields} → IsHorizon g image image n
+    → IsPastSlots g image n l key → key ≤ p.key → IsTruePosting g image l p → ⊥
+past_horizon {g} {image} {n} {l} {key} {p} horizon past above it = ⊎_elim
+    (λ (word : IsWordPosting g it.body it.slot l p).
+    omega (arith, past.0 word.list, above, word_slot g it.body it.slot l p it.postings word, live_below horizon it.live))
+    (λ (time : (seconds : ℕ) × (it.stamp ≡ Some seconds) × (l ≡ g.lists) × (p ≡ time_posting it.slot seconds)).
+    let has = stands_given g image it.slot it.stamp time.0 it.is_stamp time.1 in
+    let key_is : p.key ≡ time.0 = ap (λ (q : PostingFields). q.key) time.3 in
+    omega (arith, past.1 time.2 it.slot time.0 (live_below horizon it.live) it.live.done has.1, above, key_is))
+    it.is
 
 -- the evidence of an insertion is licensed
 pub licensed : (g : Layout) (s : ViewState) (l key : ℕ) (e : Evidence) → IsView s → l < all_lists g
@@ -277,7 +292,7 @@ licensed g s l key e view list (late block place p leads st rule cell below hold
         place = cell_on_device g s l block place e.cell list edge leads (omega arith) cell;
         written = record { found = e.found; stands = low };
         not_met = λ met.
-            past_horizon (omega (arith, list, volume.volume.is.well_formed.0.version)) horizon (omega (arith, after, past))
+            past_horizon horizon after past
             (met l block place p (block_of g s l block list edge leads) below cell posting);
       };
       broken = λ other. absurd (other rule);

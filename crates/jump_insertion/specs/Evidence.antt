@@ -1,8 +1,9 @@
 -- What an insertion names as evidence, and what licence that has.
 use Rattle.std.specs.Prelude.{◌≡◌, ◌≢◌, ◌<◌, ◌≤◌, ◌+◌, ◌*◌, ◌⊎◌, ℕ, List, Some, None}
+use Rattle.cell_types.specs.Image.{Image}
 use Rattle.cell_types.specs.Layout.{Layout, list_at, root_at, pool_at}
 use Rattle.cell_types.specs.declared.refusal.Evidence.{Evidence}
-use Rattle.stored_documents.specs.Slots.{IsEdge, IsHorizon}
+use Rattle.stored_documents.specs.Slots.{HasStamp, IsDoneSlot, IsEdge, IsHorizon}
 use Rattle.stored_documents.specs.Volumes.{Holds, IsVolume}
 use Rattle.index_paths.specs.Blocks.{PostingFields, posting_record, InFront, InSpan, Leads, pointer_at}
 use Rattle.index_paths.specs.Nodes.{IsBlockOf, IsNode}
@@ -92,16 +93,27 @@ pub record IsLatePosting (s : ViewState) (head floor key : ℕ) (e : Evidence) :
   pub posting : Holds s.lower e.cell (posting_record p)
   pub late : key ≤ p.key
 
+-- Each stamp of a done slot below n is before this one.
+abbrev pub IsPastStamps : Layout → Image → ℕ → ℕ → Type 0
+IsPastStamps g image n seconds =
+    (m before : ℕ) → m < n → IsDoneSlot g image m → HasStamp image m before → before < seconds
+
+-- A key of list l is past those of the documents below slot n: in a list of words none of theirs is as great; the time
+-- list's keys are stamps.
+abbrev pub IsPastSlots : Layout → Image → ℕ → ℕ → ℕ → Type 0
+IsPastSlots g image n l key = (l < g.lists → 256 * n ≤ key) × (l ≡ g.lists → IsPastStamps g image n key)
+
 -- The licence of an insertion's evidence over what stands below, for list l of a volume whose pool begins at the floor.
 -- It stands there, in a place of its rule. A posting that is named is late; where cell 0 states the volume, what is new
--- begins at an edge of what stands below, and the new key's slot is at or past the horizon, it breaks its rule there.
+-- begins at an edge of what stands below, and the new key is past those of the slots below the horizon, it breaks its rule
+-- there.
 -- What else is named does so where cell 0 states the volume, what is new begins at an edge, nothing stands below what is
 -- planned before that, and what is planned is in its place.
 pub record IsLicensedBelow (g : Layout) (s : ViewState) (l key : ℕ) (e : Evidence) : Type 0 where
   pub stands : s.lower e.cell ≡ Some e.found
   pub place : s.fresh ≤ g.cells → HasPlace g e
   pub late : e.rule ≡ FAKE_POSTING → IsLatePosting s (list_at g l) (pool_at g) key e
-  pub past : (n : ℕ) → IsHorizon g s.lower s.lower n → 256 * n ≤ key → e.rule ≡ FAKE_POSTING
+  pub past : (n : ℕ) → IsHorizon g s.lower s.lower n → IsPastSlots g s.lower n l key → e.rule ≡ FAKE_POSTING
       → IsVolume g.cells s.lower g → IsEdge g s.lower s.lower s.fresh → IsBroken g.cells s.lower e.rule e.cell
   pub broken : e.rule ≢ FAKE_POSTING → IsVolume g.cells s.lower g → IsEdge g s.lower s.lower s.fresh
       → NothingBelowPlans s → AreInTheirPlaces g s → IsBroken g.cells s.lower e.rule e.cell
