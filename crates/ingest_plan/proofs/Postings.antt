@@ -32,7 +32,7 @@ IsTime g stamp n p =
 module _ (g : Layout) (stamp : Option ℕ) (body : List ℕ) (n : ℕ) (rows : List ListedPosting)
     (are : ArePostings g stamp body n rows) where
   -- the key of a word's posting is one of the slot
-  word_key : {l : ℕ} {q : PostingFields} → IsWordPosting g body n l q → (256 * n ≤ q.key) × (q.key < 256 * (n + 1))
+  pub word_key : {l : ℕ} {q : PostingFields} → IsWordPosting g body n l q → (256 * n ≤ q.key) × (q.key < 256 * (n + 1))
   word_key {l} {q} word =
       let small = slice_get_within word.tags word.ordinal q.tag word.here in
       let fits = are.exist.each l word.list in

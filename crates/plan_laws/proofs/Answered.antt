@@ -1,5 +1,4 @@
 -- What planning answers, where nobody else wrote, is a planned index over the image as it stood.
-use Rattle.index_paths.specs.Postings.{ArePostings}
 use Rattle.std.proofs.Common.{◌≡◌, ◌+◌, ℕ, List, Option, Some, None, sym, subst, arith}
 use Rattle.std.specs.Prelude.{IsTrue}
 use Rattle.sha2.specs.Sha256.{sha256}
@@ -16,7 +15,7 @@ use Rattle.hash_tree.specs.declared.path.Open.{Open}
 use Rattle.hash_insertion.specs.Readiness.{PassedDown, blank_of}
 use Rattle.ingest_plan.specs.Journal.{IsJournal}
 use Rattle.ingest_plan.specs.Standing.{IndexStands}
-use Rattle.plan_laws.specs.Standing.{EndsPath, below_slot}
+use Rattle.plan_laws.specs.Standing.{EndsPath, below_slot, seconds_of}
 use Rattle.ingest_plan.specs.Planning.{IsPlanned, cut_at, laid_over}
 use Rattle.ingest_plan.specs.declared.plan.PlannedIndex.{PlannedIndex}
 use Rattle.plan_laws.specs.Laws.{IsPlannedIndex, TakesSlot}
@@ -34,7 +33,7 @@ module _ {g : Layout} {p : Plan} {level : Level} {place : Open} {made : PlannedI
     (same : IsUnchanged old.image new.image) (takes : TakesSlot g old.image p (p.start + made.block_length))
     (journal : p.journal ≡ made.journal.items) (ends : EndsPath g old.image level place)
     (digest : level.digest ≡ sha256 p.id) (passed : PassedDown g old.image (sought_in g.cells g p.id) level place.child)
-    (is : IsPlanned g p.slot p.start level place p.body made old new) where
+    (is : IsPlanned g p.slot p.start level place p.stamp p.body made old new) where
   cut_same : cut_at p.start old.image ≡ old.image
   cut_same = cut_at_edge (old_edge takes) takes.settled
 
@@ -44,17 +43,18 @@ module _ {g : Layout} {p : Plan} {level : Level} {place : Open} {made : PlannedI
       (is.blank tells (subst (λ (image : Image). image (blank_of place) ≡ None) (sym cut_same) ends.blank)
       cell value row)
 
-  stands : IndexStands g p.slot (below_slot (p.slot + 1)) is.rows level place p.start (p.start + made.block_length) old.image
-      (laid_over is.planned old.image)
+  stands : IndexStands g p.slot (below_slot g (p.slot + 1) (seconds_of p.stamp + 1)) is.rows level place p.start
+      (p.start + made.block_length) old.image (laid_over is.planned old.image)
   stands = (stands_at_cost (old_edge takes) made takes.settled
-      (is.stands tells still (below_slot p.slot) (below_slot (p.slot + 1)) (keys_of_slot is.are))
+      (is.stands tells still (below_slot g p.slot (seconds_of p.stamp))
+      (below_slot g (p.slot + 1) (seconds_of p.stamp + 1)) (keys_of_slot is.are))
       (stand takes).lists).stands
 
   pub answered : IsPlannedIndex g old.image (laid_over is.planned old.image) p is.rows level place
       (p.start + made.block_length) is.planned
   answered = record {
     takes = takes;
-    rows_are = subst (λ (s : Option ℕ). ArePostings g s p.body p.slot is.rows) (sym takes.stamp) is.are;
+    rows_are = is.are;
     ends = ends;
     digest = digest;
     passed = passed;
@@ -66,8 +66,8 @@ module _ {g : Layout} {p : Plan} {level : Level} {place : Open} {made : PlannedI
     laid_is = with_same (λ cell value row. row.is) (λ cell value row. record { is = row })
         (over_is (λ cell value row. blank cell value row.is));
     stands = stands;
-    keeps = λ image e f there.
+    keeps = λ image e f there stamp.
         is.keeps tells p.id image (sym digest)
         (subst (λ (below : Image). Extends below image) (sym (same_image same)) e) f
-        (omega (arith, takes.room, takes.inside)) there (passed_down_on g p.id level place.child e passed);
+        (omega (arith, takes.room, takes.inside)) there stamp (passed_down_on g p.id level place.child e passed);
   }

@@ -26,7 +26,7 @@ use Rattle.jump_insertion.proofs.KeptTrails.{leads_below}
 use Rattle.hash_insertion.proofs.Paths.{nibble_low}
 use Rattle.hash_insertion.specs.Rooting.{IsRooted, TreeGrows, in_bucket, in_new_node}
 use Rattle.ingest_plan.specs.Standing.{IsAddedTo, posting, pointer}
-use Rattle.plan_laws.specs.Standing.{IndexesStand, TreeStands, below_slot}
+use Rattle.plan_laws.specs.Standing.{IndexesStand, TreeStands, below_slot, seconds_of}
 use Rattle.plan_laws.proofs.BehindBucket as bucket
 use Rattle.plan_laws.proofs.BehindRow.{node_back, node_on}
 use Rattle.plan_laws.proofs.ListsAside.{was_block}
@@ -65,7 +65,7 @@ module _ {g : Layout} {old laid : Image} {p : Plan} {rows : List ListedPosting} 
   pub blank_from : (cell : ℕ) → p.start ≤ cell → old cell ≡ None
   blank_from cell from = taken.blank_from h.takes cell from
 
-  pub stand : IndexesStand g old p.start (below_slot p.slot)
+  pub stand : IndexesStand g old p.start (below_slot g p.slot (seconds_of p.stamp))
   stand = taken.stand h.takes
 
   pub to_inside : to ≤ g.cells
@@ -86,7 +86,7 @@ module _ {g : Layout} {old laid : Image} {p : Plan} {rows : List ListedPosting} 
   pub is_rooted : IsRooted g level place p.slot h.stands.next to h.stands.between laid
   is_rooted = bucket.rooted pool_before to_inside stand h.ends h.stands
 
-  pub stand_behind : IndexesStand g laid to (below_slot (p.slot + 1))
+  pub stand_behind : IndexesStand g laid to (below_slot g (p.slot + 1) (seconds_of p.stamp + 1))
   stand_behind = bucket.stands_behind pool_before to_inside stand h.ends h.stands
 
   pub extends_between : Extends h.stands.between laid

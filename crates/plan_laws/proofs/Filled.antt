@@ -1,29 +1,28 @@
 -- The plan's cells fill its slot.
 use Rattle.std.proofs.Common.{◌≡◌, ◌<◌, ◌≤◌, ◌+◌, ◌⊎◌, ⊎_elim, inl, inr, ℕ, List, length, refl, arith, Option, Some, None, sym, ◌∙◌, subst}
 use Rattle.cell_types.specs.Image.{Image}
-use Rattle.cell_types.specs.Layout.{Layout, list_at, reserve_at, outcome_at, done_at}
-use Rattle.cell_types.specs.Records.{record_bytes}
-use Rattle.cell_types.specs.declared.record_cell.RecordCell.TheVariants.{Reserve, Commit, Done}
-use Rattle.stored_documents.specs.Slots.{Reserves, IsStampOf}
+use Rattle.cell_types.specs.Layout.{Layout, list_at, reserve_at, outcome_at, done_at, spare_at}
+use Rattle.cell_types.specs.Records.{IsRecordCell, record_bytes}
+use Rattle.cell_types.specs.declared.record_cell.RecordCell.TheVariants.{Reserve, Commit, Done, Stamp}
+use Rattle.stored_documents.specs.Slots.{Reserves, IsDoneSlot, IsStampOf}
 use Rattle.index_paths.specs.Nodes.{IsBlockOf}
 use Rattle.index_paths.specs.Postings.{ListedPosting}
 use Rattle.tamper_rules.specs.Journals.{LiesInBlocks}
+use Rattle.tamper_rules.proofs.Settled.{below_horizon, written}
 use Rattle.ingest_laws.specs.Filling.{IsFilled}
-use Rattle.ingest_laws.specs.Ingesting.{Plan, Reserving, Committing, Finishing, stored_of}
+use Rattle.ingest_laws.specs.Ingesting.{Plan, Reserving, Storing, Committing, Finishing, stored_of}
 use Rattle.ingest_laws.proofs.Filled.{mine, stores_on'}
 use Rattle.hash_tree.specs.declared.level.Level.{Level}
 use Rattle.hash_tree.specs.declared.path.Open.{Open}
-use Rattle.plan_laws.specs.Laws.{IsPlannedIndex}
+use Rattle.ingest_plan.specs.Planning.{IsLater}
+use Rattle.plan_laws.specs.Laws.{IsPlannedIndex, IsStampFor}
 use Rattle.plan_laws.proofs.Behind.{more, pool_before}
 use Rattle.plan_laws.proofs.JournalOrder.{in_order}
 use Rattle.plan_laws.proofs.NewImage.{ends_there, new_image}
 use Rattle.plan_laws.proofs.OldPlaces.{block_owned}
-use Rattle.plan_laws.proofs.Rows.{all_rows, commit_cell, done_cell, reserve_cell}
+use Rattle.plan_laws.proofs.Rows.{all_rows, commit_cell, done_cell, reserve_cell, stamp_well}
 use Rattle.plan_laws.proofs.Standing.{block_back, block_lies, blocks}
 use Rattle.plan_laws.proofs.Tiles.{tiles}
-
-not_stamped : (seconds : ℕ) → None ≡ Some seconds → ⊥
-not_stamped seconds e = cc
 
 module _ {g : Layout} {old laid : Image} {p : Plan} {rows : List ListedPosting} {level : Level} {place : Open} {to : ℕ}
     {planned : Image} (h : IsPlannedIndex g old laid p rows level place to planned) where
@@ -39,6 +38,29 @@ module _ {g : Layout} {old laid : Image} {p : Plan} {rows : List ListedPosting} 
     from = pool_before h;
     to = h.takes.inside;
   }
+
+  -- the stamp stands, if there is one
+  stamp_of : (stamp : Option ℕ) → p.stamp ≡ stamp → IsStampFor g stamp → IsStampOf g (new_image h) p.slot stamp
+  stamp_of None is given = given
+  stamp_of (Some seconds) is given = (
+    given,
+    record {
+      cell = record_bytes (Stamp seconds) (spare_at p.slot);
+      stands = (all_rows h).adds (spare_at p.slot) (record_bytes (Stamp seconds) (spare_at p.slot))
+          (Storing, inr (record { seconds = seconds; given = is; row = record { at = refl; is = well seconds is } }));
+      is = well seconds is;
+    },
+  )
+    where
+      well : (s : ℕ) → p.stamp ≡ Some s
+          → IsRecordCell (Stamp s) (spare_at p.slot) (record_bytes (Stamp s) (spare_at p.slot))
+      well s given = stamp_well h p.stamp s given h.takes.seconds
+
+  -- a done slot of the settled image lies below the horizon
+  below : (m : ℕ) → IsDoneSlot g old m → m < p.slot
+  below m done =
+      let reserves = done.done.commits.reserves in
+      below_horizon g old h.takes.settled p.slot m h.takes.slot h.takes.horizon reserves.slot (written reserves)
 
   pub filled : IsFilled g old (new_image h) p
   filled = record {
@@ -61,8 +83,9 @@ module _ {g : Layout} {old laid : Image} {p : Plan} {rows : List ListedPosting} 
       is = done_cell h;
     };
     fits = omega (arith, h.takes.room, more h);
-    stamp = subst (λ (s : Option ℕ). IsStampOf g (new_image h) p.slot s) (sym h.takes.stamp) (omega (arith, h.takes.layout.version));
-    rises = λ m lower seconds given d s. absurd (not_stamped seconds (sym h.takes.stamp ∙ given));
+    stamp = stamp_of p.stamp refl h.takes.stamp;
+    rises = λ m lower seconds given d s.
+        subst (λ (t : Option ℕ). IsLater g old p.slot t) given h.takes.later m lower (below m d) d s;
     rows = all_rows h;
     is_identifier = h.takes.identifier;
     is_body = h.takes.body;

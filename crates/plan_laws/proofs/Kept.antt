@@ -38,4 +38,4 @@ module _ {g : Layout} {old laid : Image} {p : Plan} {rows : List ListedPosting} 
   }
 
   pub kept : IsKept g.cells (new_image h) g (record { slot = p.slot; id = p.id; body = p.body })
-  kept = h.keeps (new_image h) (all_rows h).keeps extends_planned stands
+  kept = h.keeps (new_image h) (all_rows h).keeps extends_planned stands (filled h).stamp

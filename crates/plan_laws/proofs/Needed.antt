@@ -19,11 +19,12 @@ use Rattle.hash_tree.specs.Steps.{IsOpenAt}
 use Rattle.hash_tree.specs.declared.level.Level.{Level}
 use Rattle.hash_tree.specs.declared.path.Open.{Open}
 use Rattle.hash_insertion.specs.Readiness.{PassedDown, blank_in, cost_in, cost_of}
-use Rattle.plan_laws.specs.Standing.{EndsPath, below_slot}
+use Rattle.plan_laws.specs.Standing.{EndsPath, below_slot, seconds_of}
 use Rattle.plan_laws.proofs.SettledLists.{settled_stand}
-use Rattle.ingest_plan.specs.Planning.{IsPlanned}
+use Rattle.ingest_plan.specs.Planning.{IsLater, IsPlanned}
+use Rattle.plan_laws.specs.Laws.{IsStampFor}
 use Rattle.ingest_plan.specs.declared.plan.PlannedIndex.{PlannedIndex}
-use Rattle.plan_laws.proofs.Taken.{keys_of_slot, stands_at_cost}
+use Rattle.plan_laws.proofs.Taken.{keys_of_slot, past_stamps, stands_at_cost}
 
 -- where a path ends at this place, the bucket goes there, into the node or into a new one
 bucket_costs : (g : Layout) (image : Image) (id : List ℕ) (level : Level) (bucket : ℕ) (child : Option ℕ)
@@ -41,20 +42,23 @@ bucket_costs g image id level bucket (Some child) digest (same, at, levels) blan
     above)
     (subst (λ (cell : ℕ). image cell ≡ None) here blank) refl
 
-module _ {g : Layout} {n edge : ℕ} {id body : List ℕ} {level : Level} {place : Open} {made : PlannedIndex}
-    {old new : DeviceState} (tells : IsTrue old.tells) (still : IsStill old.foreign_writes new.foreign_writes)
+module _ {g : Layout} {n edge : ℕ} {stamp : Option ℕ} {id body : List ℕ} {level : Level} {place : Open}
+    {made : PlannedIndex} {old new : DeviceState} (tells : IsTrue old.tells) (still : IsStill old.foreign_writes new.foreign_writes)
     (layout : IsLayout g) (settled : IsSettled g old.image) (horizon : IsHorizon g old.image old.image n)
-    (slot : n < g.slots) (begins : EndsBelow g old.image n edge) (ends : EndsPath g old.image level place)
+    (slot : n < g.slots) (begins : EndsBelow g old.image n edge) (given : IsStampFor g stamp)
+    (later : IsLater g old.image n stamp) (ends : EndsPath g old.image level place)
     (digest : level.digest ≡ sha256 id) (passed : PassedDown g old.image (sought_in g.cells g id) level place.child)
-    (is : IsPlanned g n edge level place body made old new) where
-  pub needed : IsNeed g old.image n id body None
+    (is : IsPlanned g n edge level place stamp body made old new) where
+  pub needed : IsNeed g old.image n id body stamp
       (cells_for (length (stored_bytes id body)) + length made.journal.items + made.block_length)
   needed =
       let e : IsEdge g old.image old.image edge =
       record { u = n; most = horizon.most; free = horizon.free; ends = begins } in
       let at_cost =
-      stands_at_cost e made settled (is.stands tells still (below_slot n) (below_slot (n + 1)) (keys_of_slot is.are))
-      (settled_stand layout settled e horizon slot) in
+      stands_at_cost e made settled
+      (is.stands tells still (below_slot g n (seconds_of stamp)) (below_slot g (n + 1) (seconds_of stamp + 1))
+      (keys_of_slot is.are))
+      (settled_stand layout settled e horizon slot (seconds_of stamp) (past_stamps stamp given later)) in
       let row = at_cost.stands.lists in
       let all : take (length is.rows) is.rows ≡ is.rows = take_all (length is.rows) is.rows (omega arith) in
       record {

@@ -1,16 +1,16 @@
 -- The image with all cells of a plan: the planned ones, the journal, the document, and the slot's cells.
-use Rattle.std.proofs.Common.{◌≡◌, ◌<◌, ◌≤◌, ◌+◌, ◌-◌, ◌⊎◌, ⊎_elim, ℕ, List, length, slice_get, Option, None, refl, sym, ◌∙◌, ap, arith}
+use Rattle.std.proofs.Common.{◌≡◌, ◌<◌, ◌≤◌, ◌+◌, ◌-◌, ◌⊎◌, ⊎_elim, inl, inr, ℕ, List, length, slice_get, Option, Some, None, refl, sym, ◌∙◌, ap, arith}
 use Rattle.std.proofs.lemmas.Option.{none-some}
 use Rattle.cell_types.specs.Image.{Image}
-use Rattle.cell_types.specs.Layout.{Layout, reserve_at, outcome_at, done_at, lists_at}
+use Rattle.cell_types.specs.Layout.{Layout, reserve_at, outcome_at, done_at, spare_at, lists_at}
 use Rattle.cell_types.specs.Records.{record_bytes}
-use Rattle.cell_types.specs.declared.record_cell.RecordCell.TheVariants.{Reserve, Commit, Done}
+use Rattle.cell_types.specs.declared.record_cell.RecordCell.TheVariants.{Reserve, Commit, Done, Stamp}
 use Rattle.stored_documents.specs.Documents.{content_at, document_at}
 use Rattle.stored_documents.specs.Slots.{cells_for}
 use Rattle.index_paths.specs.Postings.{ListedPosting}
 use Rattle.tamper_rules.specs.Journals.{journal_at}
 use Rattle.tamper_rules.specs.Rules
-use Rattle.tamper_rules.specs.Rules.{DoneRule, OutcomeRule}
+use Rattle.tamper_rules.specs.Rules.{BlankRule, DoneRule, OutcomeRule}
 use Rattle.tamper_rules.specs.Settling.{IsWith}
 use Rattle.tamper_rules.proofs.Images.{look}
 use Rattle.ingest_laws.specs.Filling.{blocks_end}
@@ -20,6 +20,17 @@ use Rattle.hash_tree.specs.declared.path.Open.{Open}
 use Rattle.plan_laws.specs.Laws.{IsPlannedIndex}
 use Rattle.plan_laws.proofs.Behind.{blank_from, more, planned_low, pool_before}
 use Rattle.plan_laws.proofs.Laying.{IsIn, blank_with, held, held_is, one_cell, one_is, laid_on, over_is, row_from, row_is, with_both, with_same}
+
+-- the cell of a stamp, if there is one
+abbrev pub stamp_cell : ℕ → Option ℕ → Image
+stamp_cell n None = λ cell. None
+stamp_cell n (Some seconds) = one_cell (spare_at n) (record_bytes (Stamp seconds) (spare_at n))
+
+-- is the slot's spare cell, and states it
+pub stamp_is : (n : ℕ) (stamp : Option ℕ) {cell : ℕ} {value : List ℕ} → stamp_cell n stamp cell ≡ Some value
+    → (seconds : ℕ) × (stamp ≡ Some seconds) × (cell ≡ spare_at n) × (value ≡ record_bytes (Stamp seconds) (spare_at n))
+stamp_is n None {cell} {value} is = absurd (none-some value is)
+stamp_is n (Some seconds) is = let one = one_is is in (seconds, refl, one.0, one.1)
 
 module _ {g : Layout} {old laid : Image} {p : Plan} {rows : List ListedPosting} {level : Level} {place : Open} {to : ℕ}
     {planned : Image} (h : IsPlannedIndex g old laid p rows level place to planned) where
@@ -51,8 +62,11 @@ module _ {g : Layout} {old laid : Image} {p : Plan} {rows : List ListedPosting} 
   abbrev with_document : Image
   with_document = laid_on (row_from document document_cells) with_journal
 
+  abbrev with_stamp : Image
+  with_stamp = laid_on (stamp_cell p.slot p.stamp) with_document
+
   abbrev with_done : Image
-  with_done = laid_on (one_cell (done_at p.slot) (record_bytes (Done p.slot) (done_at p.slot))) with_document
+  with_done = laid_on (one_cell (done_at p.slot) (record_bytes (Done p.slot) (done_at p.slot))) with_stamp
 
   abbrev with_commit : Image
   with_commit =
@@ -102,6 +116,17 @@ module _ {g : Layout} {old laid : Image} {p : Plan} {rows : List ListedPosting} 
       absurd (none-some _ (sym outcome_blank ∙ rule.commit.stands)))
       (look old (done_at p.slot))
 
+  spare_blank : old (spare_at p.slot) ≡ None
+  spare_blank = ⊎_elim
+      (λ none. none)
+      (λ found.
+      let rule : BlankRule g old (spare_at p.slot) =
+      h.takes.settled.met Rules.StrayCells (spare_at p.slot)
+      (record { found = found.0; stands = found.1 }) in
+      let reserve = (rule.spare p.slot h.takes.slot refl).reserve in
+      absurd (none-some _ (sym (h.takes.horizon.free h.takes.slot) ∙ reserve.stands)))
+      (look old (spare_at p.slot))
+
   abbrev pub Planned : ℕ → List ℕ → Type 0
   Planned = IsIn planned
 
@@ -110,6 +135,9 @@ module _ {g : Layout} {old laid : Image} {p : Plan} {rows : List ListedPosting} 
 
   abbrev pub OfDocument : ℕ → List ℕ → Type 0
   OfDocument = IsIn (row_from document document_cells)
+
+  abbrev pub OfStamp : ℕ → List ℕ → Type 0
+  OfStamp = IsIn (stamp_cell p.slot p.stamp)
 
   abbrev pub OfDone : ℕ → List ℕ → Type 0
   OfDone = IsIn (one_cell (done_at p.slot) (record_bytes (Done p.slot) (done_at p.slot)))
@@ -150,31 +178,55 @@ module _ {g : Layout} {old laid : Image} {p : Plan} {rows : List ListedPosting} 
       (λ is. omega (arith, (document_from is).0, more h, pool_before h))
       rows
 
-  is_done : IsWith (λ cell value. ((Planned cell value ⊎ OfJournal cell value) ⊎ OfDocument cell value)
-      ⊎ OfDone cell value) old with_done
-  is_done = with_both is_document (over_is (λ cell value row.
-      let at = (one_is row.is).0 in
-      blank_with is_document (ap old at ∙ done_blank)
+  -- of the document and its index, or the slot's stamp
+  abbrev pub IsStored : ℕ → List ℕ → Type 0
+  IsStored cell value = ((Planned cell value ⊎ OfJournal cell value) ⊎ OfDocument cell value) ⊎ OfStamp cell value
+
+  -- which is the only one of them in the slot
+  away : {cell : ℕ} {value : List ℕ} → IsStored cell value → (lists_at g ≤ cell) ⊎ (cell ≡ spare_at p.slot)
+  away {cell} {value} rows = ⊎_elim
+      (λ (those : (Planned cell value ⊎ OfJournal cell value) ⊎ OfDocument cell value). inl (stored_from those))
+      (λ (row : OfStamp cell value). inr (stamp_is p.slot p.stamp row.is).2)
+      rows
+
+  is_stamp : IsWith IsStored old with_stamp
+  is_stamp = with_both is_document (over_is (λ cell value row.
+      let at = (stamp_is p.slot p.stamp row.is).2 in
+      blank_with is_document (ap old at ∙ spare_blank)
       (λ found others. omega (arith, stored_from others, at, h.takes.slot))))
 
-  is_commit : IsWith (λ cell value. (((Planned cell value ⊎ OfJournal cell value) ⊎ OfDocument cell value)
-      ⊎ OfDone cell value) ⊎ OfCommit cell value) old with_commit
+  is_done : IsWith (λ cell value. IsStored cell value ⊎ OfDone cell value) old with_done
+  is_done = with_both is_stamp (over_is (λ cell value row.
+      let at = (one_is row.is).0 in
+      blank_with is_stamp (ap old at ∙ done_blank)
+      (λ found others. ⊎_elim
+      (λ (far : lists_at g ≤ cell). omega (arith, far, at, h.takes.slot))
+      (λ (spare : cell ≡ spare_at p.slot). omega (arith, spare, at))
+      (away others))))
+
+  is_commit : IsWith (λ cell value. (IsStored cell value ⊎ OfDone cell value) ⊎ OfCommit cell value) old with_commit
   is_commit = with_both is_done (over_is (λ cell value row.
       let at = (one_is row.is).0 in
       blank_with is_done (ap old at ∙ outcome_blank)
       (λ found others. ⊎_elim
-      (λ stored. omega (arith, stored_from stored, at, h.takes.slot))
+      (λ stored. ⊎_elim
+      (λ (far : lists_at g ≤ cell). omega (arith, far, at, h.takes.slot))
+      (λ (spare : cell ≡ spare_at p.slot). omega (arith, spare, at))
+      (away stored))
       (λ other. omega (arith, (one_is other.is).0, at))
       others)))
 
-  pub is_all : IsWith (λ cell value. ((((Planned cell value ⊎ OfJournal cell value) ⊎ OfDocument cell value)
-      ⊎ OfDone cell value) ⊎ OfCommit cell value) ⊎ OfReserve cell value) old new_image
+  pub is_all : IsWith (λ cell value. ((IsStored cell value ⊎ OfDone cell value) ⊎ OfCommit cell value)
+      ⊎ OfReserve cell value) old new_image
   is_all = with_both is_commit (over_is (λ cell value row.
       let at = (one_is row.is).0 in
       blank_with is_commit (ap old at ∙ h.takes.horizon.free h.takes.slot)
       (λ found others. ⊎_elim
       (λ those. ⊎_elim
-      (λ stored. omega (arith, stored_from stored, at, h.takes.slot))
+      (λ stored. ⊎_elim
+      (λ (far : lists_at g ≤ cell). omega (arith, far, at, h.takes.slot))
+      (λ (spare : cell ≡ spare_at p.slot). omega (arith, spare, at))
+      (away stored))
       (λ other. omega (arith, (one_is other.is).0, at))
       those)
       (λ other. omega (arith, (one_is other.is).0, at))

@@ -1,10 +1,10 @@
 -- The new image has the cells of the plan's five phases, and no other that the old one lacked.
-use Rattle.std.proofs.Common.{◌≡◌, ◌<◌, ◌≤◌, ◌+◌, ◌-◌, ◌⊎◌, ⊎_elim, inl, inr, ℕ, List, length, length-append, Some, None, refl, sym, ◌∙◌, subst, arith}
+use Rattle.std.proofs.Common.{◌≡◌, ◌<◌, ◌≤◌, ◌+◌, ◌-◌, ◌^◌, ◌⊎◌, ⊎_elim, inl, inr, ℕ, List, length, length-append, Option, Some, None, refl, ap, sym, ◌∙◌, subst, arith}
 use Rattle.std.proofs.lemmas.Option.{none-some, slice_get_within, slice_get-get_or}
 use Rattle.cell_types.specs.Image.{Image, Extends}
-use Rattle.cell_types.specs.Layout.{Layout, reserve_at, outcome_at, done_at, lists_at}
+use Rattle.cell_types.specs.Layout.{Layout, reserve_at, outcome_at, done_at, spare_at, lists_at}
 use Rattle.cell_types.specs.Records.{IsRecordCell, record_bytes}
-use Rattle.cell_types.specs.declared.record_cell.RecordCell.TheVariants.{Reserve, Commit, Done}
+use Rattle.cell_types.specs.declared.record_cell.RecordCell.TheVariants.{Reserve, Commit, Done, Stamp}
 use Rattle.cell_types.proofs.OneRecord.{one_record}
 use Rattle.stored_documents.specs.Documents.{content_at}
 use Rattle.stored_documents.specs.Slots.{cells_for}
@@ -16,13 +16,10 @@ use Rattle.ingest_laws.specs.Ingesting.{Plan, Reserving, Storing, Committing, Ap
 use Rattle.hash_tree.specs.declared.level.Level.{Level}
 use Rattle.hash_tree.specs.declared.path.Open.{Open}
 use Rattle.plan_laws.specs.Laws.{IsPlannedIndex}
+use Rattle.plan_laws.specs.Standing.{seconds_of}
 use Rattle.plan_laws.proofs.Behind.{more, planned_low, some_planned, to_inside}
 use Rattle.plan_laws.proofs.Laying.{blank_with, held_is, held_there, one_is, one_there, row_is, row_there, with_same}
-use Rattle.plan_laws.proofs.NewImage.{OfCommit, OfDocument, OfDone, OfJournal, OfReserve, Planned, bytes, document, document_cells, is_all, journal, journal_cells, new_image}
-
--- a plan without a stamp has no row for one
-not_stamped : (seconds : ℕ) → None ≡ Some seconds → ⊥
-not_stamped seconds e = cc
+use Rattle.plan_laws.proofs.NewImage.{IsStored, OfCommit, OfDocument, OfDone, OfJournal, OfReserve, OfStamp, Planned, bytes, document, document_cells, is_all, journal, journal_cells, new_image, stamp_cell, stamp_is}
 
 module _ {g : Layout} {old laid : Image} {p : Plan} {rows : List ListedPosting} {level : Level} {place : Open} {to : ℕ}
     {planned : Image} (h : IsPlannedIndex g old laid p rows level place to planned) where
@@ -89,19 +86,39 @@ module _ {g : Layout} {old laid : Image} {p : Plan} {rows : List ListedPosting} 
     same = refl;
   }
 
+  pub stamp_well : (stamp : Option ℕ) (seconds : ℕ) → stamp ≡ Some seconds → seconds_of stamp < 2 ^ 32
+      → IsRecordCell (Stamp seconds) (spare_at p.slot) (record_bytes (Stamp seconds) (spare_at p.slot))
+  stamp_well stamp seconds given below = record {
+    fits = omega (arith, below, ap seconds_of given);
+    well_formed = tt;
+    same = refl;
+  }
+
   abbrev AllOf : ℕ → List ℕ → Type 0
-  AllOf cell value = ((((Planned h cell value ⊎ OfJournal h cell value) ⊎ OfDocument h cell value)
-      ⊎ OfDone h cell value) ⊎ OfCommit h cell value) ⊎ OfReserve h cell value
+  AllOf cell value = ((IsStored h cell value ⊎ OfDone h cell value) ⊎ OfCommit h cell value) ⊎ OfReserve h cell value
 
   to_row : (cell : ℕ) (value : List ℕ) → AllOf cell value → AnyRow p cell value
-  to_row cell value (inl (inl (inl (inl (inl row))))) = (Applying, of_planned cell value row.is)
-  to_row cell value (inl (inl (inl (inl (inr row))))) =
+  to_row cell value (inl (inl (inl (inl (inl (inl row)))))) = (Applying, of_planned cell value row.is)
+  to_row cell value (inl (inl (inl (inl (inl (inr row)))))) =
       let k = row_is (journal h) (journal_cells h) row.is in
       (Storing, inl (inr (record { place = k.0; entry = k.2; at = k.1 })))
-  to_row cell value (inl (inl (inl (inr row)))) =
+  to_row cell value (inl (inl (inl (inl (inr row))))) =
       let k = row_is (document h) (document_cells h) row.is in
       let left = held_is (cells_for (bytes h) - k.0) (content_at (stored_of p) k.0) value k.2 in
       (Storing, inl (inl (record { place = k.0; below = omega (arith, left.0); at = k.1; is = left.1 })))
+  to_row cell value (inl (inl (inl (inr row)))) =
+      let one = stamp_is p.slot p.stamp row.is in (
+        Storing,
+        inr (record {
+          seconds = one.0;
+          given = one.1;
+          row = record {
+            at = one.2;
+            is = subst (λ (v : List ℕ). IsRecordCell (Stamp one.0) (spare_at p.slot) v) (sym one.3)
+                (stamp_well p.stamp one.0 one.1 h.takes.seconds);
+          };
+        }),
+      )
   to_row cell value (inl (inl (inr row))) =
       let one = one_is row.is in (
         Finishing,
@@ -131,21 +148,27 @@ module _ {g : Layout} {old laid : Image} {p : Plan} {rows : List ListedPosting} 
 
   stored : (cell : ℕ) (value : List ℕ) → StoredRow p cell value → AllOf cell value
   stored cell value (inl row) =
-      inl (inl (inl (inr (record {
+      inl (inl (inl (inl (inr (record {
         is = row_there (document h) (document_cells h) row.place row.at
             (subst (λ (v : List ℕ). document_cells h row.place ≡ Some v) (sym row.is)
             (held_there (cells_for (bytes h) - row.place) (content_at (stored_of p) row.place)
             (omega (arith, row.below))));
-      }))))
+      })))))
   stored cell value (inr row) =
-      inl (inl (inl (inl (inr (record { is = row_there (journal h) (journal_cells h) row.place row.at row.entry })))))
+      inl (inl (inl (inl (inl (inr (record { is = row_there (journal h) (journal_cells h) row.place row.at row.entry }))))))
+
+  stamped : (cell : ℕ) (value : List ℕ) (seconds : ℕ) → p.stamp ≡ Some seconds → cell ≡ spare_at p.slot
+      → value ≡ record_bytes (Stamp seconds) (spare_at p.slot) → stamp_cell p.slot p.stamp cell ≡ Some value
+  stamped cell value seconds given at is =
+      subst (λ (s : Option ℕ). stamp_cell p.slot s cell ≡ Some value) (sym given) (one_there at is)
 
   from_row : (cell : ℕ) (value : List ℕ) → AnyRow p cell value → AllOf cell value
   from_row cell value (Reserving, row) = inr (record { is = one_there row.at row.is.same })
   from_row cell value (Storing, inl row) = stored cell value row
-  from_row cell value (Storing, inr row) = absurd (not_stamped row.seconds (sym h.takes.stamp ∙ row.given))
+  from_row cell value (Storing, inr row) =
+      inl (inl (inl (inr (record { is = stamped cell value row.seconds row.given row.row.at row.row.is.same }))))
   from_row cell value (Committing, row) = inl (inr (record { is = one_there row.at row.is.same }))
-  from_row cell value (Applying, row) = inl (inl (inl (inl (inl (record { is = to_planned row })))))
+  from_row cell value (Applying, row) = inl (inl (inl (inl (inl (inl (record { is = to_planned row }))))))
   from_row cell value (Finishing, row) = inl (inl (inr (record { is = one_there row.at row.is.same })))
 
   pub all_rows : IsWith (AnyRow p) old (new_image h)

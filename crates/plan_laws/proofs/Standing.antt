@@ -17,7 +17,7 @@ use Rattle.hash_tree.specs.declared.level.Level.{Level}
 use Rattle.hash_tree.specs.declared.path.Open.{Open}
 use Rattle.jump_insertion.proofs.KeptTrails.{leads_below}
 use Rattle.ingest_plan.specs.Standing.{ListsStand}
-use Rattle.plan_laws.specs.Standing.{below_slot}
+use Rattle.plan_laws.specs.Standing.{below_slot, seconds_of}
 use Rattle.plan_laws.proofs.ListsAside.{lists_aside, was_block}
 use Rattle.plan_laws.proofs.SettledTrees.{block_place}
 use Rattle.plan_laws.specs.Laws.{IsPlannedIndex}
@@ -41,7 +41,7 @@ module _ {g : Layout} {old laid : Image} {p : Plan} {rows : List ListedPosting} 
       let lies = block_lies l block list leads in
       same_new h (block + i) (omega (arith, lies.0)) (omega (arith, lies.1, less))
 
-  pub new_lists : ListsStand g (new_image h) to (below_slot (p.slot + 1))
+  pub new_lists : ListsStand g (new_image h) to (below_slot g (p.slot + 1) (seconds_of p.stamp + 1))
   new_lists = lists_aside (stand_behind h).lists (extends_new h) (omega arith) block_same
 
   pub block_laid : (l block : ℕ) → l < all_lists g → Leads (new_image h) (pool_at g) to block (list_at g l)

@@ -1,11 +1,13 @@
 -- What stands where a plan takes the slot at the horizon of a settled volume.
-use Rattle.std.proofs.Common.{◌≡◌, ◌≤◌, ◌+◌, ⊎_elim, ℕ, List, None, refl, sym, subst, arith}
+use Rattle.std.proofs.Common.{◌≡◌, ◌<◌, ◌≤◌, ◌+◌, ◌*◌, ⊎_elim, ℕ, List, Option, Some, None, refl, ap, sym, subst, arith, ◌∙◌}
+use Rattle.std.proofs.lemmas.Bool.{cases_lt}
 use Rattle.std.specs.Prelude.{nat_lt, if◌then◌else◌, Bool, true, false}
 use Rattle.std.proofs.lemmas.Bool.Decides.{nat_tests}
 use Rattle.cell_types.specs.Image.{Image}
-use Rattle.cell_types.specs.Layout.{Layout, pool_at}
+use Rattle.cell_types.specs.Layout.{Layout, all_lists, pool_at}
 use Rattle.stored_documents.specs.Slots.{IsEdge, Reserves}
-use Rattle.index_paths.specs.Postings.{ArePostings, ListedPosting}
+use Rattle.index_paths.specs.Blocks.{PostingFields}
+use Rattle.index_paths.specs.Postings.{ArePostings, IsPostingOf, IsWordPosting, ListedPosting, time_posting}
 use Rattle.tamper_rules.specs.Rules
 use Rattle.tamper_rules.specs.Rules.{BlankRule}
 use Rattle.tamper_rules.specs.Settling.{IsSettled}
@@ -14,13 +16,13 @@ use Rattle.ingest_laws.specs.Ingesting.{Plan}
 use Rattle.hash_tree.specs.declared.level.Level.{Level}
 use Rattle.hash_tree.specs.declared.path.Open.{Open}
 use Rattle.ingest_plan.specs.Standing.{HasKeysBetween, ListsStand}
-use Rattle.plan_laws.specs.Standing.{IndexesStand, below_slot}
-use Rattle.plan_laws.proofs.SettledLists.{settled_stand}
+use Rattle.plan_laws.specs.Standing.{HasPastStamps, IndexesStand, below_slot, seconds_of}
+use Rattle.plan_laws.proofs.SettledLists.{settled_stand, time_bound, words_bound}
 use Rattle.plan_laws.proofs.SettledTrees.{settled_tree}
-use Rattle.ingest_plan.specs.Planning.{StandsAtCost, cut_at}
-use Rattle.ingest_plan.proofs.Postings.{key_of_slot}
+use Rattle.ingest_plan.specs.Planning.{IsLater, StandsAtCost, cut_at}
+use Rattle.ingest_plan.proofs.Postings.{word_key}
 use Rattle.ingest_plan.specs.declared.plan.PlannedIndex.{PlannedIndex}
-use Rattle.plan_laws.specs.Laws.{TakesSlot}
+use Rattle.plan_laws.specs.Laws.{IsStampFor, TakesSlot}
 
 -- an image that is blank from a cell on is itself up to there
 cut_cell : (edge cell : ℕ) (image : Image) → (edge ≤ cell → image cell ≡ None) → cut_at edge image cell ≡ image cell
@@ -64,14 +66,54 @@ module _ {g : Layout} {image : Image} {edge : ℕ} (e : IsEdge g image image edg
       subst (λ (below : Image). StandsAtCost g n edge behind rows level place made below planned) same
       (stands (subst (λ (below : Image). ListsStand g below edge bound) (sym same) lists))
 
--- a document's keys lie between the bounds below its slot and below the next
-pub keys_of_slot : {g : Layout} {body : List ℕ} {n : ℕ} {rows : List ListedPosting} → ArePostings g None body n rows
-    → HasKeysBetween rows (below_slot n) (below_slot (n + 1))
-keys_of_slot {g} {body} {n} {rows} are = record {
-  rise = λ l. omega arith;
-  from = λ i p is. (key_of_slot g body n rows are i p is).0;
-  to = λ i p is. (key_of_slot g body n rows are i p is).1;
-}
+-- a document's keys lie between the bounds below its slot and its stamp, and those below the next
+module _ {g : Layout} {stamp : Option ℕ} {body : List ℕ} {n : ℕ} {rows : List ListedPosting}
+    (are : ArePostings g stamp body n rows) where
+  before : (l : ℕ) → below_slot g n (seconds_of stamp) l ≤ below_slot g (n + 1) (seconds_of stamp + 1) l
+  before l = ⊎_elim
+      (λ (less : l < g.lists).
+      omega (
+        arith,
+        words_bound g n (seconds_of stamp) l less,
+        words_bound g (n + 1) (seconds_of stamp + 1) l less,
+      ))
+      (λ (past : g.lists ≤ l).
+      omega (
+        arith,
+        time_bound g n (seconds_of stamp) l past,
+        time_bound g (n + 1) (seconds_of stamp + 1) l past,
+      ))
+      (cases_lt l g.lists)
+
+  between : (p : ListedPosting) → IsPostingOf g stamp body n p.list p.posting
+      → (below_slot g n (seconds_of stamp) p.list ≤ p.posting.key)
+      × (p.posting.key < below_slot g (n + 1) (seconds_of stamp + 1) p.list)
+  between p is = ⊎_elim
+      (λ (word : IsWordPosting g body n p.list p.posting).
+      let key = word_key g stamp body n rows are word in (
+        omega (arith, key.0, words_bound g n (seconds_of stamp) p.list word.list),
+        omega (arith, key.1, words_bound g (n + 1) (seconds_of stamp + 1) p.list word.list),
+      ))
+      (λ (time : (t : ℕ) × (stamp ≡ Some t) × (p.list ≡ g.lists) × (p.posting ≡ time_posting n t)).
+      let key : p.posting.key ≡ seconds_of stamp =
+      ap (λ (f : PostingFields). f.key) time.3 ∙ sym (ap seconds_of time.1) in (
+        omega (arith, key, time_bound g n (seconds_of stamp) p.list (omega (arith, time.2))),
+        omega (arith, key, time_bound g (n + 1) (seconds_of stamp + 1) p.list (omega (arith, time.2))),
+      ))
+      is
+
+  pub keys_of_slot : HasKeysBetween rows (below_slot g n (seconds_of stamp)) (below_slot g (n + 1) (seconds_of stamp + 1))
+  keys_of_slot = record {
+    rise = before;
+    from = λ i p is. (between p (are.each i p is).1).0;
+    to = λ i p is. (between p (are.each i p is).1).1;
+  }
+
+-- a stamp that is given where it has to be, and is past the others, is past them on a volume with a time list
+pub past_stamps : {g : Layout} {image : Image} {n : ℕ} (stamp : Option ℕ) → IsStampFor g stamp → IsLater g image n stamp
+    → HasPastStamps g image n (seconds_of stamp)
+past_stamps None given later has = absurd (omega (arith, given, has))
+past_stamps (Some seconds) given later has = later
 
 module _ {g : Layout} {old : Image} {p : Plan} {to : ℕ} (takes : TakesSlot g old p to) where
   pub old_edge : IsEdge g old old p.start
@@ -88,8 +130,9 @@ module _ {g : Layout} {old : Image} {p : Plan} {to : ℕ} (takes : TakesSlot g o
   pub blank_from : (cell : ℕ) → p.start ≤ cell → old cell ≡ None
   blank_from cell from = blank_behind old_edge takes.settled cell from
 
-  pub stand : IndexesStand g old p.start (below_slot p.slot)
+  pub stand : IndexesStand g old p.start (below_slot g p.slot (seconds_of p.stamp))
   stand = record {
-    lists = settled_stand takes.layout takes.settled old_edge takes.horizon takes.slot;
+    lists = settled_stand takes.layout takes.settled old_edge takes.horizon takes.slot (seconds_of p.stamp)
+        (past_stamps p.stamp takes.stamp takes.later);
     tree = settled_tree takes.layout takes.settled old_edge;
   }

@@ -1,10 +1,11 @@
 -- What is planned for a document on a settled volume, and that it is well made.
-use Rattle.std.specs.Prelude.{◌≡◌, ◌<◌, ◌≤◌, ◌+◌, ℕ, List, length, Some, None, IsTrue}
+use Rattle.std.specs.Prelude.{◌≡◌, ◌<◌, ◌≤◌, ◌+◌, ◌^◌, ℕ, List, length, Option, Some, None, IsTrue}
 use Rattle.sha2.specs.Sha256.{sha256}
 use Rattle.cell_types.specs.Image.{Image, Extends, IsUnchanged}
 use Rattle.cell_types.specs.Layout.{Layout, IsLayout}
+use Rattle.cell_types.specs.declared.geometry.TheConstants.{STAMPED_VERSION}
 use Rattle.stored_documents.specs.Documents.{IsBody, IsIdentifier, Stands, stored_bytes}
-use Rattle.stored_documents.specs.Slots.{EndsBelow, IsHorizon, cells_for}
+use Rattle.stored_documents.specs.Slots.{EndsBelow, IsHorizon, IsStampOf, cells_for}
 use Rattle.stored_documents.specs.Volumes.{IsVolume}
 use Rattle.index_paths.specs.Keeping.{IsKept, sought_in}
 use Rattle.index_paths.specs.Postings.{ArePostings, ListedPosting}
@@ -21,12 +22,18 @@ use Rattle.ingest_plan.specs.Granting.{GivesWhatIsLedTo}
 use Rattle.ingest_plan.specs.Indexes.{IsIndexCell}
 use Rattle.ingest_plan.specs.Journal.{IsJournal}
 use Rattle.ingest_plan.specs.Standing.{IndexStands}
-use Rattle.plan_laws.specs.Standing.{EndsPath, below_slot}
-use Rattle.ingest_plan.specs.Planning.{IsPlanned}
+use Rattle.plan_laws.specs.Standing.{EndsPath, below_slot, seconds_of}
+use Rattle.ingest_plan.specs.Planning.{IsLater, IsPlanned}
 use Rattle.ingest_plan.specs.declared.plan.PlannedIndex.{PlannedIndex}
 
+-- a stamp is given exactly on a volume of stamped documents
+abbrev pub IsStampFor : Layout → Option ℕ → Type 0
+IsStampFor g None = g.version < STAMPED_VERSION
+IsStampFor g (Some seconds) = g.version ≡ STAMPED_VERSION
+
 -- The plan takes the slot at the horizon of a settled volume, and the cells from the edge on: blocks up to this one,
--- and the cells of its document and its journal. No slot stands with its identifier.
+-- and the cells of its document and its journal. It has a stamp exactly where documents are stamped, which is past those
+-- of the done slots. No slot stands with its identifier.
 pub record TakesSlot (g : Layout) (old : Image) (p : Plan) (to : ℕ) : Type 0 where
   pub layout : IsLayout g
   pub volume : IsVolume g.cells old g
@@ -36,7 +43,9 @@ pub record TakesSlot (g : Layout) (old : Image) (p : Plan) (to : ℕ) : Type 0 w
   pub begins : EndsBelow g old p.slot p.start
   pub room : p.start + p.reserved ≡ to + cells_for (length (stored_of p)) + length p.journal
   pub inside : p.start + p.reserved ≤ g.cells
-  pub stamp : p.stamp ≡ None
+  pub stamp : IsStampFor g p.stamp
+  pub later : IsLater g old p.slot p.stamp
+  pub seconds : seconds_of p.stamp < 2 ^ 32
   pub identifier : IsIdentifier p.id
   pub body : IsBody p.body
   pub absent : (m : ℕ) (other : List ℕ) → Stands g.cells old m p.id other → ⊥
@@ -57,8 +66,10 @@ pub record IsPlannedIndex (g : Layout) (old laid : Image) (p : Plan) (rows : Lis
   pub blank : (cell : ℕ) (value : List ℕ) → planned cell ≡ Some value → old cell ≡ None
   pub grants : GivesWhatIsLedTo planned p.start to
   pub laid_is : IsWith (λ cell value. planned cell ≡ Some value) old laid
-  pub stands : IndexStands g p.slot (below_slot (p.slot + 1)) rows level place p.start to old laid
+  pub stands : IndexStands g p.slot (below_slot g (p.slot + 1) (seconds_of p.stamp + 1)) rows level place p.start to old
+      laid
   pub keeps : (image : Image) → Extends old image → Extends planned image → Stands g.cells image p.slot p.id p.body
+      → IsStampOf g image p.slot p.stamp
       → IsKept g.cells image g (record { slot = p.slot; id = p.id; body = p.body })
 
 -- so the plan is well made: with its cells the old image becomes one of which `ingest_laws` has its laws
@@ -77,19 +88,20 @@ AnswerIsWell =
     → TakesSlot g old.image p (p.start + made.block_length) → p.journal ≡ made.journal.items
     → EndsPath g old.image level place → level.digest ≡ sha256 p.id
     → PassedDown g old.image (sought_in g.cells g p.id) level place.child
-    → IsPlanned g p.slot p.start level place p.body made old new → (after : Image) × IsWellPlanned g old.image after p
+    → IsPlanned g p.slot p.start level place p.stamp p.body made old new → (after : Image) × IsWellPlanned g old.image after p
 
 -- What a document takes with the index that was planned for it on a settled volume, where nobody else wrote meanwhile,
 -- is exactly its need: the cells of the document and of the journal, the new blocks and the new node. It is so also
 -- where the device has no room for them.
 abbrev pub AnswerIsNeed : Type 0
 AnswerIsNeed =
-    (g : Layout) (n edge : ℕ) (id body : List ℕ) (level : Level) (place : Open) (made : PlannedIndex)
-    (old new : DeviceState)
+    (g : Layout) (n edge : ℕ) (stamp : Option ℕ) (id body : List ℕ) (level : Level) (place : Open)
+    (made : PlannedIndex) (old new : DeviceState)
     → IsTrue old.tells → IsStill old.foreign_writes new.foreign_writes → IsLayout g → IsSettled g old.image
-    → IsHorizon g old.image old.image n → n < g.slots → EndsBelow g old.image n edge
+    → IsHorizon g old.image old.image n → n < g.slots → EndsBelow g old.image n edge → IsStampFor g stamp
+    → IsLater g old.image n stamp
     → EndsPath g old.image level place → level.digest ≡ sha256 id
     → PassedDown g old.image (sought_in g.cells g id) level place.child
-    → IsPlanned g n edge level place body made old new
-    → IsNeed g old.image n id body None
+    → IsPlanned g n edge level place stamp body made old new
+    → IsNeed g old.image n id body stamp
     (cells_for (length (stored_bytes id body)) + length made.journal.items + made.block_length)

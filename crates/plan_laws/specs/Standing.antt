@@ -1,5 +1,5 @@
 -- What a settled volume has for the next document's index, and what that leaves.
-use Rattle.std.specs.Prelude.{◌≡◌, ◌<◌, ◌≤◌, ◌*◌, ℕ, List, Some, None}
+use Rattle.std.specs.Prelude.{◌≡◌, ◌<◌, ◌≤◌, ◌*◌, if◌then◌else◌, nat_lt, ℕ, List, Option, Some, None}
 use Rattle.cell_types.specs.Bytes.{AreBytes}
 use Rattle.cell_types.specs.Image.{Image}
 use Rattle.cell_types.specs.Layout.{Layout, IsLayout, list_at, pool_at, all_lists}
@@ -10,6 +10,7 @@ use Rattle.index_paths.specs.Nodes.{AreApart, IsNode}
 use Rattle.index_paths.specs.Postings.{ListedPosting}
 use Rattle.tamper_rules.specs.Settling.{IsSettled}
 use Rattle.ingest_laws.specs.TreeShapes.{IsWellRooted}
+use Rattle.jump_insertion.specs.Evidence.{IsPastStamps}
 use Rattle.hash_tree.specs.Levels.{IsReached}
 use Rattle.hash_tree.specs.Steps.{IsOpenOf}
 use Rattle.hash_tree.specs.declared.level.Level.{Level}
@@ -28,15 +29,26 @@ pub record IndexesStand (g : Layout) (image : Image) (next : ℕ) (bound : ℕ �
   pub lists : ListsStand g image next bound
   pub tree : TreeStands g image next
 
--- the bounds of the lists of words below a slot: no key of an earlier slot is as great
-abbrev pub below_slot : ℕ → ℕ → ℕ
-below_slot n = λ (l : ℕ). 256 * n
+-- The bounds of the lists below a slot and a stamp: in a list of words no key of an earlier slot is as great, and the keys
+-- of the time list are stamps.
+abbrev pub below_slot : Layout → ℕ → ℕ → ℕ → ℕ
+below_slot g n seconds = λ (l : ℕ). if nat_lt l g.lists then 256 * n else seconds
 
--- in a settled image they do, before the edge and with keys of slots below the horizon
+-- the seconds of a stamp, and 0 for none
+abbrev pub seconds_of : Option ℕ → ℕ
+seconds_of None = 0
+seconds_of (Some seconds) = seconds
+
+-- where there is a time list, the stamp is past those of the done slots below n
+abbrev pub HasPastStamps : Layout → Image → ℕ → ℕ → Type 0
+HasPastStamps g image n seconds = g.lists < all_lists g → IsPastStamps g image n seconds
+
+-- in a settled image they do, before the edge and with keys of slots below the horizon, and of stamps that are before this
 abbrev pub SettledIndexesStand : Type 0
 SettledIndexesStand =
     (g : Layout) (image : Image) (edge n : ℕ) → IsLayout g → IsSettled g image → IsEdge g image image edge
-    → IsHorizon g image image n → n < g.slots → IndexesStand g image edge (below_slot n)
+    → IsHorizon g image image n → n < g.slots → (seconds : ℕ) → HasPastStamps g image n seconds
+    → IndexesStand g image edge (below_slot g n seconds)
 
 -- The place is the end of a path of the image's tree: it is one of the level's node, which is a node of the tree; its
 -- blank cell is blank, and a bucket above it is written.
