@@ -23,7 +23,7 @@ pub const FOLDED_VERSION: u8 = 2;
 pub const STAMPED_VERSION: u8 = 3;
 
 /// The newest version that this code reads and writes.
-pub const NEWEST_VERSION: u8 = 2;
+pub const NEWEST_VERSION: u8 = 3;
 
 /// The greatest number of slots of a volume.
 pub const MAX_SLOTS: u32 = 16_777_216;
