@@ -4,7 +4,7 @@ use Rattle.cell_types.specs.Image.{Image}
 use Rattle.cell_types.specs.Layout.{Layout, list_at, reserve_at, outcome_at, done_at, spare_at}
 use Rattle.cell_types.specs.Records.{IsRecordCell, record_bytes}
 use Rattle.cell_types.specs.declared.record_cell.RecordCell.TheVariants.{Reserve, Commit, Done, Stamp}
-use Rattle.stored_documents.specs.Slots.{Reserves, IsDoneSlot, IsStampOf}
+use Rattle.stored_documents.specs.Slots.{Reserves, IsDoneSlot, IsStampFor, IsStampOf}
 use Rattle.index_paths.specs.Nodes.{IsBlockOf}
 use Rattle.index_paths.specs.Postings.{ListedPosting}
 use Rattle.tamper_rules.specs.Journals.{LiesInBlocks}
@@ -15,7 +15,7 @@ use Rattle.ingest_laws.proofs.Filled.{mine, stores_on'}
 use Rattle.hash_tree.specs.declared.level.Level.{Level}
 use Rattle.hash_tree.specs.declared.path.Open.{Open}
 use Rattle.ingest_plan.specs.Planning.{IsLater}
-use Rattle.plan_laws.specs.Laws.{IsPlannedIndex, IsStampFor}
+use Rattle.plan_laws.specs.Laws.{IsPlannedIndex}
 use Rattle.plan_laws.proofs.Behind.{more, pool_before}
 use Rattle.plan_laws.proofs.JournalOrder.{in_order}
 use Rattle.plan_laws.proofs.NewImage.{ends_there, new_image}

@@ -6,7 +6,7 @@ use Rattle.sha2.specs.Sha256.{sha256}
 use Rattle.cell_types.specs.Image.{Image}
 use Rattle.cell_types.specs.Layout.{Layout, IsLayout}
 use Rattle.stored_documents.specs.Documents.{stored_bytes}
-use Rattle.stored_documents.specs.Slots.{EndsBelow, IsEdge, IsHorizon, cells_for}
+use Rattle.stored_documents.specs.Slots.{EndsBelow, IsEdge, IsHorizon, IsStampFor, cells_for}
 use Rattle.index_paths.specs.HashPaths.{IsPassed, nibble}
 use Rattle.index_paths.specs.Keeping.{sought_in}
 use Rattle.index_paths.specs.Postings.{ListedPosting}
@@ -22,7 +22,6 @@ use Rattle.hash_insertion.specs.Readiness.{PassedDown, blank_in, cost_in, cost_o
 use Rattle.plan_laws.specs.Standing.{EndsPath, below_slot, seconds_of}
 use Rattle.plan_laws.proofs.SettledLists.{settled_stand}
 use Rattle.ingest_plan.specs.Planning.{IsLater, IsPlanned}
-use Rattle.plan_laws.specs.Laws.{IsStampFor}
 use Rattle.ingest_plan.specs.declared.plan.PlannedIndex.{PlannedIndex}
 use Rattle.plan_laws.proofs.Taken.{keys_of_slot, past_stamps, stands_at_cost}
 

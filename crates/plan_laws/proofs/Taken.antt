@@ -5,7 +5,7 @@ use Rattle.std.specs.Prelude.{nat_lt, if◌then◌else◌, Bool, true, false}
 use Rattle.std.proofs.lemmas.Bool.Decides.{nat_tests}
 use Rattle.cell_types.specs.Image.{Image}
 use Rattle.cell_types.specs.Layout.{Layout, all_lists, pool_at}
-use Rattle.stored_documents.specs.Slots.{IsEdge, Reserves}
+use Rattle.stored_documents.specs.Slots.{IsEdge, IsStampFor, Reserves}
 use Rattle.index_paths.specs.Blocks.{PostingFields}
 use Rattle.index_paths.specs.Postings.{ArePostings, IsPostingOf, IsWordPosting, ListedPosting, time_posting}
 use Rattle.tamper_rules.specs.Rules
@@ -22,7 +22,7 @@ use Rattle.plan_laws.proofs.SettledTrees.{settled_tree}
 use Rattle.ingest_plan.specs.Planning.{IsLater, StandsAtCost, cut_at}
 use Rattle.ingest_plan.proofs.Postings.{word_key}
 use Rattle.ingest_plan.specs.declared.plan.PlannedIndex.{PlannedIndex}
-use Rattle.plan_laws.specs.Laws.{IsStampFor, TakesSlot}
+use Rattle.plan_laws.specs.Laws.{TakesSlot}
 
 -- an image that is blank from a cell on is itself up to there
 cut_cell : (edge cell : ℕ) (image : Image) → (edge ≤ cell → image cell ≡ None) → cut_at edge image cell ≡ image cell

@@ -3,9 +3,8 @@ use Rattle.std.specs.Prelude.{◌≡◌, ◌<◌, ◌≤◌, ◌+◌, ◌^◌, �
 use Rattle.sha2.specs.Sha256.{sha256}
 use Rattle.cell_types.specs.Image.{Image, Extends, IsUnchanged}
 use Rattle.cell_types.specs.Layout.{Layout, IsLayout}
-use Rattle.cell_types.specs.declared.geometry.TheConstants.{STAMPED_VERSION}
 use Rattle.stored_documents.specs.Documents.{IsBody, IsIdentifier, Stands, stored_bytes}
-use Rattle.stored_documents.specs.Slots.{EndsBelow, IsHorizon, IsStampOf, cells_for}
+use Rattle.stored_documents.specs.Slots.{EndsBelow, IsHorizon, IsStampFor, IsStampOf, cells_for}
 use Rattle.stored_documents.specs.Volumes.{IsVolume}
 use Rattle.index_paths.specs.Keeping.{IsKept, sought_in}
 use Rattle.index_paths.specs.Postings.{ArePostings, ListedPosting}
@@ -25,11 +24,6 @@ use Rattle.ingest_plan.specs.Standing.{IndexStands}
 use Rattle.plan_laws.specs.Standing.{EndsPath, below_slot, seconds_of}
 use Rattle.ingest_plan.specs.Planning.{IsLater, IsPlanned}
 use Rattle.ingest_plan.specs.declared.plan.PlannedIndex.{PlannedIndex}
-
--- a stamp is given exactly on a volume of stamped documents
-abbrev pub IsStampFor : Layout → Option ℕ → Type 0
-IsStampFor g None = g.version < STAMPED_VERSION
-IsStampFor g (Some seconds) = g.version ≡ STAMPED_VERSION
 
 -- The plan takes the slot at the horizon of a settled volume, and the cells from the edge on: blocks up to this one,
 -- and the cells of its document and its journal. It has a stamp exactly where documents are stamped, which is past those

@@ -36,6 +36,11 @@ abbrev pub IsStampOf : Layout → Image → ℕ → Option ℕ → Type 0
 IsStampOf g image n None = g.version < STAMPED_VERSION
 IsStampOf g image n (Some seconds) = (g.version ≡ STAMPED_VERSION) × HasStamp image n seconds
 
+-- a stamp is given exactly on a volume of stamped documents
+abbrev pub IsStampFor : Layout → Option ℕ → Type 0
+IsStampFor g None = g.version < STAMPED_VERSION
+IsStampFor g (Some seconds) = g.version ≡ STAMPED_VERSION
+
 -- slot n has a stamp
 pub record IsStamped (image : Image) (n : ℕ) : Type 0 where
   pub seconds : ℕ
