@@ -1,11 +1,11 @@
 -- How the index of a document is planned on a volume that was settled: where the path of its identifier ends, and then
 -- which cells are planned.
-use Rattle.std.specs.Prelude.{◌≡◌, ◌⊎◌, ℕ, List, Some, Result, Ok, Err, IsTrue, ⊤}
+use Rattle.std.specs.Prelude.{◌≡◌, ◌<◌, ◌≤◌, ◌⊎◌, ℕ, List, Option, None, Some, Result, Ok, Err, IsTrue, ⊤}
 use Rattle.cell_types.specs.Image.{IsUnchanged}
 use Rattle.cell_types.specs.declared.refusal.Evidence.{Evidence}
 use Rattle.cell_types.specs.declared.refusal.Fault.{Fault}
 use Rattle.cell_types.specs.declared.refusal.Refusal.{Refusal}
-use Rattle.cell_types.specs.declared.refusal.Refusal.TheVariants.{DeviceFault, Duplicate, NoMemory, PathFull, Tampered, TooManyTerms}
+use Rattle.cell_types.specs.declared.refusal.Refusal.TheVariants.{DeviceFault, Duplicate, NoMemory, PathFull, StampTooEarly, Tampered, TooManyTerms}
 use Rattle.stored_documents.specs.Slots.{IsEdge, IsHorizon}
 use Rattle.stored_documents.specs.Volumes.{IsVolume}
 use Rattle.index_paths.specs.Postings.{HasPostings}
@@ -21,8 +21,9 @@ use Rattle.recovery_engine.specs.declared.settling.Ready.{Ready}
 use Rattle.identifier_lookup.specs.Walks.{IsWalkRule, WalkEnds}
 use Rattle.identifier_lookup.specs.declared.answers.Walk.{Walk}
 use Rattle.identifier_lookup.specs.declared.answers.Walk.TheVariants as walks
-use Rattle.ingest_plan.specs.Planning.{IsGrowthRule, IsPlanned}
+use Rattle.ingest_plan.specs.Planning.{IsGrowthRule, IsLater, IsPlanned}
 use Rattle.ingest_plan.specs.declared.plan.PlannedIndex.{PlannedIndex}
+use Rattle.ingest_engine.specs.Stamps.{AreUpTo, IsStampBelow, StampsEnd}
 use Rattle.ingest_engine.specs.declared.indexing.PathEnd.{PathEnd}
 
 -- a walk along the identifier's path on the device answers so
@@ -44,6 +45,17 @@ pub record HasPathEnd (r : Ready) (id : List ℕ) (entry new : DeviceState) : Ty
   pub place : Open
   pub level : Level
   pub ends : HasWalked r id place level entry walked new
+
+-- the stamp that is given, if one is, is past those of the done slots below the horizon
+abbrev pub IsPast : Ready → Option ℕ → DeviceState → Type 0
+IsPast r stamp entry = IsTrue entry.tells → IsLater r.volume.geometry entry.image r.horizon stamp
+
+-- The stamp is not past the last one, which a done slot below the horizon has, and no such slot had a greater one.
+pub record IsTooEarly (r : Ready) (stamp : Option ℕ) (given last : ℕ) (entry new : DeviceState) : Type 0 where
+  pub given_is : stamp ≡ Some given
+  pub early : given ≤ last
+  pub stands : IsTrue entry.tells → IsStampBelow r.volume.geometry new.image r.horizon last
+  pub most : IsTrue entry.tells → AreUpTo r.volume.geometry entry.image 0 r.horizon (Some last)
 
 -- the rules that are named on the way: those of a walk along the path, and behind its end, where no list gets too many
 -- tags of the body, those of planning
@@ -82,36 +94,64 @@ pub record EndsPath (r : Ready) (id : List ℕ) (entry new : DeviceState) (resul
   pub quiet : IsStill entry.foreign_writes new.foreign_writes → IsUnchanged entry.image new.image
   pub ends : PathEnds r id entry new result
 
--- The index of the document is planned, with its bucket at the end of its identifier's path.
-pub record HasIndex (r : Ready) (id body : List ℕ) (index : PlannedIndex) (entry new : DeviceState) : Type 0 where
+-- what reading the stamps of the done slots below the horizon does: it changes nothing
+pub record ReadsOnDevice (r : Ready) (entry new : DeviceState) (result : Result (Option ℕ) Fault) : Type 0 where
+  pub called : Called entry new
+  pub quiet : IsStill entry.foreign_writes new.foreign_writes → IsUnchanged entry.image new.image
+  pub ends : StampsEnd r.volume.geometry r.horizon (seen_directly entry 0) (seen_directly new 0) result
+
+-- how a look whether the stamp is past the others may end, and why
+abbrev pub PastEnds : Ready → Option ℕ → DeviceState → DeviceState → Result Unit Refusal → Type 0
+PastEnds r stamp entry new (Ok u) = (new.faults ≡ entry.faults) × IsPast r stamp entry
+PastEnds r stamp entry new (Err (StampTooEarly given last)) = IsTooEarly r stamp given last entry new
+PastEnds r stamp entry new (Err DeviceFault) = Rose entry.faults new.faults
+PastEnds r stamp entry new (Err (Tampered e)) = IsTrue entry.tells → IsFoundOnWay IsWalkRule r entry new e
+PastEnds r stamp entry new (Err refusal) = ⊥
+
+-- such a look changes nothing
+pub record LooksPast (r : Ready) (stamp : Option ℕ) (entry new : DeviceState) (result : Result Unit Refusal) : Type 0
+  where
+  pub called : Called entry new
+  pub quiet : IsStill entry.foreign_writes new.foreign_writes → IsUnchanged entry.image new.image
+  pub ends : PastEnds r stamp entry new result
+
+-- The index of the document is planned, with its bucket at the end of its identifier's path. Its stamp is past the others.
+pub record HasIndex (r : Ready) (id : List ℕ) (stamp : Option ℕ) (body : List ℕ) (index : PlannedIndex)
+    (entry new : DeviceState) : Type 0 where
+  pub past : IsPast r stamp entry
   pub walked : DeviceState
   pub place : Open
   pub level : Level
   pub ends : HasWalked r id place level entry walked new
-  pub planned : IsPlanned r.volume.geometry r.horizon r.edge level place body index walked new
+  pub planned : IsPlanned r.volume.geometry r.horizon r.edge level place stamp body index walked new
 
--- The path ends, and no document with the identifier is on it; and a list gets too many tags of the body.
-pub record HasTooMany (r : Ready) (id body : List ℕ) (list count : ℕ) (entry new : DeviceState) : Type 0 where
+-- The stamp is past the others, the path ends, and no document with the identifier is on it; and a list gets too many tags
+-- of the body.
+pub record HasTooMany (r : Ready) (id : List ℕ) (stamp : Option ℕ) (body : List ℕ) (list count : ℕ)
+    (entry new : DeviceState) : Type 0 where
+  pub past : IsPast r stamp entry
   pub place : Open
   pub level : Level
   pub path : WalksOn r id entry new (walks.End place level)
   pub many : GetsTooMany r.volume.geometry body list count
 
 -- how planning the index may end, and why
-abbrev pub PlanForEnds : Ready → List ℕ → List ℕ → DeviceState → DeviceState → Result PlannedIndex Refusal → Type 0
-PlanForEnds r id body entry new (Ok index) = HasIndex r id body index entry new
-PlanForEnds r id body entry new (Err (Duplicate n)) = WalksOn r id entry new (walks.Found n)
-PlanForEnds r id body entry new (Err PathFull) = WalksOn r id entry new walks.PathFull
-PlanForEnds r id body entry new (Err (TooManyTerms list count)) = HasTooMany r id body list count entry new
-PlanForEnds r id body entry new (Err DeviceFault) = Rose entry.faults new.faults
-PlanForEnds r id body entry new (Err (Tampered e)) =
+abbrev pub PlanForEnds
+    : Ready → List ℕ → Option ℕ → List ℕ → DeviceState → DeviceState → Result PlannedIndex Refusal → Type 0
+PlanForEnds r id stamp body entry new (Ok index) = HasIndex r id stamp body index entry new
+PlanForEnds r id stamp body entry new (Err (StampTooEarly given last)) = IsTooEarly r stamp given last entry new
+PlanForEnds r id stamp body entry new (Err (Duplicate n)) = IsPast r stamp entry × WalksOn r id entry new (walks.Found n)
+PlanForEnds r id stamp body entry new (Err PathFull) = IsPast r stamp entry × WalksOn r id entry new walks.PathFull
+PlanForEnds r id stamp body entry new (Err (TooManyTerms list count)) = HasTooMany r id stamp body list count entry new
+PlanForEnds r id stamp body entry new (Err DeviceFault) = Rose entry.faults new.faults
+PlanForEnds r id stamp body entry new (Err (Tampered e)) =
     IsTrue entry.tells → IsFoundOnWay (IsPathRule r id body entry new) r entry new e
-PlanForEnds r id body entry new (Err NoMemory) = ⊤
-PlanForEnds r id body entry new (Err refusal) = ⊥
+PlanForEnds r id stamp body entry new (Err NoMemory) = ⊤
+PlanForEnds r id stamp body entry new (Err refusal) = ⊥
 
 -- it changes nothing
-pub record PlansFor (r : Ready) (id body : List ℕ) (entry new : DeviceState) (result : Result PlannedIndex Refusal)
-    : Type 0 where
+pub record PlansFor (r : Ready) (id : List ℕ) (stamp : Option ℕ) (body : List ℕ) (entry new : DeviceState)
+    (result : Result PlannedIndex Refusal) : Type 0 where
   pub called : Called entry new
   pub quiet : IsStill entry.foreign_writes new.foreign_writes → IsUnchanged entry.image new.image
-  pub ends : PlanForEnds r id body entry new result
+  pub ends : PlanForEnds r id stamp body entry new result

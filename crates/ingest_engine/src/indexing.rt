@@ -2,7 +2,9 @@
 ghost use Rattle.std.specs.Prelude.{◌<◌, ◌≤◌};
 ghost use Rattle.recovery_engine.specs.Settling.{LiesInBounds};
 ghost use Rattle.ingest_engine.specs.Indexing.{EndsPath, PlansFor, WalksDevice};
+ghost use Rattle.term_tags.specs.Listing.{MayHaveStamp};
 
+use crate::stamps::look_past;
 use cell_types::{Fault, Refusal};
 use hash_tree::{Level, Open};
 use identifier_lookup::{Walk, walk};
@@ -22,19 +24,22 @@ pub struct PathEnd {
 ///
 /// # Errors
 ///
-/// `Duplicate` with the slot that the path of the identifier leads to, `PathFull` where the path is full;
+/// `StampTooEarly` where a stamp is given that is not past those of the done slots; `Duplicate` with the slot that the path of the identifier leads to, `PathFull` where the path is full;
 /// `TooManyTerms`; `Tampered` where a cell on the way is out of place; `DeviceFault`; `NoMemory`.
 pub fn plan_for<D: Device>(
     alloc: Global,
     device: &mut D,
     ready: &Ready,
     id: &[u8],
+    stamp: Option<u32>,
     body: &[u8],
 ) -> Result<PlannedIndex, Refusal>
+    requires stamp { MayHaveStamp ready.now.volume.geometry stamp }
     requires bounds { LiesInBounds (D.state device.old) ready.now }
     requires free { ready.now.horizon < ready.now.volume.geometry.slots }
-    ensures { PlansFor ready.now id.now body.now (D.state device.old) (D.state device.new) result }
+    ensures { PlansFor ready.now id.now stamp body.now (D.state device.old) (D.state device.new) result }
 {
+    look_past(device, ready, stamp)?;
     let end = path_end(device, ready, id)?;
     let index = plan_index(
         alloc,
@@ -44,6 +49,7 @@ pub fn plan_for<D: Device>(
         ready.edge,
         end.place,
         &end.level,
+        stamp,
         body,
     )?;
     Ok(index)

@@ -33,6 +33,7 @@ mod document;
 mod format;
 mod indexing;
 mod ingesting;
+mod stamps;
 
 pub use document::StoredDocument;
 pub use format::format_volume;

@@ -1,0 +1,86 @@
+-- Which stamps the done slots of a volume have, as a reader of the log answers it, and whether another is past them.
+use Rattle.std.specs.Prelude.{◌≡◌, ◌<◌, ◌≤◌, ◌+◌, ◌⊎◌, ℕ, List, Option, None, Some, Result, Ok, Err, IsTrue, ⊤}
+use Rattle.cell_types.specs.Image.{Image}
+use Rattle.cell_types.specs.Layout.{Layout}
+use Rattle.cell_types.specs.declared.record_cell.RecordCell.{RecordCell}
+use Rattle.cell_types.specs.declared.record_cell.RecordCell.TheVariants.{Stamp}
+use Rattle.cell_types.specs.declared.refusal.Fault.{Fault}
+use Rattle.cell_types.specs.declared.refusal.Refusal.{Refusal}
+use Rattle.cell_types.specs.declared.refusal.Refusal.TheVariants.{StampTooEarly}
+use Rattle.stored_documents.specs.Slots.{HasStamp, IsDoneSlot}
+use Rattle.worm_device.specs.Views.{ViewState, Viewed}
+use Rattle.worm_device.specs.declared.looks.Found.{Found}
+use Rattle.worm_device.specs.declared.looks.Found.TheVariants.{Blank, Record, Stray}
+use Rattle.identifier_lookup.specs.Walks.{WalkFails}
+
+-- a done slot below n has this stamp
+pub record IsStampBelow (g : Layout) (image : Image) (n seconds : ℕ) : Type 0 where
+  pub slot : ℕ
+  pub below : slot < n
+  pub done : IsDoneSlot g image slot
+  pub stamp : HasStamp image slot seconds
+
+-- one has it, if there is one
+abbrev pub IsOneBelow : Layout → Image → ℕ → Option ℕ → Type 0
+IsOneBelow g image n None = ⊤
+IsOneBelow g image n (Some seconds) = IsStampBelow g image n seconds
+
+-- the first is at most the last, if there is a first
+abbrev pub IsUpTo : Option ℕ → Option ℕ → Type 0
+IsUpTo None last = ⊤
+IsUpTo (Some first) None = ⊥
+IsUpTo (Some first) (Some last) = first ≤ last
+
+-- each done slot from one on, and below n, has a stamp of at most so many seconds; where that is none, there is no such slot
+abbrev pub AreUpTo : Layout → Image → ℕ → ℕ → Option ℕ → Type 0
+AreUpTo g image from n last =
+    (m seconds : ℕ) → from ≤ m → m < n → IsDoneSlot g image m → HasStamp image m seconds → IsUpTo (Some seconds) last
+
+-- the record is this stamp, or none
+abbrev pub IsStampIn : RecordCell → Option ℕ → Type 0
+IsStampIn held None = (seconds : ℕ) → held ≡ Stamp seconds → ⊥
+IsStampIn held (Some seconds) = held ≡ Stamp seconds
+
+-- what was found is this stamp, or none
+abbrev pub IsStampFound : Found → Option ℕ → Type 0
+IsStampFound Blank stamp = stamp ≡ None
+IsStampFound (Stray cell) stamp = stamp ≡ None
+IsStampFound (Record cell held) stamp = IsStampIn held stamp
+
+-- How reading the stamps of the done slots below n may end, and why. The greatest is told: one of them has it, and none had
+-- a greater one.
+abbrev pub StampsEnd : Layout → ℕ → ViewState → ViewState → Result (Option ℕ) Fault → Type 0
+StampsEnd g n old new (Ok last) =
+    (new.base.faults ≡ old.base.faults)
+    × (IsTrue old.base.tells → AreUpTo g old.image 0 n last × IsOneBelow g new.image n last)
+StampsEnd g n old new (Err fault) = (horizon edge : ℕ) → WalkFails g horizon edge old new fault
+
+pub record ReadsStamps (g : Layout) (n : ℕ) (old new : ViewState) (result : Result (Option ℕ) Fault) : Type 0 where
+  pub viewed : Viewed old new
+  pub ends : StampsEnd g n old new result
+
+-- how reading one more, that of slot n, may end
+abbrev pub AddEnds : Layout → ℕ → Option ℕ → ViewState → ViewState → Result (Option ℕ) Fault → Type 0
+AddEnds g n greatest old new (Ok last) =
+    (new.base.faults ≡ old.base.faults) × IsUpTo greatest last
+    × (IsTrue old.base.tells → AreUpTo g old.image n (n + 1) last
+    × ((last ≡ greatest) ⊎ ((seconds : ℕ) × (last ≡ Some seconds) × IsDoneSlot g new.image n × HasStamp new.image n seconds)))
+AddEnds g n greatest old new (Err fault) = (horizon edge : ℕ) → WalkFails g horizon edge old new fault
+
+pub record AddsStamp (g : Layout) (n : ℕ) (greatest : Option ℕ) (old new : ViewState) (result : Result (Option ℕ) Fault)
+    : Type 0 where
+  pub viewed : Viewed old new
+  pub ends : AddEnds g n greatest old new result
+
+-- the stamps of the done slots from one on, and below n, were read
+pub record StampsSoFar (g : Layout) (from n : ℕ) (greatest : Option ℕ) (old now : ViewState) : Type 0 where
+  pub viewed : Viewed old now
+  pub faults : now.base.faults ≡ old.base.faults
+  pub most : IsTrue old.base.tells → AreUpTo g old.image from n greatest
+  pub one : IsTrue old.base.tells → IsOneBelow g now.image n greatest
+
+-- how comparing a stamp with the last one may end
+abbrev pub PastLast : ℕ → Option ℕ → Result Unit Refusal → Type 0
+PastLast given last (Ok u) = (seconds : ℕ) → last ≡ Some seconds → seconds < given
+PastLast given last (Err (StampTooEarly early other)) = (early ≡ given) × (last ≡ Some other) × (given ≤ other)
+PastLast given last (Err refusal) = ⊥
