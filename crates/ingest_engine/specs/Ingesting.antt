@@ -26,12 +26,13 @@ use Rattle.plan_writer.specs.declared.plan.Plan.{Plan}
 use Rattle.ingest_plan.specs.declared.plan.PlannedIndex.{PlannedIndex}
 use Rattle.ingest_engine.specs.Indexing.{HasIndex, HasTooMany, IsPathRule}
 
--- The plan is of this document, and of its index, which was planned after settling: it has the index's blocks, and copies of
--- its cells are the journal.
+-- The plan is of this document, without a stamp, and of its index, which was planned after settling: it has the index's
+-- blocks, and copies of its cells are the journal.
 pub record IsPlanFor (r : Ready) (id body : List ℕ) (settled looked : DeviceState) (p : Plan) : Type 0 where
   pub starts : p.start ≡ r.edge
   pub suits : Suits r.volume.geometry p
   pub document : PlansDocument p id body
+  pub stamp : p.stamp ≡ None
   pub index : PlannedIndex
   pub has : HasIndex r id body index settled looked
   pub blocks : p.block_length ≡ index.block_length

@@ -45,6 +45,7 @@ pub fn ingest<D: Device>(
         document: &document.cells,
         journal: &index.journal,
         bytes: document.bytes,
+        stamp: None,
     };
     let slot = put_planned(device, &ready, &plan)?;
     Ok(slot)
