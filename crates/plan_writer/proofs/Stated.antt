@@ -5,10 +5,10 @@ use Rattle.cell_types.specs.Layout.{Layout, IsLayout, reserve_at, outcome_at, do
 use Rattle.cell_types.specs.declared.record_cell.RecordCell.TheVariants as records
 use Rattle.phase_writer.specs.Putting.{AreStanding}
 use Rattle.recovery_engine.specs.Ending.{done_put}
-use Rattle.stored_documents.specs.Slots.{Reserves, Commits, IsStampOf}
+use Rattle.stored_documents.specs.Slots.{Reserves, Commits, IsStampFor, IsStampOf}
 use Rattle.stored_documents.specs.Volumes.{Holds}
 use Rattle.stored_documents.proofs.Stamps.{has_stamp}
-use Rattle.plan_writer.specs.Planned.{IsStampGiven, IsStampPut, Suits, commit_put, reserve_put, reserved_by, stamp_put}
+use Rattle.plan_writer.specs.Planned.{IsStampPut, Suits, commit_put, reserve_put, reserved_by, stamp_put}
 use Rattle.plan_writer.specs.declared.plan.Plan.{Plan}
 
 module _ (g : Layout) (n : ℕ) (p : Plan) (layout : IsLayout g) (less : n < g.slots) (suits : Suits g p)
@@ -34,7 +34,7 @@ module _ (g : Layout) (n : ℕ) (p : Plan) (layout : IsLayout g) (less : n < g.s
       some_cells : 1 ≤ (reserved_by p).length
       some_cells = omega (arith, suits.fits.2, suits.fits.3)
 
-  stamp_in : (stamp : Option ℕ) → IsStampGiven g stamp → ((seconds : ℕ) → stamp ≡ Some seconds → seconds < 2 ^ 32)
+  stamp_in : (stamp : Option ℕ) → IsStampFor g stamp → ((seconds : ℕ) → stamp ≡ Some seconds → seconds < 2 ^ 32)
       → AreStanding (IsStampPut n stamp) image → IsStampOf g image n stamp
   stamp_in None given fits stands = given
   stamp_in (Some seconds) given fits stands = (

@@ -3,10 +3,9 @@ use Rattle.std.specs.Prelude.{◌≡◌, ◌≤◌, ◌+◌, ◌-◌, ◌<◌, �
 use Rattle.cell_types.specs.Image.{Image}
 use Rattle.cell_types.specs.Layout.{Layout, reserve_at, outcome_at, spare_at, pool_at, lists_at}
 use Rattle.cell_types.specs.Records.{record_bytes}
-use Rattle.cell_types.specs.declared.geometry.TheConstants.{STAMPED_VERSION}
 use Rattle.cell_types.specs.declared.record_cell.RecordCell.TheVariants.{Reserve, Commit, Stamp}
 use Rattle.stored_documents.specs.Documents.{IsIdentifier, IsBody, content_at, stored_bytes}
-use Rattle.stored_documents.specs.Slots.{cells_for}
+use Rattle.stored_documents.specs.Slots.{IsStampFor, cells_for}
 use Rattle.tamper_rules.specs.declared.numbers.TheConstants.{RESERVE_CELL, OUTCOME_CELL, STRAY_CELL}
 use Rattle.phase_writer.specs.Putting.{IsInRow}
 use Rattle.phase_writer.specs.declared.put.Blame.TheVariants.{Rule, Journal}
@@ -92,11 +91,6 @@ ingest_phases n p (suc (suc (suc (suc (suc j))))) put = ⊥
 abbrev pub laid : ℕ → List (List ℕ) → Image
 laid place cells at = slice_get cells (at - place)
 
--- a stamp is given exactly on a volume of stamped documents
-abbrev pub IsStampGiven : Layout → Option ℕ → Type 0
-IsStampGiven g None = g.version < STAMPED_VERSION
-IsStampGiven g (Some seconds) = g.version ≡ STAMPED_VERSION
-
 -- A plan suits a volume: the cells that it reserves lie in the pool, its document and journal are as many as a commit
 -- cell can state, a stamp is given exactly where documents are stamped and has 32 bits, and the journal asks for what
 -- it may ask for.
@@ -105,7 +99,7 @@ pub record Suits (g : Layout) (p : Plan) : Type 0 where
   pub to : p.start + (reserved_by p).length ≤ g.cells
   pub fits : FitsInto (reserved_by p).length p.bytes (length p.journal.now)
   pub document : length p.document.now ≡ cells_for p.bytes
-  pub stamp : IsStampGiven g p.stamp
+  pub stamp : IsStampFor g p.stamp
   pub stamp_fits : (seconds : ℕ) → p.stamp ≡ Some seconds → seconds < 2 ^ 32
   pub entries : AreEntries (lists_at g) (laid (journal_from p) p.journal.now) (journal_from p) (document_from p)
       (length p.journal.now)
