@@ -2,14 +2,15 @@
 use Rattle.std.proofs.Common.{◌≡◌, ◌<◌, ℕ, None, sym, ◌∙◌, ⊎_elim}
 use Rattle.std.proofs.lemmas.Option.{none-some}
 use Rattle.cell_types.specs.Image.{Image}
-use Rattle.cell_types.specs.Layout.{Layout, reserve_at, outcome_at}
+use Rattle.cell_types.specs.Layout.{Layout, reserve_at, outcome_at, spare_at}
 use Rattle.cell_types.specs.declared.record_cell.RecordCell.{RecordCell}
 use Rattle.cell_types.specs.declared.record_cell.RecordCell.TheVariants as records
+use Rattle.stored_documents.specs.Slots.{IsStamped}
 use Rattle.stored_documents.specs.Volumes.{Holds, IsVolume, IsWritten}
 use Rattle.stored_documents.proofs.Holding.{one_record_holds}
 use Rattle.tamper_rules.specs.Rules.{Rule, IsBroken, IsMet, IsPlace, ReserveCells, OutcomeCells, DoneCells, number_of}
 use Rattle.commit_record.specs.Laws.{NoStateBreaksARule}
-use Rattle.commit_record.specs.States.{IsNoState, reserves_none, ends_unreserved, ends_wrongly, done_unreserved, done_unended, done_abandoned, done_wrongly}
+use Rattle.commit_record.specs.States.{IsNoState, LacksStamp, reserves_none, ends_unreserved, ends_wrongly, ends_unstamped, done_unreserved, done_unended, done_abandoned, done_wrongly}
 
 -- a blank cell is not written
 pub no_written : (image : Image) (at : ℕ) → image at ≡ None → IsWritten image at → ⊥
@@ -24,6 +25,11 @@ pub no_both : (image : Image) (at bytes journal : ℕ) → Holds image at record
     (records.Commit bytes journal) → ⊥
 no_both image at bytes journal h k =
     let same : records.Abandon ≡ records.Commit bytes journal = one_record_holds image at _ _ h k in cc
+
+-- a slot that lacks its stamp in one image has none there
+pub no_stamp : (image : Image) (n : ℕ) → LacksStamp image image n → IsStamped image n → ⊥
+no_stamp image n lacks has =
+    ⊎_elim (λ blank. no_holds image (spare_at n) _ blank has.stamp) (λ none. none has.seconds has.stamp) lacks
 
 module _ (cells : ℕ) (g : Layout) (image : Image) (n cell : ℕ) (volume : IsVolume cells image g) (less : n < g.slots)
     (written : IsWritten image cell) where
@@ -50,6 +56,12 @@ module _ (cells : ℕ) (g : Layout) (image : Image) (n cell : ℕ) (volume : IsV
       (λ abandon. no_abandon (record { reserves = reserves; outcome = abandon }))
       (λ commit. no_commit commit.0 commit.1
       (record { reserves = reserves; outcome = commit.2; fits = commit.3 start length reserves.reserve; stamped = commit.4 }))
+      (met n less c).outcome)
+  breaks number (ends_unstamped start length bytes journal r c reserves commit fits stamped lacks) = broken number
+      OutcomeCells r (n, less, c)
+      (λ met. ⊎_elim
+      (λ abandon. no_both image (outcome_at n) bytes journal abandon commit)
+      (λ kept. no_stamp image n lacks (kept.4 stamped))
       (met n less c).outcome)
   breaks number (done_unreserved r c no_reserve no_outcome) = broken number DoneCells r (n, less, c)
       (λ met. no_holds image (outcome_at n) _ no_outcome (met n less c).commit)

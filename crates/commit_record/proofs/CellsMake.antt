@@ -1,17 +1,17 @@
--- What three cells of a slot make, and why a cell among them is out of place.
-use Rattle.std.proofs.Common.{◌≡◌, ◌<◌, ◌≤◌, ◌+◌, ℕ, List, Some, None, Result, Ok, Err, refl, sym, ◌∙◌, ap, subst}
+-- What the cells of a slot make, and why a cell among them is out of place.
+use Rattle.std.proofs.Common.{◌≡◌, ◌<◌, ◌≤◌, ◌+◌, inl, inr, ℕ, List, Option, Some, None, Result, Ok, Err, refl, sym, ◌∙◌, ap, subst}
 use Rattle.cell_types.specs.Image.{Image}
-use Rattle.cell_types.specs.Layout.{Layout, reserve_at, outcome_at, done_at, pool_at}
+use Rattle.cell_types.specs.Layout.{Layout, reserve_at, outcome_at, done_at, spare_at, pool_at}
 use Rattle.cell_types.specs.declared.geometry.TheConstants.{STAMPED_VERSION}
 use Rattle.cell_types.specs.declared.record_cell.RecordCell.{RecordCell}
 use Rattle.cell_types.specs.declared.record_cell.RecordCell.TheVariants as records
 use Rattle.cell_types.specs.declared.refusal.Evidence.{Evidence}
-use Rattle.stored_documents.specs.Slots.{cells_for}
+use Rattle.stored_documents.specs.Slots.{IsStamped, cells_for}
 use Rattle.stored_documents.specs.Volumes.{Holds}
 use Rattle.tamper_rules.specs.Rules.{IsPlaceOf, ReserveCells, OutcomeCells, DoneCells}
 use Rattle.tamper_rules.specs.declared.numbers.TheConstants.{RESERVE_CELL, OUTCOME_CELL, DONE_CELL}
-use Rattle.commit_record.specs.SlotCells.{CellsEnd, SeenCells, SeenCommitted, SeenReserved, SeenUnreserved, cell_of}
-use Rattle.commit_record.specs.States.{reserves_none, ends_unreserved, ends_wrongly, done_unreserved, done_unended, done_abandoned, done_wrongly}
+use Rattle.commit_record.specs.SlotCells.{CellsEnd, IsStampMissing, IsStampThere, SeenCells, SeenCommitted, SeenReserved, SeenStamp, SeenUnreserved, cell_of}
+use Rattle.commit_record.specs.States.{LacksStamp, reserves_none, ends_unreserved, ends_wrongly, ends_unstamped, done_unreserved, done_unended, done_abandoned, done_wrongly}
 use Rattle.worm_device.specs.declared.looks.Found.{Found}
 use Rattle.worm_device.specs.declared.looks.Found.TheVariants.{Blank, Record, Stray}
 use Rattle.commit_record.specs.declared.slot.SlotState.{SlotState}
@@ -42,7 +42,31 @@ pub record IsLateDone (n : ℕ) (done : Found) (e : Evidence) : Type 0 where
   pub cell : e.cell ≡ done_at n
   pub found : cell_of done ≡ Some e.found
 
-module _ (g : Layout) (n : ℕ) (less : n < g.slots) (reserve outcome done : Found) where
+-- where a stamp was found in its cell, the slot has it
+stamp_there : (g : Layout) (n : ℕ) (stamp : Option Found) (before after : Image) → IsStampThere stamp
+    → SeenStamp g n stamp before after → g.version ≡ STAMPED_VERSION → IsStamped after n
+stamp_there g n None before after there seen stamped = absurd (seen stamped)
+stamp_there g n (Some Blank) before after there seen stamped = absurd there
+stamp_there g n (Some (Stray cell)) before after there seen stamped = absurd there
+stamp_there g n (Some (Record cell held)) before after there seen stamped = record {
+  seconds = there.0;
+  stamp = subst (Holds after (spare_at n)) there.1 (record { cell = cell; stands = seen.1.0; is = seen.1.1 });
+}
+
+-- where none was found, the slot lacks it
+stamp_missing : (g : Layout) (n : ℕ) (stamp : Option Found) (before after : Image) → IsStampMissing stamp
+    → SeenStamp g n stamp before after → (g.version ≡ STAMPED_VERSION) × LacksStamp before after n
+stamp_missing g n None before after missing seen = absurd missing
+stamp_missing g n (Some Blank) before after missing seen = (seen.0, inl seen.1)
+stamp_missing g n (Some (Stray cell)) before after missing seen =
+    (seen.0, inr (λ seconds. stray_none before after (spare_at n) (Stray cell) cell seen.1 refl _))
+stamp_missing g n (Some (Record cell held)) before after missing seen = (
+  seen.0,
+  inr (λ seconds has. missing seconds
+      (sym (record_one before after (spare_at n) (Record cell held) cell seen.1 held _ refl has))),
+)
+
+module _ (g : Layout) (n : ℕ) (less : n < g.slots) (reserve outcome done : Found) (stamp : Option Found) where
   reserve_place : (at : ℕ) → at ≡ reserve_at n → IsPlaceOf g RESERVE_CELL at
   reserve_place at e = (ReserveCells, refl, (n, less, e))
 
@@ -54,7 +78,7 @@ module _ (g : Layout) (n : ℕ) (less : n < g.slots) (reserve outcome done : Fou
 
   -- the reserve cell holds no record
   pub reserve_stray : (at : ℕ) (found : List ℕ) → at ≡ reserve_at n → reserve ≡ Stray found
-      → CellsEnd (SeenCells n reserve outcome done) g n (Err (evidence RESERVE_CELL at found))
+      → CellsEnd (SeenCells g n reserve outcome done stamp) g n (Err (evidence RESERVE_CELL at found))
   reserve_stray at found e is = (
     reserve_place at e,
     λ before after seen. (
@@ -67,7 +91,7 @@ module _ (g : Layout) (n : ℕ) (less : n < g.slots) (reserve outcome done : Fou
   -- or one that reserves no cells of the pool
   pub reserve_wrong : (at : ℕ) (found : List ℕ) (held : RecordCell) → at ≡ reserve_at n → reserve ≡ Record found held
       → ((start length : ℕ) → held ≡ records.Reserve start length → pool_at g ≤ start → start + length ≤ g.cells → ⊥)
-      → CellsEnd (SeenCells n reserve outcome done) g n (Err (evidence RESERVE_CELL at found))
+      → CellsEnd (SeenCells g n reserve outcome done stamp) g n (Err (evidence RESERVE_CELL at found))
   reserve_wrong at found held e is none = (
     reserve_place at e,
     λ before after seen. (
@@ -104,7 +128,7 @@ module _ (g : Layout) (n : ℕ) (less : n < g.slots) (reserve outcome done : Fou
   module _ (start length : ℕ) where
     -- the outcome cell holds no record
     pub outcome_stray : (at : ℕ) (found : List ℕ) → at ≡ outcome_at n → outcome ≡ Stray found
-        → CellsEnd (SeenReserved g n start length outcome done) g n (Err (evidence OUTCOME_CELL at found))
+        → CellsEnd (SeenReserved g n start length outcome done stamp) g n (Err (evidence OUTCOME_CELL at found))
     outcome_stray at found e is = (
       outcome_place at e,
       λ before after seen.
@@ -118,7 +142,7 @@ module _ (g : Layout) (n : ℕ) (less : n < g.slots) (reserve outcome done : Fou
     pub outcome_wrong : (at : ℕ) (found : List ℕ) (held : RecordCell) → at ≡ outcome_at n
         → outcome ≡ Record found held → (held ≡ records.Abandon → ⊥)
         → ((bytes journal : ℕ) → held ≡ records.Commit bytes journal → cells_for bytes + journal ≤ length → ⊥)
-        → CellsEnd (SeenReserved g n start length outcome done) g n (Err (evidence OUTCOME_CELL at found))
+        → CellsEnd (SeenReserved g n start length outcome done stamp) g n (Err (evidence OUTCOME_CELL at found))
     outcome_wrong at found held e is no_abandon no_commit = (
       outcome_place at e,
       λ before after seen.
@@ -133,7 +157,7 @@ module _ (g : Layout) (n : ℕ) (less : n < g.slots) (reserve outcome done : Fou
 
     -- a done cell stands, and the slot has no outcome
     pub done_without_outcome : (e : Evidence) → outcome ≡ Blank → IsLateDone n done e
-        → CellsEnd (SeenReserved g n start length outcome done) g n (Err e)
+        → CellsEnd (SeenReserved g n start length outcome done stamp) g n (Err e)
     done_without_outcome e blank late = (
       done_place e.rule e.cell late.rule late.cell,
       λ before after seen. (
@@ -146,7 +170,7 @@ module _ (g : Layout) (n : ℕ) (less : n < g.slots) (reserve outcome done : Fou
     -- a done cell stands, and the slot was given up
     pub done_behind_abandon : (e : Evidence) (found : List ℕ) (held : RecordCell) → outcome ≡ Record found held
         → held ≡ records.Abandon → IsLateDone n done e
-        → CellsEnd (SeenReserved g n start length outcome done) g n (Err e)
+        → CellsEnd (SeenReserved g n start length outcome done stamp) g n (Err e)
     done_behind_abandon e found held is abandon late = (
       done_place e.rule e.cell late.rule late.cell,
       λ before after seen.
@@ -161,16 +185,38 @@ module _ (g : Layout) (n : ℕ) (less : n < g.slots) (reserve outcome done : Fou
       -- where the outcome cell states a document that fits, the slot commits it
       pub committed : (result : Result SlotState Evidence) (found : List ℕ) (held : RecordCell) → outcome ≡ Record
           found held
-          → held ≡ records.Commit bytes journal → cells_for bytes + journal ≤ length → (g.version ≡ STAMPED_VERSION → ⊥)
+          → held ≡ records.Commit bytes journal → cells_for bytes + journal ≤ length → IsStampThere stamp
           → CellsEnd (SeenCommitted g n start length bytes journal done) g n result
-          → CellsEnd (SeenReserved g n start length outcome done) g n result
-      committed result found held is commit fits plain =
-          narrower (SeenCommitted g n start length bytes journal done) (SeenReserved g n start length outcome done) g
+          → CellsEnd (SeenReserved g n start length outcome done stamp) g n result
+      committed result found held is commit fits there =
+          narrower (SeenCommitted g n start length bytes journal done) (SeenReserved g n start length outcome done stamp) g
           n result
           (λ before after seen.
           let states = subst (Holds after (outcome_at n)) commit (record_held before after (outcome_at n) outcome
-          found seen.1 held is) in
-          (record { reserves = seen.0; outcome = states; fits = fits; stamped = λ e. absurd (plain e) }, seen.2))
+          found seen.1 held is) in (
+            record {
+              reserves = seen.0;
+              outcome = states;
+              fits = fits;
+              stamped = stamp_there g n stamp before after there seen.3;
+            },
+            seen.2,
+          ))
+
+      -- or it lacks its stamp
+      pub unstamped : (at : ℕ) (found : List ℕ) (held : RecordCell) → at ≡ outcome_at n → outcome ≡ Record found held
+          → held ≡ records.Commit bytes journal → cells_for bytes + journal ≤ length → IsStampMissing stamp
+          → CellsEnd (SeenReserved g n start length outcome done stamp) g n (Err (evidence OUTCOME_CELL at found))
+      unstamped at found held e is commit fits missing = (
+        outcome_place at e,
+        λ before after seen.
+            let states = subst (Holds after (outcome_at n)) commit (record_held before after (outcome_at n) outcome
+            found seen.1 held is) in
+            let lacks = stamp_missing g n stamp before after missing seen.3 in (
+              ap after e ∙ record_stands before after (outcome_at n) outcome found seen.1 held is,
+              ends_unstamped start length bytes journal refl e seen.0 states fits lacks.0 lacks.1,
+            ),
+      )
 
       -- the done cell holds no record
       pub done_stray : (at : ℕ) (found : List ℕ) → at ≡ done_at n → done ≡ Stray found
@@ -201,20 +247,20 @@ module _ (g : Layout) (n : ℕ) (less : n < g.slots) (reserve outcome done : Fou
     pub reserved : (result : Result SlotState Evidence) (found : List ℕ) (held : RecordCell) → reserve ≡ Record found
         held
         → held ≡ records.Reserve start length → pool_at g ≤ start → start + length ≤ g.cells
-        → CellsEnd (SeenReserved g n start length outcome done) g n result
-        → CellsEnd (SeenCells n reserve outcome done) g n result
+        → CellsEnd (SeenReserved g n start length outcome done stamp) g n result
+        → CellsEnd (SeenCells g n reserve outcome done stamp) g n result
     reserved result found held is reserves from to =
-        narrower (SeenReserved g n start length outcome done) (SeenCells n reserve outcome done) g n result
+        narrower (SeenReserved g n start length outcome done stamp) (SeenCells g n reserve outcome done stamp) g n result
         (λ before after seen.
         let holds = subst (Holds after (reserve_at n)) reserves (record_held before after (reserve_at n) reserve
         found seen.0 held is) in
-        (record { slot = less; reserve = holds; from = from; to = to }, seen.1, seen.2))
+        (record { slot = less; reserve = holds; from = from; to = to }, seen.1, seen.2, seen.3))
 
   -- where the reserve cell is blank, nothing is reserved
   pub unreserved : (result : Result SlotState Evidence) → reserve ≡ Blank
-      → CellsEnd (SeenUnreserved n outcome done) g n result → CellsEnd (SeenCells n reserve outcome done) g n result
+      → CellsEnd (SeenUnreserved n outcome done) g n result → CellsEnd (SeenCells g n reserve outcome done stamp) g n result
   unreserved result blank =
-      narrower (SeenUnreserved n outcome done) (SeenCells n reserve outcome done) g n result
+      narrower (SeenUnreserved n outcome done) (SeenCells g n reserve outcome done stamp) g n result
       (λ before after seen. (
         was_blank before after (reserve_at n) reserve seen.0 (ap cell_of blank),
         seen.1,

@@ -1,16 +1,17 @@
 -- What is known of a cell by what was found in it.
-use Rattle.std.proofs.Common.{◌≡◌, ℕ, List, Some, None, Result, Err, sym, ◌∙◌, ap, subst}
+use Rattle.std.proofs.Common.{◌≡◌, ℕ, List, Option, Some, None, Result, Err, sym, ◌∙◌, ap, subst}
 use Rattle.std.specs.Prelude.{IsErrAnd}
 use Rattle.std.proofs.lemmas.Option.{none-some}
 use Rattle.std.proofs.lemmas.Result.{err_from_is_err_and}
 use Rattle.cell_types.specs.Image.{Image, Extends}
+use Rattle.cell_types.specs.Layout.{Layout, spare_at}
 use Rattle.cell_types.specs.Records.{IsRecordCell}
 use Rattle.cell_types.specs.declared.record_cell.RecordCell.{RecordCell}
 use Rattle.stored_documents.specs.Volumes.{Holds}
 use Rattle.stored_documents.proofs.Extending.{blank_before}
 use Rattle.stored_documents.proofs.Holding.{one_record_holds, some_is}
 use Rattle.worm_device.specs.Looks.{IsSeen}
-use Rattle.commit_record.specs.SlotCells.{cell_of}
+use Rattle.commit_record.specs.SlotCells.{SeenStamp, cell_of}
 use Rattle.worm_device.specs.declared.looks.Found.{Found}
 use Rattle.worm_device.specs.declared.looks.Found.TheVariants.{Blank, Record, Stray}
 
@@ -71,3 +72,17 @@ pub seen_same : (before after before' after' : Image) (at : ℕ) (found : Found)
 seen_same before after before' after' at Blank same same' seen = same ∙ seen
 seen_same before after before' after' at (Record cell held) same same' seen = (same' ∙ seen.0, seen.1)
 seen_same before after before' after' at (Stray cell) same same' seen = (same' ∙ seen.0, seen.1)
+
+-- so it is with a stamp cell
+pub stamp_further : (g : Layout) {before before' after after' : Image} (n : ℕ) (stamp : Option Found)
+    → Extends before' before → Extends after after' → SeenStamp g n stamp before after
+    → SeenStamp g n stamp before' after'
+stamp_further g n None e f seen = seen
+stamp_further g n (Some found) e f seen = (seen.0, seen_further (spare_at n) found e f seen.1)
+
+pub stamp_same : (g : Layout) (before after before' after' : Image) (n : ℕ) (stamp : Option Found)
+    → before' (spare_at n) ≡ before (spare_at n) → after' (spare_at n) ≡ after (spare_at n)
+    → SeenStamp g n stamp before after → SeenStamp g n stamp before' after'
+stamp_same g before after before' after' n None same same' seen = seen
+stamp_same g before after before' after' n (Some found) same same' seen =
+    (seen.0, seen_same before after before' after' (spare_at n) found same same' seen.1)

@@ -7,10 +7,10 @@ use Rattle.stored_documents.specs.Volumes.{IsWritten}
 use Rattle.stored_documents.proofs.Holding.{one_record_holds}
 use Rattle.stored_documents.proofs.OneDocument.{reserves, commits}
 use Rattle.commit_record.specs.Laws.{StatesAreOne}
-use Rattle.commit_record.specs.States.{IsState, IsNoState, reserves_none, ends_unreserved, ends_wrongly, done_unreserved, done_unended, done_abandoned, done_wrongly}
+use Rattle.commit_record.specs.States.{IsState, IsNoState, reserves_none, ends_unreserved, ends_wrongly, ends_unstamped, done_unreserved, done_unended, done_abandoned, done_wrongly}
 use Rattle.commit_record.specs.declared.slot.SlotState.{SlotState}
 use Rattle.commit_record.specs.declared.slot.SlotState.TheVariants.{Unused, Reserved, Abandoned, Committed, Done}
-use Rattle.commit_record.proofs.Breaking.{no_both, no_holds, no_written}
+use Rattle.commit_record.proofs.Breaking.{no_both, no_holds, no_stamp, no_written}
 
 module _ (g : Layout) (image : Image) (n : ℕ) where
   -- a slot reserves one range of cells
@@ -74,6 +74,8 @@ module _ (g : Layout) (image : Image) (n : ℕ) where
       no_written image (outcome_at n) p.outcome (subst (IsWritten image) c w)
   apart Unused w p (ends_wrongly s' l' r c reserves no_abandon no_commit) =
       no_holds image (reserve_at n) _ p.reserve reserves.reserve
+  apart Unused w p (ends_unstamped s' l' b' j' r c reserves commit fits stamped lacks) =
+      no_holds image (reserve_at n) _ p.reserve reserves.reserve
   apart Unused w p (done_unreserved r c blank no_outcome) =
       no_written image (done_at n) p.done (subst (IsWritten image) c w)
   apart Unused w p (done_unended s' l' r c reserves no_outcome) =
@@ -86,6 +88,8 @@ module _ (g : Layout) (image : Image) (n : ℕ) where
   apart (Reserved s l) w p (ends_unreserved r c blank) = no_holds image (reserve_at n) _ blank p.reserves.reserve
   apart (Reserved s l) w p (ends_wrongly s' l' r c reserves no_abandon no_commit) =
       no_written image (outcome_at n) p.outcome (subst (IsWritten image) c w)
+  apart (Reserved s l) w p (ends_unstamped s' l' b' j' r c reserves commit fits stamped lacks) =
+      no_holds image (outcome_at n) _ p.outcome commit
   apart (Reserved s l) w p (done_unreserved r c blank no_outcome) =
       no_holds image (reserve_at n) _ blank p.reserves.reserve
   apart (Reserved s l) w p (done_unended s' l' r c reserves no_outcome) =
@@ -99,6 +103,8 @@ module _ (g : Layout) (image : Image) (n : ℕ) where
       no_holds image (reserve_at n) _ blank p.abandons.reserves.reserve
   apart (Abandoned s l) w p (ends_wrongly s' l' r c reserves no_abandon no_commit) =
       no_abandon (record { reserves = reserves; outcome = p.abandons.outcome })
+  apart (Abandoned s l) w p (ends_unstamped s' l' b' j' r c reserves commit fits stamped lacks) =
+      no_both image (outcome_at n) _ _ p.abandons.outcome commit
   apart (Abandoned s l) w p (done_unreserved r c blank no_outcome) =
       no_holds image (reserve_at n) _ blank p.abandons.reserves.reserve
   apart (Abandoned s l) w p (done_unended s' l' r c reserves no_outcome) =
@@ -112,6 +118,8 @@ module _ (g : Layout) (image : Image) (n : ℕ) where
       no_holds image (reserve_at n) _ blank p.commits.reserves.reserve
   apart (Committed s l b j) w p (ends_wrongly s' l' r c reserves no_abandon no_commit) =
       no_commit b j (fits_there reserves p.commits)
+  apart (Committed s l b j) w p (ends_unstamped s' l' b' j' r c reserves commit fits stamped lacks) =
+      no_stamp image n lacks (p.commits.stamped stamped)
   apart (Committed s l b j) w p (done_unreserved r c blank no_outcome) =
       no_holds image (reserve_at n) _ blank p.commits.reserves.reserve
   apart (Committed s l b j) w p (done_unended s' l' r c reserves no_outcome) =
@@ -125,6 +133,8 @@ module _ (g : Layout) (image : Image) (n : ℕ) where
       no_holds image (reserve_at n) _ blank p.commits.reserves.reserve
   apart (Done s l b j) w p (ends_wrongly s' l' r c reserves no_abandon no_commit) =
       no_commit b j (fits_there reserves p.commits)
+  apart (Done s l b j) w p (ends_unstamped s' l' b' j' r c reserves commit fits stamped lacks) =
+      no_stamp image n lacks (p.commits.stamped stamped)
   apart (Done s l b j) w p (done_unreserved r c blank no_outcome) =
       no_holds image (reserve_at n) _ blank p.commits.reserves.reserve
   apart (Done s l b j) w p (done_unended s' l' r c reserves no_outcome) =

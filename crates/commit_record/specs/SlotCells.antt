@@ -1,11 +1,17 @@
--- What was found in the three cells of a slot makes a state, whatever two images it was found between.
-use Rattle.std.specs.Prelude.{◌≡◌, ℕ, List, Option, Some, None, Result, Ok, Err}
+-- What was found in the cells of a slot makes a state, whatever two images it was found between.
+use Rattle.std.specs.Prelude.{◌≡◌, ℕ, List, Option, Some, None, Result, Ok, Err, IsTrue, ⊤}
 use Rattle.cell_types.specs.Image.{Image}
-use Rattle.cell_types.specs.Layout.{Layout, reserve_at, outcome_at, done_at}
+use Rattle.cell_types.specs.Layout.{Layout, reserve_at, outcome_at, done_at, spare_at}
+use Rattle.cell_types.specs.declared.geometry.TheConstants.{STAMPED_VERSION}
+use Rattle.cell_types.specs.declared.record_cell.RecordCell.{RecordCell}
+use Rattle.cell_types.specs.declared.record_cell.RecordCell.TheVariants.{Stamp}
 use Rattle.cell_types.specs.declared.refusal.Evidence.{Evidence}
 use Rattle.stored_documents.specs.Slots.{Commits, Reserves}
 use Rattle.tamper_rules.specs.Rules.{IsPlaceOf}
+use Rattle.worm_device.specs.Counts.{Rose}
 use Rattle.worm_device.specs.Looks.{IsSeen}
+use Rattle.worm_device.specs.Views.{ViewState}
+use Rattle.worm_device.specs.declared.device.Failed.{Failed}
 use Rattle.commit_record.specs.States.{IsNoState, IsState, LiesInPool}
 use Rattle.worm_device.specs.declared.looks.Found.{Found}
 use Rattle.worm_device.specs.declared.looks.Found.TheVariants.{Blank, Record, Stray}
@@ -17,21 +23,51 @@ cell_of Blank = None
 cell_of (Record cell held) = Some cell
 cell_of (Stray cell) = Some cell
 
--- this was found in slot n's three cells
-abbrev pub SeenCells : ℕ → Found → Found → Found → Image → Image → Type 0
-SeenCells n reserve outcome done before after =
-    IsSeen before after (reserve_at n) reserve × IsSeen before after (outcome_at n) outcome
-    × IsSeen before after (done_at n) done
+-- this was found in slot n's stamp cell, which is looked at where documents are stamped, and not on another volume
+abbrev pub SeenStamp : Layout → ℕ → Option Found → Image → Image → Type 0
+SeenStamp g n None before after = g.version ≡ STAMPED_VERSION → ⊥
+SeenStamp g n (Some stamp) before after = (g.version ≡ STAMPED_VERSION) × IsSeen before after (spare_at n) stamp
 
--- slot n has no reserve cell, and this was found in the two others
+-- How a look at slot n's stamp cell may end. It was made at the later of the two states.
+abbrev pub StampSeen : Layout → ℕ → ViewState → ViewState → Result (Option Found) Failed → Type 0
+StampSeen g n old new (Ok stamp) =
+    (new.base.faults ≡ old.base.faults) × (IsTrue old.base.tells → SeenStamp g n stamp new.image new.image)
+StampSeen g n old new (Err failed) = Rose old.base.faults new.base.faults
+
+-- the record is a stamp
+abbrev pub HoldsStamp : RecordCell → Type 0
+HoldsStamp held = (seconds : ℕ) × (held ≡ Stamp seconds)
+
+-- no stamp was found where one has to be
+abbrev pub IsStampMissing : Option Found → Type 0
+IsStampMissing None = ⊥
+IsStampMissing (Some Blank) = ⊤
+IsStampMissing (Some (Stray cell)) = ⊤
+IsStampMissing (Some (Record cell held)) = (seconds : ℕ) → held ≡ Stamp seconds → ⊥
+
+-- a stamp was found where one has to be
+abbrev pub IsStampThere : Option Found → Type 0
+IsStampThere None = ⊤
+IsStampThere (Some Blank) = ⊥
+IsStampThere (Some (Stray cell)) = ⊥
+IsStampThere (Some (Record cell held)) = HoldsStamp held
+
+-- this was found in slot n's cells
+abbrev pub SeenCells : Layout → ℕ → Found → Found → Found → Option Found → Image → Image → Type 0
+SeenCells g n reserve outcome done stamp before after =
+    IsSeen before after (reserve_at n) reserve × IsSeen before after (outcome_at n) outcome
+    × IsSeen before after (done_at n) done × SeenStamp g n stamp before after
+
+-- slot n has no reserve cell, and this was found in its outcome and its done cell
 abbrev pub SeenUnreserved : ℕ → Found → Found → Image → Image → Type 0
 SeenUnreserved n outcome done before after =
     (before (reserve_at n) ≡ None) × IsSeen before after (outcome_at n) outcome × IsSeen before after (done_at n) done
 
--- slot n reserves these cells, and this was found in the two others
-abbrev pub SeenReserved : Layout → ℕ → ℕ → ℕ → Found → Found → Image → Image → Type 0
-SeenReserved g n start length outcome done before after =
+-- slot n reserves these cells, and this was found in its others
+abbrev pub SeenReserved : Layout → ℕ → ℕ → ℕ → Found → Found → Option Found → Image → Image → Type 0
+SeenReserved g n start length outcome done stamp before after =
     Reserves g after n start length × IsSeen before after (outcome_at n) outcome × IsSeen before after (done_at n) done
+    × SeenStamp g n stamp before after
 
 -- slot n states its document, and this was found in its done cell
 abbrev pub SeenCommitted : Layout → ℕ → ℕ → ℕ → ℕ → ℕ → Found → Image → Image → Type 0

@@ -1,14 +1,14 @@
 -- In which state a slot is, and what says that it is in none.
-use Rattle.std.specs.Prelude.{◌≡◌, ◌<◌, ◌≤◌, ◌+◌, ℕ, Some, None, Result, Ok, Err, IsTrue, ⊤}
+use Rattle.std.specs.Prelude.{◌≡◌, ◌<◌, ◌≤◌, ◌+◌, ◌-◌, ◌⊎◌, min, ℕ, Some, None, Result, Ok, Err, IsTrue, ⊤}
 use Rattle.cell_types.specs.Image.{Image}
-use Rattle.cell_types.specs.Layout.{Layout, reserve_at, outcome_at, done_at, pool_at}
-use Rattle.cell_types.specs.declared.geometry.TheConstants.{MAX_CELLS}
+use Rattle.cell_types.specs.Layout.{Layout, reserve_at, outcome_at, done_at, spare_at, pool_at}
+use Rattle.cell_types.specs.declared.geometry.TheConstants.{FOLDED_VERSION, MAX_CELLS, STAMPED_VERSION}
 use Rattle.cell_types.specs.declared.record_cell.TheConstants.{MIN_STORED_BYTES, MAX_STORED_BYTES}
 use Rattle.cell_types.specs.declared.record_cell.RecordCell.TheVariants as records
 use Rattle.cell_types.specs.declared.refusal.Evidence.{Evidence}
 use Rattle.cell_types.specs.declared.refusal.Fault.{Fault}
 use Rattle.cell_types.specs.declared.refusal.Fault.TheVariants.{Tampered, Failed}
-use Rattle.stored_documents.specs.Slots.{cells_for, Reserves, Abandons, Commits, IsUnused, IsReserved, IsAbandoned, IsCommitted, IsDone}
+use Rattle.stored_documents.specs.Slots.{cells_for, Reserves, Abandons, Commits, HasStamp, IsUnused, IsReserved, IsAbandoned, IsCommitted, IsDone}
 use Rattle.stored_documents.specs.Volumes.{Holds, IsVolume}
 use Rattle.tamper_rules.specs.Rules.{IsPlaceOf, IsBroken}
 use Rattle.tamper_rules.specs.declared.numbers.TheConstants.{RESERVE_CELL, OUTCOME_CELL, DONE_CELL}
@@ -44,8 +44,18 @@ LiesInPool g (Abandoned start length) = AreOfPool g start length
 LiesInPool g (Committed start length bytes journal) = AreOfPool g start length × FitsInto length bytes journal
 LiesInPool g (Done start length bytes journal) = AreOfPool g start length × FitsInto length bytes journal
 
--- The ways in which slot n's three cells, as seen between two images, are no state: by the number of the rule and the
--- first cell that is out of place. The cells before that one fit together.
+-- how many cells of a slot hold a stamp: one where documents are stamped, and none before
+abbrev pub stamp_cells : Layout → ℕ
+stamp_cells g = min 1 (g.version - FOLDED_VERSION)
+
+-- Slot n lacks a stamp, as seen between two images: its spare cell was blank, or holds none. Somebody else may write the
+-- stamp behind a look that found the cell blank, so the later image may have it.
+abbrev pub LacksStamp : Image → Image → ℕ → Type 0
+LacksStamp before after n =
+    (before (spare_at n) ≡ None) ⊎ ((seconds : ℕ) → HasStamp after n seconds → ⊥)
+
+-- The ways in which slot n's cells, as seen between two images, are no state: by the number of the rule and the first
+-- cell that is out of place. The cells before that one fit together.
 pub data IsNoState (g : Layout) (before after : Image) (n rule cell : ℕ) : Type 0 where
   -- the reserve cell reserves no cells of the pool
   reserves_none : rule ≡ RESERVE_CELL → cell ≡ reserve_at n
@@ -57,6 +67,11 @@ pub data IsNoState (g : Layout) (before after : Image) (n rule cell : ℕ) : Typ
   ends_wrongly : (start length : ℕ) → rule ≡ OUTCOME_CELL → cell ≡ outcome_at n → Reserves g after n start length
       → (Abandons g after n start length → ⊥)
       → ((bytes journal : ℕ) → Commits g after n start length bytes journal → ⊥) → IsNoState g before after n rule cell
+  -- the outcome cell states a document that fits, documents are stamped, and the slot lacks its stamp
+  ends_unstamped : (start length bytes journal : ℕ) → rule ≡ OUTCOME_CELL → cell ≡ outcome_at n
+      → Reserves g after n start length → Holds after (outcome_at n) (records.Commit bytes journal)
+      → cells_for bytes + journal ≤ length → g.version ≡ STAMPED_VERSION → LacksStamp before after n
+      → IsNoState g before after n rule cell
   -- a done cell stands, and nothing is reserved
   done_unreserved : rule ≡ DONE_CELL → cell ≡ done_at n → before (reserve_at n) ≡ None → before (outcome_at n) ≡ None
       → IsNoState g before after n rule cell
@@ -71,13 +86,14 @@ pub data IsNoState (g : Layout) (before after : Image) (n rule cell : ℕ) : Typ
       → Commits g after n start length bytes journal → (Holds after (done_at n) (records.Done n) → ⊥)
       → IsNoState g before after n rule cell
 
--- What the view shows of slot n's three cells is what stands below it: none of them is planned, and each is asked for
+-- What the view shows of slot n's four cells is what stands below it: none of them is planned, and each is asked for
 -- below. So it is with every view of a device and no planned cells.
 pub record AsksBelow (n : ℕ) (view : ViewState) : Type 0 where
   pub reserve : view.planned (reserve_at n) ≡ None
   pub outcome : view.planned (outcome_at n) ≡ None
   pub done : view.planned (done_at n) ≡ None
-  pub fresh : done_at n < view.fresh
+  pub spare : view.planned (spare_at n) ≡ None
+  pub fresh : spare_at n < view.fresh
 
 -- The evidence stands in this image; and where nobody else wrote, and cell 0 states this layout, its rule is broken
 -- there. Without this layout another volume's cells would be spoken of.

@@ -1,10 +1,12 @@
 //! The state of a slot.
 ghost use Rattle.std.specs.Prelude.{◌≡◌, ◌<◌, ◌≤◌, ◌+◌, IfOk};
+ghost use Rattle.cell_types.specs.declared.geometry.TheConstants.{NEWEST_VERSION};
 ghost use Rattle.worm_device.specs.Views.{Viewed};
 ghost use Rattle.commit_record.specs.Partition.{HasRoom};
-ghost use Rattle.commit_record.specs.States.{StateEnds};
+ghost use Rattle.commit_record.specs.States.{StateEnds, stamp_cells};
 
 use crate::slot_cells::state_of_cells;
+use crate::stamp_cell::look_at_stamp;
 use cell_types::{Fault, Volume};
 use worm_device::{View, look};
 
@@ -40,19 +42,23 @@ pub enum SlotState {
     },
 }
 
-/// The state of a slot, or the first of its reserve, outcome and done cell that is out of place. Makes at most three
-/// reads.
+/// The state of a slot, or the first of its reserve, outcome and done cell that is out of place. Where documents are
+/// stamped, the outcome cell of a document without a stamp is. Makes at most three reads, and there at most four.
 pub fn slot_state<V: View>(view: &mut V, volume: &Volume, slot: u32) -> Result<SlotState, Fault>
     requires slot { slot < volume.now.geometry.slots }
     requires size { volume.now.geometry.cells ≤ (V.seen view.old).cells }
     ensures viewed { Viewed (V.seen view.old) (V.seen view.new) }
-    ensures reads { (V.seen view.new).base.reads ≤ (V.seen view.old).base.reads + 3 }
+    ensures reads { (V.seen view.new).base.reads ≤ (V.seen view.old).base.reads
+        + (3 + stamp_cells volume.now.geometry) }
+    ensures version { volume.now.geometry.version ≤ NEWEST_VERSION }
     ensures room { IfOk result (λ state. HasRoom state) }
     ensures ends { StateEnds volume.now.geometry slot (V.seen view.old) (V.seen view.new) result }
 {
     let geometry = volume.geometry;
+    let _version = geometry.version();
     let reserve = look(view, geometry.reserve_at(slot))?;
     let outcome = look(view, geometry.outcome_at(slot))?;
+    let stamp = look_at_stamp(view, &geometry, slot)?;
     let done = look(view, geometry.done_at(slot))?;
-    Ok(state_of_cells(&geometry, slot, reserve, outcome, done)?)
+    Ok(state_of_cells(&geometry, slot, reserve, outcome, done, stamp)?)
 }

@@ -1,13 +1,13 @@
-//! The state of a slot, by what was found in its three cells.
-ghost use Rattle.std.specs.Prelude.{◌≡◌, ◌<◌, ◌≤◌, ◌+◌, ◌↔◌, IfErr, IfNone, IfOk, IfSome, IsSome, None, OnOk, Some, IsTrue, ℕ};
+//! The state of a slot, by what was found in its cells.
+ghost use Rattle.std.specs.Prelude.{◌≡◌, ◌<◌, ◌≤◌, ◌+◌, ◌↔◌, IfErr, IfNone, IfOk, IfSome, IsSome, None, OnOk, Some, IsTrue, false, ℕ};
 ghost use Rattle.cell_types.specs.Layout.{done_at, outcome_at, pool_at, reserve_at};
 ghost use Rattle.cell_types.specs.declared.geometry.TheConstants.{MAX_CELLS};
-ghost use Rattle.cell_types.specs.declared.record_cell.RecordCell.TheVariants.{Reserve};
+ghost use Rattle.cell_types.specs.declared.record_cell.RecordCell.TheVariants.{Reserve, Stamp};
 ghost use Rattle.stored_documents.specs.Slots.{cells_for};
 ghost use Rattle.tamper_rules.specs.declared.numbers.TheConstants.{DONE_CELL};
 ghost use Rattle.worm_device.specs.Looks.{IsOfCell};
 ghost use Rattle.commit_record.specs.Reservations.{reservation_of};
-ghost use Rattle.commit_record.specs.SlotCells.{CellsEnd, SeenCells, SeenCommitted, SeenReserved, SeenUnreserved, cell_of};
+ghost use Rattle.commit_record.specs.SlotCells.{CellsEnd, HoldsStamp, IsStampMissing, IsStampThere, SeenCells, SeenCommitted, SeenReserved, SeenUnreserved, cell_of};
 ghost use Rattle.commit_record.specs.States.{AreOfPool, FitsInto};
 
 use crate::slot::SlotState;
@@ -16,19 +16,21 @@ use cell_types::{Cell, Evidence, Geometry, RecordCell, decode};
 use tamper_rules::{DONE_CELL, OUTCOME_CELL, RESERVE_CELL};
 use worm_device::Found;
 
-/// The state that a slot's cells make, or the first of them that is out of place.
+/// The state that a slot's cells make, or the first of them that is out of place. The stamp cell is at hand where the
+/// volume's documents are stamped.
 pub fn state_of_cells(
     geometry: &Geometry,
     slot: u32,
     reserve: Found,
     outcome: Found,
     done: Found,
+    stamp: Option<Found>,
 ) -> Result<SlotState, Evidence>
     requires slot { slot < geometry.now.slots }
     requires reserve { IsOfCell (reserve_at slot) reserve }
     requires outcome { IsOfCell (outcome_at slot) outcome }
     ensures used { IsSome (cell_of reserve) → IfOk result (λ state. IsSome (reservation_of state)) }
-    ensures ends { CellsEnd (SeenCells slot reserve outcome done) geometry.now slot result }
+    ensures ends { CellsEnd (SeenCells geometry.now slot reserve outcome done stamp) geometry.now slot result }
 {
     let (found, held) = match reserve {
         Found::Blank => return state_unreserved(geometry, slot, outcome, done),
@@ -48,7 +50,7 @@ pub fn state_of_cells(
             found,
         });
     };
-    state_reserved(geometry, slot, start, length, outcome, done)
+    state_reserved(geometry, slot, start, length, outcome, done, stamp)
 }
 
 /// The state where the reserve cell is blank.
@@ -80,15 +82,14 @@ fn state_reserved(
     length: u32,
     outcome: Found,
     done: Found,
+    stamp: Option<Found>,
 ) -> Result<SlotState, Evidence>
     requires slot { slot < geometry.now.slots }
     requires pool { AreOfPool geometry.now start length }
     requires outcome { IsOfCell (outcome_at slot) outcome }
     ensures used { IfOk result (λ state. IsSome (reservation_of state)) }
-    ensures ends { CellsEnd (SeenReserved geometry.now slot start length outcome done) geometry.now slot result }
+    ensures ends { CellsEnd (SeenReserved geometry.now slot start length outcome done stamp) geometry.now slot result }
 {
-    // Known of a layout once it is asked for: its version is one whose documents have no stamps.
-    let _version = geometry.version();
     let (found, held) = match outcome {
         Found::Blank => {
             no_done_cell(geometry, slot, &done)?;
@@ -109,6 +110,13 @@ fn state_reserved(
             Ok(SlotState::Abandoned { start, length })
         }
         RecordCell::Commit { bytes, journal } if fits_into(length, bytes, journal) => {
+            if lacks_stamp(stamp) {
+                return Err(Evidence {
+                    rule: OUTCOME_CELL,
+                    cell: geometry.outcome_at(slot),
+                    found,
+                });
+            }
             state_committed(geometry, slot, start, length, bytes, journal, done)
         }
         _ => Err(Evidence {
@@ -216,6 +224,29 @@ fn reserved_cells(geometry: &Geometry, held: &RecordCell) -> Option<(u32, u32)>
         return None;
     }
     Some((start, length))
+}
+
+/// Whether the slot's stamp cell was looked at and holds no stamp.
+fn lacks_stamp(stamp: Option<Found>) -> bool
+    ensures missing { IsTrue result → IsStampMissing stamp }
+    ensures there { result ≡ false → IsStampThere stamp }
+{
+    let Some(found) = stamp else {
+        return false;
+    };
+    match found {
+        Found::Blank => true,
+        Found::Stray(_cell) => true,
+        Found::Record(_cell, held) => !is_stamp(&held),
+    }
+}
+
+/// Whether a record is a stamp.
+fn is_stamp(held: &RecordCell) -> bool
+    ensures stamp { IsTrue result → HoldsStamp held.now }
+    ensures other { result ≡ false → (seconds : ℕ) → held.now ≡ Stamp seconds → ⊥ }
+{
+    matches!(held, RecordCell::Stamp { .. })
 }
 
 /// Whether a document of so many stored bytes and a journal of so many cells fit into so many cells.

@@ -1,8 +1,8 @@
 -- Looks at documents, seen from an earlier state on.
-use Rattle.std.proofs.Common.{◌≡◌, ◌<◌, ℕ, Option, Some, None, Result, Ok, Err, refl, sym, ap, ◌∙◌, subst, arith}
+use Rattle.std.proofs.Common.{◌≡◌, ◌<◌, ⊎_elim, inl, inr, ℕ, Option, Some, None, Result, Ok, Err, refl, sym, ap, ◌∙◌, subst, arith}
 use Rattle.std.specs.Prelude.{IsTrue}
 use Rattle.cell_types.specs.Image.{Image, Extends}
-use Rattle.cell_types.specs.Layout.{Layout, reserve_at, outcome_at, done_at}
+use Rattle.cell_types.specs.Layout.{Layout, reserve_at, outcome_at, done_at, spare_at}
 use Rattle.cell_types.specs.declared.refusal.Evidence.{Evidence}
 use Rattle.cell_types.specs.declared.refusal.Fault.{Fault}
 use Rattle.cell_types.specs.declared.refusal.Fault.TheVariants.{Tampered, Failed}
@@ -14,7 +14,7 @@ use Rattle.tamper_rules.specs.declared.numbers.TheConstants.{BROKEN_DOCUMENT}
 use Rattle.worm_device.specs.Views.{ViewState, Viewed}
 use Rattle.worm_device.proofs.Counting.{still_second}
 use Rattle.worm_device.proofs.Images.{extends_self}
-use Rattle.commit_record.specs.States.{AsksBelow, IsNoState, IsState, Shows, done_abandoned, done_unended, done_unreserved, done_wrongly, ends_unreserved, ends_wrongly, reserves_none}
+use Rattle.commit_record.specs.States.{AsksBelow, IsNoState, IsState, LacksStamp, Shows, done_abandoned, done_unended, done_unreserved, done_wrongly, ends_unreserved, ends_unstamped, ends_wrongly, reserves_none}
 use Rattle.commit_record.specs.declared.slot.SlotState.{SlotState}
 use Rattle.commit_record.specs.declared.slot.SlotState.TheVariants.{Unused, Reserved, Abandoned, Committed, Done}
 use Rattle.document_store.specs.Heads.{SpellsNone}
@@ -40,12 +40,19 @@ undone_further {g} {before} {before'} {after} {after'} {n} e f u = record {
   undone = λ d. u.undone (done_slot_on (extends_self before') e d);
 }
 
+-- a slot that lacks its stamp lacked it from an earlier image on
+lacks_from : {before before' after : Image} (n : ℕ) → Extends before' before → LacksStamp before after n
+    → LacksStamp before' after n
+lacks_from n e lacks = ⊎_elim (λ blank. inl (blank_before e blank)) (λ none. inr none) lacks
+
 -- cells that were no state were none from an earlier image on
 no_state_from : {g : Layout} {before before' after : Image} {n rule cell : ℕ} → Extends before' before
     → IsNoState g before after n rule cell → IsNoState g before' after n rule cell
 no_state_from e (reserves_none r c never) = reserves_none r c never
 no_state_from e (ends_unreserved r c blank) = ends_unreserved r c (blank_before e blank)
 no_state_from e (ends_wrongly s l r c is never none) = ends_wrongly s l r c is never none
+no_state_from {n = n} e (ends_unstamped s l b j r c is commit fits stamped lacks) =
+    ends_unstamped s l b j r c is commit fits stamped (lacks_from n e lacks)
 no_state_from e (done_unreserved r c blank none) = done_unreserved r c (blank_before e blank) (blank_before e none)
 no_state_from e (done_unended s l r c is blank) = done_unended s l r c is (blank_before e blank)
 no_state_from e (done_abandoned s l r c is) = done_abandoned s l r c is
@@ -61,6 +68,7 @@ asks_from n before a = record {
   reserve = ap (λ (p : Image). p (reserve_at n)) before.planned ∙ a.reserve;
   outcome = ap (λ (p : Image). p (outcome_at n)) before.planned ∙ a.outcome;
   done = ap (λ (p : Image). p (done_at n)) before.planned ∙ a.done;
+  spare = ap (λ (p : Image). p (spare_at n)) before.planned ∙ a.spare;
   fresh = omega (arith, before.fresh, a.fresh);
 }
 

@@ -17,7 +17,7 @@ use Rattle.tamper_rules.specs.declared.numbers.TheConstants.{BROKEN_DOCUMENT, DO
 use Rattle.worm_device.specs.Views.{ViewState, Viewed}
 use Rattle.worm_device.proofs.Counting.{still_second}
 use Rattle.worm_device.proofs.Resting.{rests_of}
-use Rattle.commit_record.specs.States.{IsNoState, done_abandoned, done_unended, done_unreserved, done_wrongly, ends_unreserved, ends_wrongly, reserves_none}
+use Rattle.commit_record.specs.States.{IsNoState, done_abandoned, done_unended, done_unreserved, done_wrongly, ends_unreserved, ends_unstamped, ends_wrongly, reserves_none}
 use Rattle.document_store.specs.Looks.{Names, of_document, of_state}
 use Rattle.document_store.specs.Standing.{HoldsDocument}
 use Rattle.document_store.proofs.Holding.{held_on}
@@ -82,6 +82,7 @@ state_rule : {g : Layout} {before after : Image} {n rule cell : ℕ} → IsNoSta
 state_rule (reserves_none r c never) = inl r
 state_rule (ends_unreserved r c blank) = inr (inl r)
 state_rule (ends_wrongly s l r c is never none) = inr (inl r)
+state_rule (ends_unstamped s l b j r c is commit fits stamped lacks) = inr (inl r)
 state_rule (done_unreserved r c blank none) = inr (inr r)
 state_rule (done_unended s l r c is blank) = inr (inr r)
 state_rule (done_abandoned s l r c is) = inr (inr r)

@@ -1,5 +1,5 @@
 -- A plan of a document and of its index suits the volume that it was made for.
-use Rattle.std.proofs.Common.{◌≡◌, ◌≤◌, ◌<◌, ◌+◌, ◌-◌, ◌^◌, ◌⊎◌, ◌∙◌, ℕ, zero, suc, List, [], length, Some, refl, sym, ap, subst, inl, inr, arith}
+use Rattle.std.proofs.Common.{◌≡◌, ◌≤◌, ◌<◌, ◌+◌, ◌-◌, ◌^◌, ◌⊎◌, ◌∙◌, ℕ, zero, suc, List, [], length, Some, None, refl, sym, ap, subst, inl, inr, arith}
 use Rattle.std.specs.Prelude.{slice_get}
 use Rattle.std.proofs.Math.ListN.{get_or}
 use Rattle.std.proofs.lemmas.Option.{none-some, slice_get-get_or}
@@ -19,6 +19,10 @@ use Rattle.ingest_plan.specs.declared.plan.PlannedIndex.{PlannedIndex}
 use Rattle.ingest_engine.specs.StoredCells.{IsStoredAs}
 use Rattle.ingest_engine.specs.declared.document.StoredDocument.{StoredDocument}
 use Rattle.ingest_engine.proofs.JoinedCells.{stored_length}
+
+-- No volume is of stamped documents yet, so a plan without a stamp suits each. It is the one place that says so.
+none_given : {g : Layout} → IsLayout g → IsStampFor g None
+none_given layout = omega (arith, layout.version)
 
 before_or : (a b : ℕ) → (a < b) ⊎ (b ≤ a)
 before_or a b = grind arith
@@ -103,7 +107,7 @@ module _ {g : Layout} {n edge : ℕ} {level : Level} {place : Open} {body : List
 
 module _ (p : Plan) (id body : List ℕ) (document : StoredDocument) (identifier : IsIdentifier id) (is_body : IsBody body)
     (stored : IsStoredAs id body document) (cells : p.document.now ≡ document.cells.items)
-    (bytes : p.bytes ≡ document.bytes) where
+    (bytes : p.bytes ≡ document.bytes) (stamp : p.stamp ≡ None) where
   -- the plan is of this document
   pub plans_document : PlansDocument p id body
   plans_document = record {
@@ -138,6 +142,8 @@ module _ (p : Plan) (id body : List ℕ) (document : StoredDocument) (identifier
           omega (arith, count, long, blocks),
         );
         document = count;
+        stamp = subst (IsStampFor g) (sym stamp) (none_given layout);
+        stamp_fits = λ seconds given. absurd (none-some seconds (sym stamp ∙ given));
         entries = subst (λ (below : ℕ). AreEntries (lists_at g) (laid (journal_from p) p.journal.now) (journal_from p) below
             (length p.journal.now)) end
             (subst (λ (l : List (List ℕ)). AreEntries (lists_at g) (laid (journal_from p) l) (journal_from p)

@@ -1,16 +1,15 @@
 -- Slots that settling and an ingest leave alone.
-use Rattle.std.proofs.Common.{◌≡◌, ◌≢◌, ◌≤◌, ◌<◌, ◌+◌, ◌⊎◌, ℕ, zero, suc, List, length, Option, Some, None, refl, sym, ap, subst, ◌∙◌, ⊎_elim, inl, inr, arith}
+use Rattle.std.proofs.Common.{◌≡◌, ◌≢◌, ◌≤◌, ◌<◌, ◌⊎◌, ℕ, zero, suc, List, Option, Some, None, refl, sym, ap, subst, ◌∙◌, ⊎_elim, inl, inr, arith}
 use Rattle.std.proofs.lemmas.Option.{none-some}
 use Rattle.cell_types.specs.Image.{Image, Extends}
-use Rattle.cell_types.specs.Layout.{Layout, reserve_at, outcome_at, done_at, pool_at, lists_at}
+use Rattle.cell_types.specs.Layout.{Layout, reserve_at, outcome_at, done_at, spare_at, lists_at}
 use Rattle.cell_types.specs.declared.record_cell.RecordCell.{RecordCell}
 use Rattle.stored_documents.specs.Documents.{document_at}
 use Rattle.stored_documents.specs.Slots.{IsUnused}
 use Rattle.stored_documents.specs.Volumes.{Holds}
 use Rattle.stored_documents.proofs.Extending.{blank_before}
 use Rattle.tamper_rules.specs.Journals.{journal_at}
-use Rattle.tamper_rules.specs.declared.numbers.TheConstants.{STRAY_CELL}
-use Rattle.phase_writer.specs.Putting.{ChangesBy, IsInFirst, IsInRow, IsPut}
+use Rattle.phase_writer.specs.Putting.{ChangesBy, IsInFirst, IsPut}
 use Rattle.phase_writer.specs.declared.put.Put.{Put}
 use Rattle.commit_record.specs.States.{IsState}
 use Rattle.commit_record.specs.declared.slot.SlotState.{SlotState}
@@ -19,8 +18,9 @@ use Rattle.recovery_engine.specs.Ending.{HasJournal, IsFirstEnd, IsLastEnd}
 use Rattle.recovery_engine.specs.Settling.{settle_plan}
 use Rattle.recovery_engine.proofs.Rising.{entries_from}
 use Rattle.plan_writer.specs.CrashLaws.{IsWholeOrUncommitted}
-use Rattle.plan_writer.specs.Planned.{Suits, document_from, ingest_phases}
+use Rattle.plan_writer.specs.Planned.{IsPooledPut, IsStampPut, Suits, ingest_phases}
 use Rattle.plan_writer.specs.declared.plan.Plan.{Plan}
+use Rattle.plan_writer.proofs.LogCells.{pooled_from, stamp_at}
 use Rattle.plan_writer.proofs.Targets.{asked_from}
 
 -- a cell that tells the state of slot n
@@ -92,7 +92,16 @@ reserve_is m n at is own = ⊎_elim
     (λ (d : at ≡ done_at n). absurd (omega (arith, is, d))) rest)
     own
 
--- no cell from the first list on tells the state of a slot
+-- no spare cell tells the state of a slot
+spare_apart : (m n at : ℕ) → at ≡ spare_at m → IsOwn n at → ⊥
+spare_apart m n at is own = ⊎_elim
+    (λ (a : at ≡ reserve_at n). omega (arith, is, a))
+    (λ (rest : (at ≡ outcome_at n) ⊎ (at ≡ done_at n)). ⊎_elim
+    (λ (b : at ≡ outcome_at n). omega (arith, is, b))
+    (λ (d : at ≡ done_at n). omega (arith, is, d)) rest)
+    own
+
+-- nor does a cell from the first list on
 pub beyond_slots : (g : Layout) (n at : ℕ) → n < g.slots → lists_at g ≤ at → IsOwn n at → ⊥
 beyond_slots g n at slot from own = ⊎_elim
     (λ (a : at ≡ reserve_at n). omega (arith, slot, from, a))
@@ -135,14 +144,11 @@ module _ (g : Layout) (between : Image) (m n : ℕ) (unused : IsUnused g between
 
 -- a plan that is put into slot u asks for no cell of another slot
 module _ (g : Layout) (p : Plan) (u n : ℕ) (suits : Suits g p) (slot : n < g.slots) (differs : u ≢ n) where
-  row_apart : (from : ℕ) (cells : List (List ℕ)) (put : Put) → pool_at g ≤ from → IsInRow from cells STRAY_CELL put → IsOwn n put.at → ⊥
-  row_apart from cells put low row own = beyond_slots g n put.at slot (omega (arith, low, row.at)) own
-
   phase_apart : (j : ℕ) (put : Put) → ingest_phases u p j put → IsOwn n put.at → ⊥
   phase_apart zero put e own = differs (reserve_is u n put.at (ap (λ (q : Put). q.at) e) own)
   phase_apart (suc zero) put e own = ⊎_elim
-      (λ (a : IsInRow (document_from p) p.document.now STRAY_CELL put). row_apart (document_from p) p.document.now put (omega (arith, suits.from)) a own)
-      (λ (b : IsInRow (document_from p + length p.document.now) p.journal.now STRAY_CELL put). row_apart (document_from p + length p.document.now) p.journal.now put (omega (arith, suits.from)) b own)
+      (λ (a : IsStampPut u p.stamp put). spare_apart u n put.at (stamp_at u p.stamp put a) own)
+      (λ (b : IsPooledPut p put). beyond_slots g n put.at slot (omega (arith, pooled_from p put b, suits.from)) own)
       e
   phase_apart (suc (suc zero)) put e own = differs (outcome_is u n put.at (ap (λ (q : Put). q.at) e) own)
   phase_apart (suc (suc (suc zero))) put e own = beyond_slots g n put.at slot (asked_from g p suits put e) own

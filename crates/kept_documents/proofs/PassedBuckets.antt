@@ -18,7 +18,7 @@ use Rattle.index_paths.specs.HashPaths.{fingerprint_of}
 use Rattle.worm_device.specs.Views.{ViewState, Viewed}
 use Rattle.worm_device.specs.declared.device.Failed.{Failed}
 use Rattle.worm_device.proofs.Resting.{viewed_self}
-use Rattle.commit_record.specs.States.{IsNoState, done_abandoned, done_unended, done_unreserved, done_wrongly, ends_unreserved, ends_wrongly, reserves_none}
+use Rattle.commit_record.specs.States.{IsNoState, done_abandoned, done_unended, done_unreserved, done_wrongly, ends_unreserved, ends_unstamped, ends_wrongly, reserves_none}
 use Rattle.commit_record.proofs.Breaking.{no_both}
 use Rattle.document_store.specs.Looks.{LookFails, Names, PartEnds, SameEnds, of_document, of_state}
 use Rattle.document_store.specs.Standing.{HoldsDocument}
@@ -50,6 +50,9 @@ no_state_done {g} {old} {new} {n} e (ends_wrongly s l r c is never none) d =
       fits = omega (arith, now.fits, same);
       stamped = now.stamped;
     })
+no_state_done e (ends_unstamped s l b j r c is commit fits stamped lacks) d =
+    let has = d.done.commits.stamped stamped in
+    ⊎_elim (λ blank. none-some _ (sym blank ∙ has.stamp.stands)) (λ none. none has.seconds (holds_on e has.stamp)) lacks
 no_state_done e (done_unreserved r c blank none) d =
     none-some _ (sym blank ∙ d.done.commits.reserves.reserve.stands)
 no_state_done e (done_unended s l r c is blank) d = none-some _ (sym blank ∙ d.done.commits.outcome.stands)

@@ -64,12 +64,12 @@ module _ (n : ℕ) (p : Plan) where
       module _ {s2 : DeviceState} where
         -- the document and the journal were not
         pub store_ended : (fault : Fault)
-            → PutsPhase (IsStoredPut (document_from p) p.document.now p.journal.now) s1 s2 (Err fault)
+            → PutsPhase (IsStoredPut n p) s1 s2 (Err fault)
             → PutsPhases (ingest_phases n p) INGEST_PHASES s0 s2 (Err fault)
         store_ended fault q = phases_wider (ingest_phases n p) 2 5 fault (omega arith)
             (phases_ended (ingest_phases n p) 1 tt far_1 fault q)
 
-        module _ (second : PutsPhase (IsStoredPut (document_from p) p.document.now p.journal.now) s1 s2 (Ok tt)) where
+        module _ (second : PutsPhase (IsStoredPut n p) s1 s2 (Ok tt)) where
           far_2 : PutsPhases (ingest_phases n p) 2 s0 s2 (Ok tt)
           far_2 = phases_more (ingest_phases n p) 1 tt far_1 tt tt second
 
@@ -91,7 +91,7 @@ module _ (n : ℕ) (p : Plan) where
               journal_stands tells k v is =
                   far_3.puts.ends (subst IsTrue far_3.puts.called.tells tells)
                   (record { at = journal_from p + k; value = v; blame = Rule STRAY_CELL })
-                  (1, omega arith, inr (record { place = k; at = refl; value = is; blame = refl }))
+                  (1, omega arith, inr (inr (record { place = k; at = refl; value = is; blame = refl })))
 
               module _ (g : Layout) (suits : Suits g p) (j : Journal)
                   (is : j ≡ journal_of g n cells.start cells.length p.bytes (length p.journal.now)) where

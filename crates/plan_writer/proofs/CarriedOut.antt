@@ -1,11 +1,11 @@
 -- What a plan leaves that was carried out.
-use Rattle.std.proofs.Common.{◌≡◌, ◌<◌, ◌+◌, ℕ, List, length, Some, Ok, refl, sym, inl, subst, arith}
+use Rattle.std.proofs.Common.{◌≡◌, ◌<◌, ◌+◌, ℕ, List, length, Some, Ok, refl, sym, inl, inr, subst, arith}
 use Rattle.std.specs.Prelude.{IsTrue}
 use Rattle.cell_types.specs.Image.{Image, Extends}
 use Rattle.cell_types.specs.Layout.{Layout, IsLayout}
 use Rattle.phase_writer.specs.declared.put.Put.{Put}
 use Rattle.phase_writer.specs.declared.put.Blame.TheVariants.{Rule, Journal}
-use Rattle.phase_writer.specs.Putting.{PutsPhases}
+use Rattle.phase_writer.specs.Putting.{AreStanding, PutsPhases}
 use Rattle.recovery_engine.specs.Ending.{done_put}
 use Rattle.recovery_engine.specs.Entries.{target_of}
 use Rattle.stored_documents.specs.Documents.{Spells, Stands, content_at, document_at, stored_bytes}
@@ -16,10 +16,10 @@ use Rattle.tamper_rules.specs.declared.numbers.TheConstants.{STRAY_CELL}
 use Rattle.worm_device.specs.State.{DeviceState}
 use Rattle.worm_device.proofs.Images.{extends_then}
 use Rattle.plan_writer.specs.Blank.{IsFree}
-use Rattle.plan_writer.specs.Planned.{INGEST_PHASES, PlansDocument, Suits, commit_put, document_from, ingest_phases, journal_from, reserve_put, reserved_by}
+use Rattle.plan_writer.specs.Planned.{INGEST_PHASES, IsStampPut, PlansDocument, Suits, commit_put, document_from, ingest_phases, journal_from, reserve_put, reserved_by}
 use Rattle.plan_writer.specs.PuttingPlans.{IsCarriedOut}
 use Rattle.plan_writer.specs.declared.plan.Plan.{Plan}
-use Rattle.plan_writer.proofs.Stated.{commits_by, done_by}
+use Rattle.plan_writer.proofs.Stated.{commits_by, done_by, stamp_by}
 
 module _ (g : Layout) (n : ℕ) (p : Plan) (old : Image) {s2 s4 : DeviceState} (layout : IsLayout g) (less : n < g.slots)
     (suits : Suits g p) (u : Unit {0}) (phases : PutsPhases (ingest_phases n p) INGEST_PHASES s2 s4 (Ok u))
@@ -31,10 +31,14 @@ module _ (g : Layout) (n : ℕ) (p : Plan) (old : Image) {s2 s4 : DeviceState} (
   up : Extends s2.image s4.sure
   up = (phases.sure tells).1 (omega arith)
 
+  stamp_sure : AreStanding (IsStampPut n p.stamp) s4.sure
+  stamp_sure put h = put_sure 1 put (omega arith) (inl h)
+
   is_done : IsDone g s4.sure n p.start (reserved_by p).length p.bytes (length p.journal.now)
   is_done = record {
     commits = commits_by g n p layout less suits s4.sure
         (put_sure 0 (reserve_put n (reserved_by p)) (omega arith) refl)
+        stamp_sure
         (put_sure 2 (commit_put n p.bytes (length p.journal.now)) (omega arith) refl);
     done = done_by g n p layout less suits s4.sure (put_sure 4 (done_put n) (omega arith) refl);
   }
@@ -57,18 +61,19 @@ module _ (g : Layout) (n : ℕ) (p : Plan) (old : Image) {s2 s4 : DeviceState} (
         spells = subst (λ (a : ℕ). Spells s4.sure a (stored_bytes id body)) begins
             (λ k below. put_sure 1
             (record { at = document_from p + k; value = content_at (stored_bytes id body) k; blame = Rule STRAY_CELL })
-            (omega arith) (inl (record { place = k; at = refl; value = d.each k below; blame = refl })));
+            (omega arith) (inr (inl (record { place = k; at = refl; value = d.each k below; blame = refl }))));
         is_identifier = d.identifier;
         is_body = d.is_body;
       }
 
-  -- the slot is done, its document is of the volume, the journal stands at its targets, and all that stood is sure
+  -- the slot is done, its stamp is the plan's, its document is of the volume, the journal stands at its targets, and all that stood is sure
   pub carried_out : IsCarriedOut g p n s4.cells old s2.image s4.sure
   carried_out = record {
     unused = unused;
     spare = free.spare;
     blank = free.reserved;
     done = is_done;
+    stamp = stamp_by g n p layout less suits s4.sure stamp_sure;
     document = stands;
     journal = λ k value is. put_sure 3
         (record { at = target_of value; value = value; blame = Journal (journal_from p + k) })

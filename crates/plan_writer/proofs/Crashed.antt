@@ -1,5 +1,5 @@
 -- What a crash leaves of the cells of a slot's log, by the phase that it fell in.
-use Rattle.std.proofs.Common.{◌≡◌, ◌≤◌, ◌<◌, ◌+◌, ℕ, List, Option, length, Some, None, refl, sym, ap, ◌∙◌, inl, ⊎_elim, subst, arith}
+use Rattle.std.proofs.Common.{◌≡◌, ◌≤◌, ◌<◌, ◌+◌, ℕ, List, Option, length, Some, None, refl, sym, ap, ◌∙◌, inl, inr, ⊎_elim, subst, arith}
 use Rattle.std.proofs.lemmas.Option.{none-some}
 use Rattle.cell_types.specs.Image.{Image}
 use Rattle.cell_types.specs.Layout.{Layout, reserve_at, outcome_at, done_at}
@@ -63,9 +63,9 @@ module _ (g : Layout) (n : ℕ) (p : Plan) (image : Image) (left : IsLeftByPlan 
       let is = reserve_in g n p less suits put.planned.0 put.put put.planned.2 put.here in
       sym put.is ∙ ap (λ (x : Put). x.value) is.1
 
-  -- a commit cell is left with the document and the journal
+  -- a commit cell is left with the stamp, the document and the journal
   pub follows : (v : List ℕ) → image (outcome_at n) ≡ Some v
-      → AreStanding (IsStoredPut (document_from p) p.document.now p.journal.now) image
+      → AreStanding (IsStoredPut n p) image
   follows v here put h = let two = (committed_in v here).0 in left.leaves.all put (1, omega (arith, two), h)
 
   reserves : (v : List ℕ) → image (reserve_at n) ≡ Some v
@@ -75,7 +75,7 @@ module _ (g : Layout) (n : ℕ) (p : Plan) (image : Image) (left : IsLeftByPlan 
   commits : (r v : List ℕ) → image (reserve_at n) ≡ Some r → image (outcome_at n) ≡ Some v
       → Commits g image n p.start (reserved_by p).length p.bytes (length p.journal.now)
   commits r v there here = commits_by g n p left.planned.layout less suits image (there ∙ ap Some (reserved_as r there))
-      (here ∙ ap Some (committed_in v here).1)
+      (λ put stamp. follows v here put (inl stamp)) (here ∙ ap Some (committed_in v here).1)
 
   -- where the outcome cell is written the slot is committed
   committed : (v : List ℕ) → image (outcome_at n) ≡ Some v
@@ -148,7 +148,7 @@ module _ (g : Layout) (n : ℕ) (p : Plan) (image : Image) (left : IsLeftByPlan 
     spelt = subst (λ (a : ℕ). Spells image a (stored_bytes id body)) begins
         (λ k below. follows states.outcome.cell states.outcome.stands
         (record { at = document_from p + k; value = content_at (stored_bytes id body) k; blame = Rule STRAY_CELL })
-        (inl (record { place = k; at = refl; value = plans.each k below; blame = refl })))
+        (inr (inl (record { place = k; at = refl; value = plans.each k below; blame = refl }))))
 
   -- the slot is in a state, and states no other document
   pub is_whole : (id body : List ℕ) → PlansDocument p id body → IsWholeOrUncommitted g n id body image

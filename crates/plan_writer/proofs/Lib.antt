@@ -10,5 +10,6 @@ pub mod PutPlans
 pub mod Refused
 pub mod SettledBefore
 pub mod Stated
+pub mod StoredCells
 pub mod TakenCells
 pub mod Targets

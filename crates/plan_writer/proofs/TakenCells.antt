@@ -3,7 +3,7 @@ use Rattle.std.proofs.Common.{inl, ◌≡◌, ◌<◌, ◌≤◌, ◌+◌, ◌�
 use Rattle.std.specs.Prelude.{slice_get}
 use Rattle.std.proofs.lemmas.Option.{none-some, slice_get_within}
 use Rattle.cell_types.specs.Image.{Extends}
-use Rattle.cell_types.specs.Layout.{Layout, IsLayout, reserve_at, outcome_at, done_at}
+use Rattle.cell_types.specs.Layout.{Layout, IsLayout, reserve_at, outcome_at, done_at, spare_at}
 use Rattle.cell_types.specs.Records.{IsRecordCell}
 use Rattle.cell_types.specs.declared.refusal.Evidence.{Evidence}
 use Rattle.phase_writer.specs.declared.put.Blame.{Blame}
@@ -24,10 +24,10 @@ use Rattle.worm_device.specs.State.{DeviceState}
 use Rattle.worm_device.specs.Calls.{Called}
 use Rattle.worm_device.proofs.Counting.{still_first, still_second}
 use Rattle.plan_writer.specs.Blank.{IsFree, IsOfSlot}
-use Rattle.plan_writer.specs.Planned.{INGEST_PHASES, IsAskedPut, IsStoredPut, Suits, commit_put, document_from, ingest_phases, journal_from, reserve_put, reserved_by}
+use Rattle.plan_writer.specs.Planned.{INGEST_PHASES, IsAskedPut, IsPooledPut, IsStampPut, Suits, commit_put, document_from, ingest_phases, journal_from, reserve_put, reserved_by}
 use Rattle.plan_writer.specs.PuttingPlans.{AsksForBlank, IsFoundByPlan, IsPlanRule}
 use Rattle.plan_writer.specs.declared.plan.Plan.{Plan}
-use Rattle.plan_writer.proofs.LogCells.{commit_in, done_in, once_asked, once_stored, reserve_in, stored_from, stored_to}
+use Rattle.plan_writer.proofs.LogCells.{commit_in, done_in, once_asked, once_pooled, once_stamped, pooled_from, pooled_to, reserve_in, stamp_at}
 use Rattle.plan_writer.proofs.Stated.{commits_by, done_by}
 use Rattle.plan_writer.proofs.Targets.{asked_below}
 
@@ -108,7 +108,7 @@ module _ (g : Layout) (n : ℕ) (p : Plan) {s0 s2 s4 : DeviceState} (layout : Is
     stands : s4.image (journal_from p + a.k) ≡ Some t.taken.put.value
     stands = proper.keeps (journal_from p + a.k) t.taken.put.value
         (before (record { at = journal_from p + a.k; value = t.taken.put.value; blame = Rule STRAY_CELL })
-        (1, omega arith, inr (record { place = a.k; at = refl; value = a.value; blame = refl })))
+        (1, omega arith, inr (inr (record { place = a.k; at = refl; value = a.value; blame = refl }))))
 
     other : s4.image (target_of t.taken.put.value) ≡ Some t.taken.found
     other = ap s4.image (sym a.at) ∙ t.taken.stands
@@ -116,6 +116,7 @@ module _ (g : Layout) (n : ℕ) (p : Plan) {s0 s2 s4 : DeviceState} (layout : Is
     commits : Commits g s4.image n p.start (reserved_by p).length p.bytes (length p.journal.now)
     commits = commits_by g n p layout less suits s4.image
         (proper.keeps (reserve_at n) _ (before (reserve_put n (reserved_by p)) (0, omega arith, refl)))
+        (λ put stamp. proper.keeps put.at put.value (before put (1, omega arith, inl stamp)))
         (proper.keeps (outcome_at n) _ (before (commit_put n p.bytes (length p.journal.now)) (2, omega arith, refl)))
 
     here : journal_from p + a.k ≡ journal_at p.start (reserved_by p).length (length p.journal.now) + a.k
@@ -210,27 +211,31 @@ module _ (g : Layout) (n : ℕ) (p : Plan) {s0 s2 s4 : DeviceState} (layout : Is
       (λ still. ap s2.image at ∙ unreserved still)
       (λ i other q here. ap (λ (x : Put). x.value) (reserve_in g n p less suits i other q (here ∙ at)).1
       ∙ sym (ap (λ (x : Put). x.value) h))
-  by_phase (suc zero) h before =
-      own STRAY_CELL (inr (inr (inr (inr refl))))
-      (inr (record { from = omega (arith, stored_from p t.taken.put h); below = stored_to p t.taken.put h }))
-      (stored_blame h) (
-        StrayCells,
-        refl,
-        inr (inr (
-          omega (arith, stored_from p t.taken.put h, suits.from),
-          omega (arith, stored_to p t.taken.put h, suits.to),
-        )),
-      )
-      (λ still. free.reserved t.taken.put.at
-      (record { from = omega (arith, stored_from p t.taken.put h); below = stored_to p t.taken.put h }))
-      (once_stored g n p less suits t.taken.put h)
+  by_phase (suc zero) h before = ⊎_elim stamp_taken pooled_taken h
     where
-      stored_blame : IsStoredPut (document_from p) p.document.now p.journal.now t.taken.put
-          → t.taken.put.blame ≡ Rule STRAY_CELL
-      stored_blame s = ⊎_elim
+      stamp_taken : IsStampPut n p.stamp t.taken.put → IsFoundByPlan n p s0 s2 s4 e
+      stamp_taken a =
+          let at : t.taken.put.at ≡ spare_at n = stamp_at n p.stamp t.taken.put a in
+          own STRAY_CELL (inr (inr (inr (inr refl)))) (inl (omega (arith, at), omega (arith, at)))
+          (ap (λ (x : Put). x.blame) a.is) (StrayCells, refl, inr (inl (n, less, at)))
+          (λ still. ap s2.image at ∙ free.spare)
+          (once_stamped g n p less suits t.taken.put a)
+
+      pooled_blame : IsPooledPut p t.taken.put → t.taken.put.blame ≡ Rule STRAY_CELL
+      pooled_blame s = ⊎_elim
           (λ (x : IsInRow (document_from p) p.document.now STRAY_CELL t.taken.put). x.blame)
-          (λ (y : IsInRow (document_from p + length p.document.now) p.journal.now STRAY_CELL t.taken.put). y.blame)
+          (λ (y : IsInRow (journal_from p) p.journal.now STRAY_CELL t.taken.put). y.blame)
           s
+
+      pooled_taken : IsPooledPut p t.taken.put → IsFoundByPlan n p s0 s2 s4 e
+      pooled_taken b =
+          let from : document_from p ≤ t.taken.put.at = pooled_from p t.taken.put b in
+          let to : t.taken.put.at < p.start + (reserved_by p).length = pooled_to p t.taken.put b in
+          own STRAY_CELL (inr (inr (inr (inr refl)))) (inr (record { from = omega (arith, from); below = to }))
+          (pooled_blame b)
+          (StrayCells, refl, inr (inr (omega (arith, from, suits.from), omega (arith, to, suits.to))))
+          (λ still. free.reserved t.taken.put.at (record { from = omega (arith, from); below = to }))
+          (once_pooled g n p less suits t.taken.put b)
   by_phase (suc (suc zero)) h before =
       let at : t.taken.put.at ≡ outcome_at n = ap (λ (x : Put). x.at) h in
       own OUTCOME_CELL (inr (inl refl)) (inl (omega (arith, at), omega (arith, at))) (ap (λ (x : Put). x.blame) h) (OutcomeCells, refl, (n, less, at))

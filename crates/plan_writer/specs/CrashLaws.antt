@@ -9,7 +9,7 @@ use Rattle.worm_device.specs.State.{DeviceState}
 use Rattle.phase_writer.specs.Putting.{AreStanding, LeavesPhases}
 use Rattle.commit_record.specs.States.{IsState}
 use Rattle.commit_record.specs.declared.slot.SlotState.{SlotState}
-use Rattle.plan_writer.specs.Planned.{INGEST_PHASES, IsStoredPut, PlansDocument, Suits, document_from, ingest_phases}
+use Rattle.plan_writer.specs.Planned.{INGEST_PHASES, IsStoredPut, PlansDocument, Suits, ingest_phases}
 use Rattle.plan_writer.specs.declared.plan.Plan.{Plan}
 
 -- a plan that suits the volume, and a slot of it that is unused
@@ -26,12 +26,12 @@ pub record IsLeftByPlan (g : Layout) (n : ℕ) (p : Plan) (image : Image) : Type
   pub leaves : LeavesPhases (ingest_phases n p) INGEST_PHASES old new image
   pub alone : IsStill old.foreign_writes new.foreign_writes
 
--- a commit cell is left with the whole document and journal alone
+-- a commit cell is left with all that is stored before it alone: the stamp, the whole document and the journal
 abbrev pub CommitsFollowDocuments : Type 0
 CommitsFollowDocuments =
     (g : Layout) (n : ℕ) (p : Plan) (image : Image) → IsLeftByPlan g n p image
     → (found : List ℕ) → image (outcome_at n) ≡ Some found
-    → AreStanding (IsStoredPut (document_from p) p.document.now p.journal.now) image
+    → AreStanding (IsStoredPut n p) image
 
 -- the slot is left in a state
 abbrev pub SlotsKeepStates : Type 0

@@ -6,7 +6,7 @@ use Rattle.cell_types.specs.declared.refusal.Evidence.{Evidence}
 use Rattle.cell_types.specs.declared.refusal.Fault.{Fault}
 use Rattle.cell_types.specs.declared.refusal.Fault.TheVariants.{Tampered, Failed}
 use Rattle.stored_documents.specs.Documents.{Stands}
-use Rattle.stored_documents.specs.Slots.{IsDone, IsUnused}
+use Rattle.stored_documents.specs.Slots.{IsDone, IsStampOf, IsUnused}
 use Rattle.tamper_rules.specs.Rules.{IsBroken}
 use Rattle.tamper_rules.specs.declared.numbers.TheConstants.{DONE_CELL, OTHER_TARGET, OUTCOME_CELL, RESERVE_CELL, STRAY_CELL}
 use Rattle.worm_device.specs.Calls.{Called}
@@ -28,13 +28,15 @@ pub record PutsPlan (n : ℕ) (p : Plan) (old new : DeviceState) : Type 0 where
   pub crashes : CrashesLeavePhases (ingest_phases n p) INGEST_PHASES old new
 
 -- A plan is carried out: slot n, which was unused, is done with the plan's cells, which were blank, as was the slot's
--- spare cell; its document stands; each cell of its journal stands at its target; and all that stood is sure, before
--- the volume was settled and at the call's entry, which saw what settling and others had written by then.
+-- spare cell; its stamp is the plan's; its document stands; each cell of its journal stands at its target; and all that
+-- stood is sure, before the volume was settled and at the call's entry, which saw what settling and others had written
+-- by then.
 pub record IsCarriedOut (g : Layout) (p : Plan) (n cells : ℕ) (old entry sure : Image) : Type 0 where
   pub unused : IsUnused g old n
   pub spare : old (spare_at n) ≡ None
   pub blank : AreBlank old (reserved_by p)
   pub done : IsDone g sure n p.start (reserved_by p).length p.bytes (length p.journal.now)
+  pub stamp : IsStampOf g sure n p.stamp
   pub document : (id body : List ℕ) → PlansDocument p id body → Stands cells sure n id body
   pub journal : (k : ℕ) (value : List ℕ) → slice_get p.journal.now k ≡ Some value
       → sure (target_of value) ≡ Some value

@@ -2,7 +2,7 @@
 //! does nothing and whose contract is the law.
 ghost use Rattle.plan_writer.specs.CrashLaws.{CommitsFollowDocuments, CrashesLeaveWholeSlots, SlotsKeepStates};
 
-/// A commit cell is left with the whole document and journal alone.
+/// A commit cell is left with the stamp, the whole document and the journal alone.
 pub fn commits_follow_documents()
     ensures { CommitsFollowDocuments }
 {}

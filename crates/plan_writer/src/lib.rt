@@ -10,9 +10,12 @@
 //!     apply      write the journal's targets; sync      the index leads to the document
 //!     finish     write cell 6; sync                     slot 0 is done: no crash takes the document
 //!
-//! Before the first of them the slot's outcome, done and spare cells, and all cells that it will reserve, are looked
+//! On a volume of stamped documents the document's stamp is stored first, in the slot's spare cell, here cell 7.
+//!
+//! Before the first phase the slot's outcome, done and spare cells, and all cells that it will reserve, are looked
 //! at: each has to be blank. Each phase is sure before the next begins, so no crash leaves a commit cell without the
-//! whole document and journal. Where somebody else has taken a cell, it is named with the rule that it breaks.
+//! stamp, the whole document and the journal. Where somebody else has taken a cell, it is named with the rule that it
+//! breaks.
 //!
 //! No memory is taken. Stands on `phase_writer` and on `recovery_engine`, whose last two phases it shares. Begin with
 //! `plan.rt`; specs/Planned.antt says which cells a plan asks for.

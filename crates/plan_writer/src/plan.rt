@@ -22,6 +22,8 @@ pub struct Plan<'a> {
     pub journal: &'a [Cell],
     /// How many stored bytes the document has.
     pub bytes: u32,
+    /// The seconds of the document's stamp, on a volume of stamped documents.
+    pub stamp: Option<u32>,
 }
 
 impl Plan<'_> {
@@ -51,13 +53,8 @@ pub fn carry_out<D: Device>(
 {
     let cells = plan.reservation();
     reserve(device, geometry, slot, cells)?;
-    store(
-        device,
-        plan.start + plan.block_length,
-        plan.document,
-        plan.journal,
-    )?;
-    // The document and the journal are sure by now: else a crash could leave a commit cell without them.
+    store(device, geometry, slot, plan)?;
+    // Stamp, document and journal are sure by now: else a crash could leave a commit cell without them.
     let count = plan.journal.len() as u32;
     commit(device, geometry, slot, plan.bytes, count)?;
     let journal = journal_of(geometry, slot, cells, plan.bytes, count);

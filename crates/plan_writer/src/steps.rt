@@ -1,13 +1,14 @@
 //! The first three phases.
-ghost use Rattle.std.specs.Prelude.{◌<◌, ◌≤◌, ◌+◌, length};
+ghost use Rattle.std.specs.Prelude.{◌<◌, ◌≤◌, ◌+◌};
 ghost use Rattle.cell_types.specs.Records.{IsWellFormed};
 ghost use Rattle.cell_types.specs.declared.record_cell.RecordCell.TheVariants.{Commit};
-ghost use Rattle.phase_writer.specs.Putting.{IsThis, PutsPhase};
-ghost use Rattle.plan_writer.specs.Planned.{IsStoredPut, commit_put, reserve_put};
+ghost use Rattle.phase_writer.specs.Putting.{IsThis, Puts, PutsPhase};
+ghost use Rattle.plan_writer.specs.Planned.{IsStampPut, IsStoredPut, commit_put, reserve_put, reserved_by};
 
-use cell_types::{Cell, Fault, Geometry, RecordCell, encode};
+use crate::plan::Plan;
+use cell_types::{Fault, Geometry, RecordCell, encode};
 use commit_record::Reservation;
-use phase_writer::{Blame, Put, put_one, put_row};
+use phase_writer::{Blame, Put, put_cell, put_one, put_row};
 use tamper_rules::{OUTCOME_CELL, RESERVE_CELL, STRAY_CELL};
 use worm_device::Device;
 
@@ -38,20 +39,48 @@ pub fn reserve<D: Device>(
     put_one(device, &put)
 }
 
-/// The document's cells, and the journal's behind them.
+/// The stamp cell, if a stamp is given, the document's cells, and the journal's behind them.
 pub fn store<D: Device>(
     device: &mut D,
-    from: u32,
-    document: &[Cell],
-    journal: &[Cell],
+    geometry: &Geometry,
+    slot: u32,
+    plan: &Plan<'_>,
 ) -> Result<(), Fault>
-    requires { from + length document.now + length journal.now ≤ (D.state device.old).cells }
-    ensures { PutsPhase (IsStoredPut from document.now journal.now) (D.state device.old) (D.state device.new) result }
+    requires slot { slot < geometry.now.slots }
+    requires size { geometry.now.cells ≤ (D.state device.old).cells }
+    requires inside { plan.now.start + (reserved_by plan.now).length ≤ geometry.now.cells }
+    ensures { PutsPhase (IsStoredPut slot plan.now) (D.state device.old) (D.state device.new) result }
 {
-    put_row(device, from, document, STRAY_CELL)?;
-    put_row(device, from + document.len() as u32, journal, STRAY_CELL)?;
+    put_stamp(device, geometry, slot, plan.stamp)?;
+    let document = plan.start + plan.block_length;
+    put_row(device, document, plan.document, STRAY_CELL)?;
+    let journal = document + plan.document.len() as u32;
+    put_row(device, journal, plan.journal, STRAY_CELL)?;
     device.sync()?;
     Ok(())
+}
+
+/// The stamp cell, if a stamp is given.
+fn put_stamp<D: Device>(
+    device: &mut D,
+    geometry: &Geometry,
+    slot: u32,
+    stamp: Option<u32>,
+) -> Result<(), Fault>
+    requires slot { slot < geometry.now.slots }
+    requires size { geometry.now.cells ≤ (D.state device.old).cells }
+    ensures { Puts (IsStampPut slot stamp) (D.state device.old) (D.state device.new) result }
+{
+    let Some(seconds) = stamp else {
+        return Ok(());
+    };
+    let at = geometry.spare_at(slot);
+    let put = Put {
+        at,
+        value: encode(RecordCell::Stamp { seconds }, at),
+        blame: Blame::Rule(STRAY_CELL),
+    };
+    put_cell(device, &put)
 }
 
 /// The commit cell.

@@ -20,7 +20,7 @@ use Rattle.worm_device.specs.Counts.{IsStill}
 use Rattle.worm_device.specs.Views.{ViewState, Viewed}
 use Rattle.worm_device.proofs.Counting.{still_second}
 use Rattle.worm_device.proofs.Resting.{rests_of, viewed_self}
-use Rattle.commit_record.specs.States.{IsNoState, IsState, StateEnds, done_abandoned, done_unended, done_unreserved, done_wrongly, ends_unreserved, ends_wrongly, reserves_none}
+use Rattle.commit_record.specs.States.{IsNoState, IsState, StateEnds, done_abandoned, done_unended, done_unreserved, done_wrongly, ends_unreserved, ends_unstamped, ends_wrongly, reserves_none}
 use Rattle.commit_record.specs.declared.slot.SlotState.{SlotState}
 use Rattle.commit_record.specs.declared.slot.SlotState.TheVariants.{Unused, Reserved, Abandoned, Committed, Done}
 use Rattle.jump_block.specs.Entries.{cell_of, posting_of}
@@ -176,6 +176,7 @@ pub state_rule : {g : Layout} {before after : Image} {n rule cell : ℕ} → IsN
 state_rule (reserves_none r c none) = inl r
 state_rule (ends_unreserved r c none) = inr (inl r)
 state_rule (ends_wrongly start length r c reserves no_abandon no_commit) = inr (inl r)
+state_rule (ends_unstamped start length bytes journal r c reserves commit fits stamped lacks) = inr (inl r)
 state_rule (done_unreserved r c none blank) = inr (inr (inl r))
 state_rule (done_unended start length r c reserves none) = inr (inr (inl r))
 state_rule (done_abandoned start length r c abandons) = inr (inr (inl r))

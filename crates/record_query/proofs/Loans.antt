@@ -48,7 +48,8 @@ module _ (old new : DeviceState) (a b : ℕ) where
     shows s = record { stands = s.stands; broken = s.broken }
 
     asks : AsksBelow n (seen_directly old 0) → AsksBelow n (seen_directly old a)
-    asks q = record { reserve = q.reserve; outcome = q.outcome; done = q.done; fresh = q.fresh }
+    asks q =
+        record { reserve = q.reserve; outcome = q.outcome; done = q.done; spare = q.spare; fresh = q.fresh }
 
     names : {e : Evidence} → Names g n (seen_directly old a) (seen_directly new b) e
         → Names g n (seen_directly old 0) (seen_directly new 0) e

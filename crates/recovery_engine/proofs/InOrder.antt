@@ -74,6 +74,7 @@ no_state_rule : {g : Layout} {before after : Image} {n rule cell : ℕ} → IsNo
 no_state_rule (IsNoState.reserves_none r c none) = inl r
 no_state_rule (IsNoState.ends_unreserved r c none) = inr (inl r)
 no_state_rule (IsNoState.ends_wrongly start length r c reserves no_abandon no_commit) = inr (inl r)
+no_state_rule (IsNoState.ends_unstamped start length bytes journal r c reserves commit fits stamped lacks) = inr (inl r)
 no_state_rule (IsNoState.done_unreserved r c none blank) = inr (inr r)
 no_state_rule (IsNoState.done_unended start length r c reserves none) = inr (inr r)
 no_state_rule (IsNoState.done_abandoned start length r c abandons) = inr (inr r)

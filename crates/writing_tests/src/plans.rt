@@ -97,6 +97,7 @@ fn put_document(device: &mut MemoryDevice) -> Result<Result<u32, Fault>, Fail>
         document: &document,
         journal: &journal,
         bytes: 13,
+        stamp: None,
     };
     Ok(put_planned(device, &ready, &plan))
 }

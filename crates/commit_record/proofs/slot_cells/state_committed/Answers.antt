@@ -1,5 +1,5 @@
 -- The done cell is not this slot's: a stray, another record, or the done cell of another slot.
-use Rattle.std.proofs.Common.{◌≡◌, ℕ, sym, ◌∙◌}
+use Rattle.std.proofs.Common.{◌≡◌, ℕ, None, sym, ◌∙◌}
 use Rattle.cell_types.specs.declared.record_cell.RecordCell.TheVariants.{Done}
 use Rattle.commit_record.proofs.CellsMake.{done_stray, done_wrong}
 use Rattle.commit_record.proofs.slot_cells.state_committed.Goals as goal
@@ -8,7 +8,7 @@ use Rattle.worm_device.specs.declared.looks.Found.TheVariants.{Blank}
 
 pub returns-in-Stray-clause-ends : goal.returns-in-Stray-clause-ends
 returns-in-Stray-clause-ends c =
-    done_stray _ c.args.slot c.requires.slot Blank Blank c.args.done c.args.start c.args.length c.args.bytes
+    done_stray _ c.args.slot c.requires.slot Blank Blank c.args.done None c.args.start c.args.length c.args.bytes
     c.args.journal
     c.done_at.result c.in-Stray.found c.done_at.ensures.at c.in-Stray.is
 
@@ -17,7 +17,7 @@ slots_are m n e = cc
 
 pub returns-in_default-clause-ends : goal.returns-in_default-clause-ends
 returns-in_default-clause-ends c =
-    done_wrong _ c.args.slot c.requires.slot Blank Blank c.args.done c.args.start c.args.length c.args.bytes
+    done_wrong _ c.args.slot c.requires.slot Blank Blank c.args.done None c.args.start c.args.length c.args.bytes
     c.args.journal
     c.done_at-in_default.result c.in-Record.found c.in-Record.held c.done_at-in_default.ensures.at c.in-Record.is
     (elim c.in_default.branch [

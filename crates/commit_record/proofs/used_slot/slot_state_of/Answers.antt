@@ -1,4 +1,4 @@
--- The cell that was read already, and two looks, as three looks.
+-- The cell that was read already, and the looks at the others, as one look.
 use Rattle.cell_types.proofs.Passed.{handed}
 use Rattle.cell_types.specs.declared.refusal.Fault.TheVariants.{Tampered}
 use Rattle.worm_device.proofs.Resting.{viewed_self, viewed_then}
@@ -14,32 +14,38 @@ returns-clause-ends g c =
     let v0 = g.V.View.seen c.args.view.now in
     let v1 = g.V.View.seen c.args.view.now in
     let v2 = g.V.View.seen c.look.new.view in
-    let v3 = g.V.View.seen c.look-2.new.view in
+    let v3 = g.V.View.seen c.look_at_stamp.new.view in
+    let v4 = g.V.View.seen c.look-2.new.view in
     let reserve = read_before c.args.slot c.reserve_at.result c.args.reserve c.found_there-found.result v0
     c.reserve_at.ensures.at c.found_there-found.ensures.of c.found_there-found.ensures.cell c.requires.stands in
     let outcome = look_at _ _ v1 v2 c.in_ok-outcome.outcome c.outcome_at.ensures.at c.in_ok-outcome.ensures.ends in
-    let done = look_at _ _ v2 v3 c.in_ok-done.done c.done_at.ensures.at c.in_ok-done.ensures.ends in
-    state_seen _ c.args.slot v0 v1 v2 v3 c.found_there-found.result c.in_ok-outcome.outcome c.in_ok-done.done
-    (viewed_self v0) c.in_ok-outcome.ensures.viewed c.in_ok-done.ensures.viewed reserve outcome done
+    let done = look_at _ _ v3 v4 c.in_ok-done.done c.done_at.ensures.at c.in_ok-done.ensures.ends in
+    state_seen _ c.args.slot v0 v1 v2 v3 v4 c.found_there-found.result c.in_ok-outcome.outcome c.in_ok-done.done
+    c.in_ok-stamp.stamp
+    (viewed_self v0) c.in_ok-outcome.ensures.viewed c.in_ok-stamp.ensures.viewed c.in_ok-done.ensures.viewed reserve outcome
+    c.in_ok-stamp.ensures.ends done
     c.in_ok-state_of_cells.field-0 c.in_ok-state_of_cells.ensures.ends
 
 -- or one of them is out of place
 pub returns-in_err-state_of_cells-clause-viewed : goal.returns-in_err-state_of_cells-clause-viewed
 returns-in_err-state_of_cells-clause-viewed g c =
-    viewed_then c.in_ok-outcome.ensures.viewed c.in_ok-done.ensures.viewed
+    viewed_then c.in_ok-outcome.ensures.viewed (viewed_then c.in_ok-stamp.ensures.viewed c.in_ok-done.ensures.viewed)
 
 pub returns-in_err-state_of_cells-clause-ends : goal.returns-in_err-state_of_cells-clause-ends
 returns-in_err-state_of_cells-clause-ends g c =
     let v0 = g.V.View.seen c.args.view.now in
     let v1 = g.V.View.seen c.args.view.now in
     let v2 = g.V.View.seen c.look.new.view in
-    let v3 = g.V.View.seen c.look-2.new.view in
+    let v3 = g.V.View.seen c.look_at_stamp.new.view in
+    let v4 = g.V.View.seen c.look-2.new.view in
     let reserve = read_before c.args.slot c.reserve_at.result c.args.reserve c.found_there-found.result v0
     c.reserve_at.ensures.at c.found_there-found.ensures.of c.found_there-found.ensures.cell c.requires.stands in
     let outcome = look_at _ _ v1 v2 c.in_ok-outcome.outcome c.outcome_at.ensures.at c.in_ok-outcome.ensures.ends in
-    let done = look_at _ _ v2 v3 c.in_ok-done.done c.done_at.ensures.at c.in_ok-done.ensures.ends in
+    let done = look_at _ _ v3 v4 c.in_ok-done.done c.done_at.ensures.at c.in_ok-done.ensures.ends in
     rw (handed c.from_residual-in_err-state_of_cells.result (Tampered c.in_err-state_of_cells.field-0.0)
     c.from_residual-in_err-state_of_cells.ensures.1)
-    (tampered_seen _ c.args.slot v0 v1 v2 v3 c.found_there-found.result c.in_ok-outcome.outcome c.in_ok-done.done
-    (viewed_self v0) c.in_ok-outcome.ensures.viewed c.in_ok-done.ensures.viewed reserve outcome done
+    (tampered_seen _ c.args.slot v0 v1 v2 v3 v4 c.found_there-found.result c.in_ok-outcome.outcome c.in_ok-done.done
+    c.in_ok-stamp.stamp
+    (viewed_self v0) c.in_ok-outcome.ensures.viewed c.in_ok-stamp.ensures.viewed c.in_ok-done.ensures.viewed reserve outcome
+    c.in_ok-stamp.ensures.ends done
     c.requires.slot (g.met.V.View.proper c.look-2.new.view) c.in_err-state_of_cells.field-0.0 c.in_err-state_of_cells.ensures.ends)

@@ -47,7 +47,7 @@ pub put_planned-requires-clause-suits : goal.put_planned-requires-clause-suits
 put_planned-requires-clause-suits g c =
     let bounds = c.in_ok-ready.ensures.ends.0 in
     plan_suits _ c.args.id.now c.args.body.now c.in_ok-document.document c.requires.identifier c.requires.body
-    c.in_ok-document.ensures c.deref.ensures.value refl c.in_ok-index.ensures.ends.planned bounds.layout refl refl
+    c.in_ok-document.ensures c.deref.ensures.value refl refl c.in_ok-index.ensures.ends.planned bounds.layout refl refl
     c.deref-2.ensures.value bounds.from bounds.to
     (omega (arith, c.in_ok-check_room.ensures, c.len.ensures, c.len-2.ensures))
 
@@ -63,11 +63,12 @@ returns-in_err-slot g c =
     (record {
       starts = refl;
       suits = plan_suits _ c.args.id.now c.args.body.now c.in_ok-document.document c.requires.identifier
-          c.requires.body c.in_ok-document.ensures c.deref.ensures.value refl c.in_ok-index.ensures.ends.planned
+          c.requires.body c.in_ok-document.ensures c.deref.ensures.value refl refl c.in_ok-index.ensures.ends.planned
           bounds.layout refl refl c.deref-2.ensures.value bounds.from bounds.to
           (omega (arith, c.in_ok-check_room.ensures, c.len.ensures, c.len-2.ensures));
       document = plans_document _ c.args.id.now c.args.body.now c.in_ok-document.document c.requires.identifier
-          c.requires.body c.in_ok-document.ensures c.deref.ensures.value refl;
+          c.requires.body c.in_ok-document.ensures c.deref.ensures.value refl refl;
+      stamp = refl;
       index = c.in_ok-index.index;
       has = c.in_ok-index.ensures.ends;
       blocks = refl;
@@ -85,11 +86,12 @@ returns g c =
     (record {
       starts = refl;
       suits = plan_suits _ c.args.id.now c.args.body.now c.in_ok-document.document c.requires.identifier
-          c.requires.body c.in_ok-document.ensures c.deref.ensures.value refl c.in_ok-index.ensures.ends.planned
+          c.requires.body c.in_ok-document.ensures c.deref.ensures.value refl refl c.in_ok-index.ensures.ends.planned
           bounds.layout refl refl c.deref-2.ensures.value bounds.from bounds.to
           (omega (arith, c.in_ok-check_room.ensures, c.len.ensures, c.len-2.ensures));
       document = plans_document _ c.args.id.now c.args.body.now c.in_ok-document.document c.requires.identifier
-          c.requires.body c.in_ok-document.ensures c.deref.ensures.value refl;
+          c.requires.body c.in_ok-document.ensures c.deref.ensures.value refl refl;
+      stamp = refl;
       index = c.in_ok-index.index;
       has = c.in_ok-index.ensures.ends;
       blocks = refl;
