@@ -1,5 +1,5 @@
 -- What a crash in the middle of an ingest leaves of a slot that was unused, where nobody else writes.
-use Rattle.std.proofs.Common.{◌≡◌, ◌≢◌, ◌≤◌, ◌<◌, ◌+◌, ◌⊎◌, ℕ, List, Result, sym, subst, ⊎_elim, inl, inr, arith}
+use Rattle.std.proofs.Common.{◌≡◌, ◌≢◌, ◌≤◌, ◌<◌, ◌+◌, ◌⊎◌, ℕ, List, Result, sym, subst, ⊎_elim, inl, inr, arith, Option}
 use Rattle.std.specs.Prelude.{IsTrue}
 use Rattle.cell_types.specs.Image.{Image, Extends, Between, IsUnchanged}
 use Rattle.cell_types.specs.Layout.{Layout, IsLayout}
@@ -149,15 +149,16 @@ ready_layout old looked r g h tells volume =
     (same, subst IsLayout same h.settles.ends.0.layout)
 
 -- whatever an ingest has come to
-pub crashed : (id body : List ℕ) (old new : DeviceState) → CrashesLeaveWholeSlots → Called old new → ComesTo id body old new
+pub crashed : (id : List ℕ) (stamp : Option ℕ) (body : List ℕ) (old new : DeviceState) → CrashesLeaveWholeSlots
+    → Called old new → ComesTo id stamp body old new
     → CrashesLeaveSlots id body old new
-crashed id body old new law called (ComesTo.nothing same) tells still g n volume unused image left =
+crashed id stamp body old new law called (ComesTo.nothing same) tells still g n volume unused image left =
     unused_whole (unused_in (left_now old image (subst (λ (s : DeviceState). LeftSince s old.moment image) same left)) unused)
-crashed id body old new law called (ComesTo.settling refusal s) tells still g n volume unused image left =
+crashed id stamp body old new law called (ComesTo.settling refusal s) tells still g n volume unused image left =
     unused_whole (settling_left g n old volume unused s tells still image left)
-crashed id body old new law called (ComesTo.settled r h) tells still g n volume unused image left =
+crashed id stamp body old new law called (ComesTo.settled r h) tells still g n volume unused image left =
     unused_whole (looking_left g n old volume unused h tells still image left)
-crashed id body old new law called (ComesTo.put looked r p h device less plan puts) tells still g n volume unused image left =
+crashed id stamp body old new law called (ComesTo.put looked r p h device less plan puts) tells still g n volume unused image left =
     let first : Called old looked = called_then h.settles.called h.looked in
     let layout = ready_layout old looked r g h tells volume in
     putting_left g n old volume unused h tells (still_first first.foreign_writes puts.called.foreign_writes still) law id body p new

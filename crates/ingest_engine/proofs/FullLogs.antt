@@ -3,6 +3,7 @@ use Rattle.std.proofs.Common.{◌≡◌, ◌<◌, ◌-◌, ℕ, List, Option, So
 use Rattle.std.specs.Prelude.{IsTrue}
 use Rattle.cell_types.specs.Image.{Image}
 use Rattle.cell_types.specs.Layout.{reserve_at}
+use Rattle.stored_documents.specs.Slots.{IsStampFor}
 use Rattle.stored_documents.specs.Volumes.{IsWritten}
 use Rattle.stored_documents.proofs.Extending.{written_on}
 use Rattle.worm_device.specs.State.{DeviceState}
@@ -24,16 +25,18 @@ last_free {old} r has less tells =
     blank_unless old.image at (old.image at) refl
     (λ (w : IsWritten old.image at). let full = (has.settles.ends.1 tells).full w in omega (arith, less, full))
 
-abbrev pub has_slot : {old new : DeviceState} (r : Ready) → HasSettled old new r → r.horizon < r.volume.geometry.slots
-    → HasSlot old new r
-has_slot r has less = record { settled = has; slot = less; last_free = λ tells. last_free r has less tells }
+abbrev pub has_slot : {stamp : Option ℕ} {old new : DeviceState} (r : Ready) → HasSettled old new r
+    → IsStampFor r.volume.geometry stamp → r.horizon < r.volume.geometry.slots → HasSlot stamp old new r
+has_slot r has takes less =
+    record { settled = has; takes = takes; slot = less; last_free = λ tells. last_free r has less tells }
 
 -- and where none is free the last one is taken
-pub has_no_slot : {old new : DeviceState} (r : Ready) → HasSettled old new r → r.horizon ≡ r.volume.geometry.slots
-    → HasNoSlot old new
-has_no_slot r has all = record {
+pub has_no_slot : {stamp : Option ℕ} {old new : DeviceState} (r : Ready) → HasSettled old new r
+    → IsStampFor r.volume.geometry stamp → r.horizon ≡ r.volume.geometry.slots → HasNoSlot stamp old new
+has_no_slot r has takes all = record {
   ready = r;
   settled = has;
+  takes = takes;
   taken = all;
   full = λ tells. written_on has.looked.image ((has.settles.ends.1 tells).horizon.below (r.volume.geometry.slots - 1)
       (omega (arith, all, has.settles.ends.0.layout.some_slots)));

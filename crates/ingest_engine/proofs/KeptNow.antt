@@ -6,7 +6,8 @@ use Rattle.cell_types.specs.Image.{Image, Extends}
 use Rattle.cell_types.specs.Layout.{IsLayout, Layout, root_at}
 use Rattle.stored_documents.specs.Documents.{Document, Stands}
 use Rattle.stored_documents.specs.Volumes.{IsVolume}
-use Rattle.stored_documents.proofs.Extending.{stands_on, volume_on}
+use Rattle.stored_documents.specs.Slots.{IsStampOf}
+use Rattle.stored_documents.proofs.Extending.{done_slot_on, holds_on, stands_on, volume_on}
 use Rattle.index_paths.specs.HashPaths.{IsPassed, PassedTo}
 use Rattle.index_paths.specs.Keeping.{IsKept, Kept, sought_in}
 use Rattle.index_paths.proofs.HashTrails.{hash_trail_on, passed_on, passed_to_on}
@@ -26,21 +27,11 @@ use Rattle.identifier_lookup.specs.Walks.{EndsThere, HasTrail, IsPassedAbove, Is
 use Rattle.plan_writer.specs.Planned.{reserved_by}
 use Rattle.plan_writer.specs.PuttingPlans.{IsCarriedOut}
 use Rattle.plan_writer.specs.declared.plan.Plan.{Plan}
+use Rattle.ingest_plan.specs.Planning.{IsLater}
 use Rattle.ingest_engine.specs.Indexing.{HasWalked}
 use Rattle.ingest_engine.specs.Ingesting.{IsIngested, IsLastFree, IsPlanFor, document_in}
 use Rattle.ingest_engine.proofs.Suited.{copies_of}
-
--- what had a hash trail has it still
-pub has_trail_on : {g : Layout} {a b : DeviceState} {id : List ℕ} {m : ℕ} → Called a b → HasTrail g a.cells a.image id m
-    → HasTrail g b.cells b.image id m
-has_trail_on {g} {a} {b} {id} {m} called h =
-    subst (λ (cells : ℕ). HasTrail g cells b.image id m) (sym called.cells)
-    (record { body = h.body; stands = stands_on called.image h.stands; trail = hash_trail_on called.image h.trail })
-
--- so if none has one now, none had one before
-pub none_before : {g : Layout} {a b : DeviceState} {id : List ℕ} → Called a b → NoneHasTrail g b.cells b.image id
-    → NoneHasTrail g a.cells a.image id
-none_before called none = λ m h. none m (has_trail_on called h)
+use Rattle.ingest_engine.proofs.Trails.{none_before}
 
 -- the path is passed down to the place
 passed_down : (g : Layout) (image : Image) (id : List ℕ) (level : Level) (bucket : ℕ) (child : Option ℕ)
@@ -57,10 +48,10 @@ passed_down_on : (g : Layout) {old new : Image} (id : List ℕ) (level : Level) 
 passed_down_on g id level None e passed = passed_to_on e passed
 passed_down_on g id level (Some child) e passed = (passed_to_on e passed.0, passed_on e passed.1)
 
-module _ {id body : List ℕ} {old settled looked new : DeviceState} {r : Ready} {p : Plan} (n : ℕ)
+module _ {id : List ℕ} {stamp : Option ℕ} {body : List ℕ} {old settled looked new : DeviceState} {r : Ready} {p : Plan} (n : ℕ)
     (layout : IsLayout r.volume.geometry) (first : Called old settled) (tells : IsTrue old.tells)
     (volume : IsVolume settled.cells settled.image r.volume.geometry) (later : Called looked new)
-    (plan : IsPlanFor r id body settled looked p)
+    (plan : IsPlanFor r id stamp body settled looked p)
     (carried : IsCarriedOut r.volume.geometry p r.horizon new.cells old.image looked.image new.sure) where
   abbrev g : Layout
   g = r.volume.geometry
@@ -115,12 +106,22 @@ module _ {id body : List ℕ} {old settled looked new : DeviceState} {r : Ready}
   stands : Stands new.cells new.sure r.horizon id body
   stands = carried.document id body plan.document
 
+  -- with its stamp
+  stamped : IsStampOf g new.sure r.horizon stamp
+  stamped = subst (λ (s : Option ℕ). IsStampOf g new.sure r.horizon s) plan.stamped carried.stamp
+
+  -- which is past those that were there
+  later_then : (given : Option ℕ) → IsLater g settled.image r.horizon given → IsLater g old.image r.horizon given
+  later_then None later = tt
+  later_then (Some seconds) later = λ m before below done has.
+      later m before below (done_slot_on first.image first.image done) (holds_on first.image has)
+
   -- the document is kept
   kept : IsKept new.cells new.sure g (document_in r.horizon id body)
   kept = subst (λ (c : ℕ). IsKept c new.sure g (document_in r.horizon id body)) (sym cells_new)
       (plan.has.planned.keeps (subst IsTrue (sym walk.called.tells) told) id new.sure (sym walk.path.0) carried.stood
       planned_stands (omega (arith, plan.starts, plan.blocks, plan.suits.to))
-      (subst (λ (c : ℕ). Stands c new.sure r.horizon id body) cells_new stands) passed)
+      (subst (λ (c : ℕ). Stands c new.sure r.horizon id body) cells_new stands) stamped passed)
 
   -- and with it each that was kept before
   keeps : (documents : List Document) → Kept old.cells old.image documents
@@ -144,9 +145,9 @@ module _ {id body : List ℕ} {old settled looked new : DeviceState} {r : Ready}
       }
 
   pub is_ingested : n ≡ r.horizon → IsVolume new.cells new.image g → IsLastFree g old.image
-      → IsIngested id body n old new
+      → IsIngested id stamp body n old new
   is_ingested slot volume_image free =
-      subst (λ (m : ℕ). IsIngested id body m old new) (sym slot)
+      subst (λ (m : ℕ). IsIngested id stamp body m old new) (sym slot)
       (record {
         layout = g;
         volume = volume_image;
@@ -160,6 +161,8 @@ module _ {id body : List ℕ} {old settled looked new : DeviceState} {r : Ready}
         };
         last_free = free;
         document = carried.document id body plan.document;
+        stamped = stamped;
+        later = later_then stamp (plan.has.past told);
         kept = kept;
         keeps = keeps;
         fresh = none_before first (there.none volume);

@@ -5,6 +5,8 @@ pub mod JoinedCells
 pub mod KeptNow
 pub mod Named
 pub mod SeenBlank
+pub mod Stamps
 pub mod Suited
+pub mod Trails
 pub mod UnusedSlots
 pub mod Walked

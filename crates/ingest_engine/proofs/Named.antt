@@ -6,7 +6,7 @@ use Rattle.std.proofs.lemmas.Option.{slice_get_within}
 use Rattle.cell_types.specs.Image.{Image}
 use Rattle.cell_types.specs.Layout.{IsLayout}
 use Rattle.cell_types.specs.declared.refusal.Evidence.{Evidence}
-use Rattle.stored_documents.specs.Slots.{IsEdge, IsHorizon, cells_for}
+use Rattle.stored_documents.specs.Slots.{IsEdge, IsHorizon, IsStampFor, cells_for}
 use Rattle.stored_documents.proofs.Extending.{written_on}
 use Rattle.stored_documents.proofs.Holding.{some_is}
 use Rattle.worm_device.specs.Calls.{Called}
@@ -30,8 +30,8 @@ use Rattle.ingest_engine.specs.Ingesting.{HasSlot, IsInTheWay, IsLogRule, IsName
 use Rattle.ingest_engine.proofs.FullLogs.{has_slot}
 use Rattle.ingest_engine.proofs.Suited.{copies_of, entry}
 
-module _ {old new : DeviceState} (r : Ready) (slot : r.horizon < r.volume.geometry.slots) (has : HasSettled old new r)
-    (tells : IsTrue old.tells)
+module _ {stamp : Option ℕ} {old new : DeviceState} (r : Ready) (takes : IsStampFor r.volume.geometry stamp)
+    (slot : r.horizon < r.volume.geometry.slots) (has : HasSettled old new r) (tells : IsTrue old.tells)
   where
     -- the horizon is one of what stands, where nobody else wrote
     is_horizon : IsStill old.foreign_writes new.foreign_writes
@@ -54,9 +54,9 @@ module _ {old new : DeviceState} (r : Ready) (slot : r.horizon < r.volume.geomet
     -- what was found on the way is named
     pub named_on_way : {id body : List ℕ} (e : Evidence)
         → IsFoundOnWay (IsPathRule r id body has.settled new) r has.settled new e
-        → IsNamed id body old new e
+        → IsNamed id stamp body old new e
     named_on_way e found =
-        in_index r (has_slot r has slot) found.rule (record {
+        in_index r (has_slot r has takes slot) found.rule (record {
           stands = found.stands;
           layout = r.volume.geometry;
           volume = volume_2 r has tells;
@@ -88,9 +88,10 @@ log_rule number (inr (inr (inl r))) = inl (inl (inr (inr r)))
 log_rule number (inr (inr (inr (inl r)))) = inl (inr (inr r))
 log_rule number (inr (inr (inr (inr r)))) = inr r
 
-module _ {id body : List ℕ} {old looked : DeviceState} {r : Ready} {p : Plan} (layout : IsLayout r.volume.geometry)
-    (slot : r.horizon < r.volume.geometry.slots) (has : HasSettled old looked r) (tells : IsTrue old.tells)
-    (plan : IsPlanFor r id body has.settled looked p)
+module _ {id : List ℕ} {stamp : Option ℕ} {body : List ℕ} {old looked : DeviceState} {r : Ready} {p : Plan} (layout : IsLayout r.volume.geometry)
+    (takes : IsStampFor r.volume.geometry stamp) (slot : r.horizon < r.volume.geometry.slots)
+    (has : HasSettled old looked r) (tells : IsTrue old.tells)
+    (plan : IsPlanFor r id stamp body has.settled looked p)
   where
     small : r.edge + plan.index.block_length ≤ 2 ^ 32
     small = omega (arith, plan.starts, plan.blocks, plan.suits.to, layout.cells)
@@ -155,7 +156,7 @@ module _ {id body : List ℕ} {old looked : DeviceState} {r : Ready} {p : Plan} 
     -- what was found while the plan was put is named
     pub named_by_plan : {new : DeviceState} → Called looked new → (e : Evidence)
         → IsFoundByPlan r.horizon p old looked new e
-        → IsNamed id body old new e
+        → IsNamed id stamp body old new e
     named_by_plan {new} later e found =
         let asks = λ (still : IsStill old.foreign_writes new.foreign_writes).
         asks_for_blank (still_first (called r has).foreign_writes later.foreign_writes still) in
@@ -167,7 +168,7 @@ module _ {id body : List ℕ} {old looked : DeviceState} {r : Ready} {p : Plan} 
           };
           ready = r;
           looked = looked;
-          slot = has_slot r has slot;
+          slot = has_slot r has takes slot;
           index = plan.index;
           has = plan.has;
           room = room;
@@ -177,8 +178,9 @@ module _ {id body : List ℕ} {old looked : DeviceState} {r : Ready} {p : Plan} 
         })
 
 -- where nobody else wrote, all was only looked at since the volume was settled
-pub slot_still : {id body : List ℕ} {old new : DeviceState} {e : Evidence} (way : IsInTheWay id body old new e)
-    → IsStill old.foreign_writes new.foreign_writes → HasSlot old new way.ready
+pub slot_still : {id : List ℕ} {stamp : Option ℕ} {body : List ℕ} {old new : DeviceState} {e : Evidence}
+    (way : IsInTheWay id stamp body old new e)
+    → IsStill old.foreign_writes new.foreign_writes → HasSlot stamp old new way.ready
 slot_still way still =
     let has = way.slot.settled in
     record {
@@ -189,6 +191,7 @@ slot_still way still =
         quiet = λ later cell. way.unput still cell
             ∙ has.quiet (still_first has.looked.foreign_writes way.since.foreign_writes later) cell;
       };
+      takes = way.slot.takes;
       slot = way.slot.slot;
       last_free = way.slot.last_free;
     }

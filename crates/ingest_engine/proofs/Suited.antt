@@ -1,5 +1,5 @@
 -- A plan of a document and of its index suits the volume that it was made for.
-use Rattle.std.proofs.Common.{◌≡◌, ◌≤◌, ◌<◌, ◌+◌, ◌-◌, ◌^◌, ◌⊎◌, ◌∙◌, ℕ, zero, suc, List, [], length, Some, None, refl, sym, ap, subst, inl, inr, arith}
+use Rattle.std.proofs.Common.{◌≡◌, ◌≤◌, ◌<◌, ◌+◌, ◌-◌, ◌^◌, ◌⊎◌, ◌∙◌, ℕ, zero, suc, List, [], length, Option, Some, refl, sym, ap, subst, inl, inr, arith}
 use Rattle.std.specs.Prelude.{slice_get}
 use Rattle.std.proofs.Math.ListN.{get_or}
 use Rattle.std.proofs.lemmas.Option.{none-some, slice_get-get_or}
@@ -7,7 +7,7 @@ use Rattle.cell_types.specs.Layout.{IsLayout, Layout, pool_at, lists_at}
 use Rattle.cell_types.specs.Records.{IsRecordCell}
 use Rattle.cell_types.proofs.OneRecord.{address_in}
 use Rattle.stored_documents.specs.Documents.{IsBody, IsIdentifier}
-use Rattle.stored_documents.specs.Slots.{cells_for}
+use Rattle.stored_documents.specs.Slots.{IsStampFor, cells_for}
 use Rattle.worm_device.specs.State.{DeviceState}
 use Rattle.hash_tree.specs.declared.level.Level.{Level}
 use Rattle.hash_tree.specs.declared.path.Open.{Open}
@@ -20,10 +20,6 @@ use Rattle.ingest_engine.specs.StoredCells.{IsStoredAs}
 use Rattle.ingest_engine.specs.declared.document.StoredDocument.{StoredDocument}
 use Rattle.ingest_engine.proofs.JoinedCells.{stored_length}
 
--- No volume is of stamped documents yet, so a plan without a stamp suits each. It is the one place that says so.
-none_given : {g : Layout} → IsLayout g → IsStampFor g None
-none_given layout = omega (arith, layout.version)
-
 before_or : (a b : ℕ) → (a < b) ⊎ (b ≤ a)
 before_or a b = grind arith
 
@@ -31,8 +27,8 @@ before_or a b = grind arith
 laid_at : (place k : ℕ) (cells : List (List ℕ)) → laid place cells (place + k) ≡ slice_get cells k
 laid_at place k cells = let same : place + k - place ≡ k = omega arith in ap (slice_get cells) same
 
-module _ {g : Layout} {n edge : ℕ} {level : Level} {place : Open} {body : List ℕ} {index : PlannedIndex}
-    {old new : DeviceState} (h : IsPlanned g n edge level place body index old new) where
+module _ {g : Layout} {n edge : ℕ} {level : Level} {place : Open} {stamp : Option ℕ} {body : List ℕ}
+    {index : PlannedIndex} {old new : DeviceState} (h : IsPlanned g n edge level place stamp body index old new) where
   abbrev to : ℕ
   to = edge + index.block_length
 
@@ -107,7 +103,7 @@ module _ {g : Layout} {n edge : ℕ} {level : Level} {place : Open} {body : List
 
 module _ (p : Plan) (id body : List ℕ) (document : StoredDocument) (identifier : IsIdentifier id) (is_body : IsBody body)
     (stored : IsStoredAs id body document) (cells : p.document.now ≡ document.cells.items)
-    (bytes : p.bytes ≡ document.bytes) (stamp : p.stamp ≡ None) where
+    (bytes : p.bytes ≡ document.bytes) (stamp : Option ℕ) (stamped : p.stamp ≡ stamp) where
   -- the plan is of this document
   pub plans_document : PlansDocument p id body
   plans_document = record {
@@ -122,10 +118,11 @@ module _ (p : Plan) (id body : List ℕ) (document : StoredDocument) (identifier
 
   -- and suits a volume in which it and its index have room
   pub plan_suits : {g : Layout} {n edge : ℕ} {level : Level} {place : Open} {index : PlannedIndex} {old new : DeviceState}
-      → IsPlanned g n edge level place body index old new → IsLayout g → p.start ≡ edge
+      → IsPlanned g n edge level place stamp body index old new → IsLayout g → IsStampFor g stamp
+      → ((seconds : ℕ) → stamp ≡ Some seconds → seconds < 2 ^ 32) → p.start ≡ edge
       → p.block_length ≡ index.block_length → p.journal.now ≡ index.journal.items → pool_at g ≤ edge → edge ≤ g.cells
       → length document.cells.items + length index.journal.items + index.block_length ≤ g.cells - edge → Suits g p
-  plan_suits {g} {n} {edge} {level} {place} {index} {old} {new} h layout starts blocks journal low inside room =
+  plan_suits {g} {n} {edge} {level} {place} {index} {old} {new} h layout takes few starts blocks journal low inside room =
       let size : p.bytes ≡ 1 + length id + length body = bytes ∙ stored.bytes ∙ stored_length id body in
       let long : length p.journal.now ≡ length index.journal.items = ap length journal in
       let wide : length p.document.now ≡ length document.cells.items = ap length cells in
@@ -142,8 +139,8 @@ module _ (p : Plan) (id body : List ℕ) (document : StoredDocument) (identifier
           omega (arith, count, long, blocks),
         );
         document = count;
-        stamp = subst (IsStampFor g) (sym stamp) (none_given layout);
-        stamp_fits = λ seconds given. absurd (none-some seconds (sym stamp ∙ given));
+        stamp = subst (IsStampFor g) (sym stamped) takes;
+        stamp_fits = λ seconds given. few seconds (sym stamped ∙ given);
         entries = subst (λ (below : ℕ). AreEntries (lists_at g) (laid (journal_from p) p.journal.now) (journal_from p) below
             (length p.journal.now)) end
             (subst (λ (l : List (List ℕ)). AreEntries (lists_at g) (laid (journal_from p) l) (journal_from p)

@@ -28,8 +28,8 @@ use Rattle.ingest_plan.specs.Planning.{IsLater}
 use Rattle.ingest_plan.specs.declared.plan.PlannedIndex.{PlannedIndex}
 use Rattle.ingest_engine.specs.Indexing.{HasIndex, HasTooMany, IsPast, IsPathRule, IsTooEarly}
 
--- The plan is of this document, with this stamp, and of its index, which was planned after settling: it has the index's blocks, and copies of
--- its cells are the journal.
+-- The plan is of this document, with this stamp, and of its index, which was planned after settling: it has the index's
+-- blocks, and copies of its cells are the journal.
 pub record IsPlanFor (r : Ready) (id : List ℕ) (stamp : Option ℕ) (body : List ℕ) (settled looked : DeviceState)
     (p : Plan) : Type 0 where
   pub starts : p.start ≡ r.edge

@@ -35,6 +35,8 @@ pub fn ingest<D: Device>(
     ensures { Ingests id.now stamp body.now (D.state device.old) (D.state device.new) result }
 {
     crashes_leave_whole_slots();
+    // Known of a number once it is read: it has 32 bits.
+    let _seconds = stamp.unwrap_or(0);
     let document = StoredDocument::new(alloc, id, body)?;
     let ready = settle(device)?;
     check_stamp(&ready, stamp)?;
