@@ -7,4 +7,5 @@ mod LastDocuments
 mod OfWords
 mod Returned
 mod Standing
+pub mod Undisturbed
 mod Whole
