@@ -1,5 +1,5 @@
 -- Where no event lets others write, nobody does; and where nothing befalls the events, no call fails.
-use Rattle.std.proofs.Common.{◌≡◌, ◌||◌, List, [], ◌∷◌, ◌++◌, map, get_or, Option, suc, refl, sym, ap, subst, ◌∙◌, arith}
+use Rattle.std.proofs.Common.{◌≡◌, ◌||◌, ℕ, List, [], ◌∷◌, ◌++◌, map, get_or, Option, suc, refl, sym, ap, subst, ◌∙◌, arith}
 use Rattle.std.specs.Prelude.{⊤}
 use Rattle.std.specs.List.{All, list_any}
 use Rattle.std.proofs.lemmas.List.{append_assoc, append-nil, map-append}
@@ -7,10 +7,11 @@ use Rattle.std.proofs.lemmas.List.Elements.{All-cons, All-nil}
 use Rattle.cell_types.specs.declared.refusal.Refusal.TheVariants as refusals
 use Rattle.stored_documents.specs.Documents.{Document}
 use Rattle.tamper_rules.specs.Settling.{Held}
-use Rattle.worm_device.specs.Counts.{IsStill}
+use Rattle.worm_device.specs.Counts.{IsStill, Rose}
 use Rattle.worm_device.specs.State.{DeviceState, IsDevice}
 use Rattle.worm_memory.specs.Memory.{Memory, device_of, mark_of}
 use Rattle.worm_memory.specs.Plans.{Plan, is_due, is_reached, last_faults, last_foreign_writes, may_be_written, may_fail, may_stop}
+use Rattle.worm_memory.specs.declared.mark.Mark.{Mark}
 use Rattle.worm_memory.specs.declared.moment.Moment.{Moment}
 use Rattle.worm_memory.proofs.Accounts.{faults_append, foreign_writes_append}
 use Rattle.script_events.specs.declared.event.Event.{Event}
@@ -22,11 +23,12 @@ use Rattle.script_replies.specs.declared.reply.Reply.TheVariants as reply
 use Rattle.begun_commands.specs.Beginnings.{planned_of}
 use Rattle.replayed_worlds.specs.Completeness.{CommandsComplete}
 use Rattle.replayed_worlds.specs.Headline.{ComeFrom, IsNew, IsUndisturbed, MayGive, MayGiveNone, cut_short, followed, nothing_came, none, stored}
-use Rattle.replayed_worlds.specs.Steadily.{CommandsAreWhole, IsCommand}
+use Rattle.replayed_worlds.specs.Steadily.{CommandsAreWhole, IsCommand, begun_by}
 use Rattle.replayed_worlds.specs.Turns.{CarriesOut, Turns}
-use Rattle.replayed_worlds.specs.Undisturbed.{IsLeftPlain, IsPlain, IsPlainTurn, IsUnshared, PlainIsDone, PlansNothing, UnsharedIsAlone, events_of}
+use Rattle.replayed_worlds.specs.Undisturbed.{IsDoneReply, IsLeftAlone, IsLeftPlain, IsPlain, IsPlainTurn, IsUnshared, PlainIsDone, PlansNothing, TurnsAreMarked, UnsharedIsAlone, events_of}
 use Rattle.replayed_worlds.specs.Worlds.{AreInTurn, Turn, acknowledged, acknowledged_by}
 use Rattle.replayed_worlds.proofs.Along.{along, split}
+use Rattle.replayed_worlds.proofs.Reading.{IsDoneSo, done_so}
 use Rattle.replayed_worlds.proofs.HeldIngests.{begun_by_device, begun_by_steady, stands_from, whole_turn}
 
 -- what holds of each holds of the first, of the rest, and of those before others
@@ -198,6 +200,17 @@ uncut_along from (t ∷ turns) to unfailed leads all =
       uncut_along t.new turns to (same ∙ before) leads.3 (all_rest IsPlain t.event (events_of turns) all),
     )
 
+-- a beginning reads nothing
+begun_reads : (e : Event) (m : Memory) → (device_of (begun_by e m)).reads ≡ m.reads
+begun_reads (event.Format slots lists version plan) m = refl
+begun_reads (event.Ingest id body plan) m = refl
+begun_reads (event.Find terms plan) m = refl
+begun_reads (event.Lookup id plan) m = refl
+begun_reads (event.Audit plan) m = refl
+begun_reads (event.Recover plan) m = refl
+begun_reads (event.Foreign at cell) m = refl
+begun_reads (event.Crash keep) m = refl
+
 module _ (whole : CommandsAreWhole) (complete : CommandsComplete) where
   plain_left : (from : Memory) (turns : List Turn) (to : Memory) → IsDevice (device_of from) → IsNew from
       → from.faults ≡ 0 → AreInTurn from turns to → All IsPlain (events_of turns) → IsLeftPlain turns to
@@ -233,14 +246,42 @@ module _ (whole : CommandsAreWhole) (complete : CommandsComplete) where
       record { same = faults; below = omega (arith, faults, left.unfailed) } in
       let begun_device = begun_by_device t.event t.old first.1 in
       let begun_steady = begun_by_steady t.event t.old stands.steady in
+      let command = plain_command t.event plain in
+      let whole_here = whole_turn whole t.old t.new first.1 s.device alone stands t.event t.reply command s.turns in
+      let so : IsDoneReply t.reply → IsDoneSo (device_of (begun_by t.event t.old)) (device_of t.new) =
+      done_so t.event t.reply t.old t.new begun_device s.device begun_steady still command s.turns whole_here
+      (acknowledged before) left.held in
       record {
         device = begun_device;
         device_new = s.device;
         steady = begun_steady;
-        whole = whole_turn whole t.old t.new first.1 s.device alone stands t.event t.reply (plain_command t.event plain)
-            s.turns;
+        whole = whole_here;
         done = complete t.event t.reply t.old t.new begun_device s.device begun_steady still still_faults s.turns;
+        read = λ done. subst (λ (n : ℕ). Rose n t.new.reads) (begun_reads t.event t.old) (so done).read;
+        settled = λ done. (so done).settled;
       }
 
   pub plain_done : PlainIsDone
   plain_done = record { left = plain_left; turn = plain_turn }
+
+-- each turn leaves a mark
+turn_marks : (e : Event) (r : Reply) (old new : Memory) → Turns e r old new → new.marks ≡ old.marks ++ mark_of old ∷ []
+turn_marks (event.Format slots lists version plan) r old new t = t.by_plan.marks
+turn_marks (event.Ingest id body plan) r old new t = t.by_plan.marks
+turn_marks (event.Find terms plan) r old new t = t.by_plan.marks
+turn_marks (event.Lookup id plan) r old new t = t.by_plan.marks
+turn_marks (event.Audit plan) r old new t = t.by_plan.marks
+turn_marks (event.Recover plan) r old new t = t.by_plan.marks
+turn_marks (event.Foreign at cell) reply.ForeignDone old new t = ap (λ (m : Memory). m.marks) t.1
+turn_marks (event.Foreign at cell) (reply.ForeignTaken found) old new t = ap (λ (m : Memory). m.marks) t.1
+turn_marks (event.Foreign at cell) r old new t = absurd t
+turn_marks (event.Crash keep) (reply.Crashed crash) old new t = ap (λ (m : Memory). m.marks) t.recorded
+turn_marks (event.Crash keep) r old new t = absurd t
+
+pub turns_marked : TurnsAreMarked
+turns_marked from [] to leads = ap (λ (m : Memory). m.marks) leads ∙ sym (append-nil from.marks)
+turns_marked from (t ∷ turns) to leads =
+    turns_marked t.new turns to leads.3
+    ∙ ap (λ (l : List Mark). l ++ map (λ (u : Turn). mark_of u.old) turns)
+    (turn_marks t.event t.reply t.old t.new leads.2 ∙ ap (λ (m : Memory). m.marks ++ mark_of t.old ∷ []) leads.0)
+    ∙ append_assoc from.marks (mark_of t.old ∷ []) (map (λ (u : Turn). mark_of u.old) turns)

@@ -4,13 +4,16 @@
 -- commands in which no call fails, holds of each turn of such a world.
 use Rattle.std.specs.Prelude.{◌≡◌, List, [], ◌∷◌, ◌++◌, map, None, ⊤}
 use Rattle.std.specs.List.{All}
-use Rattle.tamper_rules.specs.Settling.{Held}
+use Rattle.tamper_rules.specs.Settling.{Held, Settled}
+use Rattle.worm_device.specs.Counts.{Rose}
 use Rattle.worm_device.specs.State.{IsDevice}
-use Rattle.worm_memory.specs.Memory.{Memory, device_of}
+use Rattle.worm_memory.specs.Memory.{Memory, device_of, mark_of}
 use Rattle.settling_laws.specs.Steadiness.{IsSteady}
 use Rattle.script_events.specs.declared.event.Event.{Event}
 use Rattle.script_events.specs.declared.event.Event.TheVariants as event
 use Rattle.script_events.specs.declared.event.Schedule.{Schedule}
+use Rattle.script_replies.specs.declared.reply.Reply.{Reply}
+use Rattle.script_replies.specs.declared.reply.Reply.TheVariants as reply
 use Rattle.replayed_worlds.specs.Completeness.{IsDoneWherePossible}
 use Rattle.replayed_worlds.specs.Headline.{HoldsIngests, IsNew, IsUndisturbed}
 use Rattle.replayed_worlds.specs.Steadily.{IsWholeTurn, begun_by}
@@ -69,13 +72,21 @@ pub record IsLeftPlain (turns : List Turn) (to : Memory) : Type 0 where
   pub steady : IsSteady (device_of to)
   pub held : Held to.cells (device_of to).image (acknowledged turns)
 
--- A command in a world that nothing befell: it leaves and tells what it should, and it is done wherever it can be.
+-- the event was done
+abbrev pub IsDoneReply : Reply → Type 0
+IsDoneReply (reply.Refused refusal) = ⊥
+IsDoneReply r = ⊤
+
+-- A command in a world that nothing befell: it leaves and tells what it should, and it is done wherever it can be. Where it
+-- is done it has read the device, and what stands behind it is a settled volume.
 pub record IsPlainTurn (t : Turn) : Type 0 where
   pub device : IsDevice (device_of (begun_by t.event t.old))
   pub device_new : IsDevice (device_of t.new)
   pub steady : IsSteady (device_of (begun_by t.event t.old))
   pub whole : IsWholeTurn t.event t.reply t.old t.new
   pub done : IsDoneWherePossible t.event t.reply (device_of (begun_by t.event t.old))
+  pub read : IsDoneReply t.reply → Rose t.old.reads t.new.reads
+  pub settled : IsDoneReply t.reply → Settled t.new.cells (device_of t.new).image
 
 -- From a new device without faults on, events that nothing befalls leave it so, and each of them is done so.
 pub record PlainIsDone : Type 0 where
@@ -84,3 +95,9 @@ pub record PlainIsDone : Type 0 where
   pub turn : (from to : Memory) (before after : List Turn) (t : Turn) → IsDevice (device_of from) → IsNew from
       → from.faults ≡ 0 → AreInTurn from (before ++ t ∷ after) to → All IsPlain (events_of (before ++ t ∷ after))
       → IsPlainTurn t
+
+-- Each turn has left one mark, which says how the device stood as it began.
+abbrev pub TurnsAreMarked : Type 0
+TurnsAreMarked =
+    (from : Memory) (turns : List Turn) (to : Memory) → AreInTurn from turns to
+    → to.marks ≡ from.marks ++ map (λ (t : Turn). mark_of t.old) turns

@@ -3,7 +3,7 @@ ghost use Rattle.replayed_worlds.specs.Completeness.{CommandsComplete};
 ghost use Rattle.replayed_worlds.specs.Headline.{AcknowledgedAreReturned, Headline, IngestsAreHeld, ReturnedStand, TamperingIsEvident, ToldIsExact};
 ghost use Rattle.replayed_worlds.specs.Refusals.{NoneIsOfWords};
 ghost use Rattle.replayed_worlds.specs.Steadily.{CommandsAreWhole};
-ghost use Rattle.replayed_worlds.specs.Undisturbed.{PlainIsDone, UnsharedIsAlone};
+ghost use Rattle.replayed_worlds.specs.Undisturbed.{PlainIsDone, TurnsAreMarked, UnsharedIsAlone};
 
 /// Each document that was acknowledged is returned.
 pub fn acknowledged_are_returned()
@@ -49,6 +49,11 @@ pub fn unshared_is_alone()
 /// documents that were acknowledged, and each command is done wherever it can be.
 pub fn plain_is_done()
     ensures { PlainIsDone }
+{}
+
+/// Each event leaves one mark.
+pub fn turns_are_marked()
+    ensures { TurnsAreMarked }
 {}
 
 /// No event is refused for its words.

@@ -28,5 +28,5 @@ mod laws;
 pub use laws::{
     acknowledged_are_returned, commands_are_whole, commands_complete, headline, ingests_are_held,
     none_is_of_words, plain_is_done, returned_stand, tampering_is_evident, told_is_exact,
-    unshared_is_alone,
+    turns_are_marked, unshared_is_alone,
 };
