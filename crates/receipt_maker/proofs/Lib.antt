@@ -1,0 +1,6 @@
+pub mod Accepting
+pub mod Gathered
+pub mod Later
+pub mod Made
+pub mod PathTrails
+pub mod Recorded
