@@ -71,7 +71,7 @@ listed_on limit size from (e ∷ es) are each = (
 -- there are no more listed cells than the device has
 fewer : (size from : ℕ) (cells : List (ℕ × List ℕ)) → AreListedFrom size from cells → from ≤ size
     → length cells + from ≤ size
-fewer size from [] are room = room
+fewer size from [] are room = omega (arith, room)
 fewer size from (e ∷ es) are room =
     let rest = fewer size (e.0 + 1) es are.3 (omega (arith, are.1)) in omega (arith, rest, are.0)
 

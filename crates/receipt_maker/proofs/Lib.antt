@@ -4,3 +4,4 @@ pub mod Later
 pub mod Made
 pub mod PathTrails
 pub mod Recorded
+pub mod Unkept

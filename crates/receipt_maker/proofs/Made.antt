@@ -2,7 +2,7 @@
 use Rattle.std.proofs.Common.{◌≡◌, ◌<◌, ◌≤◌, ◌⊎◌, ⊎_elim, ℕ, List, Option, Some, None, Result, Ok, Err, ap, refl, sym, subst, inl, inr, arith, length, ◌∙◌}
 use Rattle.std.specs.Prelude.{IsTrue, [], ◌∷◌, Contains}
 use Rattle.cell_types.specs.Image.{Image, Extends}
-use Rattle.cell_types.specs.Layout.{Layout, done_at}
+use Rattle.cell_types.specs.Layout.{Layout, done_at, list_at, pool_at}
 use Rattle.cell_types.specs.declared.geometry.TheConstants.{MAX_SLOTS}
 use Rattle.cell_types.specs.declared.refusal.Evidence.{Evidence}
 use Rattle.cell_types.specs.declared.refusal.Refusal.{Refusal}
@@ -93,7 +93,7 @@ kept_by_trails {id} {body} {n} {new} f rule = record {
     is_stamp = rule.is_stamp;
     trails = λ l p below is.
         let t = rule.trails l p below is in
-        (t.0, subst (λ (c : ℕ). Trail new.image _ c t.0 p _) f.volume.size t.1);
+        (t.0, subst (λ (c : ℕ). Trail new.image (pool_at f.layout) c t.0 p (list_at f.layout l)) f.volume.size t.1);
     path = first_trail f.first;
   });
 }

@@ -90,7 +90,7 @@ pub none_read : (s : ViewState) (listed : List (ℕ × List ℕ)) → listed ≡
 none_read s listed none at value is =
     absurd (none-some value (subst (λ (l : List (ℕ × List ℕ)). listed_image l at ≡ Some value) none is))
 
-module _ {s t : ViewState} {old : List (ℕ × List ℕ)} (viewed : Viewed s t) (are : AreRead s old) where
+module _ (s t : ViewState) (old : List (ℕ × List ℕ)) (viewed : Viewed s t) (are : AreRead s old) where
   -- what is listed stands on
   pub read_on : AreRead t old
   read_on at value is =
