@@ -135,3 +135,12 @@ asks_by_any n id old new a b listed result lists = record {
 pub lost : {n : ℕ} {id : List ℕ} {old new : ViewState} {listed : List (ℕ × List ℕ)} → Viewed old new
     → AreRead new listed → ListsKept n id old new listed (Err NoMemory)
 lost viewed read = record { asks = record { viewed = viewed; ends = tt }; read = read }
+
+-- what was listed of the same view
+pub lists_then : {n : ℕ} {id : List ℕ} {a b s t : ViewState} {old new : List (ℕ × List ℕ)}
+    {result : Result (Option ℕ) AskFault} → ListsKept n id a b old result → a ≡ s → b ≡ t → old ≡ new
+    → ListsKept n id s t new result
+lists_then {n} {id} {a} {b} {s} {t} {old} {new} {result} lists first last same =
+    subst (λ (l : List (ℕ × List ℕ)). ListsKept n id s t l result) same
+    (subst (λ (v : ViewState). ListsKept n id s v old result) last
+    (subst (λ (v : ViewState). ListsKept n id v b old result) first lists))

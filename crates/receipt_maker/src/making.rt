@@ -22,11 +22,7 @@ use worm_device::Device;
 /// `NotFormatted`, `NotAVolume` and `WrongSize` by cell 0; `Tampered` where a look-up names a cell, and where the document
 /// is there but not each of its postings has a trail (13, at the done cell of its slot); `Absent` where no document on the
 /// identifier's path has it; `ReceiptTooLong` where more than 1,000,000 cells would be listed; `DeviceFault`; `NoMemory`.
-pub fn make_receipt<D: Device>(
-    alloc: Global,
-    device: &mut D,
-    id: &[u8],
-) -> Result<Receipt, Refusal>
+pub fn make_receipt<D: Device>(alloc: Global, device: &mut D, id: &[u8]) -> Result<Receipt, Refusal>
     requires { IsIdentifier id.now }
     ensures { MakesReceipt id.now (D.state device.old) (D.state device.new) result }
 {
