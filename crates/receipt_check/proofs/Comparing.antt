@@ -49,6 +49,7 @@ pub all_compared : (listed : List (ℕ × List ℕ)) (next : ℕ) (old now : Dev
     → AreListed old.cells listed → old.cells ≤ next → ComparesListed listed old now (Ok tt)
 all_compared listed next old now so_far are all = record {
   called = so_far.called;
+  only = so_far.only;
   ends = λ tells. record {
     keeps = λ q value is. so_far.stand tells q value
         (omega (arith, all, (listed_within old.cells 0 listed q value are is).0)) is;
@@ -72,6 +73,7 @@ module _ (r : Receipt) (old new : DeviceState) (compared : ComparesListed r.cell
       (λ (c : ℕ). Kept c (listed_image r.cells) (d ∷ [])) (asked.viewed.cells ∙ size) (kept_on back h.kept) in
       record {
         called = compared.called;
+        only = compared.only;
         ends = record {
           slot = refl;
           body = h.body;
@@ -88,6 +90,7 @@ module _ (r : Receipt) (old new : DeviceState) (compared : ComparesListed r.cell
       → ChecksReceipt r old new (Err (NotShown r.slot))
   not_shown asked = record {
     called = compared.called;
+    only = compared.only;
     ends = (
       refl,
       λ body kept. asked.ends refl body

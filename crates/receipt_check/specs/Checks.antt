@@ -1,9 +1,11 @@
 -- How the check of a receipt may end, and why.
 use Rattle.std.specs.Prelude.{◌≡◌, ◌≢◌, ◌<◌, ℕ, List, [], ◌∷◌, length, Some, Result, Ok, Err, IsTrue, ⊤}
-use Rattle.cell_types.specs.Image.{Extends}
+use Rattle.cell_types.specs.Image.{Extends, IsUnchanged}
+use Rattle.cell_types.specs.declared.refusal.Refusal.{Refusal}
+use Rattle.cell_types.specs.declared.refusal.Refusal.TheVariants as refusals
 use Rattle.index_paths.specs.Keeping.{Kept}
 use Rattle.worm_device.specs.Calls.{Called}
-use Rattle.worm_device.specs.Counts.{Rose}
+use Rattle.worm_device.specs.Counts.{IsStill, Rose}
 use Rattle.worm_device.specs.State.{DeviceState}
 use Rattle.kept_documents.specs.Kept.{document_of}
 use Rattle.receipt_text.specs.Listed.{listed_image}
@@ -32,14 +34,17 @@ ListedEnds listed old new (Err DeviceFault) = Rose old.faults new.faults
 ListedEnds listed old new (Err NoMemory) = ⊥
 ListedEnds listed old new (Err (NotShown n)) = ⊥
 
+-- comparing writes nothing
 pub record ComparesListed (listed : List (ℕ × List ℕ)) (old new : DeviceState) (result : Result Unit CheckRefusal) : Type 0
   where
     pub called : Called old new
+    pub only : IsStill old.foreign_writes new.foreign_writes → IsUnchanged old.image new.image
     pub ends : ListedEnds listed old new result
 
--- the listed cells below the next one stand
+-- the listed cells below the next one stand, and nothing was written
 pub record ComparedSoFar (listed : List (ℕ × List ℕ)) (next : ℕ) (old now : DeviceState) : Type 0 where
   pub called : Called old now
+  pub only : IsStill old.foreign_writes now.foreign_writes → IsUnchanged old.image now.image
   pub stand : IsTrue old.tells → (q : ℕ) (value : List ℕ) → q < next → listed_image listed q ≡ Some value
       → now.image q ≡ Some value
 
@@ -63,6 +68,15 @@ CheckAnswer r old new (Err (NotShown n)) =
 CheckAnswer r old new (Err DeviceFault) = Rose old.faults new.faults
 CheckAnswer r old new (Err NoMemory) = ⊤
 
+-- A check writes nothing: where nobody else writes, the same stands in each cell at its exit.
 pub record ChecksReceipt (r : Receipt) (old new : DeviceState) (result : Result Checked CheckRefusal) : Type 0 where
   pub called : Called old new
+  pub only : IsStill old.foreign_writes new.foreign_writes → IsUnchanged old.image new.image
   pub ends : CheckAnswer r old new result
+
+-- what a receipt that is not accepted is to a command
+abbrev pub refusal_of_check : CheckRefusal → Refusal
+refusal_of_check (CellDiffers c) = refusals.CellDiffers c
+refusal_of_check (NotShown n) = refusals.NotShown n
+refusal_of_check DeviceFault = refusals.DeviceFault
+refusal_of_check NoMemory = refusals.NoMemory

@@ -1,8 +1,10 @@
 //! The check of a receipt.
+ghost use Rattle.std.specs.Prelude.{◌≡◌};
 ghost use Rattle.receipt_text.specs.Listed.{AreListed};
-ghost use Rattle.receipt_check.specs.Checks.{ChecksReceipt, ComparesListed};
+ghost use Rattle.receipt_check.specs.Checks.{ChecksReceipt, ComparesListed, refusal_of_check};
 
 use crate::shown::ShownCells;
+use cell_types::Refusal;
 use kept_documents::{AskFault, is_kept};
 use receipt_text::{ListedCells, Receipt};
 use std::alloc::Global;
@@ -27,6 +29,19 @@ pub enum CheckRefusal {
     DeviceFault,
     /// No memory was to be had.
     NoMemory,
+}
+
+impl From<CheckRefusal> for Refusal {
+    ghost from_gives = { λ fault refusal. refusal ≡ refusal_of_check fault };
+
+    fn from(fault: CheckRefusal) -> Refusal {
+        match fault {
+            CheckRefusal::CellDiffers(cell) => Refusal::CellDiffers(cell),
+            CheckRefusal::NotShown(slot) => Refusal::NotShown(slot),
+            CheckRefusal::DeviceFault => Refusal::DeviceFault,
+            CheckRefusal::NoMemory => Refusal::NoMemory,
+        }
+    }
 }
 
 /// Checks a receipt: its cells stand on the device, and keep its document. Writes nothing.

@@ -5,6 +5,8 @@ mod Exact
 mod HeldIngests
 mod LastDocuments
 mod OfWords
+pub mod Reading
 mod Returned
 mod Standing
+pub mod Undisturbed
 mod Whole

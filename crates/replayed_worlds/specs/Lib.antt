@@ -3,4 +3,5 @@ pub mod Headline
 pub mod Refusals
 pub mod Steadily
 pub mod Turns
+pub mod Undisturbed
 pub mod Worlds

@@ -3,6 +3,7 @@ ghost use Rattle.replayed_worlds.specs.Completeness.{CommandsComplete};
 ghost use Rattle.replayed_worlds.specs.Headline.{AcknowledgedAreReturned, Headline, IngestsAreHeld, ReturnedStand, TamperingIsEvident, ToldIsExact};
 ghost use Rattle.replayed_worlds.specs.Refusals.{NoneIsOfWords};
 ghost use Rattle.replayed_worlds.specs.Steadily.{CommandsAreWhole};
+ghost use Rattle.replayed_worlds.specs.Undisturbed.{PlainIsDone, TurnsAreMarked, UnsharedIsAlone};
 
 /// Each document that was acknowledged is returned.
 pub fn acknowledged_are_returned()
@@ -37,6 +38,22 @@ pub fn commands_are_whole()
 /// Each command that can be done is done.
 pub fn commands_complete()
     ensures { CommandsComplete }
+{}
+
+/// From a new device on, events in which nobody else writes leave it undisturbed, and what is held comes from the ingests.
+pub fn unshared_is_alone()
+    ensures { UnsharedIsAlone }
+{}
+
+/// From a new device on, commands for which nothing is planned leave it undisturbed, no call fails, what is held are the
+/// documents that were acknowledged, and each command is done wherever it can be.
+pub fn plain_is_done()
+    ensures { PlainIsDone }
+{}
+
+/// Each event leaves one mark.
+pub fn turns_are_marked()
+    ensures { TurnsAreMarked }
 {}
 
 /// No event is refused for its words.

@@ -19,12 +19,14 @@
 //!
 //! Stands on `worm_memory` (the device and its plan), `begun_commands` (how a command begins), the engines, and
 //! `command_laws` and `crash_laws` (what one command leaves). Begin with specs/Headline.antt, the page of the promise;
-//! specs/Turns.antt and specs/Worlds.antt say what a world is.
+//! specs/Turns.antt and specs/Worlds.antt say what a world is, and
+//! specs/Undisturbed.antt what is known of a world whose events let nobody else write, or that nothing befalls.
 #![tactic(auto)]
 
 mod laws;
 
 pub use laws::{
     acknowledged_are_returned, commands_are_whole, commands_complete, headline, ingests_are_held,
-    none_is_of_words, returned_stand, tampering_is_evident, told_is_exact,
+    none_is_of_words, plain_is_done, returned_stand, tampering_is_evident, told_is_exact,
+    turns_are_marked, unshared_is_alone,
 };

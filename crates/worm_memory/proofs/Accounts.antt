@@ -5,15 +5,21 @@ use Rattle.std.proofs.lemmas.Bool.{and_right, cases_Bool, or_cases, or_from, or_
 use Rattle.std.proofs.lemmas.Bool.Decides.{nat_tests}
 use Rattle.std.proofs.lemmas.List.Sums.{sum_by-cons}
 use Rattle.worm_device.specs.Counts.{Rose, next_count}
-use Rattle.worm_memory.specs.Plans.{Plan, names, next_step, is_past, is_stopped, is_refused, is_reached, may_stop, must_stop, may_fail, must_fail, failures_reached, changes_from, faults_from}
+use Rattle.worm_memory.specs.Plans.{Plan, names, next_step, is_past, is_stopped, is_refused, is_reached, may_stop, must_stop, may_fail, must_fail, failures_reached, changes_from, faults_from, foreign_writes_from, is_due}
 use Rattle.worm_memory.specs.declared.mark.Mark.{Mark}
 use Rattle.worm_memory.specs.declared.moment.Moment.{Moment}
 use Rattle.worm_memory.specs.declared.moment.Moment.TheVariants.{Step, Call}
+use Rattle.worm_memory.specs.declared.moment.Timed.{Timed}
 
 -- what the last mark says
 pub faults_append : (n : ℕ) (marks : List Mark) (mark : Mark) → faults_from n (marks ++ mark ∷ []) ≡ mark.faults
 faults_append n [] mark = refl
 faults_append n (m ∷ marks) mark = faults_append m.faults marks mark
+
+pub foreign_writes_append : (n : ℕ) (marks : List Mark) (mark : Mark)
+    → foreign_writes_from n (marks ++ mark ∷ []) ≡ mark.foreign_writes
+foreign_writes_append n [] mark = refl
+foreign_writes_append n (m ∷ marks) mark = foreign_writes_append m.foreign_writes marks mark
 
 pub changes_append : (n : ℕ) (marks : List Mark) (mark : Mark) → changes_from n (marks ++ mark ∷ []) ≡ mark.changes
 changes_append n [] mark = refl
@@ -22,6 +28,10 @@ changes_append n (m ∷ marks) mark = changes_append m.changes marks mark
 -- tests of which one is passed
 pub no_true : {A : Type 0} (b : Bool) → b ≡ true → b ≡ false → A
 no_true b p q = absurd (true≢false (sym p ∙ q))
+
+pub not_before : (before now : Bool) → (before ≡ true → now ≡ true) → now ≡ false → before ≡ false
+not_before true now so not = absurd (true≢false (sym (so refl) ∙ not))
+not_before false now so not = refl
 
 or_more : (a b a' b' : Bool) → (a ≡ true → a' ≡ true) → (b ≡ true → b' ≡ true) → (a || b) ≡ true → (a' || b') ≡ true
 or_more a b a' b' left right is =
@@ -49,10 +59,10 @@ any_split f g h each (x ∷ xs) is =
 sums_below : (u v w a b c d e f : ℕ) → u ≡ a + d → v ≡ b + e → w ≡ c + f → a + b ≤ c → d + e ≤ f → u + v ≤ w
 sums_below u v w a b c d e f p q r first rest = omega arith
 
-abbrev one_if : {A : Type 0} → (A → Bool) → A → ℕ
+abbrev pub one_if : {A : Type 0} → (A → Bool) → A → ℕ
 one_if f x = cond (f x) 1 0
 
-count_both : {A : Type 0} (f g h : A → Bool) → ((x : A) → one_if f x + one_if g x ≤ one_if h x) → (xs : List A)
+pub count_both : {A : Type 0} (f g h : A → Bool) → ((x : A) → one_if f x + one_if g x ≤ one_if h x) → (xs : List A)
     → count_by f xs + count_by g xs ≤ count_by h xs
 count_both f g h each [] = omega arith
 count_both f g h each (x ∷ xs) =
@@ -101,6 +111,17 @@ module _ (p : Plan) (s c : ℕ) (ordered : s ≤ c) (first : c ≡ 0) where
       (ap (must_fail p s) first ∙ ap (λ n. must_fail p n 0) no_steps
       ∙ or_from (must_stop p.stop 0 0) (list_any (is_reached 0 0) p.fails) (none_passed p.stop) (none_reached p.fails))
 
+-- nor is anything that others are to write
+pub reached_none : (s c : ℕ) → s ≤ c → c ≡ 0 → (m : Moment) → is_reached s c m ≡ false
+reached_none s c le zero (Step n) = grind (arith, nat_tests)
+reached_none s c le zero (Call n) = grind (arith, nat_tests)
+
+pub none_due : (s c : ℕ) → s ≤ c → c ≡ 0 → (planned : List Timed) → list_any (is_due s c) planned ≡ false
+none_due s c ordered first [] = refl
+none_due s c ordered first (timed ∷ planned) =
+    or_from (is_due s c timed) (list_any (is_due s c) planned)
+    (reached_none s c ordered first timed.before) (none_due s c ordered first planned)
+
 -- what was reached is reached later
 pub reached_later : (s c s' c' : ℕ) → s ≤ s' → c ≤ c' → (m : Moment) → is_reached s c m ≡ true
     → is_reached s' c' m ≡ true
@@ -144,7 +165,7 @@ reached_now false s c (Step n) is = inl is
 reached_now true s c (Step n) is = up_to n s is
 
 -- and not both, as long as calls are counted
-one_each : (b : Bool) (s c : ℕ) → s ≤ c → c + 1 < 2 ^ 64 - 1 → (m : Moment)
+pub one_each : (b : Bool) (s c : ℕ) → s ≤ c → c + 1 < 2 ^ 64 - 1 → (m : Moment)
     → one_if (is_reached s c) m + one_if (λ n. names n b (next_step b s) (next_count c)) m
     ≤ one_if (is_reached (next_step b s) (next_count c)) m
 one_each true s c le fits (Step n) = grind (arith, nat_tests)
@@ -200,10 +221,6 @@ module _ (b : Bool) (p : Plan) (s c last faults : ℕ) (ordered : s ≤ c) (fs :
   must_now = or_split (must_stop p.stop s' c') (list_any (is_reached s' c') p.fails) (must_stop p.stop s c)
       (list_any (is_reached s c) p.fails) (is_stopped p.stop s c) (list_any naming p.fails) (passed_now b p.stop s c)
       (any_split (is_reached s' c') (is_reached s c) naming (reached_now b s c) p.fails)
-
-  not_before : (before now : Bool) → (before ≡ true → now ≡ true) → now ≡ false → before ≡ false
-  not_before true now so not = absurd (true≢false (sym (so refl) ∙ not))
-  not_before false now so not = refl
 
   pub none_next : (may_fail p s c ≡ false → faults ≡ last) → may_fail p s' c' ≡ false → counted refused ≡ last
   none_next none may = ⊎_elim

@@ -12,15 +12,14 @@ use Rattle.worm_device.specs.Counts.{next_count}
 use Rattle.worm_device.specs.State.{Instant}
 use Rattle.worm_memory.specs.declared.change.Change.{Change}
 use Rattle.worm_memory.specs.declared.change.Change.TheVariants.{Wrote, Foreign, Synced, Lost, Crashed}
-use Rattle.worm_memory.specs.declared.moment.Moment.{Moment}
-use Rattle.worm_memory.specs.declared.moment.Moment.TheVariants.{Step, Call}
 use Rattle.worm_memory.specs.declared.moment.Timed.{Timed}
 use Rattle.worm_memory.specs.Memory.{KeepsPlan, Memory, device_of, with_call, with_fault, with_foreign}
 use Rattle.worm_memory.specs.Outcomes.{Outcome, goes_on, fails, foreign_into, after_timed, after_others, others_done, arrived}
-use Rattle.worm_memory.specs.Plans.{stands_if_reached, is_called_for, is_reached, is_refused, last_changes, last_faults, names, next_step, calls_for}
+use Rattle.worm_memory.specs.Plans.{stands_if_reached, is_called_for, is_reached, is_refused, last_changes, last_faults, last_foreign_writes, names, next_step, calls_for}
 use Rattle.worm_memory.specs.Worlds.{blank, world}
-use Rattle.worm_memory.proofs.Accounts.{any_more, most_next, named_reached, no_true, none_next, reached_later, reached_now, some_next, step_later}
+use Rattle.worm_memory.proofs.Accounts.{any_more, most_next, named_reached, no_true, none_next, reached_later, reached_none, reached_now, some_next, step_later}
 use Rattle.worm_memory.proofs.Arriving.{Comes, HasCome, come_others, come_timed, comes_self}
+use Rattle.worm_memory.proofs.Counted.{few_next, others_count, others_none, timed_numbers, unwritten_next}
 use Rattle.worm_memory.proofs.Others.{no_others}
 use Rattle.worm_memory.proofs.Worlds.{Adds, after_append, image_grows, image_is, written_here}
 
@@ -159,23 +158,6 @@ into_stands None at value m room is ongoing =
     ∙ written_here (world m.changes).image at value is))
     ongoing
 
--- the numbers of the call that has come stay
-into_numbers : (found : Option (List ℕ)) (at : ℕ) (value : List ℕ) (m : Memory) (room : ℕ)
-    → ((foreign_into found at value m room).memory.steps ≡ m.steps)
-    × ((foreign_into found at value m room).memory.calls ≡ m.calls)
-into_numbers (Some there) at value m room = (refl, refl)
-into_numbers None at value m room =
-    cond_both (room == 0) (fails m room) (goes_on (with_foreign m at value) (room - 1))
-    (λ (o : Outcome). (o.memory.steps ≡ m.steps) × (o.memory.calls ≡ m.calls))
-    (λ full. (refl, refl)) (λ some. (refl, refl))
-
-timed_numbers : (b : Bool) (t : Timed) (m : Memory) (room : ℕ)
-    → ((after_timed b t m room).memory.steps ≡ m.steps) × ((after_timed b t m room).memory.calls ≡ m.calls)
-timed_numbers b t m room =
-    cond_both (names t.before b m.steps m.calls) (foreign_into ((world m.changes).image t.at) t.at t.value m room)
-    (goes_on m room) (λ (o : Outcome). (o.memory.steps ≡ m.steps) × (o.memory.calls ≡ m.calls))
-    (λ named. into_numbers ((world m.changes).image t.at) t.at t.value m room) (λ other. (refl, refl))
-
 -- if what was planned names the call that has come, its cell is written
 abbrev stands_if_named : Bool → ℕ → ℕ → Image → Timed → Bool
 stands_if_named b s c image t = if names t.before b s c then is_some (image t.at) else true
@@ -303,6 +285,7 @@ arrived_keeps b m room now is ongoing ordered fs fc ff fw later longer keeps =
     (come_now b s c (world m.changes).image (world o.memory.changes).image (grows_to b planned start refl ff fw))
     planned keeps.made
     (all_made b (next_step b s) (next_count c) planned begun start refl refl (come_itself start refl ff fw) ongoing) in
+    let wrote : has.writes ≡ o.memory.foreign_writes = ap (λ (x : Memory). x.foreign_writes) (sym has.is) in
     let last : now.memory ≡ record begun {
       changes = has.changes;
       foreign_writes = has.writes;
@@ -314,6 +297,11 @@ arrived_keeps b m room now is ongoing ordered fs fc ff fw later longer keeps =
       none = none_next b m.plan s c (last_faults m.marks) m.faults ordered fs fc keeps.none;
       most = most_next b m.plan s c (last_faults m.marks) m.faults ordered fs fc keeps.most;
       some = some_next b m.plan s c (last_faults m.marks) m.faults ordered fs fc later keeps.some;
+      unwritten = unwritten_next b s c (last_foreign_writes m.marks) m.foreign_writes has.writes planned ordered fs fc
+          keeps.unwritten (λ none. wrote
+          ∙ others_none b (next_step b s) (next_count c) planned start refl refl none);
+      few = few_next b s c (last_foreign_writes m.marks) m.foreign_writes has.writes planned ordered fs fc keeps.few
+          (omega (arith, wrote, others_count b (next_step b s) (next_count c) planned start refl refl));
       named = has.named;
       made = ap (λ (x : Memory). list_all (stands_if_reached (next_step b s) (next_count c) (world x.changes).image)
           planned) (sym has.is) ∙ made;
@@ -341,10 +329,6 @@ made_append s c planned changes change adds =
     (image_grows (world changes) change adds))) planned
 
 -- what is planned before the first call has not come
-reached_none : (s c : ℕ) → s ≤ c → c ≡ 0 → (m : Moment) → is_reached s c m ≡ false
-reached_none s c le zero (Step n) = grind (arith, nat_tests)
-reached_none s c le zero (Call n) = grind (arith, nat_tests)
-
 pub none_come : (s c : ℕ) (image : Image) (planned : List Timed) → s ≤ c → c ≡ 0
     → list_all (stands_if_reached s c image) planned ≡ true
 none_come s c image [] le zero = refl

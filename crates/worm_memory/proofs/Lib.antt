@@ -1,6 +1,7 @@
 pub mod Apart
 pub mod Arriving
 pub mod Calls
+pub mod Counted
 pub mod Cells
 pub mod Following
 pub mod Keeping

@@ -4,14 +4,15 @@ use Rattle.std.proofs.lemmas.Bool.{and_parts, eqb-true}
 use Rattle.worm_device.specs.Counts.{Rose}
 use Rattle.worm_memory.specs.Device.{memory_of}
 use Rattle.worm_memory.specs.Memory.{is_early}
-use Rattle.worm_memory.specs.Plans.{Plan, failures_reached, last_faults, may_stop, must_fail, plan_of}
+use Rattle.worm_memory.specs.Plans.{Plan, failures_reached, last_faults, last_foreign_writes, may_stop, must_fail, plan_of}
 use Rattle.worm_memory.specs.declared.memory_device.MemoryDevice.{MemoryDevice}
-use Rattle.worm_memory.proofs.Accounts.{none_may_yet, none_yet}
+use Rattle.worm_memory.proofs.Accounts.{none_due, none_may_yet, none_yet}
 
 pub record HasYetToCall (d : MemoryDevice) : Type 0 where
   pub by_plan : d.by_plan ≡ true
   pub calls : d.schedule.calls ≡ 0
   pub faults : d.faults ≡ last_faults d.marks.items
+  pub foreign_writes : d.foreign_writes ≡ last_foreign_writes d.marks.items
 
 pub yet_to_call : (d : MemoryDevice) (test : Bool) → test ≡ is_early (memory_of d) → test ≡ true → HasYetToCall d
 yet_to_call d test told is =
@@ -22,6 +23,8 @@ yet_to_call d test told is =
       calls = calls;
       faults = d.none_failed both.0
           (none_may_yet (plan_of d.schedule) d.schedule.steps d.schedule.calls d.steps_fit calls);
+      foreign_writes = d.none_written both.0
+          (none_due d.schedule.steps d.schedule.calls d.steps_fit calls d.schedule.foreign.items);
     }
 
 -- so it is with another plan too

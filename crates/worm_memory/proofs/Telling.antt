@@ -5,7 +5,7 @@ use Rattle.std.proofs.Math.Seq.{take-length}
 use Rattle.std.proofs.lemmas.Bool.{cases_lt}
 use Rattle.std.proofs.lemmas.List.{append-nil, append_assoc}
 use Rattle.worm_device.specs.Calls.{Called}
-use Rattle.worm_memory.specs.Device.{ACommandHasRoom, ACrashHasRoom, APlanIsKept, memory_of, state_of}
+use Rattle.worm_memory.specs.Device.{ACommandHasRoom, ACrashHasRoom, APlanIsKept, TheCountIsRecorded, memory_of, state_of}
 use Rattle.worm_memory.specs.Memory.{BeginningsTell, TheRecordTells}
 use Rattle.worm_memory.specs.Plans.{Plan, begun_rows, by_plan_rows, fail_row, foreign_row, mark_row, stop_rows}
 use Rattle.worm_memory.specs.Worlds.{world}
@@ -259,6 +259,8 @@ plan_is_kept begun now called by_plan =
         none = now.none_failed still;
         most = now.most_failed still;
         some = now.some_failed still;
+        unwritten = now.none_written still;
+        few = now.most_written still;
         named = now.named still;
         made = now.made still;
       },
@@ -272,6 +274,9 @@ command_has_room begun now called by_plan =
           omega (arith, one, room),
       λ some. let same = ap length now.are_unsure in omega (arith, some, same, room),
     )
+
+pub count_is_recorded : TheCountIsRecorded
+count_is_recorded device = device.counted
 
 pub crash_has_room : ACrashHasRoom
 crash_has_room device = let same = ap length device.are_unsure in omega (arith, same, device.few)

@@ -8,10 +8,11 @@ use Rattle.worm_device.specs.declared.device.Failed.{Failed}
 use Rattle.worm_device.specs.declared.device.Written.{Written}
 use Rattle.worm_device.specs.declared.device.Written.TheVariants.{Done, Taken}
 use Rattle.worm_memory.specs.Losses.{kept_count}
-use Rattle.worm_memory.specs.Memory.{KeepsPlan, Memory, device_of, with_change, with_fault, with_foreign, with_hand}
+use Rattle.worm_memory.specs.Memory.{KeepsPlan, Memory, device_of, with_change, with_fault, with_foreign, with_hand, with_put}
 use Rattle.worm_memory.specs.Outcomes.{Outcome, with_crash}
 use Rattle.worm_memory.specs.Plans.{plan_of}
 use Rattle.worm_memory.specs.Unsure.{unsure_of}
+use Rattle.worm_memory.specs.Worlds.{foreign_writes_in}
 use Rattle.worm_memory.specs.declared.change.Change.{Change}
 use Rattle.worm_memory.specs.declared.losses.Crash.{Crash}
 use Rattle.worm_memory.specs.declared.memory_device.MemoryDevice.{MemoryDevice}
@@ -54,6 +55,10 @@ Stays old new = (memory_of new ≡ memory_of old) × (room_of new ≡ room_of ol
 -- one more change is in the record, and nothing else but its room has changed
 abbrev pub Records : Change → MemoryDevice → MemoryDevice → Type 0
 Records change old new = (memory_of new ≡ with_change (memory_of old) change) × (room_of new + 1 ≡ room_of old)
+
+-- one more write is in the record, and in the count if it is somebody else's; nothing else but the room has changed
+abbrev pub Puts : Change → MemoryDevice → MemoryDevice → Type 0
+Puts change old new = (memory_of new ≡ with_put (memory_of old) change) × (room_of new + 1 ≡ room_of old)
 
 -- one more fault is counted, and nothing else has changed
 abbrev pub CountsFault : MemoryDevice → MemoryDevice → Type 0
@@ -107,6 +112,11 @@ ACommandHasRoom =
     (begun now : MemoryDevice) → Called (state_of begun) (state_of now) → (memory_of begun).by_plan ≡ true
     → ((at : ℕ) → at < (memory_of now).cells → (state_of now).image at ≡ None → 1 ≤ room_of now)
     × (1 ≤ length (unsure_of (memory_of now).changes) → 1 ≤ room_of now)
+
+-- The count of foreign writes is that of the record: no more and no fewer of its changes are somebody else's.
+abbrev pub TheCountIsRecorded : Type 0
+TheCountIsRecorded =
+    (device : MemoryDevice) → (memory_of device).foreign_writes ≡ foreign_writes_in (memory_of device).changes
 
 -- A crash finds room where there is one change more than there are cells: not more than these are unsure.
 abbrev pub ACrashHasRoom : Type 0

@@ -5,10 +5,10 @@ use Rattle.std.specs.List.{list_all}
 use Rattle.worm_device.specs.Counts.{Rose, next_count}
 use Rattle.worm_device.specs.Calls.{Remembers}
 use Rattle.worm_device.specs.State.{DeviceState}
-use Rattle.worm_memory.specs.Plans.{Plan, no_plan, next_step, begun_rows, failures_reached, stands_if_reached, is_called_for, last_changes, last_faults, may_fail, may_stop, must_fail}
+use Rattle.worm_memory.specs.Plans.{Plan, no_plan, next_step, begun_rows, failures_reached, stands_if_reached, is_called_for, last_changes, last_faults, last_foreign_writes, may_be_written, may_fail, may_stop, must_fail, writes_reached}
 use Rattle.worm_memory.specs.Worlds.{world}
 use Rattle.worm_memory.specs.declared.change.Change.{Change}
-use Rattle.worm_memory.specs.declared.change.Change.TheVariants.{Foreign}
+use Rattle.worm_memory.specs.declared.change.Change.TheVariants.{Wrote, Foreign, Synced, Lost, Crashed}
 use Rattle.worm_memory.specs.declared.mark.Mark.{Mark}
 use Rattle.worm_memory.specs.declared.moment.Moment.{Moment}
 use Rattle.worm_memory.specs.declared.moment.Timed.{Timed}
@@ -56,13 +56,24 @@ device_of m = record {
 abbrev pub with_change : Memory → Change → Memory
 with_change m change = record m { changes = m.changes ++ change ∷ [] }
 
--- one more foreign write in the count
-abbrev pub with_foreign_write : Memory → Memory
-with_foreign_write m = record m { foreign_writes = next_count m.foreign_writes }
+-- a count of foreign writes, with this change more
+abbrev pub counted_with : Change → ℕ → ℕ
+counted_with (Wrote at value) count = count
+counted_with (Foreign at value) count = next_count count
+counted_with Synced count = count
+counted_with (Lost at) count = count
+counted_with Crashed count = count
+
+-- one more change, which is counted if it is somebody else's
+abbrev pub with_put : Memory → Change → Memory
+with_put m change = record m {
+  changes = m.changes ++ change ∷ [];
+  foreign_writes = counted_with change m.foreign_writes;
+}
 
 -- one more foreign write
 abbrev pub with_foreign : Memory → ℕ → List ℕ → Memory
-with_foreign m at value = with_foreign_write (with_change m (Foreign at value))
+with_foreign m at value = with_put m (Foreign at value)
 
 -- one more fault
 abbrev pub with_fault : Memory → Memory
@@ -134,6 +145,11 @@ pub record KeepsPlan (m : Memory) : Type 0 where
       → m.faults ≤ last_faults m.marks + failures_reached m.plan m.steps m.calls
   -- one failed where such a moment was reached, or the stop was passed
   pub some : must_fail m.plan m.steps m.calls ≡ true → Rose (last_faults m.marks) m.faults
+  -- nobody else wrote where the moment of no planned foreign write was reached
+  pub unwritten : may_be_written m.plan m.steps m.calls ≡ false → m.foreign_writes ≡ last_foreign_writes m.marks
+  -- others wrote no more cells than there were such moments
+  pub few : m.calls < 2 ^ 64 - 1
+      → m.foreign_writes ≤ last_foreign_writes m.marks + writes_reached m.plan m.steps m.calls
   -- each foreign write since the command began was planned, and its moment was reached
   pub named : list_all (is_called_for m.steps m.calls m.plan.foreign) (drop (last_changes m.marks) m.changes) ≡ true
   -- each that was planned, and whose moment was reached, was made if its cell was blank

@@ -86,6 +86,18 @@ must_fail plan steps calls = must_stop plan.stop steps calls || list_any (is_rea
 abbrev pub failures_reached : Plan → ℕ → ℕ → ℕ
 failures_reached plan steps calls = count_by (is_reached steps calls) plan.fails
 
+-- the moment of a planned foreign write was reached
+abbrev pub is_due : ℕ → ℕ → Timed → Bool
+is_due steps calls timed = is_reached steps calls timed.before
+
+-- somebody else may have written by the plan, in a command of so many steps and calls
+abbrev pub may_be_written : Plan → ℕ → ℕ → Bool
+may_be_written plan steps calls = list_any (is_due steps calls) plan.foreign
+
+-- how many planned foreign writes such a command came to
+abbrev pub writes_reached : Plan → ℕ → ℕ → ℕ
+writes_reached plan steps calls = count_by (is_due steps calls) plan.foreign
+
 -- how many calls had failed as the present command began
 abbrev pub faults_from : ℕ → List Mark → ℕ
 faults_from n [] = n
@@ -93,6 +105,14 @@ faults_from n (mark ∷ marks) = faults_from mark.faults marks
 
 abbrev pub last_faults : List Mark → ℕ
 last_faults marks = faults_from 0 marks
+
+-- how many cells somebody else had written as the present command began
+abbrev pub foreign_writes_from : ℕ → List Mark → ℕ
+foreign_writes_from n [] = n
+foreign_writes_from n (mark ∷ marks) = foreign_writes_from mark.foreign_writes marks
+
+abbrev pub last_foreign_writes : List Mark → ℕ
+last_foreign_writes marks = foreign_writes_from 0 marks
 
 -- how many changes stood in the record as the present command began
 abbrev pub changes_from : ℕ → List Mark → ℕ

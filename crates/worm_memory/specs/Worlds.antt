@@ -1,5 +1,5 @@
 -- What a row of changes makes of blank cells: an image, and what of it is sure.
-use Rattle.std.specs.Prelude.{◌≡◌, ◌<◌, ◌==◌, if◌then◌else◌, ℕ, List, [], ◌∷◌, Option, Some, None, ⊤, slice_index_or}
+use Rattle.std.specs.Prelude.{◌≡◌, ◌<◌, ◌+◌, ◌==◌, if◌then◌else◌, ℕ, List, [], ◌∷◌, Option, Some, None, ⊤, slice_index_or}
 use Rattle.std.specs.Coded.{Unit-prop}
 use Rattle.std.proofs.Props.{props}
 use Rattle.cell_types.specs.Bytes.{IsCell}
@@ -38,6 +38,15 @@ pub data IsPut (at : ℕ) (value : List ℕ) : Change → Type 0 where
 abbrev pub after_changes : Instant → List Change → Instant
 after_changes now [] = now
 after_changes now (change ∷ changes) = after_changes (after_change now change) changes
+
+-- how many of these changes are somebody else's
+abbrev pub foreign_writes_in : List Change → ℕ
+foreign_writes_in [] = 0
+foreign_writes_in (Wrote at value ∷ changes) = foreign_writes_in changes
+foreign_writes_in (Foreign at value ∷ changes) = foreign_writes_in changes + 1
+foreign_writes_in (Synced ∷ changes) = foreign_writes_in changes
+foreign_writes_in (Lost at ∷ changes) = foreign_writes_in changes
+foreign_writes_in (Crashed ∷ changes) = foreign_writes_in changes
 
 -- all cells are blank
 abbrev pub blank : Instant

@@ -1,4 +1,7 @@
 //! What a device in memory keeps a record of.
+ghost use Rattle.std.specs.Prelude.{◌≡◌, ◌<◌, ◌^◌};
+ghost use Rattle.worm_memory.specs.Memory.{counted_with};
+
 use cell_types::Cell;
 
 /// A change of what stands in the cells, or of what of it is sure.
@@ -14,4 +17,17 @@ pub enum Change {
     Lost { at: u32 },
     /// After a crash all that stands is sure.
     Crashed,
+}
+
+impl Change {
+    /// A count of foreign writes, with this change more. It stands still at its end.
+    pub(crate) fn counted_with(&self, count: u64) -> u64
+        ensures counts { result ≡ counted_with self.now count }
+        ensures fits { count < 2 ^ 64 }
+    {
+        match self {
+            Change::Foreign { .. } => count.saturating_add(1),
+            Change::Wrote { .. } | Change::Synced | Change::Lost { .. } | Change::Crashed => count,
+        }
+    }
 }

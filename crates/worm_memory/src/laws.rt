@@ -1,6 +1,6 @@
 //! Laws of the record of changes: what a crash is in it, which cells it could take, what it tells of what was; and of
 //! commands: that they go by their plan, and find the room that they need.
-ghost use Rattle.worm_memory.specs.Device.{ACommandHasRoom, ACrashHasRoom, APlanIsKept};
+ghost use Rattle.worm_memory.specs.Device.{ACommandHasRoom, ACrashHasRoom, APlanIsKept, TheCountIsRecorded};
 ghost use Rattle.worm_memory.specs.Losses.{ACrashKeeps, UnsureCells};
 ghost use Rattle.worm_memory.specs.Memory.{BeginningsTell, TheRecordTells};
 
@@ -22,6 +22,11 @@ pub fn the_record_tells()
 /// What is kept from a command's beginning on are the marks and the plan.
 pub fn beginnings_tell()
     ensures { BeginningsTell }
+{}
+
+/// The count of foreign writes is how many of the record's changes are somebody else's.
+pub fn the_count_is_recorded()
+    ensures { TheCountIsRecorded }
 {}
 
 /// Once a command goes by its plan, faults and foreign writes are those of the plan, whatever calls are made.

@@ -65,7 +65,7 @@ mod schedule;
 pub use change::Change;
 pub use laws::{
     a_command_has_room, a_crash_has_room, a_crash_keeps, a_plan_is_kept, beginnings_tell,
-    the_record_tells, unsure_cells,
+    the_count_is_recorded, the_record_tells, unsure_cells,
 };
 pub use losses::Crash;
 pub use mark::Mark;

@@ -5,9 +5,9 @@ ghost use Rattle.std.proofs.Props.{props};
 ghost use Rattle.std.specs.Prelude.{◌*◌, ◌^◌, ◌-◌, drop, true, false};
 ghost use Rattle.std.specs.List.{list_all};
 ghost use Rattle.worm_device.specs.Counts.{Rose};
-ghost use Rattle.worm_memory.specs.Plans.{AreInside, failures_reached, stands_if_reached, is_called_for, last_changes, last_faults, may_fail, may_stop, must_fail, plan_of};
+ghost use Rattle.worm_memory.specs.Plans.{AreInside, failures_reached, stands_if_reached, is_called_for, last_changes, last_faults, last_foreign_writes, may_be_written, may_fail, may_stop, must_fail, plan_of, writes_reached};
 ghost use Rattle.worm_memory.specs.Unsure.{blanks, unsure_of};
-ghost use Rattle.worm_memory.specs.Worlds.{blank, world, AreChanges, AreChanges-prop, Holds, IsAllSure, IsPut};
+ghost use Rattle.worm_memory.specs.Worlds.{blank, foreign_writes_in, world, AreChanges, AreChanges-prop, Holds, IsAllSure, IsPut};
 
 use crate::schedule::Schedule;
 use crate::{Change, Mark};
@@ -48,6 +48,7 @@ pub struct MemoryDevice {
     ghost steps_fit: { schedule.steps ≤ schedule.calls },
     ghost later: { last_faults marks.items ≤ faults },
     ghost longer: { last_changes marks.items ≤ vec_len changes },
+    ghost counted: { foreign_writes ≡ foreign_writes_in changes.items } by { Prim.hlevel props },
     ghost backed: { by_plan ≡ true → ample ≡ true } by { Prim.hlevel props },
     ghost none_failed: { by_plan ≡ true → may_fail (plan_of schedule) schedule.steps schedule.calls ≡ false
         → faults ≡ last_faults marks.items } by { Prim.hlevel props },
@@ -56,6 +57,11 @@ pub struct MemoryDevice {
         → faults ≤ last_faults marks.items + failures_reached (plan_of schedule) schedule.steps schedule.calls } by { Prim.hlevel props },
     ghost some_failed: { by_plan ≡ true → must_fail (plan_of schedule) schedule.steps schedule.calls ≡ true
         → Rose (last_faults marks.items) faults } by { Prim.hlevel props },
+    ghost none_written: { by_plan ≡ true
+        → may_be_written (plan_of schedule) schedule.steps schedule.calls ≡ false
+        → foreign_writes ≡ last_foreign_writes marks.items } by { Prim.hlevel props },
+    ghost most_written: { by_plan ≡ true → schedule.calls < 2 ^ 64 - 1
+        → foreign_writes ≤ last_foreign_writes marks.items + writes_reached (plan_of schedule) schedule.steps schedule.calls } by { Prim.hlevel props },
     ghost named: { by_plan ≡ true
         → list_all (is_called_for schedule.steps schedule.calls schedule.foreign.items)
         (drop (last_changes marks.items) changes.items) ≡ true } by { Prim.hlevel props },
@@ -65,11 +71,11 @@ pub struct MemoryDevice {
 
 impl MemoryDevice {
     ghost use Rattle.std.specs.Prelude.{◌≡◌, ◌≤◌, ◌<◌, ◌^◌, ◌-◌, ◌+◌, ◌↔◌, is_err, min, [], None, IsErr, IsOk, IsTrue, IfOk, OnOk, OnErr};
-    ghost use Rattle.worm_memory.specs.Memory.{KeepsPlan, Memory, with_foreign, with_foreign_write, with_read};
+    ghost use Rattle.worm_memory.specs.Memory.{KeepsPlan, Memory, with_foreign, with_read};
     ghost use Rattle.worm_memory.specs.Plans.{no_plan};
     ghost use Rattle.worm_memory.specs.Outcomes.{recorded};
     ghost use Rattle.worm_memory.specs.declared.change.Change.TheVariants.{Synced, Wrote};
-    ghost use Rattle.worm_memory.specs.Device.{memory_of, outcome, room_of, state_of, IsReady, Records, CountsFault};
+    ghost use Rattle.worm_memory.specs.Device.{memory_of, outcome, room_of, state_of, IsReady, Records, Puts, CountsFault};
     ghost use Rattle.worm_memory.specs.Device.{ForeignEnds, ForeignWrites};
 
     /// A device of so many blank cells, 1 to 2,147,483,648. Its record has no room yet, and nothing is planned.
@@ -124,10 +130,32 @@ impl MemoryDevice {
             return Ok(());
         }
         let more = changes as usize;
-        self.changes.reserve(more).map_err(|_| NoMemory)?;
-        self.unsure.reserve(more).map_err(|_| NoMemory)?;
+        self.reserve_changes(more)?;
+        self.reserve_unsure(more)?;
         self.spare = changes;
         Ok(())
+    }
+
+    /// Takes memory for so many further changes.
+    fn reserve_changes(&mut self, more: usize) -> Result<(), NoMemory>
+        ensures fits { OnOk result (vec_len self.new.changes + more ≤ vec_capacity self.new.changes) }
+        ensures same { memory_of self.new ≡ memory_of self.old }
+        ensures room { room_of self.new ≡ room_of self.old }
+        ensures ready { IsReady self.old → IsReady self.new }
+    {
+        self.changes.reserve(more).map_err(|_| NoMemory)
+    }
+
+    /// Takes memory for the cells that so many further changes leave unsure.
+    fn reserve_unsure(&mut self, more: usize) -> Result<(), NoMemory>
+        ensures fits { OnOk result (vec_len self.new.unsure + more ≤ vec_capacity self.new.unsure) }
+        ensures same { memory_of self.new ≡ memory_of self.old }
+        ensures room { room_of self.new ≡ room_of self.old }
+        ensures changes { vec_len self.old.changes + more ≤ vec_capacity self.old.changes
+            → vec_len self.new.changes + more ≤ vec_capacity self.new.changes }
+        ensures ready { IsReady self.old → IsReady self.new }
+    {
+        self.unsure.reserve(more).map_err(|_| NoMemory)
     }
 
     /// Takes memory for the mark of one more command.
@@ -213,32 +241,25 @@ impl MemoryDevice {
         Failed
     }
 
-    /// Puts a value into a blank cell, by this change of the record, which has room.
+    /// Puts a value into a blank cell, by this change of the record, which has room. It is counted if it is somebody
+    /// else's.
     pub(crate) fn put(&mut self, at: u32, value: Cell, change: Change)
         requires is { IsPut at value change }
         requires inside { at < (memory_of self.old).cells }
         requires free { (state_of self.old).image at ≡ None }
         requires room { 1 ≤ room_of self.old }
         requires ours { self.old.by_plan ≡ true → change ≡ Wrote at value }
-        ensures records { Records change self.old self.new }
+        ensures records { Puts change self.old self.new }
+        ensures fits { (memory_of self.old).foreign_writes < 2 ^ 64 }
         ensures ample { self.new.ample ≡ self.old.ample }
     {
         // That the value is one of a written cell is known to those who ask for its bytes.
         let _bytes = value.bytes();
+        self.foreign_writes = change.counted_with(self.foreign_writes);
         self.cells[at as usize] = Some(value);
         self.changes.push_reserved(change);
         self.unsure.push_reserved(at);
         self.spare -= 1;
-    }
-
-    /// Counts a foreign write.
-    fn count_foreign_write(&mut self)
-        ensures counted { memory_of self.new ≡ with_foreign_write (memory_of self.old) }
-        ensures room { room_of self.new ≡ room_of self.old }
-        ensures fits { (memory_of self.old).foreign_writes < 2 ^ 64 }
-        ensures ample { self.new.ample ≡ self.old.ample }
-    {
-        self.foreign_writes = self.foreign_writes.saturating_add(1);
     }
 
     /// Makes sure all that stands, where something was not sure and the record has room.
@@ -283,7 +304,6 @@ impl MemoryDevice {
             return Err(self.fail());
         }
         self.put(at, value, Change::Foreign { at, value });
-        self.count_foreign_write();
         Ok(())
     }
 }

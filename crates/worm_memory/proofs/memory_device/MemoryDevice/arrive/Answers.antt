@@ -20,6 +20,8 @@ kept c is =
       none = old.none_failed is;
       most = old.most_failed is;
       some = old.some_failed is;
+      unwritten = old.none_written is;
+      few = old.most_written is;
       named = old.named is;
       made = old.made is;
     })
@@ -32,6 +34,12 @@ invariant_of-self-2-clause-most_failed c = λ is. (kept c is).most
 
 pub invariant_of-self-2-clause-some_failed : goal.invariant_of-self-2-clause-some_failed
 invariant_of-self-2-clause-some_failed c = λ is. (kept c is).some
+
+pub invariant_of-self-2-clause-none_written : goal.invariant_of-self-2-clause-none_written
+invariant_of-self-2-clause-none_written c = λ is. (kept c is).unwritten
+
+pub invariant_of-self-2-clause-most_written : goal.invariant_of-self-2-clause-most_written
+invariant_of-self-2-clause-most_written c = λ is. (kept c is).few
 
 pub invariant_of-self-2-clause-named : goal.invariant_of-self-2-clause-named
 invariant_of-self-2-clause-named c = λ is. (kept c is).named

@@ -6,9 +6,9 @@ use Rattle.std.proofs.lemmas.Bool.{leb-true}
 use Rattle.worm_memory.specs.Device.{memory_of}
 use Rattle.worm_memory.specs.Memory.{is_ample, mark_of}
 use Rattle.worm_memory.specs.declared.mark.Mark.{Mark}
-use Rattle.worm_memory.specs.Plans.{Plan, stands_if_reached, is_called_for, last_changes, last_faults, plan_of}
+use Rattle.worm_memory.specs.Plans.{Plan, stands_if_reached, is_called_for, last_changes, last_faults, last_foreign_writes, plan_of}
 use Rattle.worm_memory.specs.Worlds.{world}
-use Rattle.worm_memory.proofs.Accounts.{changes_append, faults_append, none_yet}
+use Rattle.worm_memory.proofs.Accounts.{changes_append, faults_append, foreign_writes_append, none_yet}
 use Rattle.worm_memory.proofs.memory_device.MemoryDevice.begin.Goals as goal
 use Rattle.worm_memory.proofs.memory_device.MemoryDevice.begin.Goals.{After-begin}
 
@@ -18,6 +18,11 @@ mark c = record (mark_of (memory_of c.args.self.now)) { changes = c.len.result }
 
 faults_are : (c : After-begin) → last_faults c.push_reserved.new.self.items ≡ c.args.self.now.faults
 faults_are c = ap last_faults c.push_reserved.ensures.items ∙ faults_append 0 c.args.self.now.marks.items (mark c)
+
+foreign_writes_are : (c : After-begin)
+    → last_foreign_writes c.push_reserved.new.self.items ≡ c.args.self.now.foreign_writes
+foreign_writes_are c = ap last_foreign_writes c.push_reserved.ensures.items
+    ∙ foreign_writes_append 0 c.args.self.now.marks.items (mark c)
 
 changes_are : (c : After-begin) → last_changes c.push_reserved.new.self.items ≡ vec_len c.args.self.now.changes
 changes_are c = ap last_changes c.push_reserved.ensures.items
@@ -39,6 +44,12 @@ pub invariant_of-self-clause-some_failed : goal.invariant_of-self-clause-some_fa
 invariant_of-self-clause-some_failed c = λ is must.
     none_yet (plan_of c.begin.new.self) c.begin.new.self.steps c.begin.new.self.calls
     (omega (arith, c.begin.ensures.steps, c.begin.ensures.calls)) c.begin.ensures.calls must
+
+pub invariant_of-self-clause-none_written : goal.invariant_of-self-clause-none_written
+invariant_of-self-clause-none_written c = λ is may. sym (foreign_writes_are c)
+
+pub invariant_of-self-clause-most_written : goal.invariant_of-self-clause-most_written
+invariant_of-self-clause-most_written c = λ is few. omega (arith, foreign_writes_are c)
 
 pub invariant_of-self-clause-named : goal.invariant_of-self-clause-named
 invariant_of-self-clause-named c = λ is.

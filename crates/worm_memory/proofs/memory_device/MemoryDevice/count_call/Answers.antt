@@ -13,6 +13,12 @@ invariant_of-self-clause-most_failed c = λ is. no_true c.args.self.now.by_plan 
 pub invariant_of-self-clause-some_failed : goal.invariant_of-self-clause-some_failed
 invariant_of-self-clause-some_failed c = λ is. no_true c.args.self.now.by_plan is c.requires.apart
 
+pub invariant_of-self-clause-none_written : goal.invariant_of-self-clause-none_written
+invariant_of-self-clause-none_written c = λ is. no_true c.args.self.now.by_plan is c.requires.apart
+
+pub invariant_of-self-clause-most_written : goal.invariant_of-self-clause-most_written
+invariant_of-self-clause-most_written c = λ is. no_true c.args.self.now.by_plan is c.requires.apart
+
 pub invariant_of-self-clause-named : goal.invariant_of-self-clause-named
 invariant_of-self-clause-named c = λ is. no_true c.args.self.now.by_plan is c.requires.apart
 

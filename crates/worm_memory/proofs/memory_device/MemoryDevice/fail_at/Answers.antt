@@ -1,6 +1,8 @@
 -- Before the first call no call has failed, whatever is planned.
-use Rattle.std.proofs.Common.{◌≡◌, true}
-use Rattle.worm_memory.specs.Plans.{Plan}
+use Rattle.std.proofs.Common.{◌≡◌, true, ap, sym, ◌∙◌, arith, List}
+use Rattle.worm_memory.specs.Plans.{Plan, failures_reached, may_fail, must_fail}
+use Rattle.worm_memory.specs.declared.moment.Moment.{Moment}
+use Rattle.worm_memory.specs.declared.schedule.Schedule.{Schedule}
 use Rattle.worm_memory.proofs.Planning.{HasYetToCall, most_yet, some_yet, yet_to_call}
 use Rattle.worm_memory.proofs.memory_device.MemoryDevice.fail_at.Goals as goal
 use Rattle.worm_memory.proofs.memory_device.MemoryDevice.fail_at.Goals.{In-Ok}
@@ -27,8 +29,39 @@ invariant_of-self-2-clause-most_failed c = λ is. most_yet c.args.self.now (yet 
 pub invariant_of-self-2-clause-some_failed : goal.invariant_of-self-2-clause-some_failed
 invariant_of-self-2-clause-some_failed c = λ is. some_yet c.args.self.now (yet c is) (planned c)
 
+pub invariant_of-self-2-clause-none_written : goal.invariant_of-self-2-clause-none_written
+invariant_of-self-2-clause-none_written c = λ is may.
+    (yet c is).foreign_writes
+
+pub invariant_of-self-2-clause-most_written : goal.invariant_of-self-2-clause-most_written
+invariant_of-self-2-clause-most_written c = λ is few.
+    omega (arith, (yet c is).foreign_writes)
+
 pub invariant_of-self-2-clause-named : goal.invariant_of-self-2-clause-named
 invariant_of-self-2-clause-named c = λ is. c.args.self.now.named (yet c is).by_plan
 
 pub invariant_of-self-2-clause-made : goal.invariant_of-self-2-clause-made
 invariant_of-self-2-clause-made c = λ is. c.args.self.now.made (yet c is).by_plan
+
+-- where there was no memory nothing is planned
+abbrev with_fails : Schedule → List Moment → Plan
+with_fails d l = record { fails = l; stop = d.stop; foreign = d.foreign.items }
+
+pub invariant_of-self-clause-none_failed : goal.invariant_of-self-clause-none_failed
+invariant_of-self-clause-none_failed c = λ is may. let d = c.args.self.now in d.none_failed is
+    (sym (ap (λ l. may_fail (with_fails d.schedule l) d.schedule.steps d.schedule.calls) c.in_default.ensures.items) ∙ may)
+
+pub invariant_of-self-clause-most_failed : goal.invariant_of-self-clause-most_failed
+invariant_of-self-clause-most_failed c = λ is may few. let d = c.args.self.now in
+    let same = ap (λ l. failures_reached (with_fails d.schedule l) d.schedule.steps d.schedule.calls) c.in_default.ensures.items in
+    omega (arith, same, d.most_failed is may few)
+
+pub invariant_of-self-clause-some_failed : goal.invariant_of-self-clause-some_failed
+invariant_of-self-clause-some_failed c = λ is must. let d = c.args.self.now in d.some_failed is
+    (sym (ap (λ l. must_fail (with_fails d.schedule l) d.schedule.steps d.schedule.calls) c.in_default.ensures.items) ∙ must)
+
+pub invariant_of-self-clause-none_written : goal.invariant_of-self-clause-none_written
+invariant_of-self-clause-none_written c = c.args.self.now.none_written
+
+pub invariant_of-self-clause-most_written : goal.invariant_of-self-clause-most_written
+invariant_of-self-clause-most_written c = c.args.self.now.most_written

@@ -1,7 +1,7 @@
 -- Before the first call no call has failed, whatever is planned.
-use Rattle.std.proofs.Common.{◌≡◌, ◌++◌, ◌∷◌, [], drop, true, vec_len, sym, subst, ap, ◌∙◌}
-use Rattle.std.specs.List.{list_all}
-use Rattle.worm_memory.specs.Plans.{AreInside, stands_if_reached, is_called_for, last_changes}
+use Rattle.std.proofs.Common.{arith, ◌≡◌, ◌++◌, ◌∷◌, [], drop, true, vec_len, sym, subst, ap, ◌∙◌}
+use Rattle.std.specs.List.{count_by, list_all, list_any}
+use Rattle.worm_memory.specs.Plans.{AreInside, is_due, stands_if_reached, is_called_for, last_changes}
 use Rattle.worm_memory.specs.Worlds.{world}
 use Rattle.worm_memory.specs.declared.moment.Timed.{Timed}
 use Rattle.worm_memory.proofs.Others.{inside_append}
@@ -39,6 +39,14 @@ timed c = record { before = c.args.moment; at = c.args.at; value = c.args.value 
 pushed : (c : In-Ok) → c.push.new.self.items ≡ c.args.self.now.schedule.foreign.items ++ timed c ∷ []
 pushed c = c.in-Ok.ensures.items
 
+pub invariant_of-self-2-clause-none_written : goal.invariant_of-self-2-clause-none_written
+invariant_of-self-2-clause-none_written c = λ is may.
+    (yet c is).foreign_writes
+
+pub invariant_of-self-2-clause-most_written : goal.invariant_of-self-2-clause-most_written
+invariant_of-self-2-clause-most_written c = λ is few.
+    omega (arith, (yet c is).foreign_writes)
+
 -- what was called for before is called for still, and what is planned has not come
 pub invariant_of-self-2-clause-named : goal.invariant_of-self-2-clause-named
 invariant_of-self-2-clause-named c = λ is.
@@ -62,6 +70,18 @@ invariant_of-self-2-clause-planned_inside c =
     (inside_append (vec_len device.cells) device.schedule.foreign.items (timed c) device.planned_inside c.requires)
 
 -- where there was no memory nothing is planned
+pub invariant_of-self-clause-none_written : goal.invariant_of-self-clause-none_written
+invariant_of-self-clause-none_written c = λ is may.
+    let d = c.args.self.now in
+    d.none_written is
+    (sym (ap (list_any (is_due d.schedule.steps d.schedule.calls)) c.in_default.ensures.items) ∙ may)
+
+pub invariant_of-self-clause-most_written : goal.invariant_of-self-clause-most_written
+invariant_of-self-clause-most_written c = λ is few.
+    let d = c.args.self.now in
+    let same = ap (count_by (is_due d.schedule.steps d.schedule.calls)) c.in_default.ensures.items in
+    omega (arith, same, d.most_written is few)
+
 pub invariant_of-self-clause-named : goal.invariant_of-self-clause-named
 invariant_of-self-clause-named c = λ is.
     let d = c.args.self.now in

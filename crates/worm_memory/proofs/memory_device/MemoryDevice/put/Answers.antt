@@ -5,10 +5,12 @@ use Rattle.worm_memory.proofs.Blanks.{blanks_set}
 use Rattle.worm_memory.specs.Unsure.{blanks}
 use Rattle.cell_types.specs.Bytes.{IsCell}
 use Rattle.worm_memory.specs.Unsure.{unsure_of}
-use Rattle.worm_memory.specs.Worlds.{blank, world, AreChanges, Holds}
+use Rattle.worm_memory.specs.Worlds.{blank, foreign_writes_in, world, AreChanges, Holds}
 use Rattle.worm_memory.proofs.Worlds.{changes_append, put_is_change}
 use Rattle.worm_memory.proofs.Cells.{holds_put, unsure_put}
 use Rattle.worm_memory.specs.Plans.{stands_if_reached, is_called_for, last_changes}
+use Rattle.worm_memory.specs.Memory.{counted_with}
+use Rattle.worm_memory.proofs.Counted.{one_counted}
 use Rattle.worm_memory.proofs.Worlds.{Adds}
 use Rattle.worm_memory.proofs.Following.{called_append, made_append}
 use Rattle.worm_memory.proofs.memory_device.MemoryDevice.put.Goals as goal
@@ -51,6 +53,28 @@ invariant_of-self-clause-roomy c = λ is.
     blanks_set device.cells.items c.args.at c.args.value (omega (arith, c.requires.inside))
     (device.holds c.args.at ∙ c.requires.free) in
     omega (arith, one, device.roomy is, c.requires.room, c.push_reserved-2.ensures.len)
+
+-- the write is counted if it is somebody else's
+pub invariant_of-self-clause-counted : goal.invariant_of-self-clause-counted
+invariant_of-self-clause-counted c =
+    let device = c.args.self.now in
+    c.counted_with-self.ensures.counts ∙ ap (counted_with c.args.change) device.counted
+    ∙ one_counted device.changes.items c.args.change (omega arith)
+    ∙ sym (ap foreign_writes_in c.push_reserved.ensures.items)
+
+-- where the command goes by its plan, it is not
+pub invariant_of-self-clause-none_written : goal.invariant_of-self-clause-none_written
+invariant_of-self-clause-none_written c = λ is may.
+    let device = c.args.self.now in
+    c.counted_with-self.ensures.counts ∙ ap (λ change. counted_with change device.foreign_writes) (c.requires.ours is)
+    ∙ device.none_written is may
+
+pub invariant_of-self-clause-most_written : goal.invariant_of-self-clause-most_written
+invariant_of-self-clause-most_written c = λ is few.
+    let device = c.args.self.now in
+    let same : c.counted_with-self.result ≡ device.foreign_writes =
+    c.counted_with-self.ensures.counts ∙ ap (λ change. counted_with change device.foreign_writes) (c.requires.ours is) in
+    omega (arith, same, device.most_written is few)
 
 -- where the command goes by its plan, the write is its own, and not somebody else's
 pub invariant_of-self-clause-named : goal.invariant_of-self-clause-named

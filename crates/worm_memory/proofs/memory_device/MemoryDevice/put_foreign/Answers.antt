@@ -1,7 +1,7 @@
 -- A foreign write into a blank cell, done or failed.
-use Rattle.std.proofs.Common.{◌<◌, ◌^◌, ◌∙◌, ap, sym, subst, arith}
+use Rattle.std.proofs.Common.{◌∙◌, sym, subst, arith}
 use Rattle.std.proofs.lemmas.Bool.{false_from_ne_true}
-use Rattle.worm_memory.specs.Memory.{device_of, with_foreign_write}
+use Rattle.worm_memory.specs.Memory.{device_of}
 use Rattle.worm_memory.specs.Device.{memory_of, ForeignWrites}
 use Rattle.worm_memory.specs.Worlds.{theirs}
 use Rattle.worm_memory.proofs.Calls.{foreign_done, foreign_failed}
@@ -25,10 +25,8 @@ returns-then-room-eq0-clause-room c = λ failed.
 pub returns-clause-called : goal.returns-clause-called
 returns-clause-called c =
     let old = memory_of c.args.self.now in
-    subst (λ m. ForeignWrites (device_of old) (device_of m)) (sym
-    (c.count_foreign_write.ensures.counted ∙ ap with_foreign_write c.put.ensures.records.0))
-    (foreign_done old c.args.at c.args.value (subst (λ m. m.foreign_writes < 2 ^ 64) c.put.ensures.records.0
-    c.count_foreign_write.ensures.fits))
+    subst (λ m. ForeignWrites (device_of old) (device_of m)) (sym c.put.ensures.records.0)
+    (foreign_done old c.args.at c.args.value c.put.ensures.fits)
 
 -- somebody else's write is a put
 pub put-requires-clause-is : goal.put-requires-clause-is

@@ -2,9 +2,10 @@
 use Rattle.std.proofs.Common.{sym, subst, ap, ◌∙◌, ◌∷◌, [], drop, refl, vec_len, arith}
 use Rattle.std.specs.List.{list_all}
 use Rattle.worm_memory.specs.Unsure.{unsure_of}
-use Rattle.worm_memory.specs.Worlds.{blank, world, AreChanges, Holds}
+use Rattle.worm_memory.specs.Worlds.{blank, foreign_writes_in, world, AreChanges, Holds}
 use Rattle.worm_memory.specs.declared.change.Change.TheVariants.{Synced}
 use Rattle.worm_memory.proofs.Worlds.{changes_append}
+use Rattle.worm_memory.proofs.Counted.{in_both}
 use Rattle.worm_memory.proofs.Cells.{holds_synced, unsure_synced}
 use Rattle.worm_memory.specs.Plans.{stands_if_reached, is_called_for, last_changes}
 use Rattle.worm_memory.proofs.Following.{called_append, made_append}
@@ -27,6 +28,12 @@ pub invariant_of-self-clause-are_unsure : goal.invariant_of-self-clause-are_unsu
 invariant_of-self-clause-are_unsure c =
     let device = c.args.self.now in
     c.clear.ensures.items ∙ sym (ap unsure_of c.push_reserved.ensures.items ∙ unsure_synced device.changes.items)
+
+pub invariant_of-self-clause-counted : goal.invariant_of-self-clause-counted
+invariant_of-self-clause-counted c =
+    let device = c.args.self.now in
+    let all = ap foreign_writes_in c.push_reserved.ensures.items in
+    omega (arith, device.counted, all, in_both device.changes.items (Synced ∷ []))
 
 -- a sync is nobody else's, and what stands stays
 pub invariant_of-self-clause-named : goal.invariant_of-self-clause-named

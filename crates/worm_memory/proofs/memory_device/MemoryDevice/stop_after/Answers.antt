@@ -1,5 +1,5 @@
 -- Before the first call no call has failed, whatever is planned.
-use Rattle.std.proofs.Common.{Some}
+use Rattle.std.proofs.Common.{arith, Some}
 use Rattle.worm_memory.proofs.Planning.{most_yet, some_yet, yet_to_call}
 use Rattle.worm_memory.proofs.memory_device.MemoryDevice.stop_after.Goals as goal
 
@@ -22,6 +22,14 @@ invariant_of-self-clause-some_failed c = λ is.
     let d = c.args.self.now in
     some_yet d (yet_to_call d c.is_early-self.result c.is_early-self.ensures is)
     (record { fails = d.schedule.fails.items; stop = Some c.args.moment; foreign = d.schedule.foreign.items })
+
+pub invariant_of-self-clause-none_written : goal.invariant_of-self-clause-none_written
+invariant_of-self-clause-none_written c = λ is may.
+    (yet_to_call c.args.self.now c.is_early-self.result c.is_early-self.ensures is).foreign_writes
+
+pub invariant_of-self-clause-most_written : goal.invariant_of-self-clause-most_written
+invariant_of-self-clause-most_written c = λ is few.
+    omega (arith, (yet_to_call c.args.self.now c.is_early-self.result c.is_early-self.ensures is).foreign_writes)
 
 pub invariant_of-self-clause-named : goal.invariant_of-self-clause-named
 invariant_of-self-clause-named c = λ is.

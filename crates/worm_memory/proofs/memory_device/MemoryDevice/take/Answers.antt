@@ -8,7 +8,8 @@ use Rattle.worm_memory.specs.Proper.{is_device}
 use Rattle.worm_memory.specs.Unsure.{blanks, unsure_of}
 use Rattle.worm_memory.proofs.Blanks.{blanks_most}
 use Rattle.std.proofs.Common.{◌+◌, ◌≤◌}
-use Rattle.worm_memory.specs.Worlds.{blank, world, AreChanges, Holds}
+use Rattle.worm_memory.specs.Worlds.{blank, foreign_writes_in, world, AreChanges, Holds}
+use Rattle.worm_memory.proofs.Counted.{crash_counted}
 use Rattle.worm_memory.proofs.Losing.{crash_follows, crash_leaves, each_inside, unsure_inside, unsure_crashed}
 use Rattle.worm_memory.proofs.Unsure.{right_world}
 use Rattle.worm_memory.proofs.Worlds.{after_row}
@@ -60,6 +61,13 @@ invariant_of-self-clause-holds c =
     (λ cell among. let inside = unsure_inside (memory_of device) is right cell among in (omega arith, inside.1))) in
     subst (λ cells. Holds cells (world c.lose.new.changes.items).image) (sym (cut ∙ left))
     (subst (λ l. Holds (crash_cells keep unsure device.cells.items) (world l).image) (sym changes) holds)
+
+pub invariant_of-self-clause-counted : goal.invariant_of-self-clause-counted
+invariant_of-self-clause-counted c =
+    let device = c.args.self.now in
+    device.counted
+    ∙ sym (ap foreign_writes_in c.lose.ensures.changes
+    ∙ crash_counted c.args.keep.now c.deref.result.now device.changes.items)
 
 pub invariant_of-self-clause-are_unsure : goal.invariant_of-self-clause-are_unsure
 invariant_of-self-clause-are_unsure c =
