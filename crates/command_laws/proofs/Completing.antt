@@ -1,6 +1,6 @@
 -- Where all is as it is to be, a command over a device ends with no refusal but want of memory, or that no document has
 -- the identifier.
-use Rattle.std.proofs.Common.{◌≡◌, ◌≤◌, ◌+◌, ℕ, List, length, None, Err, refl, sym, ap, ◌∙◌, subst, arith}
+use Rattle.std.proofs.Common.{◌≡◌, ◌≤◌, ◌+◌, ℕ, List, length, Option, None, Err, refl, sym, ap, ◌∙◌, subst, arith}
 use Rattle.std.specs.Global.{Vec}
 use Rattle.std.proofs.lemmas.Option.{none-some}
 use Rattle.cell_types.specs.Image.{Image}
@@ -33,8 +33,12 @@ use Rattle.crash_laws.proofs.WellPlanned as planned
 use Rattle.identifier_lookup.specs.Walks.{IsPassedWhole}
 use Rattle.plan_writer.proofs.PutFrom.{volume_2}
 use Rattle.ingest_engine.specs.Formats.{FormatEnds}
-use Rattle.ingest_engine.specs.Ingesting.{HasFullPath, HasNoRoom, HasNoSlot, HasSlot, IngestEnds, IsNamed, IsTaken, IsTooMany, by_plan, by_settling, in_index}
-use Rattle.ingest_engine.proofs.Named.{slot_still}
+use Rattle.stored_documents.specs.Slots.{IsStampFor}
+use Rattle.jump_insertion.specs.Evidence.{IsPastStamps}
+use Rattle.ingest_plan.specs.Planning.{IsLater}
+use Rattle.ingest_engine.specs.Ingesting.{HasFullPath, HasLaterStamp, HasNoRoom, HasNoSlot, HasSlot, IngestEnds, IsNamed, IsTaken, IsTooMany, StampEnds, TakesNoSuchStamp, by_plan, by_settling, in_index}
+use Rattle.ingest_engine.specs.Stamps.{IsStampBelow}
+use Rattle.ingest_engine.proofs.Named.{is_horizon, slot_still}
 use Rattle.ingest_engine.proofs.CrashedIngests.{ready_layout, settled_unused}
 use Rattle.record_query.specs.Finding.{FindEnds}
 use Rattle.record_query.specs.LookingUp.{LookUpEnds}
@@ -49,8 +53,9 @@ use Rattle.command_laws.proofs.Alarms.{query_alarms, settling_alarms}
 use Rattle.command_laws.proofs.WholeLogs.{no_blank_cell, no_other_cell, no_other_size, settles_whole, settling_steady}
 
 -- where a slot is unused, a settled volume has one
-module _ {id body : List ℕ} {g : Layout} {slot : ℕ} {old new : DeviceState} (begins : BeginsSteady old new)
-    (place : HasPlaceFor id body g slot old) (device : IsDevice old) (device_new : IsDevice new) where
+module _ {id : List ℕ} {stamp : Option ℕ} {body : List ℕ} {g : Layout} {slot : ℕ} {old new : DeviceState}
+    (begins : BeginsSteady old new) (place : HasPlaceFor id stamp body g slot old) (device : IsDevice old)
+    (device_new : IsDevice new) where
   cells_new : {r : Ready} → HasSettled old new r → new.cells ≡ old.cells
   cells_new h = h.looked.cells ∙ h.settles.called.cells
 
@@ -62,7 +67,39 @@ module _ {id body : List ℕ} {g : Layout} {slot : ℕ} {old new : DeviceState} 
   stands_as r h = (looked_ends old new r begins.tells h begins.alone device_new.sure
       place.sound).image
 
-  not_full : HasNoSlot old new → ⊥
+  -- the volume takes such a stamp
+  takes : (r : Ready) → HasSettled old new r → IsStampFor r.volume.geometry stamp
+  takes r h = subst (λ (l : Layout). IsStampFor l stamp) (sym (layout r h)) place.takes
+
+  no_such_stamp : (refusal : Refusal) → TakesNoSuchStamp stamp old new refusal → ⊥
+  no_such_stamp refusal h = by_end refusal h.ends (takes h.ready h.settled)
+    where
+      by_end : (refusal : Refusal) → StampEnds h.ready stamp (Err refusal) → IsStampFor h.ready.volume.geometry stamp → ⊥
+      by_end refusals.StampNeeded ends takes =
+          omega (arith, ends.0, subst (λ (s : Option ℕ). IsStampFor h.ready.volume.geometry s) ends.1 takes)
+      by_end refusals.StampUnused ends takes =
+          omega (arith, ends.0, subst (λ (s : Option ℕ). IsStampFor h.ready.volume.geometry s) ends.1.1 takes)
+      by_end refusal ends takes = ends
+
+  -- and the stamp is past the others
+  is_later : (given last : ℕ) → HasLaterStamp stamp given last old new → ⊥
+  is_later given last h =
+      let has = h.settled.settled in
+      let one = layout h.ready has in
+      let same = stands_as h.ready has in
+      let horizon = is_horizon h.ready h.settled.takes h.settled.slot has begins.tells begins.alone in
+      let later = place.later h.ready.horizon
+      (subst (λ (l : Layout). IsHorizon l place.sound.after place.sound.after h.ready.horizon) one
+      (subst (λ (i : Image). IsHorizon h.ready.volume.geometry i i h.ready.horizon) same horizon)) in
+      let past : IsPastStamps g place.sound.after h.ready.horizon given =
+      subst (λ (s : Option ℕ). IsLater g place.sound.after h.ready.horizon s) h.early.given_is later in
+      let found : IsStampBelow g place.sound.after h.ready.horizon last =
+      subst (λ (l : Layout). IsStampBelow l place.sound.after h.ready.horizon last) one
+      (subst (λ (i : Image). IsStampBelow h.ready.volume.geometry i h.ready.horizon last) same
+      (h.early.stands (subst IsTrue (sym has.settles.called.tells) begins.tells))) in
+      omega (arith, past found.slot last found.below found.done found.stamp, h.early.early)
+
+  not_full : HasNoSlot stamp old new → ⊥
   not_full h =
       let has = h.settled in
       let still = still_first has.settles.called.foreign_writes has.looked.foreign_writes begins.alone in
@@ -87,7 +124,7 @@ module _ {id body : List ℕ} {g : Layout} {slot : ℕ} {old new : DeviceState} 
       none-some taken.found (sym (stood ∙ unused.reserve) ∙ taken.stands)
 
   -- no document has the identifier
-  not_taken : (n : ℕ) → IsTaken id n old new → ⊥
+  not_taken : (n : ℕ) → IsTaken id stamp n old new → ⊥
   not_taken n h =
       let has = h.settled.settled in
       let held = h.holds begins.tells in
@@ -99,7 +136,7 @@ module _ {id body : List ℕ} {g : Layout} {slot : ℕ} {old new : DeviceState} 
       (subst (λ (i : Image). Stands new.cells i n id held.body) (stands_as h.ready has) stands))
 
   -- its path is not full
-  path_open : HasFullPath id old new → ⊥
+  path_open : HasFullPath id stamp old new → ⊥
   path_open h =
       let has = h.settled.settled in
       place.path
@@ -109,7 +146,7 @@ module _ {id body : List ℕ} {g : Layout} {slot : ℕ} {old new : DeviceState} 
       (h.passed begins.tells))))
 
   -- no list gets too many of the body's tags
-  few : (list count : ℕ) → IsTooMany id body list count old new → ⊥
+  few : (list count : ℕ) → IsTooMany id stamp body list count old new → ⊥
   few list count h =
       let many = h.ends.many in
       let lists = ap (λ (l : Layout). l.lists) (layout h.ready h.settled.settled) in
@@ -120,36 +157,36 @@ module _ {id body : List ℕ} {g : Layout} {slot : ℕ} {old new : DeviceState} 
       omega (arith, ap length same, many.number, many.many, t.2)
 
   -- there is room for the need
-  fits : (need free : ℕ) → HasNoRoom id body need free old new → ⊥
+  fits : (need free : ℕ) → HasNoRoom id stamp body need free old new → ⊥
   fits need free h =
       let has = h.settled.settled in
       let same = stands_as h.ready has in
       let one = layout h.ready has in
       let horizon = planned.horizon_now old new h.ready begins.tells has begins.alone device
-      device_new begins.steady id body h.index h.settled.slot h.has in
+      device_new begins.steady id stamp body h.settled.takes h.index h.settled.slot h.has in
       let edge = planned.edge_now old new h.ready begins.tells has begins.alone device
-      device_new begins.steady id body h.index h.settled.slot h.has in
-      let need_now : IsNeed h.ready.volume.geometry new.image h.ready.horizon id body None need =
-      subst (λ (n : ℕ). IsNeed h.ready.volume.geometry new.image h.ready.horizon id body None n) (sym h.need_is)
+      device_new begins.steady id stamp body h.settled.takes h.index h.settled.slot h.has in
+      let need_now : IsNeed h.ready.volume.geometry new.image h.ready.horizon id body stamp need =
+      subst (λ (n : ℕ). IsNeed h.ready.volume.geometry new.image h.ready.horizon id body stamp n) (sym h.need_is)
       (planned.need old new h.ready begins.tells has begins.alone device device_new
-      begins.steady id body h.index h.settled.slot h.has) in
+      begins.steady id stamp body h.settled.takes h.index h.settled.slot h.has) in
       let room : h.ready.edge + need ≤ g.cells = place.room h.ready.horizon h.ready.edge need
       (subst (λ (l : Layout). IsHorizon l place.sound.after place.sound.after h.ready.horizon) one
       (subst (λ (i : Image). IsHorizon h.ready.volume.geometry i i h.ready.horizon) same horizon))
       (subst (λ (l : Layout). IsEdge l place.sound.after place.sound.after h.ready.edge) one
       (subst (λ (i : Image). IsEdge h.ready.volume.geometry i i h.ready.edge) same edge))
-      (subst (λ (l : Layout). IsNeed l place.sound.after h.ready.horizon id body None need) one
-      (subst (λ (i : Image). IsNeed h.ready.volume.geometry i h.ready.horizon id body None need) same need_now)) in
+      (subst (λ (l : Layout). IsNeed l place.sound.after h.ready.horizon id body stamp need) one
+      (subst (λ (i : Image). IsNeed h.ready.volume.geometry i h.ready.horizon id body stamp need) same need_now)) in
       omega (arith, room, h.free_is, h.less, ap (λ (l : Layout). l.cells) one)
 
   -- once the volume is settled no rule is broken in what stands
-  behind_unbroken : {e : Evidence} (r : Ready) → HasSlot old new r → IsLicensed old new e → ⊥
+  behind_unbroken : {e : Evidence} (r : Ready) → HasSlot stamp old new r → IsLicensed old new e → ⊥
   behind_unbroken {e} r slot licensed =
       looked_unbroken old new r e.rule e.cell device device_new begins.tells slot.settled
       begins.alone begins.steady (licensed.broken begins.alone)
 
   -- no tampering is named
-  untouched : (e : Evidence) → IsNamed id body old new e → ⊥
+  untouched : (e : Evidence) → IsNamed id stamp body old new e → ⊥
   untouched e (by_settling settles found) = settling_named old new e device begins.tells settles
       begins.alone begins.steady
   untouched e (by_plan way) = behind_unbroken way.ready (slot_still way begins.alone) way.found.licensed
@@ -161,10 +198,13 @@ module _ {id body : List ℕ} {g : Layout} {slot : ℕ} {old new : DeviceState} 
 
   -- the engine ends with no refusal but want of memory
   pub ingests_whole : (called : Called old new) → IsStill old.faults new.faults → (refusal : Refusal)
-      → IngestEnds id body old new (Err refusal) → refusal ≡ refusals.NoMemory
+      → IngestEnds id stamp body old new (Err refusal) → refusal ≡ refusals.NoMemory
   ingests_whole called no_fault refusals.NoMemory ends = refl
   ingests_whole called no_fault refusals.DeviceFault ends = absurd (rose_or_still _ _ ends no_fault)
   ingests_whole called no_fault (refusals.Tampered e) ends = absurd (untouched e (ends begins.tells))
+  ingests_whole called no_fault refusals.StampNeeded ends = absurd (no_such_stamp refusals.StampNeeded ends)
+  ingests_whole called no_fault refusals.StampUnused ends = absurd (no_such_stamp refusals.StampUnused ends)
+  ingests_whole called no_fault (refusals.StampTooEarly given last) ends = absurd (is_later given last ends)
   ingests_whole called no_fault refusals.SlotsFull ends = absurd (not_full ends)
   ingests_whole called no_fault (refusals.Duplicate n) ends = absurd (not_taken n ends)
   ingests_whole called no_fault refusals.PathFull ends = absurd (path_open ends)

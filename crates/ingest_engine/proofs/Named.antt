@@ -34,7 +34,7 @@ module _ {stamp : Option ℕ} {old new : DeviceState} (r : Ready) (takes : IsSta
     (slot : r.horizon < r.volume.geometry.slots) (has : HasSettled old new r) (tells : IsTrue old.tells)
   where
     -- the horizon is one of what stands, where nobody else wrote
-    is_horizon : IsStill old.foreign_writes new.foreign_writes
+    pub is_horizon : IsStill old.foreign_writes new.foreign_writes
         → IsHorizon r.volume.geometry new.image new.image r.horizon
     is_horizon still = record {
       most = (has.settles.ends.1 tells).horizon.most;

@@ -1,6 +1,6 @@
 -- A plan of a document and of its index suits the volume that it was made for.
 use Rattle.std.proofs.Common.{◌≡◌, ◌≤◌, ◌<◌, ◌+◌, ◌-◌, ◌^◌, ◌⊎◌, ◌∙◌, ℕ, zero, suc, List, [], length, Option, Some, refl, sym, ap, subst, inl, inr, arith}
-use Rattle.std.specs.Prelude.{slice_get}
+use Rattle.std.specs.Prelude.{slice_get, unwrap_or}
 use Rattle.std.proofs.Math.ListN.{get_or}
 use Rattle.std.proofs.lemmas.Option.{none-some, slice_get-get_or}
 use Rattle.cell_types.specs.Layout.{IsLayout, Layout, pool_at, lists_at}
@@ -19,6 +19,11 @@ use Rattle.ingest_plan.specs.declared.plan.PlannedIndex.{PlannedIndex}
 use Rattle.ingest_engine.specs.StoredCells.{IsStoredAs}
 use Rattle.ingest_engine.specs.declared.document.StoredDocument.{StoredDocument}
 use Rattle.ingest_engine.proofs.JoinedCells.{stored_length}
+
+-- a stamp has 32 bits where its seconds have
+pub few_seconds : (stamp : Option ℕ) → unwrap_or stamp 0 < 2 ^ 32
+    → (seconds : ℕ) → stamp ≡ Some seconds → seconds < 2 ^ 32
+few_seconds stamp few seconds given = omega (arith, few, ap (λ (s : Option ℕ). unwrap_or s 0) given)
 
 before_or : (a b : ℕ) → (a < b) ⊎ (b ≤ a)
 before_or a b = grind arith
