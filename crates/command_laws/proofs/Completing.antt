@@ -2,6 +2,7 @@
 -- the identifier.
 use Rattle.std.proofs.Common.{◌≡◌, ◌≤◌, ◌+◌, ℕ, List, length, Option, None, Err, refl, sym, ap, ◌∙◌, subst, arith}
 use Rattle.std.specs.Global.{Vec}
+use Rattle.std.specs.Prelude.{IsTrue}
 use Rattle.std.proofs.lemmas.Option.{none-some}
 use Rattle.cell_types.specs.Image.{Image}
 use Rattle.cell_types.specs.Layout.{Layout, reserve_at}
