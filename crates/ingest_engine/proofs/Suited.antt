@@ -12,7 +12,7 @@ use Rattle.worm_device.specs.State.{DeviceState}
 use Rattle.hash_tree.specs.declared.level.Level.{Level}
 use Rattle.hash_tree.specs.declared.path.Open.{Open}
 use Rattle.recovery_engine.specs.Entries.{AreEntries, IsFit, target_of}
-use Rattle.plan_writer.specs.Planned.{IsStampGiven, PlansDocument, Suits, document_from, journal_from, laid}
+use Rattle.plan_writer.specs.Planned.{IsStampFor, PlansDocument, Suits, document_from, journal_from, laid}
 use Rattle.plan_writer.specs.declared.plan.Plan.{Plan}
 use Rattle.ingest_plan.specs.Planning.{IsPlanned}
 use Rattle.ingest_plan.specs.declared.plan.PlannedIndex.{PlannedIndex}
@@ -21,7 +21,7 @@ use Rattle.ingest_engine.specs.declared.document.StoredDocument.{StoredDocument}
 use Rattle.ingest_engine.proofs.JoinedCells.{stored_length}
 
 -- No volume is of stamped documents yet, so a plan without a stamp suits each. It is the one place that says so.
-none_given : {g : Layout} → IsLayout g → IsStampGiven g None
+none_given : {g : Layout} → IsLayout g → IsStampFor g None
 none_given layout = omega (arith, layout.version)
 
 before_or : (a b : ℕ) → (a < b) ⊎ (b ≤ a)
@@ -142,7 +142,7 @@ module _ (p : Plan) (id body : List ℕ) (document : StoredDocument) (identifier
           omega (arith, count, long, blocks),
         );
         document = count;
-        stamp = subst (IsStampGiven g) (sym stamp) (none_given layout);
+        stamp = subst (IsStampFor g) (sym stamp) (none_given layout);
         stamp_fits = λ seconds given. absurd (none-some seconds (sym stamp ∙ given));
         entries = subst (λ (below : ℕ). AreEntries (lists_at g) (laid (journal_from p) p.journal.now) (journal_from p) below
             (length p.journal.now)) end

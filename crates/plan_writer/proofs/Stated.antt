@@ -8,7 +8,7 @@ use Rattle.recovery_engine.specs.Ending.{done_put}
 use Rattle.stored_documents.specs.Slots.{Reserves, Commits, IsStampOf}
 use Rattle.stored_documents.specs.Volumes.{Holds}
 use Rattle.stored_documents.proofs.Stamps.{has_stamp}
-use Rattle.plan_writer.specs.Planned.{IsStampGiven, IsStampPut, Suits, commit_put, reserve_put, reserved_by, stamp_put}
+use Rattle.plan_writer.specs.Planned.{IsStampFor, IsStampPut, Suits, commit_put, reserve_put, reserved_by, stamp_put}
 use Rattle.plan_writer.specs.declared.plan.Plan.{Plan}
 
 module _ (g : Layout) (n : ℕ) (p : Plan) (layout : IsLayout g) (less : n < g.slots) (suits : Suits g p)
@@ -34,7 +34,7 @@ module _ (g : Layout) (n : ℕ) (p : Plan) (layout : IsLayout g) (less : n < g.s
       some_cells : 1 ≤ (reserved_by p).length
       some_cells = omega (arith, suits.fits.2, suits.fits.3)
 
-  stamp_in : (stamp : Option ℕ) → IsStampGiven g stamp → ((seconds : ℕ) → stamp ≡ Some seconds → seconds < 2 ^ 32)
+  stamp_in : (stamp : Option ℕ) → IsStampFor g stamp → ((seconds : ℕ) → stamp ≡ Some seconds → seconds < 2 ^ 32)
       → AreStanding (IsStampPut n stamp) image → IsStampOf g image n stamp
   stamp_in None given fits stands = given
   stamp_in (Some seconds) given fits stands = (

@@ -93,9 +93,9 @@ abbrev pub laid : ℕ → List (List ℕ) → Image
 laid place cells at = slice_get cells (at - place)
 
 -- a stamp is given exactly on a volume of stamped documents
-abbrev pub IsStampGiven : Layout → Option ℕ → Type 0
-IsStampGiven g None = g.version < STAMPED_VERSION
-IsStampGiven g (Some seconds) = g.version ≡ STAMPED_VERSION
+abbrev pub IsStampFor : Layout → Option ℕ → Type 0
+IsStampFor g None = g.version < STAMPED_VERSION
+IsStampFor g (Some seconds) = g.version ≡ STAMPED_VERSION
 
 -- A plan suits a volume: the cells that it reserves lie in the pool, its document and journal are as many as a commit
 -- cell can state, a stamp is given exactly where documents are stamped and has 32 bits, and the journal asks for what
@@ -105,7 +105,7 @@ pub record Suits (g : Layout) (p : Plan) : Type 0 where
   pub to : p.start + (reserved_by p).length ≤ g.cells
   pub fits : FitsInto (reserved_by p).length p.bytes (length p.journal.now)
   pub document : length p.document.now ≡ cells_for p.bytes
-  pub stamp : IsStampGiven g p.stamp
+  pub stamp : IsStampFor g p.stamp
   pub stamp_fits : (seconds : ℕ) → p.stamp ≡ Some seconds → seconds < 2 ^ 32
   pub entries : AreEntries (lists_at g) (laid (journal_from p) p.journal.now) (journal_from p) (document_from p)
       (length p.journal.now)
