@@ -1,8 +1,8 @@
 -- The phases in which a plan is put, against the rows of the plan.
-use Rattle.std.proofs.Common.{None, ◌≡◌, ◌≤◌, ◌<◌, ◌+◌, ◌^◌, ℕ, zero, suc, List, length, Some, refl, sym, ap, ◌∙◌, inl, inr, ⊎_elim, subst, arith}
+use Rattle.std.proofs.Common.{◌≡◌, ◌≤◌, ◌<◌, ◌+◌, ◌^◌, ℕ, zero, suc, List, length, Some, refl, sym, ap, ◌∙◌, inl, inr, ⊎_elim, subst, arith}
 use Rattle.std.proofs.lemmas.Option.{slice_get_within}
 use Rattle.cell_types.specs.Image.{Image, Extends}
-use Rattle.cell_types.specs.Layout.{Layout, reserve_at, outcome_at, done_at}
+use Rattle.cell_types.specs.Layout.{Layout, reserve_at, outcome_at, done_at, spare_at}
 use Rattle.cell_types.specs.Records.{IsRecordCell, record_bytes}
 use Rattle.cell_types.specs.declared.record_cell.RecordCell.{RecordCell}
 use Rattle.cell_types.specs.declared.record_cell.RecordCell.TheVariants as records
@@ -11,17 +11,18 @@ use Rattle.stored_documents.specs.Documents.{content_at, document_at, stored_byt
 use Rattle.stored_documents.specs.Slots.{cells_for}
 use Rattle.stored_documents.specs.Volumes.{Holds}
 use Rattle.stored_documents.proofs.Holding.{some_is}
+use Rattle.stored_documents.proofs.Stamps.{stands_given}
 use Rattle.tamper_rules.specs.Journals.{journal_at}
 use Rattle.tamper_rules.specs.Settling.{RecordRow}
 use Rattle.tamper_rules.specs.declared.numbers.TheConstants.{STRAY_CELL}
 use Rattle.ingest_laws.specs.Filling.{IsWellPlanned}
-use Rattle.ingest_laws.specs.Ingesting.{Phase, Reserving, Storing, Committing, Applying, Finishing, order_of, ContentRow, CopyRow, Row, IsLeftIn}
+use Rattle.ingest_laws.specs.Ingesting.{Phase, Reserving, Storing, Committing, Applying, Finishing, order_of, ContentRow, CopyRow, StoredRow, Row, IsLeftIn}
 use Rattle.phase_writer.specs.declared.put.Blame.TheVariants as blames
 use Rattle.phase_writer.specs.declared.put.Put.{Put}
 use Rattle.phase_writer.specs.Putting.{AreStanding, ChangesBy, IsInFirst, IsInRow, IsPut}
 use Rattle.recovery_engine.specs.Ending.{done_put}
 use Rattle.recovery_engine.specs.Entries.{target_of}
-use Rattle.plan_writer.specs.Planned.{PlansDocument, Suits, commit_put, document_from, ingest_phases, journal_from, reserve_put, reserved_by}
+use Rattle.plan_writer.specs.Planned.{IsPooledPut, IsStampPut, PlansDocument, Suits, commit_put, document_from, ingest_phases, journal_from, reserve_put, reserved_by, stamp_put}
 use Rattle.plan_writer.specs.declared.plan.Plan.{Plan}
 use Rattle.crash_laws.proofs.WellPlanned.{plan_of}
 
@@ -48,10 +49,6 @@ phase_of (suc (suc (suc zero))) most = (Applying, omega arith, λ x le. le)
 phase_of (suc (suc (suc (suc zero)))) most = (Finishing, omega arith, λ x le. le)
 phase_of (suc (suc (suc (suc (suc j))))) most = (Finishing, omega arith, λ x le. most_order x)
 
--- the plan has no stamp
-not_stamped : (seconds : ℕ) → None ≡ Some seconds → ⊥
-not_stamped seconds e = cc
-
 module _ (g : Layout) (n : ℕ) (p : Plan) (id body : List ℕ) (old after : Image) (d : PlansDocument p id body)
     (suits : Suits g p) (w : IsWellPlanned g old after (plan_of n p id body)) where
   count_is : length p.document.now ≡ cells_for (length (stored_bytes id body))
@@ -63,14 +60,34 @@ module _ (g : Layout) (n : ℕ) (p : Plan) (id body : List ℕ) (old after : Ima
   content_place place = omega (arith, count_is)
 
   copy_place : (place : ℕ) → journal_at p.start (reserved_by p).length (length p.journal.now) + place
-      ≡ document_from p + length p.document.now + place
+      ≡ journal_from p + place
   copy_place place = omega arith
 
   commit_is : record_bytes (records.Commit p.bytes (length p.journal.now)) (outcome_at n)
       ≡ record_bytes (records.Commit (length (stored_bytes id body)) (length p.journal.now)) (outcome_at n)
   commit_is = ap (λ (b : ℕ). record_bytes (records.Commit b (length p.journal.now)) (outcome_at n)) d.bytes
 
-  -- what is put is a row of the plan
+  -- a cell of the document or of the journal is a row of the plan
+  pooled_row : (put : Put) → IsPooledPut p put → (cell : ℕ) (value : List ℕ) → put.at ≡ cell → put.value ≡ value
+      → StoredRow (plan_of n p id body) cell value
+  pooled_row put h cell value here is = ⊎_elim
+      (λ (a : IsInRow (document_from p) p.document.now STRAY_CELL put).
+      let below : a.place < cells_for (length (stored_bytes id body)) =
+      omega (arith, slice_get_within p.document.now a.place put.value a.value, count_is) in
+      inl (record {
+        place = a.place;
+        below = below;
+        at = sym here ∙ a.at ∙ sym (content_place a.place);
+        is = sym is ∙ some_is _ _ (sym a.value ∙ d.each a.place below);
+      }))
+      (λ (a : IsInRow (journal_from p) p.journal.now STRAY_CELL put). inr (record {
+        place = a.place;
+        entry = a.value ∙ ap (λ (x : List ℕ). Some x) is;
+        at = sym here ∙ a.at ∙ sym (copy_place a.place);
+      }))
+      h
+
+  -- what is put is one
   pub put_row : (j : ℕ) (put : Put) → ingest_phases n p j put → (cell : ℕ) (value : List ℕ) → put.at ≡ cell
       → put.value ≡ value → (one : Phase) × (order_of one ≡ j) × Row (plan_of n p id body) one cell value
   put_row zero put h cell value here is = (
@@ -83,20 +100,14 @@ module _ (g : Layout) (n : ℕ) (p : Plan) (id body : List ℕ) (old after : Ima
     Storing,
     refl,
     ⊎_elim
-        (λ (a : IsInRow (document_from p) p.document.now STRAY_CELL put).
-        let below : a.place < cells_for (length (stored_bytes id body)) =
-        omega (arith, slice_get_within p.document.now a.place put.value a.value, count_is) in
-        inl (inl (record {
-          place = a.place;
-          below = below;
-          at = sym here ∙ a.at ∙ sym (content_place a.place);
-          is = sym is ∙ some_is _ _ (sym a.value ∙ d.each a.place below);
-        })))
-        (λ (a : IsInRow (document_from p + length p.document.now) p.journal.now STRAY_CELL put). inl (inr (record {
-          place = a.place;
-          entry = a.value ∙ ap (λ (x : List ℕ). Some x) is;
-          at = sym here ∙ a.at ∙ sym (copy_place a.place);
-        })))
+        (λ (a : IsStampPut n p.stamp put). inr (record {
+          seconds = a.seconds;
+          given = a.given;
+          row = record_row after (records.Stamp a.seconds) (spare_at n)
+              (stands_given g after n p.stamp a.seconds w.filled.stamp a.given).1 cell value
+              (sym here ∙ ap (λ (x : Put). x.at) a.is) (sym is ∙ ap (λ (x : Put). x.value) a.is);
+        }))
+        (λ (b : IsPooledPut p put). inl (pooled_row put b cell value here is))
         h,
   )
   put_row (suc (suc zero)) put h cell value here is = (
@@ -141,7 +152,11 @@ module _ (g : Layout) (n : ℕ) (p : Plan) (id body : List ℕ) (old after : Ima
     row_put Reserving less cell value row =
         ap image row.at ∙ all (reserve_put n (reserved_by p)) (0, less, refl)
         ∙ ap (λ (x : List ℕ). Some x) (sym row.is.same)
-    row_put Storing less cell value (inr row) = absurd (not_stamped row.seconds row.given)
+    row_put Storing less cell value (inr row) =
+        ap image row.row.at
+        ∙ all (stamp_put n row.seconds)
+        (1, less, inl (record { seconds = row.seconds; given = row.given; is = refl }))
+        ∙ ap (λ (x : List ℕ). Some x) (sym row.row.is.same)
     row_put Storing less cell value (inl row) = ⊎_elim
         (λ (c : ContentRow (plan_of n p id body) cell value).
         ap image (c.at ∙ content_place c.place)
@@ -149,15 +164,15 @@ module _ (g : Layout) (n : ℕ) (p : Plan) (id body : List ℕ) (old after : Ima
           at = document_from p + c.place;
           value = content_at (stored_bytes id body) c.place;
           blame = blames.Rule STRAY_CELL;
-        }) (1, less, inl (record { place = c.place; at = refl; value = d.each c.place c.below; blame = refl }))
+        }) (1, less, inr (inl (record { place = c.place; at = refl; value = d.each c.place c.below; blame = refl })))
         ∙ ap (λ (x : List ℕ). Some x) (sym c.is))
         (λ (c : CopyRow (plan_of n p id body) cell value).
         ap image (c.at ∙ copy_place c.place)
         ∙ all (record {
-          at = document_from p + length p.document.now + c.place;
+          at = journal_from p + c.place;
           value = value;
           blame = blames.Rule STRAY_CELL;
-        }) (1, less, inr (record { place = c.place; at = refl; value = c.entry; blame = refl })))
+        }) (1, less, inr (inr (record { place = c.place; at = refl; value = c.entry; blame = refl }))))
         row
     row_put Committing less cell value row =
         ap image row.at ∙ all (commit_put n p.bytes (length p.journal.now)) (2, less, refl)

@@ -63,7 +63,7 @@ module _ (id body : List ℕ) (old looked new : DeviceState) (r : Ready) (p : Pl
 
   pub well_made : (after : Image) × IsWellPlanned g looked.image after (plan_of r.horizon p id body)
   well_made = well_planned old looked r tells h still_looked device device_looked steady id body plans.index less plans.has p
-      plans.starts plans.suits plans.document plans.blocks plans.journal
+      plans.starts plans.suits plans.document plans.stamp plans.blocks plans.journal
 
   pub cells_are : g.cells ≡ old.cells
   cells_are = (from.volume_2 r h tells).size ∙ called.cells

@@ -20,9 +20,9 @@ use Rattle.recovery_engine.specs.Journal.{IsEntryPut}
 use Rattle.recovery_engine.specs.Settling.{IsEnding, Settles, settle_plan}
 use Rattle.recovery_engine.specs.declared.settling.Ready.{Ready}
 use Rattle.recovery_engine.proofs.Rising.{entries_from}
-use Rattle.plan_writer.specs.Planned.{Suits, ingest_phases}
+use Rattle.plan_writer.specs.Planned.{IsPooledPut, IsStampPut, Suits, ingest_phases}
 use Rattle.plan_writer.specs.declared.plan.Plan.{Plan}
-use Rattle.plan_writer.proofs.LogCells.{stored_from}
+use Rattle.plan_writer.proofs.LogCells.{pooled_from, stamp_at}
 use Rattle.plan_writer.proofs.Targets.{asked_from}
 use Rattle.settling_laws.proofs.LeftWhole.{ends_none}
 
@@ -69,8 +69,10 @@ stood_before old new result tells settles still g volume n inside value stands =
 pub one_slot : (g : Layout) (n : ℕ) (p : Plan) → n < g.slots → Suits g p → (j : ℕ) (put : Put)
     → ingest_phases n p j put → (m : ℕ) → m < g.slots → put.at ≡ reserve_at m → m ≡ n
 one_slot g n p less suits zero put h m inside here = omega (arith, here, at_of put _ h)
-one_slot g n p less suits (suc zero) put h m inside here =
-    absurd (omega (arith, stored_from p put h, here, suits.from, inside))
+one_slot g n p less suits (suc zero) put h m inside here = absurd (⊎_elim
+    (λ (a : IsStampPut n p.stamp put). omega (arith, stamp_at n p.stamp put a, here))
+    (λ (b : IsPooledPut p put). omega (arith, pooled_from p put b, here, suits.from, inside))
+    h)
 one_slot g n p less suits (suc (suc zero)) put h m inside here = absurd (omega (arith, here, at_of put _ h))
 one_slot g n p less suits (suc (suc (suc zero))) put h m inside here =
     absurd (omega (arith, asked_from g p suits put h, here, inside))

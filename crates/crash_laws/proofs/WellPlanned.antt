@@ -54,7 +54,7 @@ plan_of n p id body = record {
   reserved = (reserved_by p).length;
   id = id;
   body = body;
-  stamp = None;
+  stamp = p.stamp;
   journal = p.journal.now;
 }
 
@@ -196,9 +196,10 @@ module _ (old looked : DeviceState) (r : Ready) (tells : IsTrue old.tells) (h : 
       ends = ends_2 r h tells;
     }
 
-    -- it is put by a plan of the document
+    -- it is put by a plan of the document, without a stamp, since planning takes none yet
     module _ (p : Plan) (starts : p.start ≡ r.edge) (suits : Suits g p) (document : PlansDocument p id body)
-        (blocks : p.block_length ≡ index.block_length) (journal : p.journal.now ≡ index.journal.items) where
+        (stamp : p.stamp ≡ None) (blocks : p.block_length ≡ index.block_length)
+        (journal : p.journal.now ≡ index.journal.items) where
       takes : TakesSlot g looked.image (plan_of r.horizon p id body) (p.start + index.block_length)
       takes = record {
         layout = h.settles.ends.0.layout;
@@ -212,7 +213,7 @@ module _ (old looked : DeviceState) (r : Ready) (tells : IsTrue old.tells) (h : 
             ∙ ap cells_for document.bytes in
             omega (arith, count, blocks);
         inside = suits.to;
-        stamp = refl;
+        stamp = stamp;
         identifier = document.identifier;
         body = document.is_body;
         absent = absent;

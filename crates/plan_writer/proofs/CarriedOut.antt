@@ -66,7 +66,8 @@ module _ (g : Layout) (n : ℕ) (p : Plan) (old : Image) {s2 s4 : DeviceState} (
         is_body = d.is_body;
       }
 
-  -- the slot is done, its stamp is the plan's, its document is of the volume, the journal stands at its targets, and all that stood is sure
+  -- the slot is done, its stamp is the plan's, its document is of the volume, the journal stands at its targets, and
+  -- all that stood is sure
   pub carried_out : IsCarriedOut g p n s4.cells old s2.image s4.sure
   carried_out = record {
     unused = unused;

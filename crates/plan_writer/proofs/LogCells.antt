@@ -78,7 +78,8 @@ module _ (g : Layout) (n : ℕ) (p : Plan) (less : n < g.slots) (suits : Suits g
   pub reserve_in : (j : ℕ) (put : Put) → ingest_phases n p j put → put.at ≡ reserve_at n
       → (j ≡ 0) × (put ≡ reserve_put n (reserved_by p))
   reserve_in zero put h here = (refl, h)
-  reserve_in (suc zero) put h here = absurd (stored_apart put h (omega (arith, here, less)) (λ e. omega (arith, here, e)))
+  reserve_in (suc zero) put h here =
+      absurd (stored_apart put h (omega (arith, here, less)) (λ e. omega (arith, here, e)))
   reserve_in (suc (suc zero)) put h here = absurd (omega (arith, here, at_of put _ h))
   reserve_in (suc (suc (suc zero))) put h here = absurd (omega (arith, asked_from g p suits put h, here, less))
   reserve_in (suc (suc (suc (suc zero)))) put h here = absurd (omega (arith, here, at_of put _ h))
@@ -88,7 +89,8 @@ module _ (g : Layout) (n : ℕ) (p : Plan) (less : n < g.slots) (suits : Suits g
   pub commit_in : (j : ℕ) (put : Put) → ingest_phases n p j put → put.at ≡ outcome_at n
       → (j ≡ 2) × (put ≡ commit_put n p.bytes (length p.journal.now))
   commit_in zero put h here = absurd (omega (arith, here, at_of put _ h))
-  commit_in (suc zero) put h here = absurd (stored_apart put h (omega (arith, here, less)) (λ e. omega (arith, here, e)))
+  commit_in (suc zero) put h here =
+      absurd (stored_apart put h (omega (arith, here, less)) (λ e. omega (arith, here, e)))
   commit_in (suc (suc zero)) put h here = (refl, h)
   commit_in (suc (suc (suc zero))) put h here = absurd (omega (arith, asked_from g p suits put h, here, less))
   commit_in (suc (suc (suc (suc zero)))) put h here = absurd (omega (arith, here, at_of put _ h))
@@ -97,7 +99,8 @@ module _ (g : Layout) (n : ℕ) (p : Plan) (less : n < g.slots) (suits : Suits g
   -- the done cell in the last
   pub done_in : (j : ℕ) (put : Put) → ingest_phases n p j put → put.at ≡ done_at n → (j ≡ 4) × (put ≡ done_put n)
   done_in zero put h here = absurd (omega (arith, here, at_of put _ h))
-  done_in (suc zero) put h here = absurd (stored_apart put h (omega (arith, here, less)) (λ e. omega (arith, here, e)))
+  done_in (suc zero) put h here =
+      absurd (stored_apart put h (omega (arith, here, less)) (λ e. omega (arith, here, e)))
   done_in (suc (suc zero)) put h here = absurd (omega (arith, here, at_of put _ h))
   done_in (suc (suc (suc zero))) put h here = absurd (omega (arith, asked_from g p suits put h, here, less))
   done_in (suc (suc (suc (suc zero)))) put h here = (refl, h)

@@ -49,7 +49,8 @@ module _ (n : ℕ) (p : Plan) where
 
   module _ {s0 s1 : DeviceState} (stamp : Puts IsStamp s0 s1 (Ok tt)) {s2 : DeviceState} where
     -- the document was not put whole
-    pub document_ended : (fault : Fault) → Puts IsOfDocument s1 s2 (Err fault) → Puts (IsStoredPut n p) s0 s2 (Err fault)
+    pub document_ended : (fault : Fault) → Puts IsOfDocument s1 s2 (Err fault)
+        → Puts (IsStoredPut n p) s0 s2 (Err fault)
     document_ended fault document = puts_ended {P = IsStamp} {Q = IsOfDocument} {R = IsStoredPut n p} (λ put h. inl h)
         (λ put h. inr (inl h)) tt stamp fault document
 

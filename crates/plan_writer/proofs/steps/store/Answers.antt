@@ -18,14 +18,16 @@ pub returns-in_err-put_row : goal.returns-in_err-put_row
 returns-in_err-put_row g c =
     let fault = c.in_err-put_row.field-0.0 in
     rw (handed c.from_residual-in_err-put_row.result fault c.from_residual-in_err-put_row.ensures.1)
-    (phase_ended fault (document_ended c.args.slot c.args.plan.now c.in_ok-put_stamp.ensures fault c.in_err-put_row.ensures))
+    (phase_ended fault
+    (document_ended c.args.slot c.args.plan.now c.in_ok-put_stamp.ensures fault c.in_err-put_row.ensures))
 
 -- nor the journal
 pub returns-in_err-put_row-2 : goal.returns-in_err-put_row-2
 returns-in_err-put_row-2 g c =
     let fault = c.in_err-put_row-2.field-0.0 in
     rw (handed c.from_residual-in_err-put_row-2.result fault c.from_residual-in_err-put_row-2.ensures.1)
-    (phase_ended fault (journal_ended c.args.slot c.args.plan.now c.in_ok-put_stamp.ensures c.in_ok-put_row.ensures fault
+    (phase_ended fault
+    (journal_ended c.args.slot c.args.plan.now c.in_ok-put_stamp.ensures c.in_ok-put_row.ensures fault
     c.in_err-put_row-2.ensures))
 
 -- all were, and are not sure
