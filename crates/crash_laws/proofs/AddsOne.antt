@@ -1,5 +1,5 @@
 -- An ingest that ends well has put all of its plan, and the volume has one document more.
-use Rattle.std.proofs.Common.{◌≡◌, ◌≤◌, ◌<◌, ◌+◌, ◌⊎◌, ℕ, List, [], ◌∷◌, ◌++◌, Some, None, Ok, refl, sym, ap, ◌∙◌, inl, inr, ⊎_elim, subst, arith}
+use Rattle.std.proofs.Common.{◌≡◌, ◌≤◌, ◌<◌, ◌+◌, ◌⊎◌, ℕ, List, [], ◌∷◌, ◌++◌, Some, None, Ok, refl, sym, ap, ◌∙◌, inl, inr, ⊎_elim, subst, arith, Option}
 use Rattle.std.specs.Prelude.{IsTrue}
 use Rattle.std.proofs.lemmas.Option.{none-some}
 use Rattle.std.proofs.lemmas.Bool.{cases_lt}
@@ -138,9 +138,9 @@ module _ (g : Layout) (n : ℕ) (p : Plan) (id body : List ℕ) (old new : Devic
     whole new.sure (record { above = extends_self new.sure; below = device.sure }),
   )
 
-module _ (id body : List ℕ) (old new : DeviceState) (n : ℕ) (device : IsDevice old) (device_new : IsDevice new)
+module _ (id : List ℕ) (stamp : Option ℕ) (body : List ℕ) (old new : DeviceState) (n : ℕ) (device : IsDevice old) (device_new : IsDevice new)
     (tells : IsTrue old.tells) (still : IsStill old.foreign_writes new.foreign_writes) (steady : IsSteady old)
-    (is : IsIngested id body n old new) where
+    (is : IsIngested id stamp body n old new) where
   -- the slot's reserve cell was blank, and is not
   reserve_stands : (value : List ℕ) × (new.image (reserve_at n) ≡ Some value)
   reserve_stands =
@@ -166,20 +166,20 @@ module _ (id body : List ℕ) (old new : DeviceState) (n : ℕ) (device : IsDevi
 
   -- the plan was put into this slot
   module _ (looked : DeviceState) (r : Ready) (p : Plan) (h : HasSettled old looked r) (device_looked : IsDevice looked)
-      (less : r.horizon < r.volume.geometry.slots) (plans : IsPlanFor r id body h.settled looked p)
+      (less : r.horizon < r.volume.geometry.slots) (plans : IsPlanFor r id stamp body h.settled looked p)
       (puts : PutsPlan r.horizon p looked new) where
     abbrev g : Layout
     g = r.volume.geometry
 
     still_first_looks : IsStill old.foreign_writes looked.foreign_writes
     still_first_looks =
-        still_looked id body old looked new r p tells h device device_looked less plans puts still steady
+        still_looked id stamp body old looked new r p tells h device device_looked less plans puts still steady
 
     still_then : IsStill looked.foreign_writes new.foreign_writes
-    still_then = still_put id body old looked new r p tells h device device_looked less plans puts still steady
+    still_then = still_put id stamp body old looked new r p tells h device device_looked less plans puts still steady
 
     tells_then : IsTrue looked.tells
-    tells_then = tells_looked id body old looked new r p tells h device device_looked less plans puts still steady
+    tells_then = tells_looked id stamp body old looked new r p tells h device device_looked less plans puts still steady
 
     slot_is : n ≡ r.horizon
     slot_is = ⊎_elim
@@ -192,11 +192,11 @@ module _ (id body : List ℕ) (old new : DeviceState) (n : ℕ) (device : IsDevi
         (puts.only tells_then still_then (reserve_at n) reserve_stands.0 reserve_stands.1)
 
     made : (after : Image) × IsWellPlanned g looked.image after (plan_of r.horizon p id body)
-    made = well_made id body old looked new r p tells h device device_looked less plans puts still steady
+    made = well_made id stamp body old looked new r p tells h device device_looked less plans puts still steady
 
     ends : (new.image ≡ made.0) × (new.sure ≡ made.0)
     ends = put_whole g r.horizon p id body looked new made.0 plans.document plans.suits made.1 tells_then
-        (sure id body old looked new r p tells h device device_looked less plans puts still steady) still_then puts
+        (sure id stamp body old looked new r p tells h device device_looked less plans puts still steady) still_then puts
         device_new (subst (λ (m : ℕ). Stands new.cells new.sure m id body) slot_is is.document)
 
     volume_new : IsVolume new.cells new.image g
@@ -205,7 +205,7 @@ module _ (id body : List ℕ) (old new : DeviceState) (n : ℕ) (device : IsDevi
 
     added : HasOneMore id body r.horizon old new
     added = record {
-      was = sound id body old looked new r p tells h device device_looked less plans puts still steady;
+      was = sound id stamp body old looked new r p tells h device device_looked less plans puts still steady;
       settled = record {
         layout = g;
         volume = volume_new;
@@ -216,11 +216,11 @@ module _ (id body : List ℕ) (old new : DeviceState) (n : ℕ) (device : IsDevi
           subst (λ (k : ℕ). AreDocuments k new.sure (documents ++ document_in r.horizon id body ∷ [])) volume_new.size
           (subst (λ (i : Image). AreDocuments g.cells i (documents ++ document_in r.horizon id body ∷ [])) (sym ends.1)
           (adds_one made.1 documents
-          (documents_now id body old looked new r p tells h device device_looked less plans puts still steady documents
+          (documents_now id stamp body old looked new r p tells h device device_looked less plans puts still steady documents
           held)));
     }
 
-  pub comes_more : ComesTo id body old new → HasOneMore id body n old new
+  pub comes_more : ComesTo id stamp body old new → HasOneMore id body n old new
   comes_more (ingesting.nothing same) = absurd (not_before reserve_stands.0
       (subst (λ (s : DeviceState). s.image (reserve_at n) ≡ Some reserve_stands.0) same reserve_stands.1))
   comes_more (ingesting.settling refusal s) = absurd (not_before reserve_stands.0

@@ -1,5 +1,5 @@
 -- What is named as evidence of tampering was broken in the log, or in the volume as settling has left it, and none is.
-use Rattle.std.specs.Prelude.{ℕ, List, IsTrue}
+use Rattle.std.specs.Prelude.{ℕ, List, IsTrue, Option}
 use Rattle.cell_types.specs.declared.refusal.Evidence.{Evidence}
 use Rattle.worm_device.specs.Counts.{IsStill}
 use Rattle.worm_device.specs.State.{DeviceState, IsDevice}
@@ -12,11 +12,11 @@ use Rattle.settling_laws.proofs.Alarms.{looked_unbroken, settling_named}
 
 module _ (old new : DeviceState) (e : Evidence) (device : IsDevice old) (device_new : IsDevice new)
     (tells : IsTrue old.tells) (still : IsStill old.foreign_writes new.foreign_writes) (steady : IsSteady old) where
-  none_behind : (r : Ready) → HasSlot old new r → IsLicensed old new e → ⊥
+  none_behind : {stamp : Option ℕ} (r : Ready) → HasSlot stamp old new r → IsLicensed old new e → ⊥
   none_behind r slot licensed = looked_unbroken old new r e.rule e.cell device device_new tells slot.settled still steady
       (licensed.broken still)
 
-  pub none_named : {id body : List ℕ} → IsNamed id body old new e → ⊥
+  pub none_named : {id : List ℕ} {stamp : Option ℕ} {body : List ℕ} → IsNamed id stamp body old new e → ⊥
   none_named (by_settling settles found) = settling_named old new e device tells settles still steady
   none_named (by_plan way) = none_behind way.ready (slot_still way still) way.found.licensed
   none_named (in_index r slot rule licensed) = none_behind r slot licensed

@@ -1,5 +1,5 @@
 -- An ingest that is refused leaves the documents that the volume held.
-use Rattle.std.proofs.Common.{◌≡◌, ℕ, List, Err, refl, sym, ap, ◌∙◌, ⊎_elim, subst}
+use Rattle.std.proofs.Common.{◌≡◌, ℕ, List, Err, refl, sym, ap, ◌∙◌, ⊎_elim, subst, Option}
 use Rattle.std.specs.Prelude.{IsTrue, ◌≢◌}
 use Rattle.std.proofs.lemmas.Option.{none-some}
 use Rattle.cell_types.specs.Layout.{Layout}
@@ -26,7 +26,7 @@ use Rattle.settling_laws.proofs.LeftWhole.{held_unmoved, settling_keeps}
 use Rattle.settling_laws.proofs.LookedAt.{looking_keeps}
 use Rattle.crash_laws.proofs.Alarms.{none_named}
 
-module _ (id body : List ℕ) (old new : DeviceState) (called : Called old new) (device : IsDevice old)
+module _ (id : List ℕ) (stamp : Option ℕ) (body : List ℕ) (old new : DeviceState) (called : Called old new) (device : IsDevice old)
     (device_new : IsDevice new) (tells : IsTrue old.tells)
     (still : IsStill old.foreign_writes new.foreign_writes) (steady : IsSteady old)
     (documents : List Document) (held : Held old.cells old.image documents) where
@@ -40,7 +40,7 @@ module _ (id body : List ℕ) (old new : DeviceState) (called : Called old new) 
 
   -- a plan is put only where a volume of the device's size stood
   module _ (none_stood : (g : Layout) → IsVolume old.cells old.image g → ⊥) where
-    comes_keeps : ComesTo id body old new → Held new.cells new.image documents
+    comes_keeps : ComesTo id stamp body old new → Held new.cells new.image documents
     comes_keeps (ingesting.nothing same) = unmoved same
     comes_keeps (settling refusal s) = subst (λ (k : ℕ). Held k new.image documents) (sym s.called.cells)
         (settling_keeps old new (Err refusal) device device_new tells s still steady documents held)
@@ -48,11 +48,14 @@ module _ (id body : List ℕ) (old new : DeviceState) (called : Called old new) 
     comes_keeps (put looked r p h device_looked less plans puts) = absurd (none_stood r.volume.geometry
         (from.volume_0 r h tells less (still_first (from.called r h).foreign_writes puts.called.foreign_writes still)))
 
-  pub refused_keeps : (refusal : Refusal) → refusal ≢ refusals.DeviceFault → ComesTo id body old new
-      → IngestEnds id body old new (Err refusal) → Held new.cells new.image documents
+  pub refused_keeps : (refusal : Refusal) → refusal ≢ refusals.DeviceFault → ComesTo id stamp body old new
+      → IngestEnds id stamp body old new (Err refusal) → Held new.cells new.image documents
   refused_keeps refusals.DeviceFault other comes ends = absurd (other refl)
   refused_keeps (refusals.Tampered e) other comes ends = absurd (none_named old new e device device_new tells still steady
       (ends tells))
+  refused_keeps refusals.StampNeeded other comes ends = settled_keeps ends.ready ends.settled
+  refused_keeps refusals.StampUnused other comes ends = settled_keeps ends.ready ends.settled
+  refused_keeps (refusals.StampTooEarly given last) other comes ends = settled_keeps ends.ready ends.settled.settled
   refused_keeps refusals.SlotsFull other comes ends = settled_keeps ends.ready ends.settled
   refused_keeps (refusals.Duplicate n) other comes ends = settled_keeps ends.ready ends.settled.settled
   refused_keeps refusals.PathFull other comes ends = settled_keeps ends.ready ends.settled.settled

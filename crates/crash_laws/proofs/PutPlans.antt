@@ -1,8 +1,9 @@
 -- A plan that is put behind settling: what a crash leaves of it.
-use Rattle.std.proofs.Common.{◌≡◌, ◌<◌, ℕ, List, [], ◌∷◌, ◌++◌, Some, None, inl, inr, ⊎_elim, sym, ◌∙◌, subst, arith}
+use Rattle.std.proofs.Common.{◌≡◌, ◌<◌, ℕ, List, [], ◌∷◌, ◌++◌, Some, None, inl, inr, ⊎_elim, sym, ◌∙◌, subst, arith, Option}
 use Rattle.std.specs.Prelude.{IsTrue}
 use Rattle.cell_types.specs.Image.{Image, Extends}
 use Rattle.cell_types.specs.Layout.{Layout, outcome_at}
+use Rattle.stored_documents.specs.Slots.{IsStampFor}
 use Rattle.stored_documents.specs.Documents.{AreDocuments, Document}
 use Rattle.tamper_rules.specs.Settling.{Held, Sound}
 use Rattle.tamper_rules.proofs.Images.{look}
@@ -30,9 +31,9 @@ use Rattle.crash_laws.proofs.LeftByIngest.{of_whole}
 use Rattle.crash_laws.proofs.PlanPhases.{left_in}
 use Rattle.crash_laws.proofs.WellPlanned.{ends_as, plan_of, was_sound, well_planned}
 
-module _ (id body : List ℕ) (old looked new : DeviceState) (r : Ready) (p : Plan) (tells : IsTrue old.tells)
+module _ (id : List ℕ) (stamp : Option ℕ) (body : List ℕ) (old looked new : DeviceState) (r : Ready) (p : Plan) (tells : IsTrue old.tells)
     (h : HasSettled old looked r) (device : IsDevice old) (device_looked : IsDevice looked)
-    (less : r.horizon < r.volume.geometry.slots) (plans : IsPlanFor r id body h.settled looked p)
+    (less : r.horizon < r.volume.geometry.slots) (plans : IsPlanFor r id stamp body h.settled looked p)
     (puts : PutsPlan r.horizon p looked new) (still : IsStill old.foreign_writes new.foreign_writes)
     (steady : IsSteady old) where
   abbrev pub g : Layout
@@ -61,9 +62,12 @@ module _ (id body : List ℕ) (old looked new : DeviceState) (r : Ready) (p : Pl
   pub sure : looked.sure ≡ looked.image
   sure = ended.sure ∙ sym ended.image
 
+  takes : IsStampFor r.volume.geometry stamp
+  takes = subst (IsStampFor r.volume.geometry) plans.stamped plans.suits.stamp
+
   pub well_made : (after : Image) × IsWellPlanned g looked.image after (plan_of r.horizon p id body)
-  well_made = well_planned old looked r tells h still_looked device device_looked steady id body plans.index less plans.has p
-      plans.starts plans.suits plans.document plans.stamp plans.blocks plans.journal
+  well_made = well_planned old looked r tells h still_looked device device_looked steady id stamp body takes plans.index less plans.has
+      p plans.starts plans.suits plans.document plans.stamped plans.blocks plans.journal
 
   pub cells_are : g.cells ≡ old.cells
   cells_are = (from.volume_2 r h tells).size ∙ called.cells

@@ -1,5 +1,5 @@
 -- What an ingest has planned, on a volume that was settled from a steady state, is well made.
-use Rattle.std.proofs.Common.{◌≡◌, ◌<◌, ◌+◌, ℕ, List, Option, Some, None, refl, sym, ap, ◌∙◌, subst, arith}
+use Rattle.std.proofs.Common.{◌≡◌, ◌<◌, ◌+◌, ◌^◌, ℕ, List, Option, Some, None, refl, sym, ap, ◌∙◌, subst, arith}
 use Rattle.std.specs.Prelude.{IsTrue, length}
 use Rattle.std.proofs.lemmas.Option.{none-some}
 use Rattle.sha2.specs.Sha256.{sha256}
@@ -7,7 +7,7 @@ use Rattle.cell_types.specs.Bytes.{AreBytes}
 use Rattle.cell_types.specs.Image.{Image}
 use Rattle.cell_types.specs.Layout.{Layout, root_at}
 use Rattle.stored_documents.specs.Documents.{Stands, stored_bytes}
-use Rattle.stored_documents.specs.Slots.{EndsBelow, IsEdge, IsHorizon, cells_for}
+use Rattle.stored_documents.specs.Slots.{EndsBelow, IsEdge, IsHorizon, IsStampFor, cells_for}
 use Rattle.stored_documents.specs.Volumes.{IsVolume, IsWritten}
 use Rattle.stored_documents.proofs.Extending.{written_on}
 use Rattle.index_paths.specs.HashPaths.{IsPassed, PassedTo}
@@ -30,9 +30,9 @@ use Rattle.hash_tree.specs.Levels.{node_of}
 use Rattle.hash_tree.specs.Steps.{IsOpenAt}
 use Rattle.hash_tree.specs.declared.level.Level.{Level}
 use Rattle.hash_insertion.specs.Readiness.{PassedDown, blank_in}
-use Rattle.plan_laws.specs.Standing.{EndsPath}
+use Rattle.plan_laws.specs.Standing.{EndsPath, seconds_of}
 use Rattle.identifier_lookup.specs.Walks.{EndsThere, IsBlankIn, IsPassedAbove, IsPassedUpToPlace, NoneHasTrail}
-use Rattle.ingest_plan.specs.Planning.{IsPlanned}
+use Rattle.ingest_plan.specs.Planning.{IsLater, IsPlanned}
 use Rattle.plan_laws.specs.Laws.{TakesSlot}
 use Rattle.plan_laws.proofs.Answered.{answered}
 use Rattle.plan_laws.proofs.Needed.{needed}
@@ -57,6 +57,12 @@ plan_of n p id body = record {
   stamp = p.stamp;
   journal = p.journal.now;
 }
+
+-- the seconds of a stamp, if there is one, have 32 bits
+few_seconds : (stamp : Option ℕ) → ((seconds : ℕ) → stamp ≡ Some seconds → seconds < 2 ^ 32)
+    → seconds_of stamp < 2 ^ 32
+few_seconds None few = omega arith
+few_seconds (Some seconds) few = few seconds refl
 
 module _ (g : Layout) (cells : ℕ) (image : Image) (id : List ℕ) (level : Level) (bucket : ℕ) where
   -- a path that is passed up to a place is passed down to it
@@ -107,8 +113,9 @@ module _ (old looked : DeviceState) (r : Ready) (tells : IsTrue old.tells) (h : 
   volume_then : IsVolume h.settled.cells h.settled.image g
   volume_then = (h.settles.ends.1 tells).volume
 
-  module _ (id body : List ℕ) (index : PlannedIndex) (less : r.horizon < r.volume.geometry.slots)
-      (has : HasIndex r id body index h.settled looked) where
+  module _ (id : List ℕ) (stamp : Option ℕ) (body : List ℕ) (given : IsStampFor r.volume.geometry stamp)
+      (index : PlannedIndex) (less : r.horizon < r.volume.geometry.slots)
+      (has : HasIndex r id stamp body index h.settled looked) where
     walk : HasWalked r id has.place has.level h.settled has.walked looked
     walk = has.ends
 
@@ -176,13 +183,18 @@ module _ (old looked : DeviceState) (r : Ready) (tells : IsTrue old.tells) (h : 
       free = λ inside. free_2 r h tells inside still;
     }
 
+    -- the stamp is past those that stand
+    later_now : IsLater g looked.image r.horizon stamp
+    later_now = subst (λ (i : Image). IsLater g i r.horizon stamp) (sym same_settled) (has.past tells_then)
+
     -- what it takes is the document's need
-    pub need : IsNeed g looked.image r.horizon id body None (need_with id body index)
-    need = subst (λ (i : Image). IsNeed g i r.horizon id body None (need_with id body index)) (sym same_walked)
+    pub need : IsNeed g looked.image r.horizon id body stamp (need_with id body index)
+    need = subst (λ (i : Image). IsNeed g i r.horizon id body stamp (need_with id body index)) (sym same_walked)
         (needed tells_walked still_walked h.settles.ends.0.layout
         (subst (λ (i : Image). IsSettled g i) same_walked settled_now)
         (subst (λ (i : Image). IsHorizon g i i r.horizon) same_walked horizon_now) less
-        (subst (λ (i : Image). EndsBelow g i r.horizon r.edge) same_walked (ends_2 r h tells))
+        (subst (λ (i : Image). EndsBelow g i r.horizon r.edge) same_walked (ends_2 r h tells)) given
+        (subst (λ (i : Image). IsLater g i r.horizon stamp) same_walked later_now)
         (subst (λ (i : Image). EndsPath g i has.level has.place) same_walked ends_path) digest_is
         (subst (λ (i : Image). PassedDown g i (sought_in g.cells g id) has.level has.place.child) same_walked passed_down)
         has.planned)
@@ -198,6 +210,7 @@ module _ (old looked : DeviceState) (r : Ready) (tells : IsTrue old.tells) (h : 
 
     -- it is put by a plan of the document, without a stamp, since planning takes none yet
     module _ (p : Plan) (starts : p.start ≡ r.edge) (suits : Suits g p) (document : PlansDocument p id body)
+        (stamped : p.stamp ≡ stamp)
         (stamp : p.stamp ≡ None) (blocks : p.block_length ≡ index.block_length)
         (journal : p.journal.now ≡ index.journal.items) where
       takes : TakesSlot g looked.image (plan_of r.horizon p id body) (p.start + index.block_length)
@@ -213,16 +226,21 @@ module _ (old looked : DeviceState) (r : Ready) (tells : IsTrue old.tells) (h : 
             ∙ ap cells_for document.bytes in
             omega (arith, count, blocks);
         inside = suits.to;
-        stamp = stamp;
+        stamp = suits.stamp;
+        later = subst (λ (s : Option ℕ). IsLater g looked.image r.horizon s) (sym stamped) later_now;
+        seconds = few_seconds p.stamp suits.stamp_fits;
         identifier = document.identifier;
         body = document.is_body;
         absent = absent;
       }
 
-      planned : IsPlanned g r.horizon p.start has.level has.place body index has.walked looked
+      planned : IsPlanned g r.horizon p.start has.level has.place p.stamp body index has.walked looked
       planned = subst
-          (λ (k : ℕ). IsPlanned g r.horizon k has.level has.place body index has.walked looked)
-          (sym starts) has.planned
+          (λ (s : Option ℕ). IsPlanned g r.horizon p.start has.level has.place s body index has.walked looked)
+          (sym stamped)
+          (subst
+          (λ (k : ℕ). IsPlanned g r.horizon k has.level has.place stamp body index has.walked looked)
+          (sym starts) has.planned)
 
       -- so the plan is well made
       pub well_planned : (after : Image) × IsWellPlanned g looked.image after (plan_of r.horizon p id body)
