@@ -56,7 +56,7 @@ impl From<AllocError> for NoMemory {
 #[derive(Clone, Copy, Debug, PartialEq, Eq, Error)]
 pub enum Refusal {
     /// The words are no command.
-    #[error("usage: worm IMAGE format SLOTS LISTS [VERSION], ingest ID, find WORD.., lookup ID, audit, recover, replay, exercise N, receipt ID, check")]
+    #[error("usage: worm IMAGE format SLOTS LISTS [VERSION], ingest ID [SECONDS], find WORD.., lookup ID, audit, recover, replay, exercise N, receipt ID, check")]
     Usage,
     /// A document with this identifier stands in this slot.
     #[error("identifier stands in slot {0}")]

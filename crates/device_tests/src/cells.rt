@@ -229,7 +229,7 @@ fn each_refusal_has_its_line_and_status(rt: HostRuntime) -> Result<(), Fail> {
         (
             Refusal::Usage,
             1,
-            "usage: worm IMAGE format SLOTS LISTS [VERSION], ingest ID, find WORD.., lookup ID, audit, recover, replay, exercise N, receipt ID, check",
+            "usage: worm IMAGE format SLOTS LISTS [VERSION], ingest ID [SECONDS], find WORD.., lookup ID, audit, recover, replay, exercise N, receipt ID, check",
         ),
         (Refusal::Duplicate(7), 2, "identifier stands in slot 7"),
         (Refusal::BadIdentifier, 2, "bad identifier"),
@@ -319,7 +319,7 @@ fn each_refusal_of_a_copy_has_its_line_and_status(rt: HostRuntime) -> Result<(),
         (
             CopyRefusal::Usage,
             1,
-            "usage: worm IMAGE format SLOTS LISTS [VERSION], ingest ID, find WORD.., lookup ID, audit, recover, replay, exercise N, receipt ID, check",
+            "usage: worm IMAGE format SLOTS LISTS [VERSION], ingest ID [SECONDS], find WORD.., lookup ID, audit, recover, replay, exercise N, receipt ID, check",
         ),
         (CopyRefusal::SinkFault, 7, "sink fault"),
         (CopyRefusal::NoMemory, 8, "out of memory"),
