@@ -5,3 +5,4 @@ pub mod Made
 pub mod PathTrails
 pub mod Recorded
 pub mod Unkept
+pub mod Whole
