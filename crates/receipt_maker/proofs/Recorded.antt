@@ -1,8 +1,8 @@
 -- What a view that lists what is read shows, and what it lists.
-use Rattle.std.proofs.Common.{◌≡◌, ◌<◌, ◌⊎◌, ⊎_elim, ℕ, Bool, true, false, List, Option, Some, None, Result, Ok, Err, ap, refl, sym, subst, inl, inr, arith, ◌∙◌}
-use Rattle.std.specs.Prelude.{IsTrue, [], ◌∷◌, cond, ◌==◌}
+use Rattle.std.proofs.Common.{◌≡◌, ◌<◌, ℕ, Bool, true, false, List, Option, Some, None, Result, Ok, Err, ap, refl, sym, subst, arith, ◌∙◌}
+use Rattle.std.specs.Prelude.{IsTrue, [], cond, ◌==◌}
 use Rattle.std.proofs.lemmas.Bool.{eqb-true}
-use Rattle.std.proofs.lemmas.Option.{none-some, same_Some}
+use Rattle.std.proofs.lemmas.Option.{none-some}
 use Rattle.worm_device.specs.State.{DeviceState}
 use Rattle.worm_device.specs.Views.{ViewReads, ViewState, Viewed, seen_directly}
 use Rattle.worm_device.specs.declared.device.Failed.{Failed}

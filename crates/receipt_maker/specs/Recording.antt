@@ -1,7 +1,7 @@
 -- A view that lists what is read through it.
 use Rattle.std.specs.Prelude.{◌≡◌, ◌<◌, ◌⊎◌, ℕ, Bool, List, ◌∷◌, Option, Some, None, Result, Ok, Err, IsTrue}
 use Rattle.std.proofs.Props.{props}
-use Rattle.worm_device.specs.Views.{IsView, ViewState, Viewed}
+use Rattle.worm_device.specs.Views.{IsView, ViewState}
 use Rattle.worm_device.specs.declared.device.Failed.{Failed}
 use Rattle.receipt_text.specs.Listed.{ListsAlso, listed_image}
 use Rattle.kept_documents.specs.Kept.{AsksKept}
