@@ -1,4 +1,4 @@
--- How the making of a receipt ends, over the look-up, what was gathered, and evidence.
+-- How the making of a receipt ends, over the look-up, what was slot_receipt, and evidence.
 use Rattle.std.proofs.Common.{◌≡◌, ◌<◌, ℕ, List, Some, Result, Ok, Err, ap, sym, subst, inl, inr, arith, ◌∙◌}
 use Rattle.std.specs.Prelude.{IsTrue, [], ◌∷◌}
 use Rattle.cell_types.specs.Image.{Extends}
@@ -28,7 +28,7 @@ use Rattle.kept_documents.specs.Kept.{KeepsNone, document_of}
 use Rattle.kept_documents.proofs.Opening.{the_same}
 use Rattle.receipt_text.specs.Listed.{listed_image}
 use Rattle.receipt_text.specs.declared.receipt.Receipt.{Receipt}
-use Rattle.receipt_maker.specs.Judging.{IsGathered, LimitEnds}
+use Rattle.receipt_maker.specs.Judging.{IsSlotReceipt, LimitEnds}
 use Rattle.receipt_maker.specs.Making.{IsReceiptOf, IsUnkept, MakeEnds, MakesReceipt, NamesMakingRule}
 use Rattle.receipt_maker.specs.Naming.{NameEnds, NamesUnkept}
 use Rattle.receipt_maker.specs.Unheard.{unheard}
@@ -120,8 +120,8 @@ module _ (id : List ℕ) (found : Found) (old mid new : DeviceState) (looks : Lo
   pub unread : Rose mid.faults new.faults → MakesReceipt id old new (Err DeviceFault)
   unread rose = come (Err DeviceFault) (omega (arith, looks.called.faults, rose)) tt
 
-  -- the receipt was gathered
-  module _ (r : Receipt) (g : IsGathered found.slot id mid new r) where
+  -- the receipt was slot_receipt
+  module _ (r : Receipt) (g : IsSlotReceipt found.slot id mid new r) where
     there : Stands new.cells (listed_image r.cells) r.slot r.identifier g.body
     there = (g.shows.each (document_of r.slot r.identifier g.body) (the_one (document_of r.slot r.identifier g.body))).stands
 
