@@ -1,5 +1,5 @@
 //! Receipts of documents whose postings fill more than one block of a list.
-use crate::volumes::{Answer, blank_volume, receipt, store, answer_to};
+use crate::volumes::{Answer, answer_to, blank_volume, receipt, store};
 use std::alloc::Global;
 use std::test::Fail;
 
@@ -13,6 +13,11 @@ fn body(alloc: Global, from: u32, words: u32) -> Result<Vec<u8>, Fail> {
     Ok(text)
 }
 
+/// How many bytes these are.
+fn count(bytes: &[u8]) -> u32 {
+    u32::try_from(bytes.len()).unwrap_or(0)
+}
+
 /// The number at the head of a line, 0 where there is none.
 fn address(line: &[u8]) -> u32 {
     let mut number: u32 = 0;
@@ -20,7 +25,9 @@ fn address(line: &[u8]) -> u32 {
         if !byte.is_ascii_digit() {
             return number;
         }
-        number = number.saturating_mul(10).saturating_add(u32::from(byte.saturating_sub(b'0')));
+        number = number
+            .saturating_mul(10)
+            .saturating_add(u32::from(byte.saturating_sub(b'0')));
     }
     number
 }
@@ -62,9 +69,16 @@ fn a_receipt_goes_along_jump_pointers(rt: HostRuntime) -> Result<(), Fail> {
     let of_b = receipt(rt.alloc(), &mut device, b"b")?;
     let more = body(rt.alloc(), 100, 250)?;
     for round in 0..2u32 {
-        for (slot, text, bytes) in [(0, &of_a, words.len()), (1, &of_b, few.len())] {
-            let accepted = Answer::Accepted(slot, bytes as u32);
-            assert_eq!(rt; answer_to(rt.alloc(), &mut device, text.as_slice()), accepted, "round {round}");
+        for (slot, text, bytes) in [
+            (0, &of_a, count(words.as_slice())),
+            (1, &of_b, count(few.as_slice())),
+        ] {
+            let accepted = Answer::Accepted(slot, bytes);
+            assert_eq!(rt;
+                answer_to(rt.alloc(), &mut device, text.as_slice()),
+                accepted,
+                "round {round}"
+            );
         }
         if round == 0 {
             store(rt.alloc(), &mut device, b"c", more.as_slice())?;
@@ -74,7 +88,10 @@ fn a_receipt_goes_along_jump_pointers(rt: HostRuntime) -> Result<(), Fail> {
     for (slot, text) in [(0, &of_a), (1, &of_b)] {
         let (left, gone) = without(rt.alloc(), text.as_slice(), 164, 292)?;
         assert!(rt; gone > 0);
-        assert_eq!(rt; answer_to(rt.alloc(), &mut device, left.as_slice()), Answer::NotShown(slot));
+        assert_eq!(rt;
+            answer_to(rt.alloc(), &mut device, left.as_slice()),
+            Answer::NotShown(slot)
+        );
     }
     Ok(())
 }

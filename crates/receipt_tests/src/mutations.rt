@@ -92,15 +92,31 @@ fn is_refused(alloc: Global, device: &mut MemoryDevice, text: &[u8]) -> bool {
 fn a_text_with_other_lines_is_refused(rt: HostRuntime) -> Result<(), Fail> {
     let mut device = small_volume(rt.alloc())?;
     for at in 0..LINES {
-        for change in [Change::LeaveOut(at), Change::Double(at), Change::SwapWithNext(at)] {
+        for change in [
+            Change::LeaveOut(at),
+            Change::Double(at),
+            Change::SwapWithNext(at),
+        ] {
             let text = changed(rt.alloc(), change)?;
             let same = text.as_slice() == OF_A.as_bytes();
-            assert!(rt; same || matches!(answer_to(rt.alloc(), &mut device, text.as_slice()), Answer::BadLine(_)), "{:?}", change);
+            assert!(rt;
+                same || matches!(
+                    answer_to(rt.alloc(), &mut device, text.as_slice()),
+                    Answer::BadLine(_)
+                ),
+                "{:?}",
+                change
+            );
         }
     }
     for at in 1..LINES - 1 {
         let text = changed(rt.alloc(), Change::LeaveOutOne(at))?;
-        assert_eq!(rt; answer_to(rt.alloc(), &mut device, text.as_slice()), Answer::NotShown(0), "line {}", at);
+        assert_eq!(rt;
+            answer_to(rt.alloc(), &mut device, text.as_slice()),
+            Answer::NotShown(0),
+            "line {}",
+            at
+        );
     }
     Ok(())
 }
@@ -115,7 +131,12 @@ fn a_text_with_another_byte_is_refused(rt: HostRuntime) -> Result<(), Fail> {
             if at < text.len() && text[at] != byte {
                 text[at] = byte;
                 tried = tried.saturating_add(1);
-                assert!(rt; is_refused(rt.alloc(), &mut device, text.as_slice()), "byte {} is {}", at, byte);
+                assert!(rt;
+                    is_refused(rt.alloc(), &mut device, text.as_slice()),
+                    "byte {} is {}",
+                    at,
+                    byte
+                );
             }
         }
     }

@@ -1,6 +1,6 @@
 //! The receipts of the small volume: 8 slots and 2 lists on 1,000 cells, with the document `a`, `hello world`.
-use crate::volumes::{Answer, blank_volume, receipt, store, answer_to};
-use cell_types::{Cell, Evidence, Refusal};
+use crate::volumes::{Answer, answer_to, blank_volume, receipt, store};
+use cell_types::{Cell, Refusal};
 use document_store::is_identifier;
 use receipt_maker::make_receipt;
 use receipt_text::read_receipt;
@@ -76,7 +76,12 @@ fn a_stranger_accepts_the_receipt_alone(rt: HostRuntime) -> Result<(), Fail> {
         ("0 a", "0 b", Answer::NotShown(0)),
     ] {
         let text = OF_A.replace(rt.alloc(), from, to)?;
-        assert_eq!(rt; answer_to(rt.alloc(), &mut device, text.as_bytes()), wanted, "{}", text.as_str());
+        assert_eq!(rt;
+            answer_to(rt.alloc(), &mut device, text.as_bytes()),
+            wanted,
+            "{}",
+            text.as_str()
+        );
     }
     Ok(())
 }
@@ -110,32 +115,39 @@ fn refusal(alloc: Global, device: &mut MemoryDevice, id: &[u8]) -> Option<Refusa
     make_receipt(alloc, device, id).err()
 }
 
+/// The rule, the cell and the first byte of the evidence why no receipt of `a` is made.
+fn evidence(alloc: Global, device: &mut MemoryDevice) -> Option<(u8, u32, u8)> {
+    let Some(Refusal::Tampered(found)) = refusal(alloc, device, b"a") else {
+        return None;
+    };
+    Some((found.rule, found.cell, found.found.bytes()[0]))
+}
+
 #[test]
-fn a_document_without_a_posting_has_no_receipt(rt: HostRuntime) -> Result<(), Fail> {
-    let done = Cell::from_bytes([5, 0, 0, 0, 0, 0, 0, 0, 0, 0, 0, 0, 0, 0, 0, 6]).ok_or("blank")?;
-    let commit = Cell::from_bytes([3, 0, 0, 0, 13, 0, 0, 0, 3, 0, 0, 0, 0, 0, 0, 5]).ok_or("blank")?;
-    let at_done = Refusal::Tampered(Evidence {
-        rule: 13,
-        cell: 6,
-        found: done,
-    });
-    let at_commit = Refusal::Tampered(Evidence {
-        rule: 4,
-        cell: 5,
-        found: commit,
-    });
+fn a_document_that_is_not_kept_is_named(rt: HostRuntime) -> Result<(), Fail> {
+    // No cell is left out; a posting, of which the done cell is evidence; the document, and its commit cell.
     for (left_out, wanted) in [
         (1, None),
-        (0, Some(Refusal::NotFormatted)),
-        (36, Some(at_done)),
-        (37, Some(at_done)),
-        (560, Some(Refusal::Absent)),
-        (580, Some(at_commit)),
+        (36, Some((13, 6, 5))),
+        (37, Some((13, 6, 5))),
+        (580, Some((4, 5, 3))),
     ] {
         let mut device = device_without(rt.alloc(), left_out)?;
-        assert!(rt; refusal(rt.alloc(), &mut device, b"a") == wanted, "without cell {left_out}");
+        assert!(rt;
+            evidence(rt.alloc(), &mut device) == wanted,
+            "without cell {left_out}"
+        );
     }
+    Ok(())
+}
+
+#[test]
+fn a_document_that_is_not_there_is_absent(rt: HostRuntime) -> Result<(), Fail> {
     let mut device = small_volume(rt.alloc())?;
     assert!(rt; refusal(rt.alloc(), &mut device, b"b") == Some(Refusal::Absent));
+    let mut device = device_without(rt.alloc(), 560)?;
+    assert!(rt; refusal(rt.alloc(), &mut device, b"a") == Some(Refusal::Absent));
+    let mut device = device_without(rt.alloc(), 0)?;
+    assert!(rt; refusal(rt.alloc(), &mut device, b"a") == Some(Refusal::NotFormatted));
     Ok(())
 }

@@ -51,7 +51,11 @@ pub(crate) fn store(
 }
 
 /// The text of the receipt of a document.
-pub(crate) fn receipt(alloc: Global, device: &mut MemoryDevice, id: &[u8]) -> Result<Vec<u8>, Fail> {
+pub(crate) fn receipt(
+    alloc: Global,
+    device: &mut MemoryDevice,
+    id: &[u8],
+) -> Result<Vec<u8>, Fail> {
     if !is_identifier(id) {
         return Err("no identifier".into());
     }
