@@ -21,7 +21,8 @@ use Rattle.volume_audit.specs.Audits.{SettlesThenAudits}
 use Rattle.volume_audit.specs.declared.report.AuditReport.{AuditReport}
 use Rattle.volume_audit.proofs.Comes.{licensed, settles_first}
 use Rattle.record_top.specs.Auditing.{DoesAudit, report_text}
-use Rattle.record_top.specs.Commands.{Does, Request, ToAudit, ToExercise, ToFind, ToFormat, ToIngest, ToLookUp, ToRecover, ToReplay, layout_on}
+use Rattle.record_top.specs.Checking.{DoesCheck}
+use Rattle.record_top.specs.Commands.{Does, Request, ToAudit, ToCheck, ToExercise, ToFind, ToFormat, ToIngest, ToLookUp, ToRecover, ToReplay, layout_on}
 use Rattle.record_top.specs.Finding.{DoesFind, found_text, misworded, searched, unread, unruled}
 use Rattle.record_top.specs.Ruling.{AsksRule, RuleEnds}
 use Rattle.record_top.specs.Formatting.{DoesFormat, FormatCommandEnds}
@@ -29,6 +30,7 @@ use Rattle.record_top.specs.LookingUp.{Answers, DoesLookUp, looked, misnamed}
 use Rattle.record_top.specs.Replaying.{DoesReplay}
 use Rattle.record_top.specs.Ports.{Ports, Tells, TellsFromMemory}
 use Rattle.record_top.specs.Recovering.{DoesRecover, recovered}
+use Rattle.record_top.proofs.Checks.{check_called, check_only, check_refuses}
 use Rattle.command_laws.proofs.Alarms.{query_alarms, settling_alarms}
 use Rattle.record_top.proofs.HeldAnswers.{find_held, look_up_held}
 use Rattle.record_top.proofs.OneMore.{ingest_adds}
@@ -179,6 +181,12 @@ module _ (old new : Ports) (device : IsDevice old.device) (device_new : IsDevice
         keeps = held_unmoved same;
       }) (λ e is. replay_names_none old new e (subst (DoesReplay old new) is does))
 
+  check_adds : (result : Result Unit Refusal) → DoesCheck old new result → AddsNone old new result
+  check_adds result does = leaves_none
+      (looked_leaves old.device new.device new.device device (check_called old new result does) (called_self new.device)
+      (check_only old new result does) begins device_new)
+      (λ e is. check_refuses old new (refusals.Tampered e) (subst (DoesCheck old new) is does))
+
   -- whatever was asked for
   pub leaves_whole : (request : Request) (result : Result Unit Refusal) → Does request old new result
       → LeavesWhole request old new result
@@ -198,3 +206,4 @@ module _ (old new : Ports) (device : IsDevice old.device) (device_new : IsDevice
     stays = unused_steady old.device new.device device begins.steady does.device;
     keeps = held_unmoved does.device;
   }
+  leaves_whole ToCheck result does = check_adds result does

@@ -1,4 +1,5 @@
 pub mod Auditing
+pub mod Checking
 pub mod Commands
 pub mod Exercising
 pub mod Finding

@@ -17,7 +17,7 @@ use Rattle.settling_laws.specs.Steadiness.{StaysSteady}
 use Rattle.crash_laws.specs.Steadiness.{HasOneMore, StaysSteadyBy}
 use Rattle.record_query.specs.declared.found.Match.{Match}
 use Rattle.command_laws.specs.Telling.{AreMatchesOf, IsFormatted, LeavesHeld}
-use Rattle.record_top.specs.Commands.{Request, ToAudit, ToExercise, ToFind, ToFormat, ToIngest, ToLookUp, ToRecover, ToReplay}
+use Rattle.record_top.specs.Commands.{Request, ToAudit, ToCheck, ToExercise, ToFind, ToFormat, ToIngest, ToLookUp, ToRecover, ToReplay}
 use Rattle.record_top.specs.Ingesting.{HasRefused, HasStored, acknowledgement}
 use Rattle.record_top.specs.Finding.{AreTermsOf, find_text}
 use Rattle.record_top.specs.Ports.{Ports, PutsOut, Tells}
@@ -100,3 +100,4 @@ LeavesWhole ToRecover old new result = AddsNone old new result
 LeavesWhole ToAudit old new result = AddsNone old new result
 LeavesWhole ToReplay old new result = AddsNone old new result
 LeavesWhole (ToExercise documents) old new result = LeavesHeld old.device new.device
+LeavesWhole ToCheck old new result = AddsNone old new result

@@ -8,6 +8,7 @@ ghost use Rattle.record_top.specs.Ports.{ports_of};
 ghost use Rattle.record_top.specs.Steadiness.{LeavesWhole};
 
 use crate::audit::audit_volume;
+use crate::check::check_source;
 use crate::exercise::exercise_volume;
 use crate::find::find_documents;
 use crate::format::format_device;
@@ -91,5 +92,6 @@ fn carry_out<D: Device, S: Source, K: Sink>(
         Command::Exercise { documents } => {
             exercise_volume(alloc, documents, device, source, sink)
         }
+        Command::Check => check_source(alloc, device, source, sink),
     }
 }

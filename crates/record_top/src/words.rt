@@ -2,6 +2,7 @@
 ghost use Rattle.std.specs.Prelude.{◌≡◌, ◌≢◌, ◌<◌, ◌≤◌, ◌↔◌, ℕ, List, map, length, slice_index, IsTrue, IfSome, IfNone};
 ghost use Rattle.std.specs.String.{string_bytes};
 ghost use Rattle.record_top.specs.Auditing.{AsksToAudit};
+ghost use Rattle.record_top.specs.Checking.{AsksToCheck};
 ghost use Rattle.record_top.specs.Commands.{Asks, AsksNothing, request_of};
 ghost use Rattle.record_top.specs.Exercising.{AsksToExercise};
 ghost use Rattle.record_top.specs.Finding.{AsksToFind};
@@ -40,6 +41,8 @@ pub enum Command<'a> {
     Replay,
     /// Do the exercise with so many documents on a device in memory.
     Exercise { documents: u32 },
+    /// Check a receipt.
+    Check,
 }
 
 /// The command that the words ask for.
@@ -68,7 +71,10 @@ pub fn command_of(words: &[String]) -> Option<Command<'_>>
     if let Some(command) = replay_of(words) {
         return Some(command);
     }
-    exercise_of(words)
+    if let Some(command) = exercise_of(words) {
+        return Some(command);
+    }
+    check_of(words)
 }
 
 /// The command `format`, where the words are this and two or three numbers in range.
@@ -232,6 +238,20 @@ fn exercise_of(words: &[String]) -> Option<Command<'_>>
     }
     let documents = number_up_to(MAX_DOCUMENTS, documents.as_bytes())?;
     Some(Command::Exercise { documents })
+}
+
+/// The command `check`, where the words are this alone.
+fn check_of(words: &[String]) -> Option<Command<'_>>
+    ensures some { IfSome result (λ command. Asks (map string_bytes words.now) (request_of command)) }
+    ensures none { IfNone result (AsksToCheck (map string_bytes words.now) → ⊥) }
+{
+    let [command] = words else {
+        return None;
+    };
+    if command.as_str() != "check" {
+        return None;
+    }
+    Some(Command::Check)
 }
 
 /// The number that the word stands for, where it is 1 to 10 digits and the number from 1 to the most.
