@@ -158,6 +158,9 @@ fn words_that_are_no_command_are_usage(rt: HostRuntime) -> Result<(), Fail> {
     for words in [
         "audit|a",
         "check|a",
+        "receipt",
+        "receipt|",
+        "receipt|a|b",
         "Check",
         "ingest",
         "",

@@ -21,7 +21,18 @@ const RECEIPT: &str = "receipt 0 a
 end 8
 ";
 
-/// The small volume with `a`, of which a check says this.
+/// The receipt of `b`, whose body is empty, in slot 1 behind it.
+const SECOND_RECEIPT: &str = "receipt 1 b
+0 0101000000080002000003e800000000
+8 02000002480000000200000000000008
+9 03000000020000000100000000000009
+10 0500000001000000000000000000000a
+551 08000000013e23e81600395900000227
+584 12016200000000000000000000000000
+end 6
+";
+
+/// Why a check refuses the text. Where it accepts it, it says that `a` is kept; and it writes nothing.
 fn check(alloc: Global, text: &str, device: &mut MemoryDevice) -> Result<Option<Refusal>, Fail> {
     begin(device)?;
     let before = device.changes().len();
@@ -35,6 +46,49 @@ fn check(alloc: Global, text: &str, device: &mut MemoryDevice) -> Result<Option<
         return Err(Fail::from("another line, or something was written"));
     }
     Ok(outcome.err())
+}
+
+#[test]
+fn a_receipt_is_put_out(rt: HostRuntime) -> Result<(), Fail> {
+    let alloc = rt.alloc();
+    let mut device = volume_with_a(alloc)?;
+    for (words, body, want) in [
+        ("receipt|a", "", RECEIPT),
+        ("ingest|b", "", "acknowledged 1\n"),
+        ("receipt|a", "", RECEIPT),
+        ("receipt|b", "", SECOND_RECEIPT),
+        ("check", SECOND_RECEIPT, "kept 1 b 0\n"),
+    ] {
+        begin(&mut device)?;
+        let (outcome, put) = outcome_of(alloc, words, &mut device, body.as_bytes())?;
+        assert_eq!(rt; outcome, Ok(()), "{words}");
+        assert_eq!(rt; put.as_slice(), want.as_bytes(), "{words}");
+    }
+    Ok(())
+}
+
+#[test]
+fn there_is_no_receipt_of_a_document_that_is_absent(rt: HostRuntime) -> Result<(), Fail> {
+    let alloc = rt.alloc();
+    let mut with_a = volume_with_a(alloc)?;
+    let mut blank = MemoryDevice::new(alloc, 1_000)?;
+    for (words, on_volume, on_blank) in [
+        ("receipt|b", Refusal::Absent, Refusal::NotFormatted),
+        (
+            "receipt|a b",
+            Refusal::BadIdentifier,
+            Refusal::BadIdentifier,
+        ),
+        ("receipt|-a", Refusal::Usage, Refusal::Usage),
+    ] {
+        let (outcome, put) = outcome_of(alloc, words, &mut with_a, b"")?;
+        assert_eq!(rt; outcome, Err(on_volume), "{words}");
+        assert_eq!(rt; put.len(), 0);
+        let (outcome, put) = outcome_of(alloc, words, &mut blank, b"")?;
+        assert_eq!(rt; outcome, Err(on_blank), "{words}");
+        assert_eq!(rt; put.len(), 0);
+    }
+    Ok(())
 }
 
 #[test]
@@ -140,5 +194,19 @@ fn the_source_and_the_sink_of_a_check_fail(rt: HostRuntime) -> Result<(), Fail> 
     let outcome = run(alloc, &words, &mut device, &mut source, &mut put);
     assert_eq!(rt; outcome, Err(Refusal::SinkFault));
     assert!(rt; b"kept 0 a 11\n".starts_with(put.bytes()));
+    Ok(())
+}
+
+#[test]
+fn the_sink_of_a_receipt_fails(rt: HostRuntime) -> Result<(), Fail> {
+    let alloc = rt.alloc();
+    let words = words_of(alloc, "receipt|a")?;
+    let mut device = volume_with_a(alloc)?;
+    let mut source = source_of(alloc, b"")?;
+    let mut put = sink(alloc)?;
+    put.fail_at(1);
+    let outcome = run(alloc, &words, &mut device, &mut source, &mut put);
+    assert_eq!(rt; outcome, Err(Refusal::SinkFault));
+    assert!(rt; RECEIPT.as_bytes().starts_with(put.bytes()));
     Ok(())
 }

@@ -13,6 +13,7 @@ pub mod OneMore
 pub mod Options
 pub mod Pieces
 pub mod ReceiptSizes
+pub mod Receipts
 pub mod Replays
 pub mod Reports
 pub mod Steadily

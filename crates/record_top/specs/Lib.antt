@@ -7,6 +7,7 @@ pub mod Formatting
 pub mod Ingesting
 pub mod LookingUp
 pub mod Ports
+pub mod Receipting
 pub mod Recovering
 pub mod Replaying
 pub mod Ruling

@@ -26,3 +26,6 @@ exercise_volume-requires-clause-most g c =
 
 pub returns-in-Check : goal.returns-in-Check
 returns-in-Check g c = rw c.in-Check.is c.check_source.ensures
+
+pub returns-in-MakeReceipt : goal.returns-in-MakeReceipt
+returns-in-MakeReceipt g c = rw c.in-MakeReceipt.is c.put_receipt.ensures
