@@ -12,6 +12,7 @@ pub mod MatchLines
 pub mod OneMore
 pub mod Options
 pub mod Pieces
+pub mod Ready
 pub mod ReceiptSizes
 pub mod Receipts
 pub mod Replays

@@ -5,6 +5,7 @@ pub mod Exercising
 pub mod Finding
 pub mod Formatting
 pub mod Ingesting
+pub mod Laws
 pub mod LookingUp
 pub mod Ports
 pub mod Receipting

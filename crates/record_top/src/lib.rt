@@ -14,11 +14,11 @@
 //!
 //! A `replay` leaves the device alone. It takes a script from the source, replays its events on a device in memory of its
 //! own, and puts out a line for each. Nor does an `exercise` touch it: it makes a volume of so many documents on a device
-//! in memory of its own, searches, reads and audits it, and puts out what came of it. A `check` reads the cells that a
-//! receipt lists, and writes and settles nothing; a `receipt` settles first.
+//! in memory of its own, searches, reads and audits it, and puts out what came of it. A `receipt` settles the volume first,
+//! and a `check` writes nothing at all; what the one has put out the other accepts from then on (`receipts_are_ready`).
 //!
-//! A `find` and a `receipt` make their text before the first byte goes out, and a `lookup` checks the document whole before that. What is
-//! taken from the source is at most as long as a body may be, and in a `check` as the text of a receipt.
+//! A `find` and a `receipt` make their text before the first byte goes out, and a `lookup` checks the document whole before
+//! that. What is taken from the source is at most as long as a body may be, and in a `check` as the text of a receipt.
 //! Whatever keeps a command from being done is a refusal that names its cause. And where nobody else writes, whatever a
 //! crash leaves of any of these, at any moment, from a blank device on, is blank or sound: settling makes a settled
 //! volume of it, with the documents that were sure before the command or those that stood then, or of an `ingest` these
@@ -29,9 +29,8 @@
 //!
 //! Stands on `ingest_engine` and `recovery_engine`, which write, on `record_query`, which searches and looks up, on
 //! `volume_audit`, on `hostile_replay` and `volume_exercise`, on `receipt_text`, `receipt_maker` and `receipt_check`, on
-//! `command_laws`, and on `host_ports`. Begin with `command.rt`;
-//! specs/Commands.antt says which commands there are, and leads to what each does; specs/Steadiness.antt says what a crash
-//! leaves of it, and which documents stand behind it.
+//! `command_laws`, and on `host_ports`. Begin with `command.rt`; specs/Commands.antt says which commands there are, and leads
+//! to what each does; specs/Steadiness.antt says what a crash leaves of it, and which documents stand behind it.
 #![tactic(auto)]
 
 mod audit;
@@ -42,6 +41,7 @@ mod exercise;
 mod find;
 mod format;
 mod ingest;
+mod laws;
 mod lookup;
 mod receipt;
 mod recover;
@@ -50,3 +50,4 @@ mod text;
 mod words;
 
 pub use command::{Outcome, run};
+pub use laws::receipts_are_ready;
