@@ -5,6 +5,7 @@ use Rattle.cell_types.specs.declared.refusal.Refusal.{Refusal}
 use Rattle.cell_types.specs.declared.refusal.Refusal.TheVariants.{BadIdentifier, DeviceFault, SinkFault}
 use Rattle.host_ports.specs.Sources.{Gives, IsAtEnd}
 use Rattle.stored_documents.specs.Documents.{IsBody, IsIdentifier, Stands}
+use Rattle.stored_documents.specs.declared.limits.TheConstants.{MAX_BODY_BYTES}
 use Rattle.stored_documents.specs.Slots.{IsEdge, IsHorizon, IsUnused}
 use Rattle.stored_documents.specs.Volumes.{IsVolume}
 use Rattle.index_paths.specs.Postings.{HasPostings}
@@ -35,7 +36,7 @@ pub data DoesIngest (id : List ℕ) (old new : Ports) (result : Result Unit Refu
   misnamed : (IsIdentifier id → ⊥) → result ≡ Err BadIdentifier → new ≡ old → DoesIngest id old new result
   -- no body is taken, and nothing is done with the device and the sink
   untaken : (given : List ℕ) (fault : BodyFault) → IsIdentifier id → Gives old.source.left new.source.left given
-      → BodyFails given old.source new.source fault → result ≡ Err (refusal_of_body_fault fault)
+      → BodyFails MAX_BODY_BYTES given old.source new.source fault → result ≡ Err (refusal_of_body_fault fault)
       → new.device ≡ old.device → KeepsSink old new → DoesIngest id old new result
   -- The body is what the source gives up to its end. It is stored, or that is ended, as the engine says, and its
   -- answer is told.
