@@ -14,6 +14,9 @@
 //! own, and puts out a line for each. Nor does an `exercise` touch it: it makes a volume of so many documents on a device
 //! in memory of its own, searches, reads and audits it, and puts out what came of it.
 //!
+//! On a volume of stamped documents, as `format 8 2 3` makes it, an `ingest` is given the seconds of its stamp, which are past
+//! those of each document before, as in `ingest a 1000`; elsewhere it is given none.
+//!
 //! A `find` makes its text before the first byte goes out, and a `lookup` checks the document whole before that.
 //! Whatever keeps a command from being done is a refusal that names its cause. And where nobody else writes, whatever a
 //! crash leaves of any of these, at any moment, from a blank device on, is blank or sound: settling makes a settled
