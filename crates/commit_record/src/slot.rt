@@ -1,6 +1,5 @@
 //! The state of a slot.
 ghost use Rattle.std.specs.Prelude.{◌≡◌, ◌<◌, ◌≤◌, ◌+◌, IfOk};
-ghost use Rattle.cell_types.specs.declared.geometry.TheConstants.{NEWEST_VERSION};
 ghost use Rattle.worm_device.specs.Views.{Viewed};
 ghost use Rattle.commit_record.specs.Partition.{HasRoom};
 ghost use Rattle.commit_record.specs.States.{StateEnds, stamp_cells};
@@ -50,12 +49,10 @@ pub fn slot_state<V: View>(view: &mut V, volume: &Volume, slot: u32) -> Result<S
     ensures viewed { Viewed (V.seen view.old) (V.seen view.new) }
     ensures reads { (V.seen view.new).base.reads ≤ (V.seen view.old).base.reads
         + (3 + stamp_cells volume.now.geometry) }
-    ensures version { volume.now.geometry.version ≤ NEWEST_VERSION }
     ensures room { IfOk result (λ state. HasRoom state) }
     ensures ends { StateEnds volume.now.geometry slot (V.seen view.old) (V.seen view.new) result }
 {
     let geometry = volume.geometry;
-    let _version = geometry.version();
     let reserve = look(view, geometry.reserve_at(slot))?;
     let outcome = look(view, geometry.outcome_at(slot))?;
     let stamp = look_at_stamp(view, &geometry, slot)?;

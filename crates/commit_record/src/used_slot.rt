@@ -1,7 +1,6 @@
 //! The state of a slot whose reserve cell is at hand.
 ghost use Rattle.std.specs.Prelude.{◌≡◌, ◌<◌, ◌≤◌, ◌+◌, IfOk, IsSome, IsTrue, Some};
 ghost use Rattle.cell_types.specs.Layout.{reserve_at};
-ghost use Rattle.cell_types.specs.declared.geometry.TheConstants.{NEWEST_VERSION};
 ghost use Rattle.worm_device.specs.Views.{Viewed};
 ghost use Rattle.commit_record.specs.Partition.{HasRoom};
 ghost use Rattle.commit_record.specs.Reservations.{reservation_of};
@@ -28,13 +27,11 @@ pub fn slot_state_of<V: View>(
     ensures viewed { Viewed (V.seen view.old) (V.seen view.new) }
     ensures reads { (V.seen view.new).base.reads ≤ (V.seen view.old).base.reads
         + (2 + stamp_cells volume.now.geometry) }
-    ensures version { volume.now.geometry.version ≤ NEWEST_VERSION }
     ensures room { IfOk result (λ state. HasRoom state) }
     ensures used { IfOk result (λ state. IsSome (reservation_of state)) }
     ensures ends { StateEnds volume.now.geometry slot (V.seen view.old) (V.seen view.new) result }
 {
     let geometry = volume.geometry;
-    let _version = geometry.version();
     let found = found_there(reserve, geometry.reserve_at(slot));
     let outcome = look(view, geometry.outcome_at(slot))?;
     let stamp = look_at_stamp(view, &geometry, slot)?;

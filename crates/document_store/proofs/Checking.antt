@@ -9,6 +9,7 @@ use Rattle.cell_types.specs.declared.refusal.Fault.TheVariants.{Tampered, Failed
 use Rattle.stored_documents.specs.Slots.{cells_for}
 use Rattle.worm_device.specs.Views.{ViewState, Viewed}
 use Rattle.worm_device.proofs.Resting.{viewed_self}
+use Rattle.commit_record.specs.States.{stamp_cells}
 use Rattle.document_store.specs.Heads.{HasBody, id_of}
 use Rattle.document_store.specs.Looks.{HasStored, HoldsHead, HoldsIdentifier, IdentifierEnds, IsPartOf, IsSame, IsStated, LookFails, PartEnds, ReadsOnce, ReadsTwice, SameEnds}
 use Rattle.document_store.specs.Standing.{HoldsDocument}
@@ -39,13 +40,13 @@ module _ (g : Layout) (n : ℕ) (old mid new : ViewState) (part : Part) (before 
   bytes_are tells start reserved bytes journal done =
       (one_part g new.image n part start reserved bytes journal (part_later tells) done).0
 
-  pub reads_once : mid.base.reads ≤ old.base.reads + 3
+  pub reads_once : mid.base.reads ≤ old.base.reads + (3 + stamp_cells g)
       → new.base.reads ≤ mid.base.reads + cells_for part.bytes → ReadsOnce g n old new
   reads_once first second tells start reserved bytes journal done =
       let same = bytes_are tells start reserved bytes journal done in
       omega (arith, first, second, ap cells_for same)
 
-  pub reads_twice : new.base.reads ≤ old.base.reads + 2 * cells_for part.bytes + 3 → ReadsTwice g n old new
+  pub reads_twice : new.base.reads ≤ old.base.reads + 2 * cells_for part.bytes + (3 + stamp_cells g) → ReadsTwice g n old new
   reads_twice most tells start reserved bytes journal done =
       let same = bytes_are tells start reserved bytes journal done in
       omega (arith, most, ap cells_for same)

@@ -20,7 +20,7 @@ use Rattle.tamper_rules.specs.declared.numbers.TheConstants.{BROKEN_DOCUMENT}
 use Rattle.host_ports.specs.Sinks.{Gets, SinkState}
 use Rattle.worm_device.specs.Counts.{Rose}
 use Rattle.worm_device.specs.Views.{ViewState}
-use Rattle.commit_record.specs.States.{IsOutOfPlace, IsState}
+use Rattle.commit_record.specs.States.{IsOutOfPlace, IsState, stamp_cells}
 use Rattle.commit_record.specs.declared.slot.SlotState.{SlotState}
 use Rattle.document_store.specs.Heads.{HasBody, id_of}
 use Rattle.document_store.specs.Standing.{HoldsDocument}
@@ -185,14 +185,15 @@ BodyEnds g n old new from to (Err ReadFault) =
 BodyEnds g n old new from to (Err SinkFault) =
     (new.base.faults ≡ old.base.faults) × Rose from.faults to.faults × GotPart g n new from to
 
--- a call read each cell of slot n's document once at most, and three cells besides
+-- a call read each cell of slot n's document once at most, and besides the three cells of its state, and its stamp cell
+-- where documents are stamped
 abbrev pub ReadsOnce : Layout → ℕ → ViewState → ViewState → Type 0
 ReadsOnce g n old new =
     IsTrue old.base.tells → (start reserved bytes journal : ℕ) → IsDone g new.image n start reserved bytes journal
-    → new.base.reads ≤ old.base.reads + cells_for bytes + 3
+    → new.base.reads ≤ old.base.reads + cells_for bytes + (3 + stamp_cells g)
 
 -- or twice at most
 abbrev pub ReadsTwice : Layout → ℕ → ViewState → ViewState → Type 0
 ReadsTwice g n old new =
     IsTrue old.base.tells → (start reserved bytes journal : ℕ) → IsDone g new.image n start reserved bytes journal
-    → new.base.reads ≤ old.base.reads + 2 * cells_for bytes + 3
+    → new.base.reads ≤ old.base.reads + 2 * cells_for bytes + (3 + stamp_cells g)

@@ -34,8 +34,8 @@ impl From<Fault> for BodyFault {
 }
 
 /// Puts the body of the document of a slot that is done into the sink, and answers how many bytes it has. The whole
-/// document is checked before the first byte goes out. Reads each cell of the document twice at most, and three cells
-/// besides, and takes no memory: bytes go out in pieces of 240.
+/// document is checked before the first byte goes out. Reads each cell of the document twice at most, and the cells of
+/// the slot's state besides, and takes no memory: bytes go out in pieces of 240.
 pub fn body_into<V: View, K: Sink>(
     view: &mut V,
     volume: &Volume,

@@ -18,7 +18,7 @@ pub struct Stored {
 }
 
 /// Checks the document of a slot that is done: it names the commit cell, by rule 4, where the document is broken. Reads
-/// each cell of the document once at most, and three cells besides.
+/// each cell of the document once at most, and the cells of the slot's state besides.
 pub fn check<V: View>(view: &mut V, volume: &Volume, slot: u32) -> Result<Stored, Fault>
     requires slot { slot < volume.now.geometry.slots }
     requires size { volume.now.geometry.cells ≤ (V.seen view.old).cells }

@@ -20,8 +20,8 @@ pub fn is_identifier(bytes: &[u8]) -> bool
         && bytes.iter().all(|byte| byte.is_ascii_graphic())
 }
 
-/// The identifier of the document of a slot that is done. Reads each cell of the document once at most, and three cells
-/// besides.
+/// The identifier of the document of a slot that is done. Reads each cell of the document once at most, and the cells of
+/// the slot's state besides.
 pub fn identifier_of<V: View>(
     alloc: Global,
     view: &mut V,
@@ -43,7 +43,7 @@ pub fn identifier_of<V: View>(
 }
 
 /// Whether the document of a slot that is done has this identifier. Reads each cell of the document once at most, and
-/// three cells besides.
+/// the cells of the slot's state besides.
 pub fn same_identifier<V: View>(
     view: &mut V,
     volume: &Volume,

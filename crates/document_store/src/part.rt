@@ -2,6 +2,7 @@
 ghost use Rattle.std.specs.Prelude.{◌≡◌, ◌<◌, ◌≤◌, ◌+◌, IsTrue};
 ghost use Rattle.stored_documents.specs.Slots.{IsDoneSlot, cells_for};
 ghost use Rattle.worm_device.specs.Views.{Viewed};
+ghost use Rattle.commit_record.specs.States.{stamp_cells};
 ghost use Rattle.document_store.specs.Looks.{DoneHeadEnds, DonePartEnds, IsPartOf, IsStated, PartEnds, ReadEnds, ReadsOnce, commit_breach};
 
 use crate::head::{Head, read_document};
@@ -23,12 +24,14 @@ pub struct Part {
     pub journal: u32,
 }
 
-/// Where the document of a slot lies, if the slot is done. Makes at most three reads.
+/// Where the document of a slot lies, if the slot is done. Makes at most three reads, and one more where documents
+/// are stamped.
 pub fn slot_part<V: View>(view: &mut V, volume: &Volume, slot: u32) -> Result<Option<Part>, Fault>
     requires slot { slot < volume.now.geometry.slots }
     requires size { volume.now.geometry.cells ≤ (V.seen view.old).cells }
     ensures viewed { Viewed (V.seen view.old) (V.seen view.new) }
-    ensures reads { (V.seen view.new).base.reads ≤ (V.seen view.old).base.reads + 3 }
+    ensures reads { (V.seen view.new).base.reads ≤ (V.seen view.old).base.reads
+        + (3 + stamp_cells volume.now.geometry) }
     ensures ends { PartEnds volume.now.geometry slot (V.seen view.old) (V.seen view.new) result }
 {
     let SlotState::Done {
@@ -85,14 +88,16 @@ pub(crate) fn read_part<V: View>(
     }
 }
 
-/// Where the document of a slot lies that is done. Makes at most three reads.
+/// Where the document of a slot lies that is done. Makes at most three reads, and one more where documents
+/// are stamped.
 pub(crate) fn done_part<V: View>(view: &mut V, volume: &Volume, slot: u32) -> Result<Part, Fault>
     requires slot { slot < volume.now.geometry.slots }
     requires size { volume.now.geometry.cells ≤ (V.seen view.old).cells }
     requires done { IsTrue (V.seen view.old).base.tells
         → IsDoneSlot volume.now.geometry (V.seen view.old).image slot }
     ensures viewed { Viewed (V.seen view.old) (V.seen view.new) }
-    ensures reads { (V.seen view.new).base.reads ≤ (V.seen view.old).base.reads + 3 }
+    ensures reads { (V.seen view.new).base.reads ≤ (V.seen view.old).base.reads
+        + (3 + stamp_cells volume.now.geometry) }
     ensures ends { DonePartEnds volume.now.geometry slot (V.seen view.old) (V.seen view.new) result }
 {
     let Some(part) = slot_part(view, volume, slot)? else {
@@ -103,7 +108,8 @@ pub(crate) fn done_part<V: View>(view: &mut V, volume: &Volume, slot: u32) -> Re
     Ok(part)
 }
 
-/// Reads the document of a slot that is done, each cell of it once at most, and three cells besides.
+/// Reads the document of a slot that is done, each cell of it once at most, and the cells of the slot's state
+/// besides.
 pub(crate) fn done_head<V: View>(view: &mut V, volume: &Volume, slot: u32) -> Result<Head, Fault>
     requires slot { slot < volume.now.geometry.slots }
     requires size { volume.now.geometry.cells ≤ (V.seen view.old).cells }

@@ -8,6 +8,7 @@ use Rattle.stored_documents.specs.Slots.{cells_for}
 use Rattle.stored_documents.proofs.Extending.{done_on}
 use Rattle.worm_device.specs.Views.{ViewState, Viewed}
 use Rattle.worm_device.proofs.Resting.{viewed_self, viewed_then}
+use Rattle.commit_record.specs.States.{stamp_cells}
 use Rattle.document_store.specs.Looks.{IsPartOf, PartEnds, SameEnds}
 use Rattle.document_store.specs.declared.part.Part.{Part}
 use Rattle.document_store.proofs.Checking.{part_of_own, same_then}
@@ -22,7 +23,7 @@ module _ (g : Layout) (horizon : ℕ) (named : Named) (id : List ℕ) (old mid :
 
   -- the slot is done, and its document was compared
   pub compared : (new : ViewState) → named.slot < horizon → Viewed mid new → (result : Result Bool Fault)
-      → SameEnds g part.slot id mid new result → mid.base.reads ≤ old.base.reads + 3
+      → SameEnds g part.slot id mid new result → mid.base.reads ≤ old.base.reads + (3 + stamp_cells g)
       → new.base.reads ≤ mid.base.reads + cells_for part.bytes → Compares g horizon named id old new result
   compared new less after result ends before cells = record {
     viewed = viewed_then looked after;

@@ -63,10 +63,10 @@ one_or_rest c first cs among = by_place among.0 among.1 among.2 where
   by_place (suc k) less is = inr (k, omega (arith, less), is)
 
 -- So far a walk came down to this level, and compared at levels below another: at each level it took two reads, and for
--- each comparison five and its cells.
+-- each comparison six and its cells.
 pub record CostsSoFar (g : Layout) (id : List ℕ) (old now : ViewState) (number below : ℕ) : Type 0 where
   pub comparisons : List Comparison
-  pub reads : now.base.reads ≤ old.base.reads + 2 * number + 5 * length comparisons + sum_by cells_in comparisons
+  pub reads : now.base.reads ≤ old.base.reads + 2 * number + 6 * length comparisons + sum_by cells_in comparisons
   pub fall : Fall below comparisons
   pub each : IsTrue old.base.tells → IsVolume old.cells old.image g
       → (c : Comparison) → Contains comparisons c → IsComparison g now.image id c

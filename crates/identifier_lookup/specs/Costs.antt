@@ -25,10 +25,10 @@ pub record HasDocumentCells (g : Layout) (image : Image) (n cells : ℕ) : Type 
 abbrev pub AreCellsOf : Layout → Image → ℕ → ℕ → Type 0
 AreCellsOf g image n cells = (cells ≡ 0) ⊎ HasDocumentCells g image n cells
 
--- Comparing the document of slot n reads each cell of it once at most, and three cells besides.
+-- Comparing the document of slot n reads each cell of it once at most, and four cells besides at most.
 pub record CompareCosts (g : Layout) (n : ℕ) (old new : ViewState) : Type 0 where
   pub cells : ℕ
-  pub reads : new.base.reads ≤ old.base.reads + cells + 3
+  pub reads : new.base.reads ≤ old.base.reads + cells + 4
   pub are : IsTrue old.base.tells → AreCellsOf g new.image n cells
 
 -- A comparison on a walk: the level of the node whose bucket named the slot, the node, the slot, and how many cells of
@@ -55,9 +55,9 @@ pub record IsComparison (g : Layout) (image : Image) (id : List ℕ) (c : Compar
   pub are : AreCellsOf g image c.slot c.cells
 
 -- so many reads are enough for the cells of a path and for those of the slots that its buckets name: two a level, and
--- five for each bucket of which the slot is looked at
+-- six for each bucket of which the slot is looked at
 abbrev pub WALK_READS : ℕ
-WALK_READS = 448
+WALK_READS = 512
 
 -- What a walk costs: so many reads, and one for each cell of the documents that it compares. Where cell 0 stated this
 -- volume at entry, these are documents that buckets of the path name, one at most for each level.

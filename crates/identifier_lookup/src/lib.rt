@@ -17,7 +17,7 @@
 //! evidence with rule 11; a slot whose cells are no state with one of the rules 1 to 3, a document that is broken with
 //! rule 4, and what is wrong on the path itself with rule 11 or 12.
 //!
-//! A walk takes no memory. It makes at most 448 reads besides those of the documents that it compares, and reads each cell
+//! A walk takes no memory. It makes at most 512 reads besides those of the documents that it compares, and reads each cell
 //! of these once; `specs/Costs.antt` says which they are. Stands on `hash_tree` for the path, on `document_store` for
 //! documents, on `tamper_rules` for what a broken rule is, and on `sha2`. Begin with `walks.rt`; `specs/Walks.antt` says
 //! what an answer means.

@@ -5,7 +5,7 @@ pub mod JoinedCells
 pub mod KeptNow
 pub mod Named
 pub mod SeenBlank
-pub mod Stamps
+pub mod ReadStamps
 pub mod Suited
 pub mod Trails
 pub mod UnusedSlots

@@ -32,7 +32,7 @@ pub fn look_past<D: Device>(
 }
 
 /// The greatest stamp of a done slot below the horizon, if there is one.
-#[tactic(auto, using(crate::proofs::Stamps::device_reads))]
+#[tactic(auto, using(crate::proofs::ReadStamps::device_reads))]
 fn last_stamp<D: Device>(device: &mut D, ready: &Ready) -> Result<Option<u32>, Fault>
     requires bounds { LiesInBounds (D.state device.old) ready.now }
     ensures { ReadsOnDevice ready.now (D.state device.old) (D.state device.new) result }

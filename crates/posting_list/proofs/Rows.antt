@@ -160,9 +160,9 @@ fewer_asks terms slots asks few most le =
     omega (arith, le, mul-le terms slots (2 ^ 32) 16777216 (omega (arith, few)) (omega (arith, most)))
 
 all_reads : (terms slots i j : ℕ) → i ≤ terms * (2 * slots + 1) → j ≤ terms * slots
-    → 4099 * i + 36864 * j ≤ gather_reads terms slots
+    → 4100 * i + 36864 * j ≤ gather_reads terms slots
 all_reads terms slots i j next has = omega (arith, next, has, opened terms slots) where
-  opened : (t s : ℕ) → t * (4099 * (2 * s + 1) + 36864 * s) ≡ 4099 * (t * (2 * s + 1)) + 36864 * (t * s)
+  opened : (t s : ℕ) → t * (4100 * (2 * s + 1) + 36864 * s) ≡ 4100 * (t * (2 * s + 1)) + 36864 * (t * s)
   opened t s = grind arith
 
 -- The asks that gathering may make have paid for all that it reads.

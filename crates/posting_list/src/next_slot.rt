@@ -14,8 +14,8 @@ use jump_index::{Bounds, find_geq_from_kept};
 use tamper_rules::FAKE_POSTING;
 use worm_device::View;
 
-/// How many reads one ask for a next slot may cost: those of a search, 4,096, and three of the slot that it comes to.
-pub const NEXT_READS: u64 = 4_099;
+/// How many reads one ask for a next slot may cost: those of a search, 4,096, and four of the slot that it comes to.
+pub const NEXT_READS: u64 = 4_100;
 
 /// The first entry of a list at or past a key. Where the bounds end behind the volume's cells, they end with these.
 pub(crate) fn find<V: View>(
@@ -50,7 +50,7 @@ fn is_done(state: &SlotState) -> bool
 /// Whether the slot is done and lies before the horizon.
 fn is_live<V: View>(view: &mut V, reach: &Reach, slot: u32) -> Result<bool, Fault>
     requires size { reach.now.volume.geometry.cells ≡ (V.seen view.old).cells }
-    ensures reads { (V.seen view.new).base.reads ≤ (V.seen view.old).base.reads + 3 }
+    ensures reads { (V.seen view.new).base.reads ≤ (V.seen view.old).base.reads + 4 }
     ensures live { LooksLive reach.now slot (V.seen view.old) (V.seen view.new) result }
 {
     if slot >= reach.horizon.min(reach.volume.geometry.slots()) {

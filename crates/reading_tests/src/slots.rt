@@ -64,7 +64,7 @@ fn volume_with(alloc: Global, cells: &[Written]) -> Result<MemoryDevice, Fail> {
 fn read_slot<V: View>(view: &mut V, slot: u32) -> Result<(SlotState, Option<Parts>), Refusal>
     requires { 0 < (V.seen view.old).cells }
     ensures viewed { Viewed (V.seen view.old) (V.seen view.new) }
-    ensures reads { (V.seen view.new).base.reads ≤ (V.seen view.old).base.reads + 4 }
+    ensures reads { (V.seen view.new).base.reads ≤ (V.seen view.old).base.reads + 5 }
     ensures cause { IsErrOf result refusals.DeviceFault →
         Rose (V.seen view.old).base.faults (V.seen view.new).base.faults }
 {

@@ -65,7 +65,7 @@ bound : (old settled mid new t m cells : ℕ) → settled ≤ old + 64 → mid �
     → new ≤ mid + 4 * cells → new ≤ old + 256 + 49152 * (t * (m + 1)) + 4 * cells
 bound old settled mid new t m cells first gathered last = omega (arith, first, gathered, last, opened t m, more t m)
   where
-    opened : (t m : ℕ) → t * (4099 * (2 * m + 1) + 36864 * m) ≡ 45062 * (t * m) + 4099 * t
+    opened : (t m : ℕ) → t * (4100 * (2 * m + 1) + 36864 * m) ≡ 45064 * (t * m) + 4100 * t
     opened t m = grind arith
 
     more : (t m : ℕ) → t * (m + 1) ≡ t * m + t
@@ -144,7 +144,7 @@ module _ (terms : List (List ℕ)) (r : Ready) (old settled : DeviceState) (s : 
             (length (stored_bytes d.id d.body)) stands.journal) (sym same_mid)
             (subst (λ (h : Layout). IsDone h old.image d.slot stands.start stands.reserved
             (length (stored_bytes d.id d.body)) stands.journal) one stands.done);
-        most = omega (arith, costs);
+        most = omega (arith, costs, s.ends.0.layout.version);
       })
 
     -- gathering reads what Near asks for

@@ -66,8 +66,8 @@ module _ (id : List ℕ) (r : Ready) (old settled mid : DeviceState) (s : Settle
           (costs.each (tells_settled before tells) (is_ready before tells).volume c among))
           have_here
 
-      -- settling takes 64 reads, and the walk 448 besides
-      walk_reads : mid.reads ≤ old.reads + 512 + mate_cells mates
+      -- settling takes 64 reads, and the walk 512 besides
+      walk_reads : mid.reads ≤ old.reads + 576 + mate_cells mates
       walk_reads = omega (arith, s.again tells entry (still_settling before still), costs.reads, compared)
 
       module _ (n : ℕ) (found : IsFound g id (seen_directly settled 0) (seen_directly mid 0) n) where

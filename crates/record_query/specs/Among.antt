@@ -9,6 +9,7 @@ use Rattle.stored_documents.specs.Words.{Matches, rule_of}
 use Rattle.worm_device.specs.State.{DeviceState}
 use Rattle.worm_device.specs.Views.{seen_directly}
 use Rattle.stored_documents.specs.Slots.{IsDone, cells_for}
+use Rattle.commit_record.specs.States.{stamp_cells}
 use Rattle.document_store.specs.Looks.{LookRefuses, ReadsOnce}
 use Rattle.document_store.specs.Standing.{HoldsDocument}
 use Rattle.record_query.specs.Finding.{HasMatch, Rises}
@@ -56,16 +57,16 @@ row_cost cost [] k = 0
 row_cost cost (slot ∷ slots) zero = 0
 row_cost cost (slot ∷ slots) (suc k) = cost slot + row_cost cost slots k
 
--- so many reads are enough for the document of the slot, which is done: its cells, and three of the slot
+-- so many reads are enough for the document of the slot, which is done: its cells, and those of the slot's state
 pub record IsSlotCost (g : Layout) (image : Image) (slot cost : ℕ) : Type 0 where
   pub start : ℕ
   pub reserved : ℕ
   pub bytes : ℕ
   pub journal : ℕ
   pub done : IsDone g image slot start reserved bytes journal
-  pub most : cells_for bytes + 3 ≤ cost
+  pub most : cells_for bytes + (3 + stamp_cells g) ≤ cost
 
--- A look at a slot reads the cells of its document once at most, and three of the slot.
+-- A look at a slot reads the cells of its document once at most, and those of the slot's state.
 pub record LooksOnce (g : Layout) (slot : ℕ) (old new : DeviceState) : Type 0 where
   pub reads : ReadsOnce g slot (seen_directly old 0) (seen_directly new 0)
 

@@ -61,7 +61,7 @@ pub fn last_slot_of_device<D: Device>(
     ensures called { Called (D.state device.old) (D.state device.new) }
     ensures quiet { IsStill (D.state device.old).foreign_writes (D.state device.new).foreign_writes →
         IsUnchanged (D.state device.old).image (D.state device.new).image }
-    ensures reads { (D.state device.new).reads ≤ (D.state device.old).reads + 5 }
+    ensures reads { (D.state device.new).reads ≤ (D.state device.old).reads + 7 }
     ensures unfailed { IsOk result → (D.state device.new).faults ≡ (D.state device.old).faults }
     ensures used { IfOk result (λ state. IsSome (reservation_of state)) }
     ensures ends { LastEnds volume.now.geometry last (seen_directly (D.state device.old) 0)

@@ -11,7 +11,7 @@ use tamper_rules::RESERVE_CELL;
 use worm_device::View;
 
 /// The state of a slot that follows those below it: its cells begin where theirs end, and the slot before is abandoned
-/// or done. Else what is out of place. Its reserve cell was read already. Makes at most five reads.
+/// or done. Else what is out of place. Its reserve cell was read already. Makes at most seven reads.
 pub fn last_slot<V: View>(
     view: &mut V,
     volume: &Volume,
@@ -23,7 +23,7 @@ pub fn last_slot<V: View>(
     requires stands { IsTrue (V.seen view.old).base.tells →
         (V.seen view.old).image (reserve_at last) ≡ Some reserve }
     ensures viewed { Viewed (V.seen view.old) (V.seen view.new) }
-    ensures reads { (V.seen view.new).base.reads ≤ (V.seen view.old).base.reads + 5 }
+    ensures reads { (V.seen view.new).base.reads ≤ (V.seen view.old).base.reads + 7 }
     ensures unfailed { IsOk result → (V.seen view.new).base.faults ≡ (V.seen view.old).base.faults }
     ensures used { IfOk result (λ state. IsSome (reservation_of state)) }
     ensures ends { LastEnds volume.now.geometry last (V.seen view.old) (V.seen view.new) result }
