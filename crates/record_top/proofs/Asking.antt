@@ -27,7 +27,8 @@ to_format (slots ∷ lists ∷ version ∷ []) =
 to_format _ = None
 
 to_ingest : List (List ℕ) → Option Request
-to_ingest (id ∷ []) = Some (ToIngest id)
+to_ingest (id ∷ []) = Some (ToIngest id None)
+to_ingest (id ∷ seconds ∷ []) = Some (ToIngest id (Some (digits_value seconds)))
 to_ingest _ = None
 
 to_look_up : List (List ℕ) → Option Request
@@ -86,7 +87,9 @@ asks_reads words (ToFormat slots lists version) (inr asks) =
     (sym asks.slots_word.number.value)
     ∙ ap (λ (n : ℕ). Some (ToFormat slots n (digits_value asks.third))) (sym asks.lists_word.number.value)
     ∙ ap (λ (n : ℕ). Some (ToFormat slots lists n)) (sym asks.version_word.number.value)
-asks_reads words (ToIngest id) asks = ap read asks.asked
+asks_reads words (ToIngest id None) asks = ap read asks.asked
+asks_reads words (ToIngest id (Some seconds)) asks =
+    ap read asks.asked ∙ ap (λ (n : ℕ). Some (ToIngest id (Some n))) (sym asks.seconds_word.number.value)
 asks_reads words (ToFind asked) asks = ap read asks.asked_is
 asks_reads words (ToLookUp id) asks = ap read asks.asked
 asks_reads words ToRecover asks = ap read asks
@@ -109,7 +112,7 @@ module _ (old new : Ports) where
   pub called_of : (request : Request) (result : Result Unit Refusal) → Does request old new result
       → Called old.device new.device
   called_of (ToFormat slots lists version) result does = does.called
-  called_of (ToIngest id) result does = ingest_called id old new result does
+  called_of (ToIngest id stamp) result does = ingest_called id stamp old new result does
   called_of (ToFind asked) result does = find_called asked old new result does
   called_of (ToLookUp id) result does = look_up_called id old new result does
   called_of ToRecover result does = does.settles.called
@@ -122,7 +125,7 @@ module _ (old new : Ports) where
   -- what is done never ends with `Usage`
   pub is_used : (request : Request) → Does request old new (Err Usage) → ⊥
   is_used (ToFormat slots lists version) does = does.ends.0
-  is_used (ToIngest id) does = ingest_is_used id old new does
+  is_used (ToIngest id stamp) does = ingest_is_used id stamp old new does
   is_used (ToFind asked) does = find_is_used asked old new does
   is_used (ToLookUp id) does = look_up_is_used id old new does
   is_used ToRecover does = recover_is_used old new does.answer does.settles does.tells
@@ -136,8 +139,8 @@ module _ (old new : Ports) where
   pub completes : IsDevice old.device → IsDevice new.device → (request : Request) (result : Result Unit Refusal)
       → Does request old new result → IsUnhindered request old new → IsAnswered request result
   completes device device_new (ToFormat slots lists version) result does free = format_completes _ old new free result does
-  completes device device_new (ToIngest id) result does free =
-      ingest_completes id free.0 free.1 free.2 old new free.3 device device_new result does
+  completes device device_new (ToIngest id stamp) result does free =
+      ingest_completes id stamp free.0 free.1 free.2 old new free.3 device device_new result does
   completes device device_new (ToFind asked) result does free = find_completes asked free.0 old new free.1 device device_new
       result does
   completes device device_new (ToLookUp id) result does free = look_up_completes id free.0 old new free.1 device

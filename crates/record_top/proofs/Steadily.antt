@@ -205,7 +205,7 @@ module _ (old new : Ports) (device : IsDevice old.device) (device_new : IsDevice
     format_adds (layout_on old slots lists version) result refl does,
     leaves_formatted (layout_on old slots lists version) result refl does,
   )
-  leaves_whole (ToIngest id) result does = ingest_adds id old new device device_new begins result does
+  leaves_whole (ToIngest id stamp) result does = ingest_adds id stamp old new device device_new begins result does
   leaves_whole (ToFind asked) result does =
       (find_adds asked result does, find_held old new device device_new begins asked result does)
   leaves_whole (ToLookUp id) result does =

@@ -1,6 +1,6 @@
 -- Which commands there are: which words ask for each, what each does, and when nothing hinders it. A further command
 -- is one more case in each of these.
-use Rattle.std.specs.Prelude.{ℕ, List, Result, map}
+use Rattle.std.specs.Prelude.{ℕ, List, Option, Result, map}
 use Rattle.std.specs.String.{string_bytes}
 use Rattle.cell_types.specs.Layout.{Layout}
 use Rattle.cell_types.specs.declared.refusal.Refusal.{Refusal}
@@ -23,7 +23,7 @@ use Rattle.record_top.specs.declared.words.Command.TheVariants.{Audit, Check, Ex
 -- what may be asked for, with what is given
 pub data Request : Type 0 where
   ToFormat : (slots lists version : ℕ) → Request
-  ToIngest : (id : List ℕ) → Request
+  ToIngest : (id : List ℕ) (stamp : Option ℕ) → Request
   ToFind : (asked : List (List ℕ)) → Request
   ToLookUp : (id : List ℕ) → Request
   ToRecover : Request
@@ -36,7 +36,7 @@ pub data Request : Type 0 where
 -- the request that a command stands for
 abbrev pub request_of : Command → Request
 request_of (Format slots lists version) = ToFormat slots lists version
-request_of (Ingest id) = ToIngest id.now
+request_of (Ingest id stamp) = ToIngest id.now stamp
 request_of (Find asked) = ToFind (map string_bytes asked.now)
 request_of (LookUp id) = ToLookUp id.now
 request_of Recover = ToRecover
@@ -49,7 +49,7 @@ request_of (MakeReceipt id) = ToMakeReceipt id.now
 -- the words ask for this
 abbrev pub Asks : List (List ℕ) → Request → Type 0
 Asks words (ToFormat slots lists version) = AsksToFormat words slots lists version
-Asks words (ToIngest id) = AsksToIngest words id
+Asks words (ToIngest id stamp) = AsksToIngest words id stamp
 Asks words (ToFind asked) = AsksToFind words asked
 Asks words (ToLookUp id) = AsksToLookUp words id
 Asks words ToRecover = AsksToRecover words
@@ -75,7 +75,7 @@ layout_on ports slots lists version =
 -- this is done, and ends for a cause that is named
 abbrev pub Does : Request → Ports → Ports → Result Unit Refusal → Type 0
 Does (ToFormat slots lists version) old new result = DoesFormat (layout_on old slots lists version) old new result
-Does (ToIngest id) old new result = DoesIngest id old new result
+Does (ToIngest id stamp) old new result = DoesIngest id stamp old new result
 Does (ToFind asked) old new result = DoesFind asked old new result
 Does (ToLookUp id) old new result = DoesLookUp id old new result
 Does ToRecover old new result = DoesRecover old new result
@@ -88,8 +88,8 @@ Does (ToMakeReceipt id) old new result = DoesReceipt id old new result
 -- nothing hinders this
 abbrev pub IsUnhindered : Request → Ports → Ports → Type 0
 IsUnhindered (ToFormat slots lists version) old new = IsReadyToFormat (layout_on old slots lists version) old new
-IsUnhindered (ToIngest id) old new =
-    (body : List ℕ) × (g : Layout) × (slot : ℕ) × IsReadyToIngest id body g slot old new
+IsUnhindered (ToIngest id stamp) old new =
+    (body : List ℕ) × (g : Layout) × (slot : ℕ) × IsReadyToIngest id stamp body g slot old new
 IsUnhindered (ToFind asked) old new = (g : Layout) × IsReadyToFind asked g old new
 IsUnhindered (ToLookUp id) old new = (g : Layout) × IsReadyToLookUp id g old new
 IsUnhindered ToRecover old new = (g : Layout) × IsReadyToRecover g old new
@@ -104,7 +104,7 @@ IsUnhindered (ToMakeReceipt id) old new = (g : Layout) × IsReadyForReceipt id g
 -- an exercise it is only said which refusals are not its own.
 abbrev pub IsAnswered : Request → Result Unit Refusal → Type 0
 IsAnswered (ToFormat slots lists version) result = IsOkAlone result
-IsAnswered (ToIngest id) result = IsOkOrNoMemory result
+IsAnswered (ToIngest id stamp) result = IsOkOrNoMemory result
 IsAnswered (ToFind asked) result = IsOkOrNoMemory result
 IsAnswered (ToLookUp id) result = IsOkOrAbsent result
 IsAnswered ToRecover result = IsOkAlone result

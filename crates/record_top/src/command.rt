@@ -84,7 +84,7 @@ fn carry_out<D: Device, S: Source, K: Sink>(
             lists,
             version,
         } => format_device(slots, lists, version, device, source, sink),
-        Command::Ingest { id } => ingest_body(alloc, id, device, source, sink),
+        Command::Ingest { id, stamp } => ingest_body(alloc, id, stamp, device, source, sink),
         Command::Find { words } => find_documents(alloc, words, device, source, sink),
         Command::LookUp { id } => look_up_document(id, device, source, sink),
         Command::Recover => recover_device(device, source, sink),

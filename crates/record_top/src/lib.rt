@@ -17,6 +17,9 @@
 //! in memory of its own, searches, reads and audits it, and puts out what came of it. A `receipt` settles the volume first,
 //! and a `check` writes nothing at all; what the one has put out the other accepts from then on (`receipts_are_ready`).
 //!
+//! On a volume of stamped documents, as `format 8 2 3` makes it, an `ingest` is given the seconds of its stamp, which are past
+//! those of each document before, as in `ingest a 1000`; elsewhere it is given none.
+//!
 //! A `find` and a `receipt` make their text before the first byte goes out, and a `lookup` checks the document whole before
 //! that. What is taken from the source is at most as long as a body may be, and in a `check` as the text of a receipt.
 //! Whatever keeps a command from being done is a refusal that names its cause. And where nobody else writes, whatever a
