@@ -5,4 +5,3 @@ pub mod PathTrails
 pub mod Recorded
 pub mod SlotReceipts
 pub mod Unkept
-pub mod Whole

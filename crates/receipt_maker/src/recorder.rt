@@ -19,7 +19,7 @@ pub(crate) struct Recorder<'a, V: View> {
 impl<'a, V: View> Recorder<'a, V> {
     ghost use Rattle.std.specs.Prelude.{[]};
 
-    /// ListsRead in these cells, of which none is there yet, what is read through the view.
+    /// Lists in these cells, of which none is there yet, what is read through the view.
     pub fn new(view: &'a mut V, listed: &'a mut ListedCells) -> Recorder<'a, V>
         requires { listed.old ≡ [] }
         ensures view { result.view.now ≡ view.old }
