@@ -25,3 +25,4 @@ mod shown;
 
 pub use checking::{CheckRefusal, Checked, check_receipt};
 pub use laws::receipts_hold_on;
+pub use shown::ShownCells;

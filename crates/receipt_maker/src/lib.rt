@@ -31,7 +31,6 @@ mod looking;
 mod making;
 mod naming;
 mod recorder;
-mod shown;
 
 pub use laws::receipts_are_accepted;
 pub use making::make_receipt;
