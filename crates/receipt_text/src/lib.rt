@@ -17,8 +17,8 @@
 //! The reader cuts off a line at its newline, parses it loosely, prints again what it parsed and compares. So a plus, a
 //! leading zero and a capital digit are refused without a rule of their own.
 //!
-//! **Not claimed**: that the listed cells show anything. They are read and printed here, and judged by nobody. No
-//! command prints or takes receipts yet.
+//! **Not claimed**: that the listed cells show anything. They are read and printed here, and judged in
+//! `receipt_check`.
 //!
 //! Stands on `document_store` (`Text`, identifiers) and `hex`; of a device it needs no more than the number of cells.
 //! Begin with `reading.rt`; `specs/Form.antt` says what the form is.
