@@ -16,6 +16,9 @@ const VOLUME: [u8; 16] = [1, 1, 0, 0, 0, 8, 0, 2, 0, 0, 3, 0xe8, 0, 0, 0, 0];
 /// The same of the version whose words are folded.
 const FOLDED_VOLUME: [u8; 16] = [1, 2, 0, 0, 0, 8, 0, 2, 0, 0, 3, 0xe8, 0, 0, 0, 0];
 
+/// The same of the version whose documents are stamped.
+const STAMPED_VOLUME: [u8; 16] = [1, 3, 0, 0, 0, 8, 0, 2, 0, 0, 3, 0xe8, 0, 0, 0, 0];
+
 /// Slot 0 is done.
 const DONE: [u8; 16] = [5, 0, 0, 0, 0, 0, 0, 0, 0, 0, 0, 0, 0, 0, 0, 6];
 
@@ -74,6 +77,7 @@ fn format_writes_cell_0_alone(rt: HostRuntime) -> Result<(), Fail> {
         ("format|08|2", VOLUME),
         ("format|8|2|1", VOLUME),
         ("format|8|2|2", FOLDED_VOLUME),
+        ("format|8|2|3", STAMPED_VOLUME),
     ] {
         let mut device = blank(alloc, 1_000, 8)?;
         let (outcome, put) = outcome_of(alloc, words, &mut device, b"")?;
@@ -106,10 +110,15 @@ fn format_writes_cell_0_alone(rt: HostRuntime) -> Result<(), Fail> {
 #[test]
 fn a_volume_has_a_least_size(rt: HostRuntime) -> Result<(), Fail> {
     let alloc = rt.alloc();
-    for (cells, want) in [(580, Ok(())), (579, Err(Refusal::TooSmall))] {
+    for (words, cells, want) in [
+        ("format|8|2", 580, Ok(())),
+        ("format|8|2", 579, Err(Refusal::TooSmall)),
+        ("format|8|2|3", 836, Ok(())),
+        ("format|8|2|3", 835, Err(Refusal::TooSmall)),
+    ] {
         let mut device = blank(alloc, cells, 8)?;
-        let (outcome, _) = outcome_of(alloc, "format|8|2", &mut device, b"")?;
-        assert_eq!(rt; outcome, want, "{cells}");
+        let (outcome, _) = outcome_of(alloc, words, &mut device, b"")?;
+        assert_eq!(rt; outcome, want, "{words} on {cells}");
     }
     Ok(())
 }
@@ -157,9 +166,22 @@ fn words_that_are_no_command_are_usage(rt: HostRuntime) -> Result<(), Fail> {
     let mut device = formatted(alloc, 1_000, 64)?;
     for words in [
         "audit|a",
+        "check|a",
+        "receipt",
+        "receipt|",
+        "receipt|a|b",
+        "Check",
         "ingest",
         "",
         "ingest|a|b",
+        "ingest|a|",
+        "ingest|a|x",
+        "ingest|a|-5",
+        "ingest|a|+5",
+        "ingest|a|4294967296",
+        "ingest|a|00000000005",
+        "ingest|a|1|2",
+        "ingest|-a|5",
         "Ingest|a",
         "ingest|",
         "ingest|-a",
@@ -172,7 +194,7 @@ fn words_that_are_no_command_are_usage(rt: HostRuntime) -> Result<(), Fail> {
         "format|00000000008|2",
         "format|8",
         "format|8|2|0",
-        "format|8|2|3",
+        "format|8|2|4",
         "format|8|2|1|1",
         "format|-8|2",
         "format|+8|2",

@@ -73,7 +73,11 @@ const DIGEST_OF_A: [u128; 2] = [
 ];
 
 /// Whether the changes from this place on are these phases, each with a sync behind it, and no more.
-fn has_phases(device: &MemoryDevice, from: usize, phases: &[&[(u32, u128)]]) -> Result<bool, Fail> {
+pub fn has_phases(
+    device: &MemoryDevice,
+    from: usize,
+    phases: &[&[(u32, u128)]],
+) -> Result<bool, Fail> {
     let mut place = from;
     for phase in phases {
         for &(at, digits) in *phase {

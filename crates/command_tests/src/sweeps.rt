@@ -4,7 +4,7 @@ use cell_types::Refusal;
 use std::alloc::Global;
 use std::test::Fail;
 use test_volumes::{
-    State, begin, digits_at, holds, ingest, outcome_of, small_volume, state_of_slot, unsure,
+    State, begin, digits_at, formatted, holds, ingest, outcome_of, state_of_slot, unsure,
     volume_with,
 };
 use worm_device::Device;
@@ -16,12 +16,14 @@ const SLOTS: u32 = 40;
 /// How many subsets six cells have. No cut here leaves more than six that are not sure.
 const SUBSETS: u32 = 64;
 
-/// An ingest that is cut, on the new volume of 8 slots and 2 lists on 1,000 cells or behind another document.
+/// An ingest that is cut, on a new volume of 1,000 cells or behind another document, and the next one.
 #[derive(Clone, Copy)]
 struct Case {
+    volume: &'static str,
     before: Option<&'static str>,
     words: &'static str,
     body: &'static str,
+    next: &'static str,
     slot: u32,
     /// The cells of its document and its journal: from this one, and up to that.
     from: u32,
@@ -30,31 +32,47 @@ struct Case {
     syncs: [u32; 3],
 }
 
-/// A document of two words, and one whose identifier gets a node of its own, in the cells 582 to 613.
-const CASES: [Case; 2] = [
+/// A document of two words, one whose identifier gets a node of its own, in the cells 582 to 613, and one with a stamp,
+/// whose pool begins at cell 836.
+const CASES: [Case; 3] = [
     Case {
+        volume: "format|8|2",
         before: None,
         words: "ingest|a",
         body: "hello world",
+        next: "ingest|next",
         slot: 0,
         from: 580,
         to: 584,
         syncs: [3, 10, 14],
     },
     Case {
+        volume: "format|8|2",
         before: Some("ingest|b"),
         words: "ingest|e",
         body: "",
+        next: "ingest|next",
         slot: 1,
         from: 614,
         to: 617,
         syncs: [3, 9, 12],
     },
+    Case {
+        volume: "format|8|2|3",
+        before: None,
+        words: "ingest|a|1000",
+        body: "",
+        next: "ingest|next|1001",
+        slot: 0,
+        from: 836,
+        to: 839,
+        syncs: [3, 10, 13],
+    },
 ];
 
 /// The volume before the ingest.
 fn volume_before(alloc: Global, case: &Case) -> Result<MemoryDevice, Fail> {
-    let mut device = small_volume(alloc)?;
+    let mut device = formatted(alloc, 1_000, case.volume)?;
     begin(&mut device)?;
     if let Some(words) = case.before {
         let (outcome, _) = outcome_of(alloc, words, &mut device, b"")?;
@@ -97,9 +115,11 @@ fn honest_runs(alloc: Global, case: &Case) -> Result<Honest, Fail> {
     })
 }
 
-/// Whether the cells are as one of these runs leaves them. Of a document that was given up, any of its cells may stand.
+/// Whether the cells are as one of these runs leaves them. Of a document that was given up, any of its cells may stand, and
+/// its stamp.
 fn is_honest(device: &mut MemoryDevice, honest: &mut Honest, case: &Case) -> bool {
     let state = state_of_slot(device, case.slot);
+    let stamp = case.slot.saturating_mul(4).saturating_add(7);
     for at in 0..device.cells() {
         let found = digits_at(device, at);
         let done = digits_at(&mut honest.done, at);
@@ -108,6 +128,7 @@ fn is_honest(device: &mut MemoryDevice, honest: &mut Honest, case: &Case) -> boo
             State::Abandoned => {
                 found == digits_at(&mut honest.given_up, at)
                     || (case.from <= at && at < case.to && found == done)
+                    || (at == stamp && found == done)
             }
             State::Done => found == done,
             _ => false,
@@ -137,7 +158,7 @@ fn is_made_up_for(
         case.slot.saturating_add(1)
     };
     begin(device)?;
-    let (_, put) = outcome_of(alloc, "ingest|next", device, b"hello")?;
+    let (_, put) = outcome_of(alloc, case.next, device, b"hello")?;
     let text = format!(in alloc; "acknowledged {next}\n")?;
     Ok(put.as_slice() == text.as_bytes())
 }

@@ -1,7 +1,7 @@
 //! Cells as they stand on a volume of 8 slots and 2 lists on 1,000 cells with the document `a`,
 //! `hello world`, and a stamp; each rule on both sides of its edge; and the lines that programs print.
 use cell_types::{
-    Cell, Content, CopyRefusal, Evidence, Geometry, RecordCell, Refusal, address_of, content,
+    Cell, Content, CopyRefusal, Evidence, Geometry, RecordCell, Refusal, STAMPED_VERSION, address_of, content,
     content_of, decode, encode, is_well_formed,
 };
 use std::process::Abort;
@@ -104,10 +104,12 @@ fn each_rule_of_a_record_has_its_edge(rt: HostRuntime) {
         // the version, the geometry and the address of a volume cell
         (0, 0x01_00_00000008_0002_000003e8_00000000, false),
         (0, 0x01_02_00000008_0002_000003e8_00000000, true),
-        (0, 0x01_03_00000008_0002_000003e8_00000000, false),
+        (0, 0x01_03_00000008_0002_000003e8_00000000, true),
         (0, 0x01_04_00000008_0002_000003e8_00000000, false),
         (0, 0x01_01_00000008_0002_00000244_00000000, true),
         (0, 0x01_01_00000008_0002_00000243_00000000, false),
+        (0, 0x01_03_00000008_0002_00000344_00000000, true),
+        (0, 0x01_03_00000008_0002_00000343_00000000, false),
         // any stamp, and its seven zeros
         (7, 0x0a_ffffffff_00000000000000_00000007, true),
         (7, 0x0a_000003e8_00000000000001_00000007, false),
@@ -215,6 +217,27 @@ fn a_volume_has_its_parts_in_order(rt: HostRuntime) {
     assert_eq!(rt; geometry.root_at(), 548);
     assert_eq!(rt; geometry.pool_at(), 580);
     assert_eq!(rt; geometry.version(), 1);
+}
+
+#[test]
+fn a_volume_of_stamped_documents_has_a_time_list(rt: HostRuntime) {
+    for (slots, lists, cells, is_some) in [
+        (8, 2, 836, true),
+        (8, 2, 835, false),
+        (16_777_216, 4_096, 68_157_732, true),
+        (16_777_216, 4_096, 68_157_731, false),
+    ] {
+        let geometry = Geometry::new(slots, lists, cells, STAMPED_VERSION);
+        assert_eq!(rt; geometry.is_some(), is_some, "{slots} {lists} {cells}");
+    }
+    let geometry =
+        Geometry::new(8, 2, 1200, STAMPED_VERSION).expect(&rt, "the pool begins at cell 836");
+    assert_eq!(rt; geometry.list_at(0), 36);
+    assert_eq!(rt; geometry.list_at(1), 292);
+    assert_eq!(rt; geometry.root_at(), 548);
+    assert_eq!(rt; geometry.time_at(), 580);
+    assert_eq!(rt; geometry.pool_at(), 836);
+    assert_eq!(rt; geometry.version(), 3);
 }
 
 #[test]

@@ -18,12 +18,13 @@ use Rattle.record_top.specs.declared.body.BodyFault.{BodyFault}
 use Rattle.record_top.specs.declared.body.BodyFault.TheVariants as faults
 use Rattle.record_top.proofs.Pieces.{gives_nothing}
 use Rattle.stored_documents.specs.Documents.{Document, Stands}
+use Rattle.stored_documents.specs.Slots.{HasStamp, IsStampOf}
 use Rattle.index_paths.specs.Keeping.{Kept}
 use Rattle.index_paths.proofs.KeepingLaws.{kept_on}
-use Rattle.stored_documents.proofs.Extending.{stands_on}
+use Rattle.stored_documents.proofs.Extending.{holds_on, stands_on}
 use Rattle.worm_device.specs.Calls.{Called}
 use Rattle.worm_device.specs.State.{DeviceState, LeftSince}
-use Rattle.file_top.specs.Files.{Acknowledges, IsKeptIn, IsLedToIn, IsStored, KeepsAll, KeepsIn, WhereTold, file_ports}
+use Rattle.file_top.specs.Files.{Acknowledges, IsKeptIn, IsLedToIn, IsStampedIn, IsStored, KeepsAll, KeepsIn, WhereTold, file_ports}
 
 -- what a crash from now on leaves has what is sure
 left_now : (s : DeviceState) (image : Image) → LeftSince s s.moment image → Between s.sure s.image image
@@ -40,6 +41,18 @@ kept_told cells reads faults parts told seen n id body stands = record {
       let now = left_now (device_at cells reads faults parts (Some told)) (image_of cells bytes)
       (seen told told.moment bytes refl (inl leaves)) in
       stands_on now.above stands;
+}
+
+-- and so is a stamp
+stamp_told : (cells reads faults parts : ℕ) (told : Told)
+    → CrashesAreSeen (device_at cells reads faults parts (Some told)) (Some told) → (n seconds : ℕ)
+    → HasStamp (image_of cells told.now.sure) n seconds → IsStampedIn cells told n seconds
+stamp_told cells reads faults parts told seen n seconds has = record {
+  sure = has;
+  left = λ bytes leaves.
+      let now = left_now (device_at cells reads faults parts (Some told)) (image_of cells bytes)
+      (seen told told.moment bytes refl (inl leaves)) in
+      holds_on now.above has;
 }
 
 -- what the index leads to in the sure image it goes on leading to
@@ -78,24 +91,27 @@ stays b r f p cells reads faults parts (Some t) (Some u) called seen =
     keeps_all b cells reads faults parts t.now.sure u (sym called.cells) seen called.sure
 
 -- where the document was stored, it and each that stood is kept
-stored : (b r f p cells reads faults parts : ℕ) (old new : Option Told) (id body : List ℕ) (slot : ℕ)
-    (sink sink' : SinkState) (result : Result Unit Refusal)
-    → Called (device_at b r f p old) (device_at cells reads faults parts new)
+stored : (b r f p cells reads faults parts : ℕ) (old new : Option Told) (id : List ℕ) (stamp : Option ℕ)
+    (body : List ℕ) (slot : ℕ) (sink sink' : SinkState)
+    (result : Result Unit Refusal) → Called (device_at b r f p old) (device_at cells reads faults parts new)
     → CrashesAreSeen (device_at cells reads faults parts new) new
-    → (IsTrue (is_some old) → IsIngested id body slot (device_at b r f p old) (device_at cells reads faults parts new))
+    → (IsTrue (is_some old) → IsIngested id stamp body slot (device_at b r f p old)
+    (device_at cells reads faults parts new))
     → Acknowledges result slot sink sink'
     → WhereTold old new (λ before after.
-    IsStored cells id body before after sink sink' result × KeepsAll cells before.now.bytes after)
-stored b r f p cells reads faults parts None None id body slot sink sink' result called seen ingested named = tt
-stored b r f p cells reads faults parts None (Some u) id body slot sink sink' result called seen ingested named =
+    IsStored cells id stamp body before after sink sink' result × KeepsAll cells before.now.bytes after)
+stored b r f p cells reads faults parts None None id stamp body slot sink sink' result called seen ingested named = tt
+stored b r f p cells reads faults parts None (Some u) id stamp body slot sink sink' result called seen ingested named =
     one_tells called.tells
-stored b r f p cells reads faults parts (Some t) None id body slot sink sink' result called seen ingested named =
+stored b r f p cells reads faults parts (Some t) None id stamp body slot sink sink' result called seen ingested named =
     one_tells (sym called.tells)
-stored b r f p cells reads faults parts (Some t) (Some u) id body slot sink sink' result called seen ingested named =
+stored b r f p cells reads faults parts (Some t) (Some u) id stamp body slot sink sink' result called seen ingested named =
     let is = ingested refl in (
       record {
         slot = slot;
         kept = kept_told cells reads faults parts u seen slot id body is.document;
+        stamped = λ seconds given. stamp_told cells reads faults parts u seen slot seconds
+            (subst (λ (s : Option ℕ). IsStampOf is.layout (image_of cells u.now.sure) slot s) given is.stamped).1;
         led = λ documents before. led_told cells reads faults parts u seen
             (is.keeps documents (subst (λ (k : ℕ). Kept k (image_of k t.now.bytes) documents) called.cells before));
         named = named;
@@ -108,7 +124,7 @@ not_stored faults.TooLong h = h
 not_stored faults.SourceFailed h = h
 not_stored faults.NoMemory h = h
 
-module _ (b r f p cells reads faults parts : ℕ) (told told' : Option Told) (id : List ℕ)
+module _ (b r f p cells reads faults parts : ℕ) (told told' : Option Told) (id : List ℕ) (stamp : Option ℕ)
     (source source' : SourceState) (sink sink' : SinkState)
     (seen : CrashesAreSeen (device_at cells reads faults parts told') told') where
   abbrev device : DeviceState
@@ -118,26 +134,26 @@ module _ (b r f p cells reads faults parts : ℕ) (told told' : Option Told) (id
   later = device_at cells reads faults parts told'
 
   told_of : (result : Result Unit Refusal) (given : List ℕ) (answer : Result ℕ Refusal)
-      → Ingests id given device later answer
+      → Ingests id stamp given device later answer
       → Tells acknowledgement answer (ports_of device source sink) (ports_of later source' sink') result
       → HasStored result
       → WhereTold told told' (λ before after.
-      IsStored cells id given before after sink sink' result × KeepsAll cells before.now.bytes after)
+      IsStored cells id stamp given before after sink sink' result × KeepsAll cells before.now.bytes after)
   told_of (Ok u) given (Ok slot) ingests tells has =
-      stored b r f p cells reads faults parts told told' id given slot sink sink' (Ok u) ingests.called seen
+      stored b r f p cells reads faults parts told told' id stamp given slot sink sink' (Ok u) ingests.called seen
       ingests.ends tells
   told_of (Ok u) given (Err refused) ingests tells has = absurd tells
   told_of (Err SinkFault) given (Ok slot) ingests tells has =
-      stored b r f p cells reads faults parts told told' id given slot sink sink' (Err SinkFault) ingests.called
+      stored b r f p cells reads faults parts told told' id stamp given slot sink sink' (Err SinkFault) ingests.called
       seen ingests.ends tt
   told_of (Err SinkFault) given (Err refused) ingests tells has =
-      absurd (subst (λ (refusal : Refusal). IngestEnds id given device later (Err refusal)) (sym tells.0) ingests.ends)
+      absurd (subst (λ (refusal : Refusal). IngestEnds id stamp given device later (Err refusal)) (sym tells.0) ingests.ends)
   told_of (Err refusal) given answer ingests tells has = absurd has
 
   -- where `ingest` has stored its document
   pub keeps : (result : Result Unit Refusal)
-      → DoesIngest id (ports_of device source sink) (ports_of later source' sink') result
-      → KeepsIn cells id (file_ports told source sink) (file_ports told' source' sink') result
+      → DoesIngest id stamp (ports_of device source sink) (ports_of later source' sink') result
+      → KeepsIn cells id stamp (file_ports told source sink) (file_ports told' source' sink') result
   keeps result (misnamed bad is same) = record {
     given = [];
     gives = subst (λ (s : Ports). Gives source.left s.source.left []) (sym same) (gives_nothing source.left);

@@ -1,5 +1,5 @@
 -- What a command does to the bytes of a file.
-use Rattle.std.specs.Prelude.{ℕ, List, [], ◌∷◌, ◌++◌, Option, Some, None, Result, Ok, Err, ⊤}
+use Rattle.std.specs.Prelude.{◌≡◌, ℕ, List, [], ◌∷◌, ◌++◌, Option, Some, None, Result, Ok, Err, ⊤}
 use Rattle.cell_types.specs.declared.refusal.Refusal.{Refusal}
 use Rattle.host_files.specs.Cells.{image_of}
 use Rattle.host_files.specs.Crashes.{CrashLeaves}
@@ -8,6 +8,7 @@ use Rattle.host_ports.specs.Sinks.{SinkState, Gets}
 use Rattle.host_ports.specs.Sources.{SourceState, Gives}
 use Rattle.record_top.specs.Ingesting.{HasStored, acknowledgement}
 use Rattle.stored_documents.specs.Documents.{Document, Stands}
+use Rattle.stored_documents.specs.Slots.{HasStamp}
 use Rattle.index_paths.specs.Keeping.{Kept}
 use Rattle.ingest_engine.specs.Ingesting.{document_in}
 
@@ -35,6 +36,11 @@ pub record IsKeptIn (cells : ℕ) (told : Told) (n : ℕ) (id body : List ℕ) :
   pub sure : Stands cells (image_of cells told.now.sure) n id body
   pub left : (bytes : List ℕ) → CrashLeaves told.now bytes → Stands cells (image_of cells bytes) n id body
 
+-- Slot n has this stamp in the bytes that no crash takes, and in each file that a crash leaves from now on.
+pub record IsStampedIn (cells : ℕ) (told : Told) (n seconds : ℕ) : Type 0 where
+  pub sure : HasStamp (image_of cells told.now.sure) n seconds
+  pub left : (bytes : List ℕ) → CrashLeaves told.now bytes → HasStamp (image_of cells bytes) n seconds
+
 -- each document of the volume that these bytes are is kept
 abbrev pub KeepsAll : ℕ → List ℕ → Told → Type 0
 KeepsAll cells bytes told =
@@ -50,20 +56,23 @@ pub record IsLedToIn (cells : ℕ) (told : Told) (documents : List Document) : T
   pub sure : Kept cells (image_of cells told.now.sure) documents
   pub left : (bytes : List ℕ) → CrashLeaves told.now bytes → Kept cells (image_of cells bytes) documents
 
--- The document is kept in a slot, which was acknowledged at Ok. The index leads to it, and to each document to which it
--- led in the bytes before.
-pub record IsStored (cells : ℕ) (id body : List ℕ) (before after : Told) (old new : SinkState)
-    (result : Result Unit Refusal) : Type 0 where
+-- The document is kept in a slot, which was acknowledged at Ok, and so is its stamp, if one was given. The index leads to
+-- it, and to each document to which it led in the bytes before.
+pub record IsStored (cells : ℕ) (id : List ℕ) (stamp : Option ℕ) (body : List ℕ) (before after : Told)
+    (old new : SinkState) (result : Result Unit Refusal) : Type 0 where
   pub slot : ℕ
   pub kept : IsKeptIn cells after slot id body
+  pub stamped : (seconds : ℕ) → stamp ≡ Some seconds → IsStampedIn cells after slot seconds
   pub led : (documents : List Document) → Kept cells (image_of cells before.now.bytes) documents
       → IsLedToIn cells after (documents ++ document_in slot id body ∷ [])
   pub named : Acknowledges result slot old new
 
 -- Where `ingest` of an identifier has stored its document over a file that tells its bytes, the file keeps the
--- document, whose body is what the source gave, and each document of the volume that the file was at entry.
-pub record KeepsIn (cells : ℕ) (id : List ℕ) (old new : FilePorts) (result : Result Unit Refusal) : Type 0 where
+-- document with its stamp, whose body is what the source gave, and each document of the volume that the file was at
+-- entry.
+pub record KeepsIn (cells : ℕ) (id : List ℕ) (stamp : Option ℕ) (old new : FilePorts) (result : Result Unit Refusal)
+    : Type 0 where
   pub given : List ℕ
   pub gives : Gives old.source.left new.source.left given
   pub kept : HasStored result → WhereTold old.told new.told (λ before after.
-      IsStored cells id given before after old.sink new.sink result × KeepsAll cells before.now.bytes after)
+      IsStored cells id stamp given before after old.sink new.sink result × KeepsAll cells before.now.bytes after)

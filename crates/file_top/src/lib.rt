@@ -15,7 +15,7 @@
 //! Stands on `record_top` and `host_files`. Begin with `run_over_file`; `specs/Files.antt` says what is kept.
 #![tactic(auto)]
 
-ghost use Rattle.std.specs.Prelude.{◌≡◌, ◌↔◌, ℕ, List, map};
+ghost use Rattle.std.specs.Prelude.{◌≡◌, ◌↔◌, ℕ, List, Option, map};
 ghost use Rattle.std.specs.String.{string_bytes};
 ghost use Rattle.file_top.specs.Files.{KeepsAll, KeepsIn, WhereTold, file_ports};
 ghost use Rattle.host_files.specs.Crashes.{CrashesAreSeen};
@@ -60,9 +60,10 @@ pub fn run_over_file<F: HostFile, S: Source, K: Sink>(
         (ports_of (state_over device.old) (S.state source.old) (K.state sink.old))
         (ports_of (state_over device.new) (S.state source.new) (K.state sink.new)) result }
 
-    // Where `ingest` has stored its document, which it has at Ok, the file keeps it, and each that stood at entry.
-    ensures keeps { (id : List ℕ) → AsksToIngest (map string_bytes words.now) id →
-        KeepsIn (state_over device.new).cells id
+    // Where `ingest` has stored its document, which it has at Ok, the file keeps it with its stamp, and each that stood at
+    // entry.
+    ensures keeps { (id : List ℕ) (stamp : Option ℕ) → AsksToIngest (map string_bytes words.now) id stamp →
+        KeepsIn (state_over device.new).cells id stamp
         (file_ports (file_below device.old).told (S.state source.old) (K.state sink.old))
         (file_ports (file_below device.new).told (S.state source.new) (K.state sink.new)) result }
     // Whatever the words are, and however it ends, the file keeps each document of the bytes that no crash could take

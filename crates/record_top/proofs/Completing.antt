@@ -5,7 +5,7 @@ use Rattle.cell_types.specs.Layout.{Layout}
 use Rattle.cell_types.specs.declared.refusal.Refusal.{Refusal}
 use Rattle.cell_types.specs.declared.refusal.Refusal.TheVariants as refusals
 use Rattle.host_ports.specs.Sources.{Gives, IsAtEnd}
-use Rattle.stored_documents.specs.Documents.{IsBody}
+use Rattle.stored_documents.specs.declared.limits.TheConstants.{MAX_BODY_BYTES}
 use Rattle.worm_device.specs.Calls.{Called}
 use Rattle.worm_device.specs.Counts.{IsStill}
 use Rattle.worm_device.specs.State.{IsDevice}
@@ -22,7 +22,6 @@ use Rattle.record_top.specs.Taking.{BodyFails, refusal_of_body_fault}
 use Rattle.record_top.specs.declared.body.BodyFault.{BodyFault}
 use Rattle.record_top.specs.declared.body.BodyFault.TheVariants as faults
 use Rattle.command_laws.proofs.Alarms.{settling_alarms}
-use Rattle.command_laws.specs.Completing.{HasPlaceFor}
 use Rattle.command_laws.proofs.Completing.{formats_whole, ingests_whole}
 use Rattle.command_laws.proofs.WholeLogs.{settles_whole}
 
@@ -44,14 +43,14 @@ gives_all left body given new e gives end = all new (subst (λ (l : Option (List
     all None h at_end = absurd h
     all (Some rest) h at_end = sym (append-nil given) ∙ ap (λ (r : List ℕ). given ++ r) (sym at_end) ∙ sym h
 
-module _ (body : List ℕ) (old new : Ports) (holds : old.source.left ≡ Some body) (is_body : IsBody body)
+module _ (limit : ℕ) (body : List ℕ) (old new : Ports) (holds : old.source.left ≡ Some body) (most : length body ≤ limit)
     (no_fault : IsStill old.source.faults new.source.faults) where
-  -- a source that holds a body, and none of whose calls fails, gives it
+  -- a source that holds no more than is taken, and none of whose calls fails, gives it
   pub body_taken : (given : List ℕ) (fault : BodyFault) → Gives old.source.left new.source.left given
-      → BodyFails given old.source new.source fault → IsOkOrNoMemory (Err (refusal_of_body_fault fault))
+      → BodyFails limit given old.source new.source fault → IsOkOrNoMemory (Err (refusal_of_body_fault fault))
   body_taken given faults.TooLong gives fails =
       let within = gives_within old.source.left body given new.source.left holds gives in
-      omega (arith, within, is_body.most, fails)
+      omega (arith, within, most, fails)
   body_taken given faults.SourceFailed gives fails = rose_or_still _ _ fails.1 no_fault
   body_taken given faults.NoMemory gives fails = tt
 
@@ -67,45 +66,33 @@ module _ (g : Layout) (old new : Ports) (ready : IsReadyToRecover g old new) (de
   recover_completes (Err refusals.SinkFault) (Ok r) settles tells = rose_or_still _ _ tells.faults ready.no_sink_fault
   recover_completes (Err refusal) (Ok r) settles tells = absurd tells
 
--- what the device has to give for it
-place_for : {id body : List ℕ} {g : Layout} {slot : ℕ} {old new : Ports} → IsReadyToIngest id body g slot old new
-    → HasPlaceFor id body g slot old.device
-place_for ready = record {
-  volume = ready.volume;
-  sound = ready.sound;
-  unused = ready.unused;
-  fresh = ready.fresh;
-  path = ready.path;
-  postings = ready.postings;
-  room = ready.room;
-}
-
-module _ {id body : List ℕ} {g : Layout} {slot : ℕ} {old new : Ports} (ready : IsReadyToIngest id body g slot old new)
-    (device : IsDevice old.device) (device_new : IsDevice new.device) where
+module _ {id : List ℕ} {stamp : Option ℕ} {body : List ℕ} {g : Layout} {slot : ℕ} {old new : Ports}
+    (ready : IsReadyToIngest id stamp body g slot old new) (device : IsDevice old.device)
+    (device_new : IsDevice new.device) where
   ends_told : (result : Result Unit Refusal) (answer : Result ℕ Refusal) → Called old.device new.device
-      → IngestEnds id body old.device new.device answer → Tells acknowledgement answer old new result
+      → IngestEnds id stamp body old.device new.device answer → Tells acknowledgement answer old new result
       → IsOkOrNoMemory result
   ends_told (Ok u) answer called ends tells = tt
   ends_told (Err refusal) (Err refused) called ends tells =
       subst (λ (r : Refusal). IsOkOrNoMemory (Err r)) (sym tells.0)
-      (subst (λ (r : Refusal). IsOkOrNoMemory (Err r)) (sym (ingests_whole ready.begins (place_for ready) device device_new called
-      ready.no_device_fault refused ends)) tt)
+      (subst (λ (r : Refusal). IsOkOrNoMemory (Err r)) (sym (ingests_whole ready.begins ready.place device device_new
+      called ready.no_device_fault refused ends)) tt)
   ends_told (Err refusals.SinkFault) (Ok n) called ends tells = rose_or_still _ _ tells.faults ready.no_sink_fault
   ends_told (Err refusal) (Ok n) called ends tells = absurd tells
 
-module _ (id body : List ℕ) (g : Layout) (slot : ℕ) (old new : Ports)
-    (ready : IsReadyToIngest id body g slot old new) (device : IsDevice old.device) (device_new : IsDevice new.device)
+module _ (id : List ℕ) (stamp : Option ℕ) (body : List ℕ) (g : Layout) (slot : ℕ) (old new : Ports)
+    (ready : IsReadyToIngest id stamp body g slot old new) (device : IsDevice old.device) (device_new : IsDevice new.device)
   where
     -- the answer is Ok, or want of memory
-    pub ingest_completes : (result : Result Unit Refusal) → DoesIngest id old new result → IsOkOrNoMemory result
+    pub ingest_completes : (result : Result Unit Refusal) → DoesIngest id stamp old new result → IsOkOrNoMemory result
     ingest_completes result (misnamed bad is same) = absurd (bad ready.identifier)
     ingest_completes result (untaken given fault name gives fails is same keeps) =
         subst IsOkOrNoMemory (sym is)
-        (body_taken body old new ready.source ready.is_body ready.no_source_fault given fault gives fails)
+        (body_taken MAX_BODY_BYTES body old new ready.source ready.is_body.most ready.no_source_fault given fault gives fails)
     ingest_completes result (taken given answer name is gives end ingests tells) =
         let all = gives_all old.source.left body given new.source.left ready.source gives end in
         ends_told ready device device_new result answer ingests.called
-        (subst (λ (b : List ℕ). IngestEnds id b old.device new.device answer) all ingests.ends) tells
+        (subst (λ (b : List ℕ). IngestEnds id stamp b old.device new.device answer) all ingests.ends) tells
 
 module _ (g : Layout) (old new : Ports) (ready : IsReadyToFormat g old new) where
   not_refused : (refusal : Refusal) → FormatEnds g old.device new.device (Err refusal) → ⊥

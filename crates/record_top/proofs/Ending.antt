@@ -1,5 +1,5 @@
 -- How an ingest and a settling end: over what every call of the device keeps, and never with `Usage`.
-use Rattle.std.proofs.Common.{◌≡◌, ℕ, List, Result, Ok, Err, refl, subst, sym, ap}
+use Rattle.std.proofs.Common.{◌≡◌, ℕ, List, Option, Result, Ok, Err, refl, subst, sym, ap}
 use Rattle.cell_types.specs.declared.refusal.Refusal.{Refusal}
 use Rattle.cell_types.specs.declared.refusal.Refusal.TheVariants.{Usage, BadIdentifier}
 use Rattle.worm_device.specs.Calls.{Called}
@@ -39,9 +39,9 @@ module _ (old new : Ports) where
       → Tells recovered answer old new (Err Usage) → ⊥
   recover_is_used answer s tells = told recovered answer old new (settling_is_used answer s) tells
 
-module _ (id : List ℕ) (old new : Ports) where
+module _ (id : List ℕ) (stamp : Option ℕ) (old new : Ports) where
   -- an ingest keeps what every call of the device keeps
-  pub ingest_called : (result : Result Unit Refusal) → DoesIngest id old new result → Called old.device new.device
+  pub ingest_called : (result : Result Unit Refusal) → DoesIngest id stamp old new result → Called old.device new.device
   ingest_called result (misnamed bad is same) =
       subst (λ (p : Ports). Called old.device p.device) (sym same) (called_self old.device)
   ingest_called result (untaken given fault name gives fails is same keeps) =
@@ -49,11 +49,11 @@ module _ (id : List ℕ) (old new : Ports) where
   ingest_called result (taken body answer name is gives end ingests tells) = ingests.called
 
   -- and never ends with `Usage`
-  pub ingest_is_used : DoesIngest id old new (Err Usage) → ⊥
+  pub ingest_is_used : DoesIngest id stamp old new (Err Usage) → ⊥
   ingest_is_used (misnamed bad is same) = no_name (one_refusal (Err Usage) Usage BadIdentifier refl is)
   ingest_is_used (untaken given fault name gives fails is same keeps) =
       no_fault fault (one_refusal (Err Usage) Usage (refusal_of_body_fault fault) refl is)
   ingest_is_used (taken body answer name is gives end ingests tells) = told acknowledgement answer old new
       (λ (e : answer ≡ Err Usage).
-      subst (λ (r : Result ℕ Refusal). IngestEnds id body old.device new.device r) e ingests.ends)
+      subst (λ (r : Result ℕ Refusal). IngestEnds id stamp body old.device new.device r) e ingests.ends)
       tells

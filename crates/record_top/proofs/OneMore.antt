@@ -1,5 +1,5 @@
 -- What a crash leaves of an ingest, from a steady device on, where nobody else writes; and what it ends with.
-use Rattle.std.proofs.Common.{None, ◌≡◌, ℕ, List, [], Result, Ok, Err, sym, ap, ◌∙◌, subst}
+use Rattle.std.proofs.Common.{◌≡◌, ℕ, List, [], Option, Result, Ok, Err, sym, ap, ◌∙◌, subst}
 use Rattle.cell_types.specs.Image.{Image}
 use Rattle.cell_types.specs.Layout.{Layout}
 use Rattle.cell_types.specs.declared.refusal.Evidence.{Evidence}
@@ -36,13 +36,14 @@ use Rattle.command_laws.proofs.Results.{other_refusal}
 abbrev refuses : Refusal → Result Unit Refusal
 refuses refusal = Err refusal
 
-module _ (id body : List ℕ) (need free : ℕ) (old new : DeviceState) (device : IsDevice old) (device_new : IsDevice new)
-    (begins : BeginsSteady old new) (h : HasNoRoom id body need free old new) where
+module _ (id : List ℕ) (stamp : Option ℕ) (body : List ℕ) (need free : ℕ) (old new : DeviceState)
+    (device : IsDevice old) (device_new : IsDevice new) (begins : BeginsSteady old new)
+    (h : HasNoRoom id stamp body need free old new) where
   abbrev g : Layout
   g = h.ready.volume.geometry
 
   -- the need is that of what settling makes of the volume
-  pub exactly : IsExactlyTooMany id body need free old
+  pub exactly : IsExactlyTooMany id stamp body need free old
   exactly =
       let has = h.settled.settled in
       let was = planned.was_sound old new h.ready begins.tells has begins.alone device device_new begins.steady in
@@ -55,21 +56,21 @@ module _ (id body : List ℕ) (need free : ℕ) (old new : DeviceState) (device 
             (subst (λ (i : Image). IsVolume new.cells i g) ended.image (volume_2 h.ready has begins.tells));
         slot = h.ready.horizon;
         horizon = subst (λ (i : Image). IsHorizon g i i h.ready.horizon) ended.image
-            (planned.horizon_now old new h.ready begins.tells has begins.alone device device_new begins.steady id body
-            h.index h.settled.slot h.has);
+            (planned.horizon_now old new h.ready begins.tells has begins.alone device device_new begins.steady id stamp body
+            h.settled.takes h.index h.settled.slot h.has);
         edge = h.ready.edge;
         is_edge = subst (λ (i : Image). IsEdge g i i h.ready.edge) ended.image
-            (planned.edge_now old new h.ready begins.tells has begins.alone device device_new begins.steady id body
-            h.index h.settled.slot h.has);
-        need_is = subst (λ (i : Image). IsNeed g i h.ready.horizon id body None need) ended.image
-            (subst (λ (n : ℕ). IsNeed g new.image h.ready.horizon id body None n) (sym h.need_is)
-            (planned.need old new h.ready begins.tells has begins.alone device device_new begins.steady id body h.index
-            h.settled.slot h.has));
+            (planned.edge_now old new h.ready begins.tells has begins.alone device device_new begins.steady id stamp body
+            h.settled.takes h.index h.settled.slot h.has);
+        need_is = subst (λ (i : Image). IsNeed g i h.ready.horizon id body stamp need) ended.image
+            (subst (λ (n : ℕ). IsNeed g new.image h.ready.horizon id body stamp n) (sym h.need_is)
+            (planned.need old new h.ready begins.tells has begins.alone device device_new begins.steady id stamp body
+            h.settled.takes h.index h.settled.slot h.has));
         free_is = h.free_is;
         less = h.less;
       }
 
-module _ (id : List ℕ) (old new : Ports) (device : IsDevice old.device) (device_new : IsDevice new.device)
+module _ (id : List ℕ) (stamp : Option ℕ) (old new : Ports) (device : IsDevice old.device) (device_new : IsDevice new.device)
     (begins : BeginsSteady old.device new.device) where
   -- no body is taken
   not_taken : (given : List ℕ) (fault : BodyFault) (result : Result Unit Refusal)
@@ -96,50 +97,51 @@ module _ (id : List ℕ) (old new : Ports) (device : IsDevice old.device) (devic
 
   module _ (body : List ℕ) where
     -- the document is stored where the engine has stored it
-    stored_adds : (answer : Result ℕ Refusal) (result : Result Unit Refusal) → Ingests id body old.device new.device answer
+    stored_adds : (answer : Result ℕ Refusal) (result : Result Unit Refusal)
+        → Ingests id stamp body old.device new.device answer
         → Tells acknowledgement answer old new result → HasStored result
         → (n : ℕ) × HasOneMore id body n old.device new.device × Tells acknowledgement (Ok n) old new result
     stored_adds (Ok n) result ingests tells has = (
       n,
-      comes_more id body old.device new.device n device device_new begins.tells begins.alone begins.steady
+      comes_more id stamp body old.device new.device n device device_new begins.tells begins.alone begins.steady
           (ingests.ends begins.tells) ingests.comes,
       tells,
     )
     stored_adds (Err refused) (Ok u) ingests tells has = absurd tells
     stored_adds (Err refused) (Err refusals.SinkFault) ingests tells has = absurd
-        (subst (λ (r : Refusal). IngestEnds id body old.device new.device (Err r)) (sym tells.0) ingests.ends)
+        (subst (λ (r : Refusal). IngestEnds id stamp body old.device new.device (Err r)) (sym tells.0) ingests.ends)
     stored_adds (Err refused) (Err refusal) ingests tells has = absurd has
 
     -- and what it has named, the command names
-    named_alarms : (answer : Result ℕ Refusal) (e : Evidence) → Ingests id body old.device new.device answer
+    named_alarms : (answer : Result ℕ Refusal) (e : Evidence) → Ingests id stamp body old.device new.device answer
         → Tells acknowledgement answer old new (Err (refusals.Tampered e)) → ⊥
     named_alarms (Ok n) e ingests tells = tells
     named_alarms (Err refused) e ingests tells =
         none_named old.device new.device e device device_new begins.tells begins.alone begins.steady
-        ((subst (λ (r : Refusal). IngestEnds id body old.device new.device (Err r)) (sym tells.0) ingests.ends)
+        ((subst (λ (r : Refusal). IngestEnds id stamp body old.device new.device (Err r)) (sym tells.0) ingests.ends)
         begins.tells)
 
-    full_needs : (answer : Result ℕ Refusal) (need free : ℕ) → Ingests id body old.device new.device answer
+    full_needs : (answer : Result ℕ Refusal) (need free : ℕ) → Ingests id stamp body old.device new.device answer
         → Tells acknowledgement answer old new (Err (refusals.Full need free))
-        → IsExactlyTooMany id body need free old.device
+        → IsExactlyTooMany id stamp body need free old.device
     full_needs (Ok n) need free ingests tells = absurd tells
-    full_needs (Err refused) need free ingests tells = exactly id body need free old.device new.device device device_new
-        begins (subst (λ (r : Refusal). IngestEnds id body old.device new.device (Err r)) (sym tells.0) ingests.ends)
+    full_needs (Err refused) need free ingests tells = exactly id stamp body need free old.device new.device device
+        device_new begins (subst (λ (r : Refusal). IngestEnds id stamp body old.device new.device (Err r)) (sym tells.0) ingests.ends)
 
     refused_holds : (answer : Result ℕ Refusal) (result : Result Unit Refusal)
-        → Ingests id body old.device new.device answer → Tells acknowledgement answer old new result
+        → Ingests id stamp body old.device new.device answer → Tells acknowledgement answer old new result
         → HasRefused result → (documents : List Document)
         → Held old.device.cells old.device.image documents → Held new.device.cells new.device.image documents
     refused_holds answer (Ok u) ingests tells has documents held = absurd has
     refused_holds (Ok n) (Err refusals.SinkFault) ingests tells has documents held = absurd has
     refused_holds (Ok n) (Err refusal) ingests tells has documents held = absurd tells
     refused_holds (Err refused) (Err refusal) ingests tells has documents held =
-        refused_keeps id body old.device new.device ingests.called device device_new begins.tells begins.alone
+        refused_keeps id stamp body old.device new.device ingests.called device device_new begins.tells begins.alone
         begins.steady documents held refused
         (λ fault. subst HasRefused (ap refuses (tells.0 ∙ fault)) has) ingests.comes ingests.ends
 
   -- whatever it answers
-  pub ingest_adds : (result : Result Unit Refusal) → DoesIngest id old new result → AddsOne id old new result
+  pub ingest_adds : (result : Result Unit Refusal) → DoesIngest id stamp old new result → AddsOne id stamp old new result
   ingest_adds result (misnamed bad is same) = record {
     body = [];
     gives = subst (λ (p : Ports). Gives old.source.left p.source.left []) (sym same) (gives_nothing old.source.left);
@@ -162,7 +164,7 @@ module _ (id : List ℕ) (old new : Ports) (device : IsDevice old.device) (devic
   ingest_adds result (taken given answer name is gives end ingests tells) = record {
     body = given;
     gives = gives;
-    stays = comes_steady id given old.device new.device device device_new begins.tells begins.alone begins.steady
+    stays = comes_steady id stamp given old.device new.device device device_new begins.tells begins.alone begins.steady
         ingests.comes;
     no_alarm = λ e named. named_alarms given answer e ingests
         (subst (λ (r : Result Unit Refusal). Tells acknowledgement answer old new r) named tells);

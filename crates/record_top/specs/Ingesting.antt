@@ -1,48 +1,57 @@
--- The command `ingest`: it stores the body that the source gives in the first free slot, and acknowledges it.
-use Rattle.std.specs.Prelude.{None, ◌≡◌, ◌≤◌, ◌+◌, ℕ, List, [], ◌∷◌, codes, Some, Result, Ok, Err, ⊤}
+-- The command `ingest`: it stores the body that the source gives in the first free slot, with a stamp where documents
+-- have one, and acknowledges it.
+use Rattle.std.specs.Prelude.{◌≡◌, ℕ, List, [], ◌∷◌, codes, Option, Some, None, Result, Ok, Err, ⊤}
 use Rattle.cell_types.specs.Layout.{Layout}
 use Rattle.cell_types.specs.declared.refusal.Refusal.{Refusal}
 use Rattle.cell_types.specs.declared.refusal.Refusal.TheVariants.{BadIdentifier, DeviceFault, SinkFault}
 use Rattle.host_ports.specs.Sources.{Gives, IsAtEnd}
-use Rattle.stored_documents.specs.Documents.{IsBody, IsIdentifier, Stands}
-use Rattle.stored_documents.specs.Slots.{IsEdge, IsHorizon, IsUnused}
-use Rattle.stored_documents.specs.Volumes.{IsVolume}
-use Rattle.index_paths.specs.Postings.{HasPostings}
-use Rattle.tamper_rules.specs.Settling.{Sound}
-use Rattle.ingest_laws.specs.Needs.{IsNeed}
+use Rattle.stored_documents.specs.Documents.{IsBody, IsIdentifier}
+use Rattle.stored_documents.specs.declared.limits.TheConstants.{MAX_BODY_BYTES}
 use Rattle.worm_device.specs.Counts.{IsStill}
-use Rattle.identifier_lookup.specs.Walks.{IsPassedWhole}
 use Rattle.ingest_engine.specs.Ingesting.{Ingests}
 use Rattle.command_laws.specs.Begins.{BeginsSteady}
+use Rattle.command_laws.specs.Completing.{HasPlaceFor}
 use Rattle.record_top.specs.Ports.{Ports, KeepsSink, Tells}
 use Rattle.record_top.specs.Recovering.{slot_line}
 use Rattle.record_top.specs.Taking.{BodyFails, refusal_of_body_fault}
-use Rattle.record_top.specs.Words.{IsNoOption}
+use Rattle.record_top.specs.Words.{AreSeconds, IsNoOption}
 use Rattle.record_top.specs.declared.body.BodyFault.{BodyFault}
 
 -- the words are `ingest` and this one
-pub record AsksToIngest (words : List (List ℕ)) (id : List ℕ) : Type 0 where
+pub record AsksWithoutStamp (words : List (List ℕ)) (id : List ℕ) : Type 0 where
   pub asked : words ≡ codes "ingest" ∷ id ∷ []
   pub word : IsNoOption id
+
+-- the words are `ingest`, this one, and these seconds
+pub record AsksWithStamp (words : List (List ℕ)) (id : List ℕ) (seconds : ℕ) : Type 0 where
+  pub last : List ℕ
+  pub asked : words ≡ codes "ingest" ∷ id ∷ last ∷ []
+  pub word : IsNoOption id
+  pub seconds_word : AreSeconds last seconds
+
+-- the words ask for a document of this name, and with this stamp, if they state one
+abbrev pub AsksToIngest : List (List ℕ) → List ℕ → Option ℕ → Type 0
+AsksToIngest words id None = AsksWithoutStamp words id
+AsksToIngest words id (Some seconds) = AsksWithStamp words id seconds
 
 -- the text that acknowledges a document in this slot
 abbrev pub acknowledgement : ℕ → List ℕ
 acknowledgement slot = slot_line (codes "acknowledged ") slot (codes "\n")
 
 -- What the command does, by how far it comes.
-pub data DoesIngest (id : List ℕ) (old new : Ports) (result : Result Unit Refusal) : Type 0 where
+pub data DoesIngest (id : List ℕ) (stamp : Option ℕ) (old new : Ports) (result : Result Unit Refusal) : Type 0 where
   -- the word is no identifier, and nothing is done
-  misnamed : (IsIdentifier id → ⊥) → result ≡ Err BadIdentifier → new ≡ old → DoesIngest id old new result
+  misnamed : (IsIdentifier id → ⊥) → result ≡ Err BadIdentifier → new ≡ old → DoesIngest id stamp old new result
   -- no body is taken, and nothing is done with the device and the sink
   untaken : (given : List ℕ) (fault : BodyFault) → IsIdentifier id → Gives old.source.left new.source.left given
-      → BodyFails given old.source new.source fault → result ≡ Err (refusal_of_body_fault fault)
-      → new.device ≡ old.device → KeepsSink old new → DoesIngest id old new result
-  -- The body is what the source gives up to its end. It is stored, or that is ended, as the engine says, and its
-  -- answer is told.
+      → BodyFails MAX_BODY_BYTES given old.source new.source fault → result ≡ Err (refusal_of_body_fault fault)
+      → new.device ≡ old.device → KeepsSink old new → DoesIngest id stamp old new result
+  -- The body is what the source gives up to its end. It is stored with the stamp, or that is ended, as the engine says,
+  -- and its answer is told.
   taken : (body : List ℕ) (answer : Result ℕ Refusal) → IsIdentifier id → IsBody body
       → Gives old.source.left new.source.left body → IsAtEnd new.source.left
-      → Ingests id body old.device new.device answer → Tells acknowledgement answer old new result
-      → DoesIngest id old new result
+      → Ingests id stamp body old.device new.device answer → Tells acknowledgement answer old new result
+      → DoesIngest id stamp old new result
 
 -- the document is stored: it was acknowledged, or the sink failed then
 abbrev pub HasStored : Result Unit Refusal → Type 0
@@ -58,22 +67,15 @@ HasRefused (Err DeviceFault) = ⊥
 HasRefused (Err refusal) = ⊤
 
 -- All is as the command wants it. Whatever a crash leaves of the device at entry is blank or sound, and what stands is a
--- sound volume. In what settling makes of it no document has the identifier, and its path is not full. The source holds a
--- body of which no list gets more than 256 tags. A slot is unused, and behind the edge is room for the document's need.
--- Nobody else writes, and no call fails.
-pub record IsReadyToIngest (id body : List ℕ) (g : Layout) (slot : ℕ) (old new : Ports) : Type 0 where
+-- volume that has a place for the document, with this stamp exactly where its documents have one. The source holds the
+-- body. Nobody else writes, and no call fails.
+pub record IsReadyToIngest (id : List ℕ) (stamp : Option ℕ) (body : List ℕ) (g : Layout) (slot : ℕ) (old new : Ports)
+    : Type 0 where
   pub identifier : IsIdentifier id
   pub is_body : IsBody body
   pub source : old.source.left ≡ Some body
   pub begins : BeginsSteady old.device new.device
-  pub volume : IsVolume old.device.cells old.device.image g
-  pub sound : Sound old.device.cells old.device.image
-  pub unused : IsUnused g old.device.image slot
-  pub fresh : (n : ℕ) (other : List ℕ) → Stands old.device.cells sound.after n id other → ⊥
-  pub path : IsPassedWhole g old.device.cells sound.after id → ⊥
-  pub postings : HasPostings g body
-  pub room : (n at need : ℕ) → IsHorizon g sound.after sound.after n → IsEdge g sound.after sound.after at
-      → IsNeed g sound.after n id body None need → at + need ≤ g.cells
+  pub place : HasPlaceFor id stamp body g slot old.device
   pub no_device_fault : IsStill old.device.faults new.device.faults
   pub no_source_fault : IsStill old.source.faults new.source.faults
   pub no_sink_fault : IsStill old.sink.faults new.sink.faults

@@ -1,6 +1,6 @@
 -- A command from a steady device on, where nobody else writes: what a crash leaves of it, at whichever moment; which
 -- documents stand behind it; and that a query tells of just those.
-use Rattle.std.specs.Prelude.{None, ◌≡◌, ◌<◌, ◌-◌, ℕ, List, Contains, Result, Ok, Err, ⊤}
+use Rattle.std.specs.Prelude.{◌≡◌, ◌<◌, ◌-◌, ℕ, List, Contains, Option, Result, Ok, Err, ⊤}
 use Rattle.cell_types.specs.Layout.{Layout}
 use Rattle.cell_types.specs.declared.refusal.Evidence.{Evidence}
 use Rattle.cell_types.specs.declared.refusal.Refusal.{Refusal}
@@ -16,8 +16,11 @@ use Rattle.worm_device.specs.State.{DeviceState}
 use Rattle.settling_laws.specs.Steadiness.{StaysSteady}
 use Rattle.crash_laws.specs.Steadiness.{HasOneMore, StaysSteadyBy}
 use Rattle.record_query.specs.declared.found.Match.{Match}
+use Rattle.receipt_text.specs.Form.{text_of_receipt}
+use Rattle.receipt_text.specs.declared.receipt.Receipt.{Receipt}
+use Rattle.receipt_check.specs.Checks.{ShowsDocument}
 use Rattle.command_laws.specs.Telling.{AreMatchesOf, IsFormatted, LeavesHeld}
-use Rattle.record_top.specs.Commands.{Request, ToAudit, ToExercise, ToFind, ToFormat, ToIngest, ToLookUp, ToRecover, ToReplay}
+use Rattle.record_top.specs.Commands.{Request, ToAudit, ToCheck, ToExercise, ToFind, ToFormat, ToIngest, ToLookUp, ToMakeReceipt, ToRecover, ToReplay}
 use Rattle.record_top.specs.Ingesting.{HasRefused, HasStored, acknowledgement}
 use Rattle.record_top.specs.Finding.{AreTermsOf, find_text}
 use Rattle.record_top.specs.Ports.{Ports, PutsOut, Tells}
@@ -53,15 +56,28 @@ LooksUpHeld id old new (Err Absent) =
     → (d : Document) → Contains documents d → d.id ≡ id → ⊥
 LooksUpHeld id old new (Err refusal) = ⊤
 
+-- A receipt that is put out is of a document that the volume held at entry, with the identifier: its cells alone keep it.
+-- Where it answers that there is none, none had the identifier.
+abbrev pub ShowsHeld : List ℕ → Ports → Ports → Result Unit Refusal → Type 0
+ShowsHeld id old new (Ok u) =
+    (documents : List Document) → Held old.device.cells old.device.image documents
+    → (r : Receipt) × (body : List ℕ) × Contains documents (record { slot = r.slot; id = id; body = body })
+    × ShowsDocument new.device.cells r body × PutsOut (text_of_receipt r) old new
+ShowsHeld id old new (Err Absent) =
+    (documents : List Document) → Held old.device.cells old.device.image documents
+    → (d : Document) → Contains documents d → d.id ≡ id → ⊥
+ShowsHeld id old new (Err refusal) = ⊤
+
 -- a format that is done leaves a settled volume without documents, also where it could not be told
 abbrev pub LeavesFormatted : Ports → Result Unit Refusal → Type 0
 LeavesFormatted new (Ok u) = IsFormatted new.device
 LeavesFormatted new (Err SinkFault) = IsFormatted new.device
 LeavesFormatted new (Err refusal) = ⊤
 
--- So much was needed of the sound volume that stood, once it is settled, for the document in its first free slot; and so
--- many cells are free behind its edge, which are fewer.
-pub record IsExactlyTooMany (id body : List ℕ) (need free : ℕ) (old : DeviceState) : Type 0 where
+-- So much was needed of the sound volume that stood, once it is settled, for the document in its first free slot, with
+-- this stamp; and so many cells are free behind its edge, which are fewer.
+pub record IsExactlyTooMany (id : List ℕ) (stamp : Option ℕ) (body : List ℕ) (need free : ℕ) (old : DeviceState)
+    : Type 0 where
   pub sound : Sound old.cells old.image
   pub layout : Layout
   pub volume : IsVolume old.cells sound.after layout
@@ -69,16 +85,16 @@ pub record IsExactlyTooMany (id body : List ℕ) (need free : ℕ) (old : Device
   pub horizon : IsHorizon layout sound.after sound.after slot
   pub edge : ℕ
   pub is_edge : IsEdge layout sound.after sound.after edge
-  pub need_is : IsNeed layout sound.after slot id body None need
+  pub need_is : IsNeed layout sound.after slot id body stamp need
   pub free_is : free ≡ layout.cells - edge
   pub less : free < need
 
 -- A crash in an ingest leaves an image that is blank or sound, with the documents that were sure at entry, those that
 -- stood there, or these and the new one behind them; the device is steady behind it, and no tampering is named. Where
 -- the document is stored, the volume is settled, all of it sure, and has it behind the documents that it held, in the
--- slot that is acknowledged; any refusal but a fault of the device leaves the documents as they were; and where there was no room, the need is exact.
--- The body is what the source gave.
-pub record AddsOne (id : List ℕ) (old new : Ports) (result : Result Unit Refusal) : Type 0 where
+-- slot that is acknowledged; any refusal but a fault of the device leaves the documents as they were; and where there
+-- was no room, the need is exact. The body is what the source gave.
+pub record AddsOne (id : List ℕ) (stamp : Option ℕ) (old new : Ports) (result : Result Unit Refusal) : Type 0 where
   pub body : List ℕ
   pub gives : Gives old.source.left new.source.left body
   pub stays : StaysSteadyBy id body old.device new.device
@@ -87,16 +103,18 @@ pub record AddsOne (id : List ℕ) (old new : Ports) (result : Result Unit Refus
       → (n : ℕ) × HasOneMore id body n old.device new.device × Tells acknowledgement (Ok n) old new result
   pub keeps : HasRefused result → (documents : List Document)
       → Held old.device.cells old.device.image documents → Held new.device.cells new.device.image documents
-  pub needs : (need free : ℕ) → result ≡ Err (Full need free) → IsExactlyTooMany id body need free old.device
+  pub needs : (need free : ℕ) → result ≡ Err (Full need free) → IsExactlyTooMany id stamp body need free old.device
 
 -- What a command leaves, and of a query what it tells, by what was asked for. An exercise leaves the device alone, and of
 -- its own device nothing is said here.
 abbrev pub LeavesWhole : Request → Ports → Ports → Result Unit Refusal → Type 0
 LeavesWhole (ToFormat slots lists version) old new result = AddsNone old new result × LeavesFormatted new result
-LeavesWhole (ToIngest id) old new result = AddsOne id old new result
+LeavesWhole (ToIngest id stamp) old new result = AddsOne id stamp old new result
 LeavesWhole (ToFind asked) old new result = AddsNone old new result × FindsHeld asked old new result
 LeavesWhole (ToLookUp id) old new result = AddsNone old new result × LooksUpHeld id old new result
 LeavesWhole ToRecover old new result = AddsNone old new result
 LeavesWhole ToAudit old new result = AddsNone old new result
 LeavesWhole ToReplay old new result = AddsNone old new result
 LeavesWhole (ToExercise documents) old new result = LeavesHeld old.device new.device
+LeavesWhole ToCheck old new result = AddsNone old new result
+LeavesWhole (ToMakeReceipt id) old new result = AddsNone old new result × ShowsHeld id old new result

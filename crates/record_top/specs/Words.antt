@@ -1,5 +1,5 @@
 -- Which words are numbers, and which are no options.
-use Rattle.std.specs.Prelude.{◌≡◌, ◌≢◌, ◌<◌, ◌≤◌, ◌+◌, ◌-◌, ◌*◌, ℕ, List, fold, length, slice_index}
+use Rattle.std.specs.Prelude.{◌≡◌, ◌≢◌, ◌<◌, ◌≤◌, ◌+◌, ◌-◌, ◌*◌, ◌^◌, ℕ, List, fold, length, slice_index}
 
 -- the word is not empty, and begins with no hyphen
 pub record IsNoOption (word : List ℕ) : Type 0 where
@@ -16,6 +16,11 @@ pub record IsNumber (word : List ℕ) (n : ℕ) : Type 0 where
   pub most : length word ≤ 10
   pub digits : (i : ℕ) → i < length word → (48 ≤ slice_index word i) × (slice_index word i ≤ 57)
   pub value : n ≡ digits_value word
+
+-- the word stands for these seconds, which have 32 bits
+pub record AreSeconds (word : List ℕ) (seconds : ℕ) : Type 0 where
+  pub number : IsNumber word seconds
+  pub most : seconds < 2 ^ 32
 
 -- the word stands for this number, which is from 1 to the most that it may be
 pub record IsNumberUpTo (most : ℕ) (word : List ℕ) (n : ℕ) : Type 0 where

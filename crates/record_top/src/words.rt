@@ -1,16 +1,18 @@
 //! The words of a command, read in place.
-ghost use Rattle.std.specs.Prelude.{◌≡◌, ◌≢◌, ◌<◌, ◌≤◌, ◌↔◌, ℕ, List, map, length, slice_index, IsTrue, IfSome, IfNone};
+ghost use Rattle.std.specs.Prelude.{◌≡◌, ◌≢◌, ◌<◌, ◌≤◌, ◌↔◌, ℕ, List, Option, map, length, slice_index, IsTrue, IfSome, IfNone};
 ghost use Rattle.std.specs.String.{string_bytes};
 ghost use Rattle.record_top.specs.Auditing.{AsksToAudit};
+ghost use Rattle.record_top.specs.Checking.{AsksToCheck};
 ghost use Rattle.record_top.specs.Commands.{Asks, AsksNothing, request_of};
 ghost use Rattle.record_top.specs.Exercising.{AsksToExercise};
 ghost use Rattle.record_top.specs.Finding.{AsksToFind};
 ghost use Rattle.record_top.specs.Formatting.{AsksByVersion, AsksPlainly, AsksToFormat};
-ghost use Rattle.record_top.specs.Ingesting.{AsksToIngest};
+ghost use Rattle.record_top.specs.Ingesting.{AsksToIngest, AsksWithStamp, AsksWithoutStamp};
 ghost use Rattle.record_top.specs.LookingUp.{AsksToLookUp};
+ghost use Rattle.record_top.specs.Receipting.{AsksForReceipt};
 ghost use Rattle.record_top.specs.Recovering.{AsksToRecover};
 ghost use Rattle.record_top.specs.Replaying.{AsksToReplay};
-ghost use Rattle.record_top.specs.Words.{IsNoOption, IsNumberUpTo};
+ghost use Rattle.record_top.specs.Words.{AreSeconds, IsNoOption, IsNumber, IsNumberUpTo};
 
 use cell_types::{FIRST_VERSION, MAX_LISTS, MAX_SLOTS, NEWEST_VERSION};
 use volume_exercise::MAX_DOCUMENTS;
@@ -26,8 +28,9 @@ const MAX_DIGITS: usize = 10;
 pub enum Command<'a> {
     /// Make the device a volume of so many slots and lists, and of this version, each in its range.
     Format { slots: u32, lists: u16, version: u8 },
-    /// Store a document by this name, which may be an identifier or not.
-    Ingest { id: &'a [u8] },
+    /// Store a document by this name, which may be an identifier or not, with a stamp of these seconds, if it is to have
+    /// one.
+    Ingest { id: &'a [u8], stamp: Option<u32> },
     /// Search the documents for 1 to 8 words, each of which may hold one term or not.
     Find { words: &'a [String] },
     /// Put out the document of this name, which may be an identifier or not.
@@ -40,6 +43,10 @@ pub enum Command<'a> {
     Replay,
     /// Do the exercise with so many documents on a device in memory.
     Exercise { documents: u32 },
+    /// Check a receipt.
+    Check,
+    /// Put out a receipt of the document of this name, which may be an identifier or not.
+    MakeReceipt { id: &'a [u8] },
 }
 
 /// The command that the words ask for.
@@ -68,7 +75,13 @@ pub fn command_of(words: &[String]) -> Option<Command<'_>>
     if let Some(command) = replay_of(words) {
         return Some(command);
     }
-    exercise_of(words)
+    if let Some(command) = exercise_of(words) {
+        return Some(command);
+    }
+    if let Some(command) = check_of(words) {
+        return Some(command);
+    }
+    receipt_of(words)
 }
 
 /// The command `format`, where the words are this and two or three numbers in range.
@@ -125,10 +138,23 @@ fn versioned_format_of(words: &[String]) -> Option<Command<'_>>
     })
 }
 
-/// The command `ingest`, where the words are this and one that is not empty and begins with no hyphen.
+/// The command `ingest`, where the words are this, one that is not empty and begins with no hyphen, and perhaps the
+/// seconds of a stamp.
 fn ingest_of(words: &[String]) -> Option<Command<'_>>
     ensures some { IfSome result (λ command. Asks (map string_bytes words.now) (request_of command)) }
-    ensures none { IfNone result ((id : List ℕ) → AsksToIngest (map string_bytes words.now) id → ⊥) }
+    ensures none { IfNone result ((id : List ℕ) (stamp : Option ℕ)
+        → AsksToIngest (map string_bytes words.now) id stamp → ⊥) }
+{
+    if let Some(command) = unstamped_ingest_of(words) {
+        return Some(command);
+    }
+    stamped_ingest_of(words)
+}
+
+/// The same where no stamp is stated.
+fn unstamped_ingest_of(words: &[String]) -> Option<Command<'_>>
+    ensures some { IfSome result (λ command. Asks (map string_bytes words.now) (request_of command)) }
+    ensures none { IfNone result ((id : List ℕ) → AsksWithoutStamp (map string_bytes words.now) id → ⊥) }
 {
     let [command, id] = words else {
         return None;
@@ -137,7 +163,27 @@ fn ingest_of(words: &[String]) -> Option<Command<'_>>
     if command.as_str() != "ingest" || is_option(id) {
         return None;
     }
-    Some(Command::Ingest { id })
+    Some(Command::Ingest { id, stamp: None })
+}
+
+/// The same where the seconds of a stamp are stated.
+fn stamped_ingest_of(words: &[String]) -> Option<Command<'_>>
+    ensures some { IfSome result (λ command. Asks (map string_bytes words.now) (request_of command)) }
+    ensures none { IfNone result ((id : List ℕ) (seconds : ℕ)
+        → AsksWithStamp (map string_bytes words.now) id seconds → ⊥) }
+{
+    let [command, id, seconds] = words else {
+        return None;
+    };
+    let id = id.as_bytes();
+    if command.as_str() != "ingest" || is_option(id) {
+        return None;
+    }
+    let seconds = seconds_of(seconds.as_bytes())?;
+    Some(Command::Ingest {
+        id,
+        stamp: Some(seconds),
+    })
 }
 
 /// The command `find`, where the words are this and 1 to 8 others, none of which is empty or begins with a hyphen.
@@ -234,10 +280,67 @@ fn exercise_of(words: &[String]) -> Option<Command<'_>>
     Some(Command::Exercise { documents })
 }
 
+/// The command `check`, where the words are this alone.
+fn check_of(words: &[String]) -> Option<Command<'_>>
+    ensures some { IfSome result (λ command. Asks (map string_bytes words.now) (request_of command)) }
+    ensures none { IfNone result (AsksToCheck (map string_bytes words.now) → ⊥) }
+{
+    let [command] = words else {
+        return None;
+    };
+    if command.as_str() != "check" {
+        return None;
+    }
+    Some(Command::Check)
+}
+
+/// The command `receipt`, where the words are this and one that is not empty and begins with no hyphen.
+fn receipt_of(words: &[String]) -> Option<Command<'_>>
+    ensures some { IfSome result (λ command. Asks (map string_bytes words.now) (request_of command)) }
+    ensures none { IfNone result ((id : List ℕ) → AsksForReceipt (map string_bytes words.now) id → ⊥) }
+{
+    let [command, id] = words else {
+        return None;
+    };
+    let id = id.as_bytes();
+    if command.as_str() != "receipt" || is_option(id) {
+        return None;
+    }
+    Some(Command::MakeReceipt { id })
+}
+
 /// The number that the word stands for, where it is 1 to 10 digits and the number from 1 to the most.
 fn number_up_to(most: u32, word: &[u8]) -> Option<u32>
     ensures some { IfSome result (IsNumberUpTo most word.now) }
     ensures none { IfNone result ((n : ℕ) → IsNumberUpTo most word.now n → ⊥) }
+{
+    let Some(n) = number_of(word) else {
+        return None;
+    };
+    if n == 0 || n > u64::from(most) {
+        return None;
+    }
+    Some(n as u32)
+}
+
+/// The seconds that the word stands for, where it is 1 to 10 digits and they have 32 bits.
+fn seconds_of(word: &[u8]) -> Option<u32>
+    ensures some { IfSome result (AreSeconds word.now) }
+    ensures none { IfNone result ((seconds : ℕ) → AreSeconds word.now seconds → ⊥) }
+{
+    let Some(seconds) = number_of(word) else {
+        return None;
+    };
+    if seconds > u64::from(u32::MAX) {
+        return None;
+    }
+    Some(seconds as u32)
+}
+
+/// The number that the word stands for, where it is 1 to 10 digits.
+fn number_of(word: &[u8]) -> Option<u64>
+    ensures some { IfSome result (IsNumber word.now) }
+    ensures none { IfNone result ((n : ℕ) → IsNumber word.now n → ⊥) }
 {
     if word.is_empty() || word.len() > MAX_DIGITS {
         return None;
@@ -249,8 +352,5 @@ fn number_up_to(most: u32, word: &[u8]) -> Option<u32>
         }
         n = 10 * n + u64::from(*digit - b'0');
     }
-    if n == 0 || n > u64::from(most) {
-        return None;
-    }
-    Some(n as u32)
+    Some(n)
 }

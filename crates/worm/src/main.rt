@@ -7,8 +7,13 @@
 //!     worm volume.img lookup invoice-4711 > invoice.txt
 //!     worm volume.img recover
 //!     worm volume.img audit
+//!     worm volume.img receipt invoice-4711 > invoice.receipt
+//!     worm volume.img check < invoice.receipt
 //!     worm - replay < script.json
 //!     worm - exercise 200
+//!
+//! On a volume of stamped documents, which `format 8 2 3` makes, each `ingest` has the seconds of a stamp behind the
+//! identifier, as in `ingest invoice-4711 1767225600`.
 //!
 //! IMAGE is the path of a file that exists; a new device is a file of zeros. Where IMAGE is `-`, the device is one blank
 //! cell in memory, which suffices for `replay` and `exercise`: these leave the device alone, and work on one of their own.

@@ -1,21 +1,16 @@
--- There are two words, and they are the two that were read.
-use Rattle.std.proofs.Common.{◌≡◌, ℕ, List, [], ◌∷◌, map, sym, ap, ◌∙◌, arith}
-use Rattle.std.specs.Prelude.{codes}
-use Rattle.std.specs.String.{string_bytes}
-use Rattle.std.proofs.lemmas.Bool.{false≢true}
-use Rattle.worm_device.proofs.Compared.{alike}
-use Rattle.record_top.proofs.Listed.{two}
-use Rattle.record_top.proofs.Options.{no_option}
+-- Neither form was asked for.
+use Rattle.std.proofs.Common.{ℕ, List, Option, Some, None}
+use Rattle.record_top.specs.Ingesting.{AsksToIngest, AsksWithStamp, AsksWithoutStamp}
+use Rattle.record_top.proofs.Listed.{if_none_then}
 use Rattle.record_top.proofs.words.ingest_of.Goals as goal
 
-pub returns-clause-some : goal.returns-clause-some
-returns-clause-some c =
-    let same = alike c.as_str.result.now (codes "ingest") c.ne.result c.ne.ensures c.if-ne.false in
-    let command : string_bytes c.command-item.result ≡ codes "ingest" = sym c.as_str.ensures.value ∙ same in
-    let given = c.id-item.result in
-    let words = two c.args.words.now c.command-item.result given (omega arith) c.command-item.is c.id-item.is in
-    record {
-      asked = ap (map string_bytes) words ∙ ap (λ (w : List ℕ). w ∷ string_bytes given ∷ []) command
-          ∙ ap (λ (w : List ℕ). codes "ingest" ∷ w ∷ []) (sym c.as_bytes-id.ensures.value);
-      word = no_option _ (λ not. absurd (false≢true (c.if-is_option.ensures.1 not)));
-    }
+-- words that ask for neither form ask for no ingest
+neither : (words : List (List ℕ)) → ((id : List ℕ) → AsksWithoutStamp words id → ⊥)
+    → ((id : List ℕ) (seconds : ℕ) → AsksWithStamp words id seconds → ⊥)
+    → (id : List ℕ) (stamp : Option ℕ) → AsksToIngest words id stamp → ⊥
+neither words without with id None asks = without id asks
+neither words without with id (Some seconds) asks = with id seconds asks
+
+pub returns-clause-none : goal.returns-clause-none
+returns-clause-none c =
+    if_none_then c.stamped_ingest_of.result (neither _ c.in_default.ensures.none) c.stamped_ingest_of.ensures.none

@@ -1,7 +1,7 @@
 -- The digits so far are digits, and stand for the number so far, which has no more of them.
 use Rattle.std.proofs.Common.{◌≡◌, ◌≤◌, ◌<◌, ◌^◌, ℕ, take, slice_index}
 use Rattle.record_top.specs.Words.{digits_value}
-use Rattle.record_top.proofs.words.number_up_to.Given as goal
+use Rattle.record_top.proofs.words.number_of.Given as goal
 
 abbrev pub invariant-loop-digit : goal.invariant-loop-digit
 invariant-loop-digit l =

@@ -1,0 +1,195 @@
+//! Documents with stamps: an ingest of one, cell by cell; which stamps are refused; and what is left of one whose stamp
+//! alone was kept.
+//!
+//! The volume has 8 slots and 2 lists on 1,200 cells: slot 0 has cells 4 to 7, the root begins at cell 548, the time list
+//! at 580 and the pool at 836.
+use crate::rows::has_phases;
+use cell_types::Refusal;
+use std::alloc::Global;
+use std::test::Fail;
+use test_volumes::{begin, digits_at, formatted, holds_alone, outcome_of, small_volume};
+use worm_memory::{Crash, MemoryDevice, Moment};
+
+/// The volume cell.
+const VOLUME: u128 = 0x01_03_00000008_0002_000004b0_00000000;
+
+/// The cells from 4 to 7 that stand with `a`, whose body is empty and whose stamp is 1,000, and the others.
+const RESERVE: u128 = 0x02_00000344_00000003_000000_00000004;
+const COMMIT: u128 = 0x03_00000002_00000002_000000_00000005;
+const ABANDON: u128 = 0x04_0000000000000000000000_00000005;
+const DONE: u128 = 0x05_00000000_00000000000000_00000006;
+const STAMP: u128 = 0x0a_000003e8_00000000000000_00000007;
+const DOCUMENT: u128 = 0x12_01_61_00000000000000000000000000;
+const BUCKET: u128 = 0x08_00000000_ca978112ca1bbd_00000230;
+const TIME: u128 = 0x06_000003e8_ff_000000000000_00000244;
+
+/// What goes onto the new volume with it, phase by phase: the reserve cell; its stamp, the document and the journal
+/// behind it; the commit cell; the journal's targets; and the done cell.
+const PHASES: [&[(u32, u128)]; 5] = [
+    &[(4, RESERVE)],
+    &[(7, STAMP), (836, DOCUMENT), (837, BUCKET), (838, TIME)],
+    &[(5, COMMIT)],
+    &[(560, BUCKET), (580, TIME)],
+    &[(6, DONE)],
+];
+
+/// All that stands then.
+const WITH_A: [(u32, u128); 10] = [
+    (0, VOLUME),
+    (4, RESERVE),
+    (5, COMMIT),
+    (6, DONE),
+    (7, STAMP),
+    (560, BUCKET),
+    (580, TIME),
+    (836, DOCUMENT),
+    (837, BUCKET),
+    (838, TIME),
+];
+
+/// The new volume.
+fn stamped_volume(alloc: Global) -> Result<MemoryDevice, Fail> {
+    formatted(alloc, 1_200, "format|8|2|3")
+}
+
+/// How this ends, of an empty body, and what it puts out.
+fn ends(
+    alloc: Global,
+    words: &str,
+    device: &mut MemoryDevice,
+) -> Result<(Result<(), Refusal>, Vec<u8>), Fail> {
+    begin(device)?;
+    outcome_of(alloc, words, device, b"")
+}
+
+#[test]
+fn a_stamped_document_is_stored_with_its_stamp(rt: HostRuntime) -> Result<(), Fail> {
+    let alloc = rt.alloc();
+    let mut device = stamped_volume(alloc)?;
+    assert!(rt; holds_alone(&mut device, &[(0, VOLUME)]));
+    let before = device.changes().len();
+    let (outcome, put) = ends(alloc, "ingest|a|1000", &mut device)?;
+    assert_eq!(rt; outcome, Ok(()));
+    assert_eq!(rt; put.as_slice(), b"acknowledged 0\n".as_slice());
+    assert!(rt; has_phases(&device, before, &PHASES)?);
+    assert!(rt; holds_alone(&mut device, &WITH_A));
+
+    let (outcome, put) = ends(alloc, "audit", &mut device)?;
+    assert_eq!(rt; outcome, Ok(()));
+    let sound = b"sound: 1 done, 0 abandoned, 10 written cells\n".as_slice();
+    assert_eq!(rt; put.as_slice(), sound);
+    Ok(())
+}
+
+/// The last is the sync behind the done cell.
+#[test]
+fn a_stamped_ingest_takes_fifteen_steps(rt: HostRuntime) -> Result<(), Fail> {
+    let alloc = rt.alloc();
+    for (step, want) in [(15, Err(Refusal::DeviceFault)), (16, Ok(()))] {
+        let mut device = stamped_volume(alloc)?;
+        begin(&mut device)?;
+        device.fail_at(Moment::Step(step))?;
+        let (outcome, _) = outcome_of(alloc, "ingest|a|1000", &mut device, b"")?;
+        assert_eq!(rt; outcome, want, "{step}");
+    }
+    Ok(())
+}
+
+#[test]
+fn stamps_rise(rt: HostRuntime) -> Result<(), Fail> {
+    let alloc = rt.alloc();
+    let mut device = stamped_volume(alloc)?;
+    for (words, want, text) in [
+        ("ingest|a|1000", Ok(()), "acknowledged 0\n"),
+        (
+            "ingest|b|1000",
+            Err(Refusal::StampTooEarly {
+                given: 1_000,
+                last: 1_000,
+            }),
+            "",
+        ),
+        ("ingest|b", Err(Refusal::StampNeeded), ""),
+        ("ingest|b|4294967295", Ok(()), "acknowledged 1\n"),
+        (
+            "ingest|c|5",
+            Err(Refusal::StampTooEarly {
+                given: 5,
+                last: 4_294_967_295,
+            }),
+            "",
+        ),
+    ] {
+        let (outcome, put) = ends(alloc, words, &mut device)?;
+        assert_eq!(rt; outcome, want, "{words}");
+        assert_eq!(rt; put.as_slice(), text.as_bytes(), "{words}");
+    }
+    Ok(())
+}
+
+/// Its digits may begin with zeros, as those of other numbers, and the first stamp may be 0.
+#[test]
+fn a_stamp_has_32_bits(rt: HostRuntime) -> Result<(), Fail> {
+    let alloc = rt.alloc();
+    for (words, digits) in [
+        ("ingest|a|0", 0x0a_00000000_00000000000000_00000007),
+        ("ingest|a|0000000000", 0x0a_00000000_00000000000000_00000007),
+        ("ingest|a|0000001000", STAMP),
+        ("ingest|a|4294967295", 0x0a_ffffffff_00000000000000_00000007),
+    ] {
+        let mut device = stamped_volume(alloc)?;
+        let (outcome, _) = ends(alloc, words, &mut device)?;
+        assert_eq!(rt; outcome, Ok(()), "{words}");
+        assert_eq!(rt; digits_at(&mut device, 7), digits, "{words}");
+    }
+    Ok(())
+}
+
+#[test]
+fn other_volumes_take_no_stamps(rt: HostRuntime) -> Result<(), Fail> {
+    let alloc = rt.alloc();
+    for mut device in [
+        small_volume(alloc)?,
+        formatted(alloc, 1_000, "format|8|2|2")?,
+    ] {
+        let before = device.changes().len();
+        let (outcome, put) = ends(alloc, "ingest|c|5", &mut device)?;
+        assert_eq!(rt; outcome, Err(Refusal::StampUnused));
+        assert_eq!(rt; put.len(), 0);
+        assert_eq!(rt; device.changes().len(), before);
+    }
+    Ok(())
+}
+
+/// The steps are: sync; cell 4; sync; cell 7; and eleven more.
+#[test]
+fn a_slot_whose_stamp_alone_was_kept_is_given_up(rt: HostRuntime) -> Result<(), Fail> {
+    let alloc = rt.alloc();
+    let mut device = stamped_volume(alloc)?;
+    begin(&mut device)?;
+    device.stop_after(Moment::Step(4));
+    let (outcome, put) = outcome_of(alloc, "ingest|a|1000", &mut device, b"")?;
+    assert_eq!(rt; outcome, Err(Refusal::DeviceFault));
+    assert_eq!(rt; put.len(), 0);
+    begin(&mut device)?;
+    assert_eq!(rt; device.crash(&[7])?, Crash { kept: 1, unsure: 1 });
+    for (words, text) in [
+        ("recover", "slot 0 abandoned\n"),
+        (
+            "audit",
+            "sound: 0 done, 1 abandoned, 4 written cells\n",
+        ),
+    ] {
+        let (outcome, put) = ends(alloc, words, &mut device)?;
+        assert_eq!(rt; outcome, Ok(()), "{words}");
+        assert_eq!(rt; put.as_slice(), text.as_bytes(), "{words}");
+    }
+    let left = [(0, VOLUME), (4, RESERVE), (5, ABANDON), (7, STAMP)];
+    assert!(rt; holds_alone(&mut device, &left));
+
+    // A stamp of a slot that was given up is no bar to the next document.
+    let (outcome, put) = ends(alloc, "ingest|a|1000", &mut device)?;
+    assert_eq!(rt; outcome, Ok(()));
+    assert_eq!(rt; put.as_slice(), b"acknowledged 1\n".as_slice());
+    Ok(())
+}
