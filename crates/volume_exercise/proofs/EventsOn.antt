@@ -132,7 +132,7 @@ exercise_events_on cells n some most =
     All-append On (format_event n ∷ []) (ingests n ++ (singles ++ (pairs ++ (look_ups n ++ audit_event ∷ []))))
     (all_one On (format_event n) (some, omega (arith, most), omega arith, omega arith, omega arith, omega arith, plan))
     (All-append On (ingests n) (singles ++ (pairs ++ (look_ups n ++ audit_event ∷ [])))
-    (each_of On ingest_event n (λ i below. (identifier_is_identifier i, body_is_body i, plan)))
+    (each_of On ingest_event n (λ i below. (identifier_is_identifier i, tt, body_is_body i, plan)))
     (All-append On singles (pairs ++ (look_ups n ++ audit_event ∷ []))
     (each_of On single_event 200 (λ k below. (
       omega arith,
