@@ -88,7 +88,7 @@ module _ {id : List ℕ} {stamp : Option ℕ} {body : List ℕ} {g : Layout} {sl
       let has = h.settled.settled in
       let one = layout h.ready has in
       let same = stands_as h.ready has in
-      let horizon = is_horizon h.ready h.settled.takes h.settled.slot has begins.tells begins.alone in
+      let horizon = is_horizon h.ready has begins.tells begins.alone in
       let later = place.later h.ready.horizon
       (subst (λ (l : Layout). IsHorizon l place.sound.after place.sound.after h.ready.horizon) one
       (subst (λ (i : Image). IsHorizon h.ready.volume.geometry i i h.ready.horizon) same horizon)) in

@@ -108,7 +108,7 @@ module _ (id : List ℕ) (stamp : Option ℕ) (body : List ℕ) (old new : Devic
     }
     unplanned_ends DeviceFault plans ends = rose_sooner old.faults settled.faults new.faults s.called.faults ends
     unplanned_ends (Tampered e) plans ends = λ tells.
-        named_on_way r takes slot (planned_behind s plans) tells e (ends (told tells))
+        named_on_way r (planned_behind s plans) tells takes slot e (ends (told tells))
     unplanned_ends NoMemory plans ends = inr (r, planned_behind s plans)
     unplanned_ends refusal plans ends = absurd ends
 

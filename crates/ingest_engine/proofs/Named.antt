@@ -30,27 +30,26 @@ use Rattle.ingest_engine.specs.Ingesting.{HasSlot, IsInTheWay, IsLogRule, IsName
 use Rattle.ingest_engine.proofs.FullLogs.{has_slot}
 use Rattle.ingest_engine.proofs.Suited.{copies_of, entry}
 
-module _ {stamp : Option ℕ} {old new : DeviceState} (r : Ready) (takes : IsStampFor r.volume.geometry stamp)
-    (slot : r.horizon < r.volume.geometry.slots) (has : HasSettled old new r) (tells : IsTrue old.tells)
-  where
-    -- the horizon is one of what stands, where nobody else wrote
-    pub is_horizon : IsStill old.foreign_writes new.foreign_writes
-        → IsHorizon r.volume.geometry new.image new.image r.horizon
-    is_horizon still = record {
-      most = (has.settles.ends.1 tells).horizon.most;
-      below = λ m is. written_on has.looked.image ((has.settles.ends.1 tells).horizon.below m is);
-      free = λ less. free_2 r has tells less still;
-    }
+module _ {old new : DeviceState} (r : Ready) (has : HasSettled old new r) (tells : IsTrue old.tells) where
+  -- the horizon is one of what stands, where nobody else wrote
+  pub is_horizon : IsStill old.foreign_writes new.foreign_writes
+      → IsHorizon r.volume.geometry new.image new.image r.horizon
+  is_horizon still = record {
+    most = (has.settles.ends.1 tells).horizon.most;
+    below = λ m is. written_on has.looked.image ((has.settles.ends.1 tells).horizon.below m is);
+    free = λ less. free_2 r has tells less still;
+  }
 
-    -- and so is the edge
-    is_edge : IsStill old.foreign_writes new.foreign_writes → IsEdge r.volume.geometry new.image new.image r.edge
-    is_edge still = record {
-      u = r.horizon;
-      most = (has.settles.ends.1 tells).horizon.most;
-      free = λ less. free_2 r has tells less still;
-      ends = ends_2 r has tells;
-    }
+  -- and so is the edge
+  is_edge : IsStill old.foreign_writes new.foreign_writes → IsEdge r.volume.geometry new.image new.image r.edge
+  is_edge still = record {
+    u = r.horizon;
+    most = (has.settles.ends.1 tells).horizon.most;
+    free = λ less. free_2 r has tells less still;
+    ends = ends_2 r has tells;
+  }
 
+  module _ {stamp : Option ℕ} (takes : IsStampFor r.volume.geometry stamp) (slot : r.horizon < r.volume.geometry.slots) where
     -- what was found on the way is named
     pub named_on_way : {id body : List ℕ} (e : Evidence)
         → IsFoundOnWay (IsPathRule r id body has.settled new) r has.settled new e

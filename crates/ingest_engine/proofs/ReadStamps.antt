@@ -86,14 +86,14 @@ module _ (g : Layout) (n : ℕ) (greatest : Option ℕ) where
   -- the slot was not done
   pub not_done : {old new : ViewState} → Viewed old new → PartEnds g n old new (Ok None)
       → AddsStamp g n greatest old new (Ok greatest)
-  not_done viewed ends = record {
+  not_done {old} viewed ends = record {
     viewed = viewed;
     ends = (
       ends.0,
       up_to_self greatest,
       λ tells. (
         λ m seconds from below done stamp.
-            absurd ((ends.1 tells).undone (subst (λ (k : ℕ). IsDoneSlot g _ k) (one_slot m from below) done)),
+            absurd ((ends.1 tells).undone (subst (λ (k : ℕ). IsDoneSlot g old.image k) (one_slot m from below) done)),
         inl refl,
       ),
     );
@@ -108,7 +108,7 @@ module _ (g : Layout) (n : ℕ) (greatest : Option ℕ) where
   unasked viewed fault ends = record { viewed = viewed; ends = look_fails g n viewed fault ends }
 
   -- or none at its spare cell
-  pub unseen : {old mid new : ViewState} {at : ℕ} {part : Part} → Viewed old mid → PartEnds g n old mid (Ok (Some part))
+  pub unseen : {old mid new : ViewState} {part : Part} → Viewed old mid → PartEnds g n old mid (Ok (Some part))
       → Viewed mid new → Rose mid.base.faults new.base.faults → AddsStamp g n greatest old new (Err faults.Failed)
   unseen first part second rose = record {
     viewed = viewed_then first second;
@@ -189,6 +189,11 @@ module _ (g : Layout) (n : ℕ) (greatest : Option ℕ) where
       );
     }
       where
+        none_up : (one last : Option ℕ) → last ≡ None → IsUpTo one last → last ≡ one
+        none_up None last is up = is
+        none_up (Some s) None is up = absurd up
+        none_up (Some s) (Some t) is up = absurd (none-some t (sym is))
+
         found_one : IsTrue old.base.tells → (l s : Option ℕ) → l ≡ s → l ≡ last → s ≡ stamp
             → (last ≡ greatest)
             ⊎ ((seconds : ℕ) × (last ≡ Some seconds) × IsDoneSlot g new.image n × HasStamp new.image n seconds)
@@ -199,11 +204,6 @@ module _ (g : Layout) (n : ℕ) (greatest : Option ℕ) where
           done_now tells,
           found_stands found seen stamp stamped (told tells) seconds (sym is_stamp),
         )
-
-        none_up : (one last : Option ℕ) → last ≡ None → IsUpTo one last → last ≡ one
-        none_up None last is up = is
-        none_up (Some s) None is up = absurd up
-        none_up (Some s) (Some t) is up = absurd (none-some t (sym is))
 
 module _ (g : Layout) (n : ℕ) where
   -- none was read yet
@@ -316,6 +316,11 @@ compared r given last {entry} {new} result reads past = record {
   ends = why result past;
 }
   where
+    below_given : (before : ℕ) (last : Option ℕ) → IsUpTo (Some before) last
+        → ((seconds : ℕ) → last ≡ Some seconds → seconds < given) → before < given
+    below_given before None up past = absurd up
+    below_given before (Some seconds) up past = omega (arith, up, past seconds refl)
+
     why : (result : Result Unit Refusal) → PastLast given last result → PastEnds r (Some given) entry new result
     why (Ok u) past = (
       reads.ends.0,
@@ -331,8 +336,3 @@ compared r given last {entry} {new} result reads past = record {
           (reads.ends.1 tells).0;
     }
     why (Err refusal) is = absurd is
-
-    below_given : (before : ℕ) (last : Option ℕ) → IsUpTo (Some before) last
-        → ((seconds : ℕ) → last ≡ Some seconds → seconds < given) → before < given
-    below_given before None up past = absurd up
-    below_given before (Some seconds) up past = omega (arith, up, past seconds refl)

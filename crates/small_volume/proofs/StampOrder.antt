@@ -2,7 +2,6 @@
 use Rattle.std.proofs.Common.{◌≡◌, ◌<◌, ◌≤◌, inl, inr, ℕ, List, refl, sym, subst, arith}
 use Rattle.cell_types.specs.Image.{Image, Extends}
 use Rattle.cell_types.specs.Records.{IsRecordCell}
-use Rattle.cell_types.specs.declared.geometry.TheConstants.{NEWEST_VERSION, STAMPED_VERSION}
 use Rattle.cell_types.specs.declared.record_cell.RecordCell.TheVariants.{Stamp}
 use Rattle.stored_documents.specs.Slots.{HasStamp, IsDoneSlot}
 use Rattle.stored_documents.proofs.Extending.{done_on, holds_on, volume_on}
@@ -38,10 +37,10 @@ stamp_1 seconds stamp is = record { cell = stamp; stands = refl; is = is }
 
 -- where that is not greater than the stamp of slot 0, the rule is broken
 pub breaks : (seconds : ℕ) (stamp : List ℕ) → IsRecordCell (Stamp seconds) 11 stamp → seconds ≤ 1000
-    → STAMPED_VERSION ≤ NEWEST_VERSION → IsBroken 1200 (with_next stamp) STRAY_CELL 11
-breaks seconds stamp is most reached = record {
+    → IsBroken 1200 (with_next stamp) STRAY_CELL 11
+breaks seconds stamp is most = record {
   layout = stamped_layout;
-  volume = volume_on (extends stamp) (volume reached);
+  volume = volume_on (extends stamp) volume;
   rule = StrayCells;
   named = refl;
   place = inr (inl (1, omega arith, refl));

@@ -1,9 +1,7 @@
--- What stands in the stamped volume: its records, its slot, its stamp and its document. That it is a volume, and what rests
--- on that, has the premise that the newest version reaches that of stamped volumes.
+-- What stands in the stamped volume: its records, its slot, its stamp and its document.
 use Rattle.std.proofs.Common.{◌≡◌, ◌≤◌, ◌+◌, ℕ, List, [], Some, refl, sym, subst, arith, codes}
 use Rattle.cell_types.specs.Layout.{IsLayout}
 use Rattle.cell_types.specs.Records.{IsRecordCell}
-use Rattle.cell_types.specs.declared.geometry.TheConstants.{NEWEST_VERSION, STAMPED_VERSION}
 use Rattle.cell_types.specs.declared.record_cell.RecordCell.TheVariants.{Reserve, Commit, Done, Stamp, Bucket}
 use Rattle.stored_documents.specs.Documents.{Spells, IsBody, Stands, content_at, stored_bytes}
 use Rattle.stored_documents.specs.Slots.{HasStamp, IsDone, IsStampOf, Reserves}
@@ -16,30 +14,30 @@ use Rattle.small_volume.proofs.Small.{is_a, bucket_is}
 use Rattle.small_volume.proofs.Values.{are_bytes}
 
 -- a volume of version 3 may have 8 slots, 2 lists and 1,200 cells
-layout : STAMPED_VERSION ≤ NEWEST_VERSION → IsLayout stamped_layout
-layout reached = record {
+layout : IsLayout stamped_layout
+layout = record {
   some_slots = omega arith;
   slots = omega arith;
   some_lists = omega arith;
   lists = omega arith;
   cells = omega arith;
   some_version = omega arith;
-  version = reached;
+  version = omega arith;
   pool = omega arith;
 }
 
 -- the volume cell is well-formed at cell 0
-volume_is : STAMPED_VERSION ≤ NEWEST_VERSION → IsRecordCell (volume_record stamped_layout) 0 stamped_volume_cell
-volume_is reached = record {
+volume_is : IsRecordCell (volume_record stamped_layout) 0 stamped_volume_cell
+volume_is = record {
   fits = (omega arith, omega arith, omega arith, omega arith);
-  well_formed = (layout reached, refl);
+  well_formed = (layout, refl);
   same = refl;
 }
 
 -- so the image is a volume
-pub volume : STAMPED_VERSION ≤ NEWEST_VERSION → IsVolume 1200 stamped_image stamped_layout
-volume reached = record {
-  volume = record { cell = stamped_volume_cell; stands = refl; is = volume_is reached };
+pub volume : IsVolume 1200 stamped_image stamped_layout
+volume = record {
+  volume = record { cell = stamped_volume_cell; stands = refl; is = volume_is };
   size = refl;
 }
 
@@ -116,13 +114,13 @@ pub is_empty : IsBody []
 is_empty = record { bytes = are_bytes [] refl; most = omega arith }
 
 -- the document stands
-pub stands_0 : STAMPED_VERSION ≤ NEWEST_VERSION → Stands 1200 stamped_image 0 (codes "a") []
-stands_0 reached = record {
+pub stands_0 : Stands 1200 stamped_image 0 (codes "a") []
+stands_0 = record {
   layout = stamped_layout;
   start = 836;
   reserved = 3;
   journal = 2;
-  volume = volume reached;
+  volume = volume;
   slot = omega arith;
   done = slot_0;
   spells = spells;

@@ -3,7 +3,6 @@ use Rattle.std.proofs.Common.{◌≡◌, ◌<◌, ◌≤◌, ◌+◌, inl, inr, 
 use Rattle.std.specs.Prelude.{Contains, slice_get}
 use Rattle.std.proofs.lemmas.Option.{none-some}
 use Rattle.cell_types.specs.Layout.{all_lists, list_at}
-use Rattle.cell_types.specs.declared.geometry.TheConstants.{NEWEST_VERSION, STAMPED_VERSION}
 use Rattle.cell_types.specs.declared.record_cell.RecordCell.TheVariants.{Bucket}
 use Rattle.stored_documents.specs.Documents.{Document}
 use Rattle.stored_documents.specs.Volumes.{Holds}
@@ -85,9 +84,9 @@ path =
     HashPaths.HashTrail.here 548 0 (subst HasBucket (sym sha256_of_a) bucket_holds)
 
 -- so the document is kept
-is_kept : STAMPED_VERSION ≤ NEWEST_VERSION → IsKept 1200 stamped_image stamped_layout stamped_document
-is_kept reached = record {
-  stands = stands_0 reached;
+is_kept : IsKept 1200 stamped_image stamped_layout stamped_document
+is_kept = record {
+  stands = stands_0;
   postings = postings;
   stamp = Some 1000;
   is_stamp = stamp_0;
@@ -96,10 +95,10 @@ is_kept reached = record {
 }
 
 -- and so are the documents of the list that has it alone
-pub kept : STAMPED_VERSION ≤ NEWEST_VERSION → Kept 1200 stamped_image (stamped_document ∷ [])
-kept reached = record {
+pub kept : Kept 1200 stamped_image (stamped_document ∷ [])
+kept = record {
   layout = stamped_layout;
-  volume = volume reached;
+  volume = volume;
   each = λ d among. subst (λ (e : Document). IsKept 1200 stamped_image stamped_layout e) (sym (only_one stamped_document d among))
-      (is_kept reached);
+      is_kept;
 }

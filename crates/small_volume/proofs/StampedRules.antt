@@ -2,7 +2,6 @@
 use Rattle.std.proofs.Common.{◌≡◌, ◌<◌, ◌≤◌, ◌+◌, ◌⊎◌, inl, inr, ℕ, suc, zero, List, [], Some, refl, sym, ◌∙◌, subst, ap, arith, codes}
 use Rattle.std.proofs.lemmas.Option.{none-some}
 use Rattle.cell_types.specs.Layout.{done_at, list_at, reserve_at}
-use Rattle.cell_types.specs.declared.geometry.TheConstants.{NEWEST_VERSION, STAMPED_VERSION}
 use Rattle.cell_types.specs.declared.record_cell.RecordCell.{RecordCell}
 use Rattle.cell_types.specs.declared.record_cell.RecordCell.TheVariants.{Reserve, Bucket}
 use Rattle.stored_documents.specs.Documents.{document_at}
@@ -241,13 +240,13 @@ live_0 : IsLive stamped_layout stamped_image 0
 live_0 = record { slot = omega arith; done = done_alone alone; taken = λ m below. absurd (omega (arith, below)) }
 
 -- the time posting is a true one
-true_time : STAMPED_VERSION ≤ NEWEST_VERSION → IsTruePosting stamped_layout stamped_image 2 (time_posting 0 1000)
-true_time reached = record {
+true_time : IsTruePosting stamped_layout stamped_image 2 (time_posting 0 1000)
+true_time = record {
   slot = 0;
   live = live_0;
   id = codes "a";
   body = [];
-  stands = stands_0 reached;
+  stands = stands_0;
   postings = postings;
   stamp = Some 1000;
   is_stamp = stamp_0;
@@ -255,9 +254,9 @@ true_time reached = record {
 }
 
 -- rule 9
-pub posting_rule : STAMPED_VERSION ≤ NEWEST_VERSION → (cell : ℕ) → IsWritten stamped_image cell
+pub posting_rule : (cell : ℕ) → IsWritten stamped_image cell
     → PostingRule stamped_layout stamped_image cell
-posting_rule reached cell w = λ l block place p b below at h.
+posting_rule cell w = λ l block place p b below at h.
     let number = numbers cell w in
     let head : list_at stamped_layout l ≡ block = heads_alone b.leads in
     let list : l ≡ 2 = omega (arith, number, head, b.list, at, below) in
@@ -265,7 +264,7 @@ posting_rule reached cell w = λ l block place p b below at h.
     let held = subst (λ (k : ℕ). Holds stamped_image k (posting_record p)) is h in
     let same : p ≡ time_posting 0 1000 = one_posting stamped_image 580 p (time_posting 0 1000) held time_holds in
     subst (λ (k : ℕ). IsTruePosting stamped_layout stamped_image k p) (sym list)
-    (subst (λ (q : PostingFields). IsTruePosting stamped_layout stamped_image 2 q) (sym same) (true_time reached))
+    (subst (λ (q : PostingFields). IsTruePosting stamped_layout stamped_image 2 q) (sym same) true_time)
 
 -- rule 10: no place of a pointer is written
 pub pointer_rule : (cell : ℕ) → IsWritten stamped_image cell → PointerRule stamped_layout stamped_image cell
@@ -278,15 +277,15 @@ root_alone : {v node : ℕ} → IsNode stamped_layout stamped_image v node → (
 root_alone o = root_only stamped_layout stamped_cells refl o
 
 -- the bucket of `a` is a true one
-true_bucket : STAMPED_VERSION ≤ NEWEST_VERSION → IsTrueBucket stamped_layout stamped_image 548 12
-true_bucket reached = record {
+true_bucket : IsTrueBucket stamped_layout stamped_image 548 12
+true_bucket = record {
   slot = 0;
   fingerprint = a_fingerprint;
   bucket = bucket_holds;
   live = live_0;
   id = codes "a";
   body = [];
-  stands = stands_0 reached;
+  stands = stands_0;
   same = sym (ap fingerprint_of sha256_of_a);
   level = 0;
   on_path = root 0 548 refl refl;
@@ -294,13 +293,13 @@ true_bucket reached = record {
 }
 
 -- rule 11: no other bucket is written
-pub bucket_rule : STAMPED_VERSION ≤ NEWEST_VERSION → (cell : ℕ) → IsWritten stamped_image cell
+pub bucket_rule : (cell : ℕ) → IsWritten stamped_image cell
     → BucketRule stamped_layout stamped_image cell
-bucket_rule reached cell w = λ v node x o less at.
+bucket_rule cell w = λ v node x o less at.
     let is = (root_alone o).1 in
     let bucket : x ≡ 12 = omega (arith, numbers cell w, is, at, less) in
     subst (λ (k : ℕ). IsTrueBucket stamped_layout stamped_image k x) (sym is)
-    (subst (λ (k : ℕ). IsTrueBucket stamped_layout stamped_image 548 k) (sym bucket) (true_bucket reached))
+    (subst (λ (k : ℕ). IsTrueBucket stamped_layout stamped_image 548 k) (sym bucket) true_bucket)
 
 -- rule 12: no place of a child cell is written
 pub child_rule : (cell : ℕ) → IsWritten stamped_image cell → ChildRule stamped_layout stamped_image cell

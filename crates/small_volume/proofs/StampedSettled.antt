@@ -1,6 +1,5 @@
 -- The stamped volume is settled, and has one document.
 use Rattle.std.proofs.Common.{◌≡◌, ◌≤◌, inr, ℕ, [], ◌∷◌, sym, subst, arith}
-use Rattle.cell_types.specs.declared.geometry.TheConstants.{NEWEST_VERSION, STAMPED_VERSION}
 use Rattle.stored_documents.specs.Documents.{AreDocuments, document_at}
 use Rattle.stored_documents.specs.Volumes.{IsWritten}
 use Rattle.tamper_rules.specs.Rules
@@ -12,48 +11,48 @@ use Rattle.small_volume.proofs.Stamped.{volume, stands_0}
 use Rattle.small_volume.proofs.StampedRules.{numbers, alone, reserve_rule, outcome_rule, done_rule, has_document, journal_rule, redone_rule, blank_rule, entry_rule, posting_rule, pointer_rule, bucket_rule, child_rule, trail_rule, path_rule, tiling_rule}
 
 -- each rule, at each written cell
-met : STAMPED_VERSION ≤ NEWEST_VERSION → (rule : Rule) (cell : ℕ) → IsWritten stamped_image cell
+met : (rule : Rule) (cell : ℕ) → IsWritten stamped_image cell
     → IsMet stamped_layout stamped_image rule cell
-met reached Rules.ReserveCells cell w = λ n inside at.
+met Rules.ReserveCells cell w = λ n inside at.
     let first : n ≡ 0 = omega (arith, numbers cell w, at) in
     subst (ReserveRule stamped_layout stamped_image) (sym first) reserve_rule
-met reached Rules.OutcomeCells cell w = λ n inside at.
+met Rules.OutcomeCells cell w = λ n inside at.
     let first : n ≡ 0 = omega (arith, numbers cell w, at) in
     subst (OutcomeRule stamped_layout stamped_image) (sym first) outcome_rule
-met reached Rules.DoneCells cell w = λ n inside at.
+met Rules.DoneCells cell w = λ n inside at.
     let first : n ≡ 0 = omega (arith, numbers cell w, at) in
     subst (DoneRule stamped_image) (sym first) done_rule
-met reached Rules.Documents cell w = λ n inside at start reserved bytes journal s. of_one alone
+met Rules.Documents cell w = λ n inside at start reserved bytes journal s. of_one alone
     (λ n start reserved bytes journal. HasDocument stamped_image (document_at start reserved bytes journal) bytes)
     has_document s
-met reached Rules.Journals cell w = journal_rule cell
-met reached Rules.Targets cell w = redone_rule cell
-met reached Rules.StrayCells cell w = blank_rule cell w
-met reached Rules.Entries cell w = entry_rule cell w
-met reached Rules.Postings cell w = posting_rule reached cell w
-met reached Rules.Pointers cell w = pointer_rule cell w
-met reached Rules.Buckets cell w = bucket_rule reached cell w
-met reached Rules.Children cell w = child_rule cell w
-met reached Rules.Trails cell w = λ n id body at t.
-    let is = stands_alone alone (volume reached) (stands_0 reached) t in
+met Rules.Journals cell w = journal_rule cell
+met Rules.Targets cell w = redone_rule cell
+met Rules.StrayCells cell w = blank_rule cell w
+met Rules.Entries cell w = entry_rule cell w
+met Rules.Postings cell w = posting_rule cell w
+met Rules.Pointers cell w = pointer_rule cell w
+met Rules.Buckets cell w = bucket_rule cell w
+met Rules.Children cell w = child_rule cell w
+met Rules.Trails cell w = λ n id body at t.
+    let is = stands_alone alone volume stands_0 t in
     subst (λ (k : ℕ). TrailRule stamped_layout stamped_image k body) (sym is.0)
     (subst (TrailRule stamped_layout stamped_image 0) (sym is.2) trail_rule)
-met reached Rules.Paths cell w = λ n id body at t.
-    let is = stands_alone alone (volume reached) (stands_0 reached) t in
+met Rules.Paths cell w = λ n id body at t.
+    let is = stands_alone alone volume stands_0 t in
     subst (λ (k : ℕ). PathRule stamped_layout stamped_image k id) (sym is.0)
     (subst (PathRule stamped_layout stamped_image 0) (sym is.1) path_rule)
-met reached Rules.Tilings cell w = λ n start reserved bytes journal at d. of_one alone
+met Rules.Tilings cell w = λ n start reserved bytes journal at d. of_one alone
     (λ n start reserved bytes journal. TilingRule stamped_image start reserved bytes journal) tiling_rule
     (record { commits = d.commits; done = inr d.done })
 
 -- the stamped volume is settled
-pub is_settled : STAMPED_VERSION ≤ NEWEST_VERSION → Settled 1200 stamped_image
-is_settled reached = record {
+pub is_settled : Settled 1200 stamped_image
+is_settled = record {
   layout = stamped_layout;
-  volume = volume reached;
-  settled = record { met = met reached; ended = λ u m h less. inr (ended_alone alone u m h less) };
+  volume = volume;
+  settled = record { met = met; ended = λ u m h less. inr (ended_alone alone u m h less) };
 }
 
 -- and has one document
-pub are_documents : STAMPED_VERSION ≤ NEWEST_VERSION → AreDocuments 1200 stamped_image (stamped_document ∷ [])
-are_documents reached = documents_alone alone (volume reached) (stands_0 reached)
+pub are_documents : AreDocuments 1200 stamped_image (stamped_document ∷ [])
+are_documents = documents_alone alone volume stands_0

@@ -58,9 +58,6 @@
 //! | 5 | is broken | it is less than that |
 //! | 1001 | is kept | it is greater |
 //!
-//! The newest version that this code reads, `NEWEST_VERSION`, is that of the stamped volume. The laws which need that it is
-//! a volume say so by a premise; the others have none.
-//!
 //! The cells are written out in `specs/`, and no definition of a record made them. Nothing is said of the other rules
 //! as broken ones, nor of a third volume.
 //!

@@ -1,10 +1,5 @@
 //! What the stamped volume is, that it is settled and its document kept, and which stamps rule 7 refuses.
-//!
-//! A volume of version 3 is one only where this code knows that version, as `Geometry::new` does. So each law that
-//! speaks of the volume as one has the premise that the newest version reaches it, and no law needs to be said anew
-//! where that constant rises.
-ghost use Rattle.std.specs.Prelude.{◌≤◌, codes, [], ◌∷◌, Some};
-ghost use Rattle.cell_types.specs.declared.geometry.TheConstants.{NEWEST_VERSION, STAMPED_VERSION};
+ghost use Rattle.std.specs.Prelude.{codes, [], ◌∷◌, Some};
 ghost use Rattle.cell_types.specs.declared.record_cell.RecordCell.TheVariants.{Stamp};
 ghost use Rattle.stored_documents.specs.Documents.{AreDocuments, Stands};
 ghost use Rattle.stored_documents.specs.Slots.{HasStamp, IsDone, IsStampOf};
@@ -21,7 +16,7 @@ ghost use Rattle.small_volume.specs.StampedVolume.{stamped_document, stamped_ima
 
 /// The stamped image is a volume of version 3, with 8 slots, 2 lists and 1,200 cells.
 pub fn the_stamped_image_is_a_volume()
-    ensures { STAMPED_VERSION ≤ NEWEST_VERSION → IsVolume 1200 stamped_image stamped_layout }
+    ensures { IsVolume 1200 stamped_image stamped_layout }
 {}
 
 /// Slot 0 is done: 3 cells from cell 836 on, 2 stored bytes, a journal of 2 cells. Its stamp is 1000.
@@ -33,7 +28,7 @@ pub fn the_stamped_slot_is_done()
 
 /// The document `a` with no body stands in slot 0.
 pub fn the_stamped_document_stands()
-    ensures { STAMPED_VERSION ≤ NEWEST_VERSION → Stands 1200 stamped_image 0 (codes "a") [] }
+    ensures { Stands 1200 stamped_image 0 (codes "a") [] }
 {}
 
 /// The time posting of the stamp 1000 is one of slot 0's postings, in the time list, and has a trail there: it stands in
@@ -46,28 +41,25 @@ pub fn the_time_posting_has_a_trail()
 /// The document is kept: its time posting, which is its only one, has a trail, and it has a hash trail. This rests on
 /// the digest of its identifier, which is computed.
 pub fn the_stamped_document_is_kept()
-    ensures { STAMPED_VERSION ≤ NEWEST_VERSION → Kept 1200 stamped_image (stamped_document ∷ []) }
+    ensures { Kept 1200 stamped_image (stamped_document ∷ []) }
 {}
 
 /// Each rule is kept at each written cell, so the stamped volume is settled, and it has its one document.
 pub fn the_stamped_volume_is_settled()
-    ensures settled { STAMPED_VERSION ≤ NEWEST_VERSION → Settled 1200 stamped_image }
-    ensures documents { STAMPED_VERSION ≤ NEWEST_VERSION
-        → AreDocuments 1200 stamped_image (stamped_document ∷ []) }
+    ensures settled { Settled 1200 stamped_image }
+    ensures documents { AreDocuments 1200 stamped_image (stamped_document ∷ []) }
 {}
 
 /// The stamp of a second slot that is the same as that of slot 0, which is done.
 pub fn the_same_stamp_breaks_rule_7()
     ensures holds { Holds (with_cells stamped_image (next_slot_cells same_stamp_cell)) 11 (Stamp 1000) }
-    ensures broken { STAMPED_VERSION ≤ NEWEST_VERSION
-        → IsBroken 1200 (with_cells stamped_image (next_slot_cells same_stamp_cell)) STRAY_CELL 11 }
+    ensures broken { IsBroken 1200 (with_cells stamped_image (next_slot_cells same_stamp_cell)) STRAY_CELL 11 }
 {}
 
 /// The stamp of a second slot that is less than that of slot 0.
 pub fn an_earlier_stamp_breaks_rule_7()
     ensures holds { Holds (with_cells stamped_image (next_slot_cells earlier_stamp_cell)) 11 (Stamp 5) }
-    ensures broken { STAMPED_VERSION ≤ NEWEST_VERSION
-        → IsBroken 1200 (with_cells stamped_image (next_slot_cells earlier_stamp_cell)) STRAY_CELL 11 }
+    ensures broken { IsBroken 1200 (with_cells stamped_image (next_slot_cells earlier_stamp_cell)) STRAY_CELL 11 }
 {}
 
 /// The stamp of a second slot that is one second greater keeps the rule.

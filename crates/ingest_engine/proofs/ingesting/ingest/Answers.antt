@@ -57,7 +57,7 @@ put_planned-requires-clause-suits g c =
     let bounds = c.in_ok-ready.ensures.ends.0 in
     plan_suits _ c.args.id.now c.args.body.now c.in_ok-document.document c.requires.identifier c.requires.body
     c.in_ok-document.ensures c.deref.ensures.value refl c.args.stamp refl c.in_ok-index.ensures.ends.planned bounds.layout
-    c.in_ok-check_stamp.ensures (few_seconds c.args.stamp (omega (arith, c.unwrap_or.ensures))) refl refl
+    c.in_ok-check_stamp.ensures (few_seconds c.args.stamp (omega (arith, c.unwrap_or-seconds.ensures))) refl refl
     c.deref-2.ensures.value bounds.from bounds.to
     (omega (arith, c.in_ok-check_room.ensures, c.len.ensures, c.len-2.ensures))
 
@@ -75,7 +75,7 @@ returns-in_err-slot g c =
       starts = refl;
       suits = plan_suits _ c.args.id.now c.args.body.now c.in_ok-document.document c.requires.identifier
           c.requires.body c.in_ok-document.ensures c.deref.ensures.value refl c.args.stamp refl c.in_ok-index.ensures.ends.planned
-          bounds.layout c.in_ok-check_stamp.ensures (few_seconds c.args.stamp (omega (arith, c.unwrap_or.ensures))) refl refl c.deref-2.ensures.value bounds.from bounds.to
+          bounds.layout c.in_ok-check_stamp.ensures (few_seconds c.args.stamp (omega (arith, c.unwrap_or-seconds.ensures))) refl refl c.deref-2.ensures.value bounds.from bounds.to
           (omega (arith, c.in_ok-check_room.ensures, c.len.ensures, c.len-2.ensures));
       document = plans_document _ c.args.id.now c.args.body.now c.in_ok-document.document c.requires.identifier
           c.requires.body c.in_ok-document.ensures c.deref.ensures.value refl c.args.stamp refl;
@@ -99,7 +99,7 @@ returns g c =
       starts = refl;
       suits = plan_suits _ c.args.id.now c.args.body.now c.in_ok-document.document c.requires.identifier
           c.requires.body c.in_ok-document.ensures c.deref.ensures.value refl c.args.stamp refl c.in_ok-index.ensures.ends.planned
-          bounds.layout c.in_ok-check_stamp.ensures (few_seconds c.args.stamp (omega (arith, c.unwrap_or.ensures))) refl refl c.deref-2.ensures.value bounds.from bounds.to
+          bounds.layout c.in_ok-check_stamp.ensures (few_seconds c.args.stamp (omega (arith, c.unwrap_or-seconds.ensures))) refl refl c.deref-2.ensures.value bounds.from bounds.to
           (omega (arith, c.in_ok-check_room.ensures, c.len.ensures, c.len-2.ensures));
       document = plans_document _ c.args.id.now c.args.body.now c.in_ok-document.document c.requires.identifier
           c.requires.body c.in_ok-document.ensures c.deref.ensures.value refl c.args.stamp refl;
