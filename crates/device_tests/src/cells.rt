@@ -1,8 +1,8 @@
 //! Cells as they stand on a volume of 8 slots and 2 lists on 1,000 cells with the document `a`,
 //! `hello world`, and a stamp; each rule on both sides of its edge; and the lines that programs print.
 use cell_types::{
-    Cell, Content, CopyRefusal, Evidence, Geometry, RecordCell, Refusal, STAMPED_VERSION, address_of, content,
-    content_of, decode, encode, is_well_formed,
+    Cell, Content, CopyRefusal, Evidence, Geometry, RecordCell, Refusal, STAMPED_VERSION,
+    address_of, content, content_of, decode, encode, is_well_formed,
 };
 use std::process::Abort;
 use std::test::Fail;
@@ -230,8 +230,10 @@ fn a_volume_of_stamped_documents_has_a_time_list(rt: HostRuntime) {
         let geometry = Geometry::new(slots, lists, cells, STAMPED_VERSION);
         assert_eq!(rt; geometry.is_some(), is_some, "{slots} {lists} {cells}");
     }
-    let geometry =
-        Geometry::new(8, 2, 1200, STAMPED_VERSION).expect(&rt, "the pool begins at cell 836");
+    let geometry = Geometry::new(8, 2, 1200, STAMPED_VERSION).expect(
+        &rt,
+        "the pool begins at cell 836",
+    );
     assert_eq!(rt; geometry.list_at(0), 36);
     assert_eq!(rt; geometry.list_at(1), 292);
     assert_eq!(rt; geometry.root_at(), 548);

@@ -272,9 +272,9 @@ fn a_horizon_is_free_behind_a_slot_that_is_taken(rt: HostRuntime) -> Result<(), 
 #[test]
 fn cell_0_says_whether_there_is_a_volume(rt: HostRuntime) -> Result<(), Fail> {
     let stray = [0xff; 16];
-    let version_3 = [1, 3, 0, 0, 0, 8, 0, 2, 0, 0, 3, 0xe8, 0, 0, 0, 0];
+    let version_4 = [1, 4, 0, 0, 0, 8, 0, 2, 0, 0, 3, 0xe8, 0, 0, 0, 0];
     let reserve = [2, 0, 0, 2, 0x44, 0, 0, 0, 1, 0, 0, 0, 0, 0, 0, 0];
-    for bytes in [stray, version_3, reserve] {
+    for bytes in [stray, version_4, reserve] {
         let mut device = device_with(rt.alloc(), 1_000, &[(0, bytes)])?;
         let found = Cell::from_bytes(bytes).ok_or("a blank cell")?;
         assert_eq!(rt;
