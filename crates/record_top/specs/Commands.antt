@@ -6,7 +6,7 @@ use Rattle.cell_types.specs.Layout.{Layout}
 use Rattle.cell_types.specs.declared.refusal.Refusal.{Refusal}
 use Rattle.script_events.specs.declared.event.Script.{Script}
 use Rattle.record_top.specs.Auditing.{AsksToAudit, DoesAudit, IsReadyToAudit}
-use Rattle.record_top.specs.Exercising.{AsksToExercise, DoesExercise, IsOkOrOfAnEvent, IsReadyToExercise}
+use Rattle.record_top.specs.Exercising.{AsksToExercise, DoesExercise, IsOkOrOfExercise, IsReadyToExercise}
 use Rattle.record_top.specs.Finding.{AsksToFind, DoesFind, IsReadyToFind}
 use Rattle.record_top.specs.Formatting.{AsksToFormat, DoesFormat, IsReadyToFormat}
 use Rattle.record_top.specs.Ingesting.{AsksToIngest, DoesIngest, IsReadyToIngest}
@@ -87,7 +87,8 @@ IsUnhindered ToReplay old new = (text : List ℕ) × (script : Script) × IsRead
 IsUnhindered (ToExercise documents) old new = IsReadyToExercise old new
 
 -- What is answered where nothing hinders this: it is done; or, where memory is taken, none was to be had; or, where a
--- document is looked up, none has the identifier. Of an exercise it is only said which refusals are not its own.
+-- document is looked up, none has the identifier. An exercise may end, besides, as the path of one of its
+-- identifiers is full.
 abbrev pub IsAnswered : Request → Result Unit Refusal → Type 0
 IsAnswered (ToFormat slots lists version) result = IsOkAlone result
 IsAnswered (ToIngest id) result = IsOkOrNoMemory result
@@ -96,4 +97,4 @@ IsAnswered (ToLookUp id) result = IsOkOrAbsent result
 IsAnswered ToRecover result = IsOkAlone result
 IsAnswered ToAudit result = IsOkOrNoMemory result
 IsAnswered ToReplay result = IsOkOrNoMemory result
-IsAnswered (ToExercise documents) result = IsOkOrOfAnEvent result
+IsAnswered (ToExercise documents) result = IsOkOrOfExercise result

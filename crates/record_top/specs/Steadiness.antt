@@ -16,7 +16,7 @@ use Rattle.worm_device.specs.State.{DeviceState}
 use Rattle.settling_laws.specs.Steadiness.{StaysSteady}
 use Rattle.crash_laws.specs.Steadiness.{HasOneMore, StaysSteadyBy}
 use Rattle.record_query.specs.declared.found.Match.{Match}
-use Rattle.command_laws.specs.Telling.{AreMatchesOf, IsFormatted, LeavesHeld}
+use Rattle.command_laws.specs.Telling.{AreMatchesOf, IsFormatted}
 use Rattle.record_top.specs.Commands.{Request, ToAudit, ToExercise, ToFind, ToFormat, ToIngest, ToLookUp, ToRecover, ToReplay}
 use Rattle.record_top.specs.Ingesting.{HasRefused, HasStored, acknowledgement}
 use Rattle.record_top.specs.Finding.{AreTermsOf, find_text}
@@ -89,8 +89,8 @@ pub record AddsOne (id : List ℕ) (old new : Ports) (result : Result Unit Refus
       → Held old.device.cells old.device.image documents → Held new.device.cells new.device.image documents
   pub needs : (need free : ℕ) → result ≡ Err (Full need free) → IsExactlyTooMany id body need free old.device
 
--- What a command leaves, and of a query what it tells, by what was asked for. An exercise leaves the device alone, and of
--- its own device nothing is said here.
+-- What a command leaves, and of a query what it tells, by what was asked for. A replay and an exercise leave the device
+-- alone; what is left on their own is said elsewhere.
 abbrev pub LeavesWhole : Request → Ports → Ports → Result Unit Refusal → Type 0
 LeavesWhole (ToFormat slots lists version) old new result = AddsNone old new result × LeavesFormatted new result
 LeavesWhole (ToIngest id) old new result = AddsOne id old new result
@@ -99,4 +99,4 @@ LeavesWhole (ToLookUp id) old new result = AddsNone old new result × LooksUpHel
 LeavesWhole ToRecover old new result = AddsNone old new result
 LeavesWhole ToAudit old new result = AddsNone old new result
 LeavesWhole ToReplay old new result = AddsNone old new result
-LeavesWhole (ToExercise documents) old new result = LeavesHeld old.device new.device
+LeavesWhole (ToExercise documents) old new result = AddsNone old new result
