@@ -24,6 +24,8 @@ use Rattle.volume_audit.proofs.Comes.{licensed, settles_first}
 use Rattle.record_top.specs.Auditing.{DoesAudit, report_text}
 use Rattle.record_top.specs.Checking.{DoesCheck}
 use Rattle.record_top.specs.Commands.{Does, Request, ToAudit, ToCheck, ToExercise, ToFind, ToFormat, ToIngest, ToLookUp, ToMakeReceipt, ToRecover, ToReplay, layout_on}
+use Rattle.record_top.specs.Exercising.{DoesExercise}
+use Rattle.record_top.proofs.Exercises.{exercise_names_none}
 use Rattle.record_top.specs.Finding.{DoesFind, found_text, misworded, searched, unread, unruled}
 use Rattle.record_top.specs.Receipting.{DoesReceipt, made}
 use Rattle.record_top.specs.Receipting as receipts
@@ -198,6 +200,14 @@ module _ (old new : Ports) (device : IsDevice old.device) (device_new : IsDevice
       (λ e named. told_alarm id old new device device_new begins answer makes.comes makes.ends e
       (subst (TellsFromMemory text_of_receipt answer old new) named tells))
 
+  exercise_adds : (documents : ℕ) (result : Result Unit Refusal) → DoesExercise documents old new result
+      → AddsNone old new result
+  exercise_adds documents result does =
+      leaves_none (record {
+        stays = unused_steady old.device new.device device begins.steady does.device;
+        keeps = held_unmoved does.device;
+      }) (λ e is. exercise_names_none documents old new e (subst (DoesExercise documents old new) is does))
+
   -- whatever was asked for
   pub leaves_whole : (request : Request) (result : Result Unit Refusal) → Does request old new result
       → LeavesWhole request old new result
@@ -213,10 +223,7 @@ module _ (old new : Ports) (device : IsDevice old.device) (device_new : IsDevice
   leaves_whole ToRecover result does = recover_adds result does
   leaves_whole ToAudit result does = audit_adds result does
   leaves_whole ToReplay result does = replay_adds result does
-  leaves_whole (ToExercise documents) result does = record {
-    stays = unused_steady old.device new.device device begins.steady does.device;
-    keeps = held_unmoved does.device;
-  }
+  leaves_whole (ToExercise documents) result does = exercise_adds documents result does
   leaves_whole ToCheck result does = check_adds result does
   leaves_whole (ToMakeReceipt id) result does =
       (receipt_adds id result does, receipt_held id old new device device_new begins result does)

@@ -8,7 +8,7 @@ use Rattle.receipt_text.specs.declared.receipt.Receipt.{Receipt}
 use Rattle.script_events.specs.declared.event.Script.{Script}
 use Rattle.record_top.specs.Auditing.{AsksToAudit, DoesAudit, IsReadyToAudit}
 use Rattle.record_top.specs.Checking.{AsksToCheck, DoesCheck, IsReadyToCheck}
-use Rattle.record_top.specs.Exercising.{AsksToExercise, DoesExercise, IsOkOrOfAnEvent, IsReadyToExercise}
+use Rattle.record_top.specs.Exercising.{AsksToExercise, DoesExercise, IsOkOrOfExercise, IsReadyToExercise}
 use Rattle.record_top.specs.Finding.{AsksToFind, DoesFind, IsReadyToFind}
 use Rattle.record_top.specs.Formatting.{AsksToFormat, DoesFormat, IsReadyToFormat}
 use Rattle.record_top.specs.Ingesting.{AsksToIngest, DoesIngest, IsReadyToIngest}
@@ -100,8 +100,8 @@ IsUnhindered ToCheck old new = (r : Receipt) × (body : List ℕ) × IsReadyToCh
 IsUnhindered (ToMakeReceipt id) old new = (g : Layout) × IsReadyForReceipt id g old new
 
 -- What is answered where nothing hinders this: it is done; or, where memory is taken, none was to be had; or, where a
--- document is looked up or a receipt of it is asked for, none has the identifier; or the receipt would have too many cells. Of
--- an exercise it is only said which refusals are not its own.
+-- document is looked up or a receipt of it is asked for, none has the identifier; or the receipt would have too many cells. An
+-- exercise may end, besides, as the path of one of its identifiers is full.
 abbrev pub IsAnswered : Request → Result Unit Refusal → Type 0
 IsAnswered (ToFormat slots lists version) result = IsOkAlone result
 IsAnswered (ToIngest id stamp) result = IsOkOrNoMemory result
@@ -110,6 +110,6 @@ IsAnswered (ToLookUp id) result = IsOkOrAbsent result
 IsAnswered ToRecover result = IsOkAlone result
 IsAnswered ToAudit result = IsOkOrNoMemory result
 IsAnswered ToReplay result = IsOkOrNoMemory result
-IsAnswered (ToExercise documents) result = IsOkOrOfAnEvent result
+IsAnswered (ToExercise documents) result = IsOkOrOfExercise result
 IsAnswered ToCheck result = IsOkOrNoMemory result
 IsAnswered (ToMakeReceipt id) result = IsOkOrNoReceipt result

@@ -4,8 +4,8 @@ use Rattle.std.specs.Prelude.{◌≡◌, ℕ, List, [], ◌∷◌, codes, Result
 use Rattle.cell_types.specs.declared.refusal.Refusal.{Refusal}
 use Rattle.worm_device.specs.Counts.{IsStill}
 use Rattle.worm_memory.specs.Memory.{Memory}
-use Rattle.replayed_worlds.specs.Refusals.{IsOfWords}
 use Rattle.volume_exercise.specs.Exercising.{ExerciseEnds, exercise_device}
+use Rattle.volume_exercise.specs.Refusing.{IsOfExercise}
 use Rattle.volume_exercise.specs.declared.limits.TheConstants.{MAX_DOCUMENTS}
 use Rattle.record_top.specs.Ports.{Ports}
 use Rattle.record_top.specs.Words.{IsNumberUpTo}
@@ -27,8 +27,7 @@ pub record DoesExercise (n : ℕ) (old new : Ports) (result : Result Unit Refusa
 abbrev pub IsReadyToExercise : Ports → Ports → Type 0
 IsReadyToExercise old new = IsStill old.sink.faults new.sink.faults
 
--- The answer is Ok, or a refusal that is none of words, of a source or of a sink: want of memory, or what an event was
--- refused with.
-abbrev pub IsOkOrOfAnEvent : Result Unit Refusal → Type 0
-IsOkOrOfAnEvent (Ok _) = ⊤
-IsOkOrOfAnEvent (Err refusal) = IsOfWords refusal → ⊥
+-- the answer is Ok, or want of memory, or that the path of an identifier is full
+abbrev pub IsOkOrOfExercise : Result Unit Refusal → Type 0
+IsOkOrOfExercise (Ok _) = ⊤
+IsOkOrOfExercise (Err refusal) = IsOfExercise refusal

@@ -19,7 +19,7 @@ use Rattle.record_query.specs.declared.found.Match.{Match}
 use Rattle.receipt_text.specs.Form.{text_of_receipt}
 use Rattle.receipt_text.specs.declared.receipt.Receipt.{Receipt}
 use Rattle.receipt_check.specs.Checks.{ShowsDocument}
-use Rattle.command_laws.specs.Telling.{AreMatchesOf, IsFormatted, LeavesHeld}
+use Rattle.command_laws.specs.Telling.{AreMatchesOf, IsFormatted}
 use Rattle.record_top.specs.Commands.{Request, ToAudit, ToCheck, ToExercise, ToFind, ToFormat, ToIngest, ToLookUp, ToMakeReceipt, ToRecover, ToReplay}
 use Rattle.record_top.specs.Ingesting.{HasRefused, HasStored, acknowledgement}
 use Rattle.record_top.specs.Finding.{AreTermsOf, find_text}
@@ -105,8 +105,8 @@ pub record AddsOne (id : List ℕ) (stamp : Option ℕ) (old new : Ports) (resul
       → Held old.device.cells old.device.image documents → Held new.device.cells new.device.image documents
   pub needs : (need free : ℕ) → result ≡ Err (Full need free) → IsExactlyTooMany id stamp body need free old.device
 
--- What a command leaves, and of a query what it tells, by what was asked for. An exercise leaves the device alone, and of
--- its own device nothing is said here.
+-- What a command leaves, and of a query what it tells, by what was asked for. A replay and an exercise leave the device
+-- alone; what is left on their own is said elsewhere.
 abbrev pub LeavesWhole : Request → Ports → Ports → Result Unit Refusal → Type 0
 LeavesWhole (ToFormat slots lists version) old new result = AddsNone old new result × LeavesFormatted new result
 LeavesWhole (ToIngest id stamp) old new result = AddsOne id stamp old new result
@@ -115,6 +115,6 @@ LeavesWhole (ToLookUp id) old new result = AddsNone old new result × LooksUpHel
 LeavesWhole ToRecover old new result = AddsNone old new result
 LeavesWhole ToAudit old new result = AddsNone old new result
 LeavesWhole ToReplay old new result = AddsNone old new result
-LeavesWhole (ToExercise documents) old new result = LeavesHeld old.device new.device
+LeavesWhole (ToExercise documents) old new result = AddsNone old new result
 LeavesWhole ToCheck old new result = AddsNone old new result
 LeavesWhole (ToMakeReceipt id) old new result = AddsNone old new result × ShowsHeld id old new result

@@ -67,7 +67,7 @@ module _ (s t : DeviceState) (device : IsDevice s) (device_new : IsDevice t) (be
   module _ (id body : List ℕ) (n : ℕ) (more : HasOneMore id body n s t) (documents : List Document)
       (held : Held s.cells s.image documents) where
     -- the document was added, so not just the others are held
-    not_held : Held t.cells t.image documents → ⊥
+    pub not_held : Held t.cells t.image documents → ⊥
     not_held still_held =
         let now = settled_documents t.cells t.image documents more.settled still_held in
         let added = subst (λ (i : Image). AreDocuments t.cells i (documents ++ document_in n id body ∷ []))

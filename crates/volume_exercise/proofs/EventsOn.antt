@@ -16,7 +16,7 @@ use Rattle.volume_exercise.specs.Events.{audit_event, exercise_events, format_ev
 use Rattle.volume_exercise.proofs.Words.{AreDigits, decimal_digits, word_is_one}
 
 -- what holds of each number of a row holds of what is made of it
-each_of : {A : Type 0} (P : A → Type 0) (f : ℕ → A) (n : ℕ) → ((i : ℕ) → i < n → P (f i))
+pub each_of : {A : Type 0} (P : A → Type 0) (f : ℕ → A) (n : ℕ) → ((i : ℕ) → i < n → P (f i))
     → All P (map f (range_with_len 0 n))
 each_of P f n is = λ k d below.
     let inside : k < n = omega (arith, below, length-map-range_with_len f 0 n) in
@@ -71,6 +71,18 @@ module _ (f : ℕ → ℕ) (small : (j : ℕ) → f j < 200) where
         behind_short (at + 1) n,
       )
 
+-- a body has at most 99 bytes
+pub body_short : (i : ℕ) → length (body_of i) ≤ 99
+body_short i =
+    let at : (j : ℕ) → word_at i j < 200 = λ j. omega arith in
+    let rest = flat_map (λ j. 32 ∷ word_of (word_at i j)) (range_with_len 1 19) in
+    omega (
+      arith,
+      length-append (word_of (word_at i 0)) rest,
+      word_short (word_at i 0) (at 0),
+      behind_short (word_at i) at 1 19,
+    )
+
 pub body_is_body : (i : ℕ) → IsBody (body_of i)
 body_is_body i =
     let at : (j : ℕ) → word_at i j < 200 = λ j. omega arith in
@@ -115,7 +127,7 @@ no_plan_on cells = record {
 }
 
 -- rows of one and of two
-all_one : {A : Type 0} (P : A → Type 0) (x : A) → P x → All P (x ∷ [])
+pub all_one : {A : Type 0} (P : A → Type 0) (x : A) → P x → All P (x ∷ [])
 all_one P x is = λ k d below. by_place k d below
   where
     by_place : (k : ℕ) (d : _) → k < 1 → P (get_or (x ∷ []) k d)
@@ -153,7 +165,7 @@ exercise_events_on cells n some most =
     (all_one On audit_event plan)))))
 
 -- and nothing befalls them
-plain_schedule : PlansNothing no_schedule
+pub plain_schedule : PlansNothing no_schedule
 plain_schedule = record { stop = refl; fail = refl; foreign = refl }
 
 pub exercise_events_plain : (n : ℕ) → All IsPlain (exercise_events n)

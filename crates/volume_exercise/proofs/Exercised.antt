@@ -1,4 +1,4 @@
--- A world of the events of the exercise has one reply to each, and what was refused was refused in a turn of it.
+-- A world of the events of the exercise has one reply to each.
 use Rattle.std.proofs.Common.{◌≡◌, ◌+◌, ◌*◌, ℕ, suc, List, [], ◌∷◌, ◌++◌, Option, Some, None, length, map, refl, subst, sym, ap, ◌∙◌, arith}
 use Rattle.std.proofs.lemmas.List.{length-append}
 use Rattle.std.proofs.lemmas.List.FromFn.{length-map-range_with_len}
@@ -35,36 +35,3 @@ pub replies_count : (n : ℕ) (replies : List Reply) (from to : Memory) → IsWo
 replies_count n replies from to world =
     ap length world.replies_are ∙ as_many (λ (t : Turn). t.reply) world.turns
     ∙ sym (as_many (λ (t : Turn). t.event) world.turns) ∙ sym (ap length world.events_are) ∙ events_count n
-
--- a turn of the world was refused so
-refused_turn : (turns : List Turn) (from to : Memory) (refusal : Refusal) → AreInTurn from turns to
-    → first_refusal (map (λ (t : Turn). t.reply) turns) ≡ Some refusal
-    → (t : Turn) × Turns t.event (reply.Refused refusal) t.old t.new
-refused_turn [] from to refusal leads first = absurd cc
-refused_turn (t ∷ turns) from to refusal leads first =
-    by_reply t.reply refl first (refused_turn turns t.new to refusal leads.3)
-  where
-    by_reply : (r : Reply) → t.reply ≡ r → first_refusal (r ∷ map (λ (t : Turn). t.reply) turns) ≡ Some refusal
-        → (first_refusal (map (λ (t : Turn). t.reply) turns) ≡ Some refusal
-        → (u : Turn) × Turns u.event (reply.Refused refusal) u.old u.new)
-        → (u : Turn) × Turns u.event (reply.Refused refusal) u.old u.new
-    by_reply (reply.Refused other) is first later =
-        let same : other ≡ refusal = cc in
-        (t, subst (λ (r : Reply). Turns t.event r t.old t.new) (is ∙ ap reply.Refused same) leads.2)
-    by_reply reply.Formatted is first later = later first
-    by_reply (reply.Acknowledged n) is first later = later first
-    by_reply (reply.Found matches) is first later = later first
-    by_reply (reply.Body slot body) is first later = later first
-    by_reply (reply.Sound report) is first later = later first
-    by_reply (reply.Settled step) is first later = later first
-    by_reply reply.ForeignDone is first later = later first
-    by_reply (reply.ForeignTaken found) is first later = later first
-    by_reply (reply.Crashed crash) is first later = later first
-
--- so it is none of words
-pub not_of_words : NoneIsOfWords → (events : List Event) (replies : List Reply) (from to : Memory) (refusal : Refusal)
-    → IsWorld events replies from to → first_refusal replies ≡ Some refusal → IsOfWords refusal → ⊥
-not_of_words none events replies from to refusal world first of =
-    let turned = refused_turn world.turns from to refusal world.in_turn
-    (ap first_refusal (sym world.replies_are) ∙ first) in
-    none turned.0.event refusal turned.0.old turned.0.new turned.1 of

@@ -295,8 +295,7 @@ module _ (plain : PlainIsDone) (returned : AcknowledgedAreReturned) (marked : Tu
         ∙ ap (λ (l : List Event). length l) events_are ∙ events_count n;
     read = subst (λ (l : List Mark). ReadsRise l to.reads) (sym marks_are)
         (reads_rise from (c.format ∷ rest) to leads (read_row [] (c.format ∷ rest) refl)).0;
-    undisturbed = sym recorded ∙ left.undisturbed;
-    unfailed = left.unfailed;
+    untroubled = record { undisturbed = sym recorded ∙ left.undisturbed; unfailed = left.unfailed };
   }
 
 -- all of it, of a world

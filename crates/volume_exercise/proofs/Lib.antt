@@ -1,10 +1,14 @@
 mod Counted
 mod Counting
+mod Ending
 mod EventsOn
 mod Exercised
+mod Few
 mod Leaving
 mod Played
+mod Refused
 mod Rowed
 mod Rows
+mod Stocked
 mod Told
 mod Words

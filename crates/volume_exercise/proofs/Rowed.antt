@@ -41,7 +41,7 @@ AreFrom k [] = ⊤
 AreFrom k (d ∷ ds) = (d.id ≡ identifier_of k) × (d.body ≡ body_of k) × AreFrom (k + 1) ds
 
 -- ingests that are done are acknowledged
-one_ingest : (k : ℕ) (r : Reply) (old new : Memory) → Turns (ingest_event k) r old new → IsDoneReply r
+pub one_ingest : (k : ℕ) (r : Reply) (old new : Memory) → Turns (ingest_event k) r old new → IsDoneReply r
     → (s : ℕ) × (r ≡ reply.Acknowledged s)
 one_ingest k (reply.Acknowledged s) old new turned done = (s, refl)
 one_ingest k (reply.Refused refusal) old new turned done = absurd done

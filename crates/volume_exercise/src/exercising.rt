@@ -9,9 +9,7 @@ use crate::tallies::{first_refusal, text_of};
 use cell_types::Refusal;
 use host_ports::{Sink, put_all};
 use hostile_replay::replay;
-use replayed_worlds::{
-    acknowledged_are_returned, none_is_of_words, plain_is_done, turns_are_marked,
-};
+use replayed_worlds::{acknowledged_are_returned, plain_is_done, turns_are_marked};
 use std::alloc::Global;
 use worm_memory::{MemoryDevice, the_count_is_recorded};
 
@@ -35,7 +33,6 @@ pub fn exercise<K: Sink>(
     let Ok(replies) = replay(alloc, &events, device) else {
         return Err(Refusal::NoMemory);
     };
-    none_is_of_words();
     plain_is_done();
     acknowledged_are_returned();
     turns_are_marked();

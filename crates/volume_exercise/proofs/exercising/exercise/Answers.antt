@@ -11,7 +11,8 @@ use Rattle.volume_exercise.specs.Events.{exercise_events}
 use Rattle.volume_exercise.specs.Exercising.{ExerciseEnds, refused, told, unmade, untold}
 use Rattle.volume_exercise.specs.Tallies.{counted_text, first_refusal}
 use Rattle.volume_exercise.proofs.EventsOn.{exercise_events_on}
-use Rattle.volume_exercise.proofs.Exercised.{not_of_words, replies_count}
+use Rattle.volume_exercise.proofs.Ending.{exercise_refused, exercise_untroubled}
+use Rattle.volume_exercise.proofs.Exercised.{replies_count}
 use Rattle.volume_exercise.proofs.Leaving.{exercise_whole}
 use Rattle.volume_exercise.proofs.exercising.exercise.Goals as goal
 
@@ -49,8 +50,10 @@ returns-in-Some g c =
     c.in-Ok-replay.ensures in
     let first = ap first_refusal (sym c.deref-2.ensures.value) ∙ sym c.first_refusal.ensures ∙ c.in-Some.is in
     refused replies c.in-Some.refusal world first
-    (not_of_words c.none_is_of_words.ensures (exercise_events c.args.documents) replies from to c.in-Some.refusal world first)
-    refl refl
+    (exercise_refused c.plain_is_done.ensures c.acknowledged_are_returned.ensures c.args.documents c.requires.some
+    c.requires.most from to c.requires.new replies world c.in-Some.refusal first)
+    (exercise_untroubled c.plain_is_done.ensures c.args.documents c.requires.most from to c.requires.new replies world
+    (c.the_count_is_recorded.ensures c.replay.new.device)) refl refl
 
 -- the sink failed
 pub returns-in_default-put_all : goal.returns-in_default-put_all
