@@ -1,19 +1,19 @@
 -- A command that is done, from a steady device on, where nobody else writes, has read the device, and leaves it settled.
-use Rattle.std.proofs.Common.{◌≡◌, ◌≤◌, ◌+◌, ◌^◌, ℕ, List, [], ◌∷◌, ◌++◌, length, Option, Result, Ok, Err, refl, sym, ap, ◌∙◌, subst, arith}
+use Rattle.std.proofs.Common.{◌≡◌, ℕ, List, [], ◌∷◌, ◌++◌, length, Option, Result, Ok, Err, refl, sym, ap, ◌∙◌, subst, arith}
 use Rattle.std.proofs.lemmas.List.{length-append}
 use Rattle.std.proofs.lemmas.Option.{none-some}
 use Rattle.cell_types.specs.Image.{Image}
 use Rattle.cell_types.specs.declared.refusal.Refusal.{Refusal}
 use Rattle.stored_documents.specs.Documents.{AreDocuments, Document}
 use Rattle.stored_documents.proofs.Lists.{lists_one}
-use Rattle.tamper_rules.specs.Settling.{After, Held, Settled, none, nothing, of_after}
+use Rattle.tamper_rules.specs.Settling.{Held, Settled, none, nothing, of_after}
 use Rattle.tamper_rules.proofs.Images.{same_image}
 use Rattle.tamper_rules.proofs.OneAfter.{one_after}
 use Rattle.worm_device.specs.Counts.{IsStill, Rose}
 use Rattle.worm_device.specs.State.{DeviceState, IsDevice}
 use Rattle.worm_device.proofs.Elapsing.{called_self}
 use Rattle.worm_memory.specs.Memory.{Memory, device_of}
-use Rattle.recovery_engine.specs.Settling.{HasSettled, Settles, SettlesFirst, settled, settling}
+use Rattle.recovery_engine.specs.Settling.{HasSettled, SettlesFirst, settled, settling}
 use Rattle.recovery_engine.specs.declared.settling.Ready.{Ready}
 use Rattle.settling_laws.specs.Steadiness.{IsSteady}
 use Rattle.settling_laws.proofs.LeftWhole.{held_unmoved, settling_keeps}

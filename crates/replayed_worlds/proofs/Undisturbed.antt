@@ -25,7 +25,7 @@ use Rattle.replayed_worlds.specs.Completeness.{CommandsComplete}
 use Rattle.replayed_worlds.specs.Headline.{ComeFrom, IsNew, IsUndisturbed, MayGive, MayGiveNone, cut_short, followed, nothing_came, none, stored}
 use Rattle.replayed_worlds.specs.Steadily.{CommandsAreWhole, IsCommand, begun_by}
 use Rattle.replayed_worlds.specs.Turns.{CarriesOut, Turns}
-use Rattle.replayed_worlds.specs.Undisturbed.{IsDoneReply, IsLeftAlone, IsLeftPlain, IsPlain, IsPlainTurn, IsUnshared, PlainIsDone, PlansNothing, TurnsAreMarked, UnsharedIsAlone, events_of}
+use Rattle.replayed_worlds.specs.Undisturbed.{IsDoneReply, IsLeftPlain, IsPlain, IsPlainTurn, IsUnshared, PlainIsDone, PlansNothing, TurnsAreMarked, UnsharedIsAlone, events_of}
 use Rattle.replayed_worlds.specs.Worlds.{AreInTurn, Turn, acknowledged, acknowledged_by}
 use Rattle.replayed_worlds.proofs.Along.{along, split}
 use Rattle.replayed_worlds.proofs.Reading.{IsDoneSo, done_so}
