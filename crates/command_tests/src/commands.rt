@@ -166,6 +166,11 @@ fn words_that_are_no_command_are_usage(rt: HostRuntime) -> Result<(), Fail> {
     let mut device = formatted(alloc, 1_000, 64)?;
     for words in [
         "audit|a",
+        "check|a",
+        "receipt",
+        "receipt|",
+        "receipt|a|b",
+        "Check",
         "ingest",
         "",
         "ingest|a|b",

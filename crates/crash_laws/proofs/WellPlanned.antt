@@ -208,10 +208,9 @@ module _ (old looked : DeviceState) (r : Ready) (tells : IsTrue old.tells) (h : 
       ends = ends_2 r h tells;
     }
 
-    -- it is put by a plan of the document, without a stamp, since planning takes none yet
+    -- it is put by a plan of the document, with the stamp
     module _ (p : Plan) (starts : p.start ≡ r.edge) (suits : Suits g p) (document : PlansDocument p id body)
-        (stamped : p.stamp ≡ stamp)
-        (stamp : p.stamp ≡ None) (blocks : p.block_length ≡ index.block_length)
+        (stamped : p.stamp ≡ stamp) (blocks : p.block_length ≡ index.block_length)
         (journal : p.journal.now ≡ index.journal.items) where
       takes : TakesSlot g looked.image (plan_of r.horizon p id body) (p.start + index.block_length)
       takes = record {

@@ -1,5 +1,5 @@
 -- A command that began with its plan goes by it, behind whichever engine.
-use Rattle.std.proofs.Common.{◌≡◌, ◌++◌, ℕ, List, [], Some, Ok, Err, refl, sym, ap, subst, ◌∙◌}
+use Rattle.std.proofs.Common.{◌≡◌, ◌++◌, ℕ, List, [], Option, Some, Ok, Err, refl, sym, ap, subst, ◌∙◌}
 use Rattle.std.specs.Global.{Vec}
 use Rattle.cell_types.specs.declared.refusal.Refusal.{Refusal}
 use Rattle.worm_device.specs.Calls.{Called}
@@ -45,13 +45,13 @@ carried_out kept plan old begun now is Answers called answers = record {
 -- what each engine answered, once it was called behind the beginning
 module _ (kept : APlanIsKept) (plan : Schedule) (old : Memory) (begun now : MemoryDevice)
     (is : memory_of begun ≡ begun_with plan old) where
-  pub ingested : (id body called_id called_body : List ℕ) → called_id ≡ id → called_body ≡ body → (n : ℕ)
-      → Ingests called_id called_body (state_of begun) (state_of now) (Ok n)
-      → CarriesOut plan old (memory_of now) (λ s t. IngestAnswers id body s t (reply.Acknowledged n))
-  ingested id body called_id called_body same_id same_body n ingests =
-      carried_out kept plan old begun now is (λ s t. IngestAnswers id body s t (reply.Acknowledged n)) ingests.called
-      (subst (λ (i : List ℕ). Ingests i body (state_of begun) (state_of now) (Ok n)) same_id
-      (subst (λ (b : List ℕ). Ingests called_id b (state_of begun) (state_of now) (Ok n)) same_body ingests))
+  pub ingested : (id : List ℕ) (stamp : Option ℕ) (body called_id called_body : List ℕ) → called_id ≡ id
+      → called_body ≡ body → (n : ℕ) → Ingests called_id stamp called_body (state_of begun) (state_of now) (Ok n)
+      → CarriesOut plan old (memory_of now) (λ s t. IngestAnswers id stamp body s t (reply.Acknowledged n))
+  ingested id stamp body called_id called_body same_id same_body n ingests =
+      carried_out kept plan old begun now is (λ s t. IngestAnswers id stamp body s t (reply.Acknowledged n)) ingests.called
+      (subst (λ (i : List ℕ). Ingests i stamp body (state_of begun) (state_of now) (Ok n)) same_id
+      (subst (λ (b : List ℕ). Ingests called_id stamp b (state_of begun) (state_of now) (Ok n)) same_body ingests))
 
   pub recovered : (r : Ready) → Settles (state_of begun) (state_of now) (Ok r)
       → CarriesOut plan old (memory_of now) (λ s t. RecoverAnswers s t (reply.Settled r.step))

@@ -34,7 +34,7 @@ map_on f (x ∷ turns) t = ap (λ l. f x ∷ l) (map_on f turns t)
 
 turn_cells : (e : Event) (r : Reply) (old new : Memory) → Turns e r old new → new.cells ≡ old.cells
 turn_cells (event.Format slots lists version plan) r old new t = t.called.cells
-turn_cells (event.Ingest id body plan) r old new t = t.called.cells
+turn_cells (event.Ingest id stamp body plan) r old new t = t.called.cells
 turn_cells (event.Find terms plan) r old new t = t.called.cells
 turn_cells (event.Lookup id plan) r old new t = t.called.cells
 turn_cells (event.Audit plan) r old new t = t.called.cells

@@ -41,10 +41,11 @@ pub fn play_format(
     }
 }
 
-/// Ingests.
+/// Ingests, with this stamp if there is one.
 pub fn play_ingest(
     alloc: Global,
     id: &Text,
+    stamp: Option<u32>,
     body: &Text,
     plan: &Schedule,
     device: &mut MemoryDevice,
@@ -53,11 +54,11 @@ pub fn play_ingest(
     requires inside { IsPlanOn (memory_of device.old).cells plan.now }
     requires identifier { IsIdentifier id.now }
     requires body { IsBody body.now }
-    ensures { Plays (event.Ingest id.now body.now plan.now) device.old device.new result }
+    ensures { Plays (event.Ingest id.now stamp body.now plan.now) device.old device.new result }
 {
     a_plan_is_kept();
     begin_with(device, plan)?;
-    match ingest(alloc, device, id.bytes(), body.bytes()) {
+    match ingest(alloc, device, id.bytes(), stamp, body.bytes()) {
         Ok(slot) => Ok(Reply::Acknowledged(slot)),
         Err(refusal) => Ok(Reply::Refused(refusal)),
     }

@@ -60,7 +60,12 @@ fn play(alloc: Global, event: &Event, device: &mut MemoryDevice) -> Result<Reply
             version,
             plan,
         } => play_format(*slots, *lists, *version, plan, device),
-        Event::Ingest { id, body, plan } => play_ingest(alloc, id, body, plan, device),
+        Event::Ingest {
+            id,
+            stamp,
+            body,
+            plan,
+        } => play_ingest(alloc, id, *stamp, body, plan, device),
         Event::Find { terms, plan } => play_find(alloc, terms, plan, device),
         Event::Lookup { id, plan } => play_lookup(alloc, id, plan, device),
         Event::Audit { plan } => play_audit(alloc, plan, device),

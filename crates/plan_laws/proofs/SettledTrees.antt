@@ -1,7 +1,8 @@
 -- The tree of a settled image stands as it should.
-use Rattle.std.proofs.Common.{◌≡◌, ◌≤◌, ◌+◌, ◌⊎◌, ⊎_elim, inl, inr, ℕ, refl, sym, subst, arith}
+use Rattle.std.proofs.Common.{◌≡◌, ◌<◌, ◌≤◌, ◌+◌, ◌⊎◌, ⊎_elim, inl, inr, ℕ, refl, sym, subst, arith}
+use Rattle.std.proofs.lemmas.Bool.{cases_lt}
 use Rattle.cell_types.specs.Image.{Image}
-use Rattle.cell_types.specs.Layout.{Layout, IsLayout}
+use Rattle.cell_types.specs.Layout.{Layout, IsLayout, list_at, pool_at}
 use Rattle.cell_types.specs.declared.record_cell.RecordCell.TheVariants.{Child}
 use Rattle.stored_documents.specs.Slots.{IsEdge}
 use Rattle.stored_documents.proofs.Holding.{one_record_holds}
@@ -25,9 +26,13 @@ module _ {g : Layout} {image : Image} {edge : ℕ} (layout : IsLayout g) (s : Is
     (e : IsEdge g image image edge) where
   node_apart : {v node l block : ℕ} → IsNode g image v node → IsBlockOf g image l block → AreApart node 32 block 256
   node_apart {v} {node} {l} {block} (root _ _ is at) b = ⊎_elim
-      (λ first. inr (omega (arith, first, at, b.list)))
-      (λ pool. inl (omega (arith, pool, at)))
+      (λ (first : block ≡ list_at g l). behind_or_before first (cases_lt l g.lists))
+      (λ (pool : pool_at g ≤ block). inl (omega (arith, pool, at)))
       (block_place b.leads)
+    where
+      behind_or_before : block ≡ list_at g l → (l < g.lists) ⊎ (g.lists ≤ l) → AreApart node 32 block 256
+      behind_or_before first (inl word) = inr (omega (arith, first, at, word))
+      behind_or_before first (inr time) = inl (omega (arith, first, at, time))
   node_apart {v} {node} {l} {block} (under _ _ u above x is rest less levels child from inside) b =
       let rule : ChildRule g image (above + 16 + x) =
       s.met Rules.Children (above + 16 + x) (record { found = child.cell; stands = child.stands }) in

@@ -1,5 +1,5 @@
 -- Why a receipt that was made is accepted later.
-use Rattle.std.proofs.Common.{◌≡◌, ℕ, List, sym, subst}
+use Rattle.std.proofs.Common.{ℕ, sym, subst}
 use Rattle.receipt_check.specs.Checks.{ShowsDocument}
 use Rattle.receipt_check.specs.Holding.{ReceiptsHoldOn}
 use Rattle.receipt_maker.specs.Laws.{ReceiptsAreAccepted}

@@ -1,18 +1,17 @@
--- How the making of a receipt ends, over the look-up, what was gathered, and evidence.
-use Rattle.std.proofs.Common.{◌≡◌, ◌<◌, ◌≤◌, ◌⊎◌, ⊎_elim, ℕ, List, Option, Some, None, Result, Ok, Err, ap, refl, sym, subst, inl, inr, arith, length, ◌∙◌}
-use Rattle.std.specs.Prelude.{IsTrue, [], ◌∷◌, Contains}
-use Rattle.cell_types.specs.Image.{Image, Extends}
+-- How the making of a receipt ends, over the look-up, what was slot_receipt, and evidence.
+use Rattle.std.proofs.Common.{◌≡◌, ◌<◌, ℕ, List, Some, Result, Ok, Err, ap, sym, subst, inl, inr, arith, ◌∙◌}
+use Rattle.std.specs.Prelude.{IsTrue, [], ◌∷◌}
+use Rattle.cell_types.specs.Image.{Extends}
 use Rattle.cell_types.specs.Layout.{Layout, done_at, list_at, pool_at}
-use Rattle.cell_types.specs.declared.geometry.TheConstants.{MAX_SLOTS}
 use Rattle.cell_types.specs.declared.refusal.Evidence.{Evidence}
 use Rattle.cell_types.specs.declared.refusal.Refusal.{Refusal}
 use Rattle.cell_types.specs.declared.refusal.Refusal.TheVariants.{Absent, DeviceFault, NoMemory, NotAVolume, NotFormatted, ReceiptTooLong, SinkFault, Tampered, WrongSize}
-use Rattle.stored_documents.specs.Documents.{Document, IsIdentifier, Stands}
+use Rattle.stored_documents.specs.Documents.{IsIdentifier, Stands}
 use Rattle.stored_documents.proofs.OneDocument.{one_document}
-use Rattle.index_paths.specs.Blocks.{PostingFields, Trail}
+use Rattle.index_paths.specs.Blocks.{Trail}
 use Rattle.index_paths.specs.Keeping.{IsKept, Kept}
 use Rattle.index_paths.proofs.KeepingLaws.{kept_on}
-use Rattle.tamper_rules.specs.Rules.{IsBroken, TrailRule, Trails}
+use Rattle.tamper_rules.specs.Rules.{TrailRule, Trails}
 use Rattle.tamper_rules.specs.declared.numbers.TheConstants.{MISSING_TRAIL}
 use Rattle.tamper_rules.proofs.DocumentLists.{the_one}
 use Rattle.tamper_rules.proofs.GivenUp.{one_layout}
@@ -23,17 +22,14 @@ use Rattle.worm_device.proofs.Counting.{still_second}
 use Rattle.worm_device.proofs.Elapsing.{called_then}
 use Rattle.worm_device.proofs.Resting.{viewed_then}
 use Rattle.commit_record.specs.Licences.{IsLicensed}
-use Rattle.record_query.specs.LookingUp.{IsFirst, IsLookUpRule, IsLookedUp, LookUpEnds, LooksUp, NamesLookUpRule, PutsBody}
+use Rattle.record_query.specs.LookingUp.{IsFirst, IsLookUpRule, IsLookedUp, LookUpEnds, LooksUp, NamesLookUpRule}
 use Rattle.record_query.specs.declared.found.Found.{Found}
 use Rattle.kept_documents.specs.Kept.{KeepsNone, document_of}
-use Rattle.kept_documents.specs.declared.fault.AskFault.{AskFault}
 use Rattle.kept_documents.proofs.Opening.{the_same}
-use Rattle.receipt_text.specs.Form.{IsReceiptOn}
 use Rattle.receipt_text.specs.Listed.{listed_image}
 use Rattle.receipt_text.specs.declared.receipt.Receipt.{Receipt}
-use Rattle.receipt_text.specs.declared.receipt.TheConstants.{MAX_RECEIPT_CELLS}
-use Rattle.receipt_maker.specs.Judging.{IsGathered, LimitEnds}
-use Rattle.receipt_maker.specs.Making.{IsReceiptOf, IsTooLong, IsUnkept, MakeEnds, MakesReceipt, NamesMakingRule}
+use Rattle.receipt_maker.specs.Judging.{IsSlotReceipt, LimitEnds}
+use Rattle.receipt_maker.specs.Making.{IsReceiptOf, IsUnkept, MakeEnds, MakesReceipt, NamesMakingRule}
 use Rattle.receipt_maker.specs.Naming.{NameEnds, NamesUnkept}
 use Rattle.receipt_maker.specs.Unheard.{unheard}
 use Rattle.receipt_maker.proofs.Later.{comes_later, comes_to, kept_before, looked_up_later}
@@ -124,8 +120,8 @@ module _ (id : List ℕ) (found : Found) (old mid new : DeviceState) (looks : Lo
   pub unread : Rose mid.faults new.faults → MakesReceipt id old new (Err DeviceFault)
   unread rose = come (Err DeviceFault) (omega (arith, looks.called.faults, rose)) tt
 
-  -- the receipt was gathered
-  module _ (r : Receipt) (g : IsGathered found.slot id mid new r) where
+  -- the receipt was slot_receipt
+  module _ (r : Receipt) (g : IsSlotReceipt found.slot id mid new r) where
     there : Stands new.cells (listed_image r.cells) r.slot r.identifier g.body
     there = (g.shows.each (document_of r.slot r.identifier g.body) (the_one (document_of r.slot r.identifier g.body))).stands
 

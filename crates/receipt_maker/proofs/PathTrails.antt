@@ -1,5 +1,5 @@
 -- A slot whose bucket stands where a path is passed up to has a hash trail.
-use Rattle.std.proofs.Common.{◌≡◌, ◌+◌, ℕ, List, sym, subst}
+use Rattle.std.proofs.Common.{ℕ, List, subst}
 use Rattle.cell_types.specs.Image.{Image}
 use Rattle.cell_types.specs.Layout.{Layout, root_at}
 use Rattle.index_paths.specs.HashPaths.{HashTrail, PassedTo, Sought, at_root, below, down, here}

@@ -1,8 +1,8 @@
 -- What a view that lists what is read shows, and what it lists.
-use Rattle.std.proofs.Common.{◌≡◌, ◌<◌, ◌⊎◌, ⊎_elim, ℕ, Bool, true, false, List, Option, Some, None, Result, Ok, Err, ap, refl, sym, subst, inl, inr, arith, ◌∙◌}
-use Rattle.std.specs.Prelude.{IsTrue, [], ◌∷◌, cond, ◌==◌}
+use Rattle.std.proofs.Common.{◌≡◌, ◌<◌, ℕ, Bool, true, false, List, Option, Some, None, Result, Ok, Err, ap, refl, sym, subst, arith, ◌∙◌}
+use Rattle.std.specs.Prelude.{IsTrue, [], cond, ◌==◌}
 use Rattle.std.proofs.lemmas.Bool.{eqb-true}
-use Rattle.std.proofs.lemmas.Option.{none-some, same_Some}
+use Rattle.std.proofs.lemmas.Option.{none-some}
 use Rattle.worm_device.specs.State.{DeviceState}
 use Rattle.worm_device.specs.Views.{ViewReads, ViewState, Viewed, seen_directly}
 use Rattle.worm_device.specs.declared.device.Failed.{Failed}
@@ -12,11 +12,11 @@ use Rattle.kept_documents.specs.Kept.{AsksKept, KeptAnswer}
 use Rattle.kept_documents.specs.declared.fault.AskFault.{AskFault}
 use Rattle.kept_documents.specs.declared.fault.AskFault.TheVariants.{NoMemory, ReadFault}
 use Rattle.record_query.proofs.Loans.{viewed_by_any}
-use Rattle.receipt_maker.specs.Recording.{AreRead, ListsKept, seen_through}
+use Rattle.receipt_maker.specs.Recording.{AreRead, ListsKept, seen_by_recorder}
 
 module _ (a b c d : ℕ) (s t : ViewState) where
   -- who reads by way of the loans reads below
-  viewed_through : c ≡ a → d ≡ b → Viewed s t → Viewed (seen_through a b s) (seen_through c d t)
+  viewed_through : c ≡ a → d ≡ b → Viewed s t → Viewed (seen_by_recorder a b s) (seen_by_recorder c d t)
   viewed_through first second v =
       let rests = rests_of v in
       let loans = v.loans in
@@ -38,7 +38,7 @@ module _ (a b c d : ℕ) (s t : ViewState) where
       }
 
   -- and what is kept by way of the loans is kept below
-  pub viewed_below : Viewed (seen_through a b s) (seen_through c d t) → Viewed s t
+  pub viewed_below : Viewed (seen_by_recorder a b s) (seen_by_recorder c d t) → Viewed s t
   viewed_below v =
       let rests = rests_of v in
       let loans = v.loans in
@@ -60,7 +60,7 @@ module _ (a b c d : ℕ) (s t : ViewState) where
       }
 
   below_ends : (n : ℕ) (id : List ℕ) (result : Result (Option ℕ) AskFault)
-      → KeptAnswer n id (seen_through a b s) (seen_through c d t) result → KeptAnswer n id s t result
+      → KeptAnswer n id (seen_by_recorder a b s) (seen_by_recorder c d t) result → KeptAnswer n id s t result
   below_ends n id (Ok (Some bytes)) ends = λ tells.
       let h = ends tells in record { body = h.body; count = h.count; kept = h.kept }
   below_ends n id (Ok None) ends = ends
@@ -69,7 +69,7 @@ module _ (a b c d : ℕ) (s t : ViewState) where
 
   -- so does what was asked by way of them
   pub asks_below : (n : ℕ) (id : List ℕ) (result : Result (Option ℕ) AskFault)
-      → AsksKept n id (seen_through a b s) (seen_through c d t) result → AsksKept n id s t result
+      → AsksKept n id (seen_by_recorder a b s) (seen_by_recorder c d t) result → AsksKept n id s t result
   asks_below n id result asks = record {
     viewed = viewed_below asks.viewed;
     ends = below_ends n id result asks.ends;
@@ -77,7 +77,7 @@ module _ (a b c d : ℕ) (s t : ViewState) where
 
 -- what was read below is read by way of the loans
 pub reads_through : (view listed at : ℕ) (s t : ViewState) (result : Result (Option (List ℕ)) Failed)
-    → ViewReads at s t result → ViewReads at (seen_through view listed s) (seen_through view listed t) result
+    → ViewReads at s t result → ViewReads at (seen_by_recorder view listed s) (seen_by_recorder view listed t) result
 reads_through view listed at s t result read = record {
   viewed = viewed_through view listed view listed s t refl refl read.viewed;
   answer = read.answer;

@@ -1,10 +1,8 @@
 -- The done cell of a slot, read as evidence.
-use Rattle.std.proofs.Common.{◌≡◌, ◌≤◌, ◌+◌, ◌*◌, ℕ, List, Option, Some, None, Result, Ok, Err, ap, refl, sym, subst, arith, ◌∙◌}
-use Rattle.std.specs.Prelude.{IsTrue}
+use Rattle.std.proofs.Common.{◌≡◌, ◌≤◌, ℕ, List, Option, Some, None, Result, Ok, Err, ap, refl, sym, arith, ◌∙◌}
 use Rattle.std.proofs.lemmas.Option.{none-some}
 use Rattle.cell_types.specs.Layout.{done_at}
 use Rattle.cell_types.specs.declared.refusal.Refusal.TheVariants.{Absent, DeviceFault, Tampered}
-use Rattle.stored_documents.specs.Volumes.{IsWritten}
 use Rattle.tamper_rules.specs.declared.numbers.TheConstants.{MISSING_TRAIL}
 use Rattle.worm_device.specs.Calls.{Reads}
 use Rattle.worm_device.specs.State.{DeviceState, IsDevice}

@@ -22,7 +22,7 @@ JudgesReceipt cells r (Ok false) = (body : List ℕ) → ShowsDocument cells r b
 JudgesReceipt cells r (Err failed) = ⊤
 
 -- The receipt is of this slot and this identifier. Its cells keep a document, and stand.
-pub record IsGathered (n : ℕ) (id : List ℕ) (old new : DeviceState) (r : Receipt) : Type 0 where
+pub record IsSlotReceipt (n : ℕ) (id : List ℕ) (old new : DeviceState) (r : Receipt) : Type 0 where
   pub slot : r.slot ≡ n
   pub identifier : r.identifier ≡ id
   pub listed : AreListed new.cells r.cells
@@ -30,17 +30,17 @@ pub record IsGathered (n : ℕ) (id : List ℕ) (old new : DeviceState) (r : Rec
   pub shows : ShowsDocument new.cells r body
   pub stand : IsTrue old.tells → Extends (listed_image r.cells) new.image
 
--- how gathering a receipt may end: none where the slot kept no document with the identifier at entry
-abbrev pub GatherEnds : ℕ → List ℕ → DeviceState → DeviceState → Result (Option Receipt) AskFault → Type 0
-GatherEnds n id old new (Ok (Some r)) = IsGathered n id old new r
-GatherEnds n id old new (Ok None) = IsTrue old.tells → KeepsNone (seen_directly old 0) n id
-GatherEnds n id old new (Err asks.ReadFault) = Rose old.faults new.faults
-GatherEnds n id old new (Err asks.NoMemory) = ⊤
+-- how making the receipt of a slot may end: none where the slot kept no document with the identifier at entry
+abbrev pub ReceiptEnds : ℕ → List ℕ → DeviceState → DeviceState → Result (Option Receipt) AskFault → Type 0
+ReceiptEnds n id old new (Ok (Some r)) = IsSlotReceipt n id old new r
+ReceiptEnds n id old new (Ok None) = IsTrue old.tells → KeepsNone (seen_directly old 0) n id
+ReceiptEnds n id old new (Err asks.ReadFault) = Rose old.faults new.faults
+ReceiptEnds n id old new (Err asks.NoMemory) = ⊤
 
-pub record GathersReceipt (n : ℕ) (id : List ℕ) (old new : DeviceState) (result : Result (Option Receipt) AskFault)
+pub record GivesReceipt (n : ℕ) (id : List ℕ) (old new : DeviceState) (result : Result (Option Receipt) AskFault)
     : Type 0 where
   pub viewed : Viewed (seen_directly old 0) (seen_directly new 0)
-  pub ends : GatherEnds n id old new result
+  pub ends : ReceiptEnds n id old new result
 
 -- a receipt goes out if it has no more cells than it may have
 abbrev pub LimitEnds : Receipt → Result Receipt Refusal → Type 0

@@ -1,7 +1,7 @@
 -- A view that lists what is read through it.
 use Rattle.std.specs.Prelude.{◌≡◌, ◌<◌, ◌⊎◌, ℕ, Bool, List, ◌∷◌, Option, Some, None, Result, Ok, Err, IsTrue}
 use Rattle.std.proofs.Props.{props}
-use Rattle.worm_device.specs.Views.{IsView, ViewState, Viewed}
+use Rattle.worm_device.specs.Views.{IsView, ViewState}
 use Rattle.worm_device.specs.declared.device.Failed.{Failed}
 use Rattle.receipt_text.specs.Listed.{ListsAlso, listed_image}
 use Rattle.kept_documents.specs.Kept.{AsksKept}
@@ -18,14 +18,14 @@ pub are_read_prop : (s : ViewState) (listed : List (ℕ × List ℕ)) → IsProp
 are_read_prop s listed = Prim.hlevel props
 
 -- what a read lists: a written cell with the value that was read, unless memory lacked, and nothing else
-abbrev pub Lists : ℕ → List (ℕ × List ℕ) → List (ℕ × List ℕ) → Bool → Result (Option (List ℕ)) Failed → Type 0
-Lists at old new lost (Ok (Some value)) = ListsAlso at value old new ⊎ IsTrue lost
-Lists at old new lost (Ok None) = new ≡ old
-Lists at old new lost (Err failed) = new ≡ old
+abbrev pub ListsRead : ℕ → List (ℕ × List ℕ) → List (ℕ × List ℕ) → Bool → Result (Option (List ℕ)) Failed → Type 0
+ListsRead at old new lost (Ok (Some value)) = ListsAlso at value old new ⊎ IsTrue lost
+ListsRead at old new lost (Ok None) = new ≡ old
+ListsRead at old new lost (Err failed) = new ≡ old
 
 -- the view below, as it is shown by way of loans of these names
-abbrev pub seen_through : ℕ → ℕ → ViewState → ViewState
-seen_through view listed s = record {
+abbrev pub seen_by_recorder : ℕ → ℕ → ViewState → ViewState
+seen_by_recorder view listed s = record {
   cells = s.cells;
   image = s.image;
   planned = s.planned;
@@ -37,8 +37,8 @@ seen_through view listed s = record {
 }
 
 -- It is a view. This stands here and not among the proofs, since the law of the recorder cites it.
-pub through_is_view : (view listed : ℕ) (s : ViewState) → IsView s → IsView (seen_through view listed s)
-through_is_view view listed s is = record {
+pub recorder_is_view : (view listed : ℕ) (s : ViewState) → IsView s → IsView (seen_by_recorder view listed s)
+recorder_is_view view listed s is = record {
   cells = is.cells;
   inside = is.inside;
   planned = is.planned;

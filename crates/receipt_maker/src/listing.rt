@@ -13,7 +13,7 @@ use receipt_text::{ListedCells, Receipt};
 use std::alloc::Global;
 use worm_device::{Device, Direct, View};
 
-/// Lists the cells that are read to see whether the document is kept which has this identifier in this slot, and answers
+/// ListsRead the cells that are read to see whether the document is kept which has this identifier in this slot, and answers
 /// how many bytes its body has.
 pub(crate) fn list_kept<D: Device>(
     alloc: Global,

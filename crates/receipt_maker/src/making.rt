@@ -2,7 +2,7 @@
 ghost use Rattle.std.specs.Prelude.{◌<◌, ◌^◌, length};
 ghost use Rattle.stored_documents.specs.Documents.{IsIdentifier};
 ghost use Rattle.receipt_maker.specs.Making.{MakesReceipt};
-ghost use Rattle.receipt_maker.specs.Judging.{GathersReceipt, LimitEnds};
+ghost use Rattle.receipt_maker.specs.Judging.{GivesReceipt, LimitEnds};
 
 use crate::listing::{list_kept, shows_document};
 use crate::looking::look_up;
@@ -30,7 +30,7 @@ pub fn make_receipt<D: Device>(alloc: Global, device: &mut D, id: &[u8]) -> Resu
         Ok(found) => found,
         Err(refusal) => return Err(refusal),
     };
-    match gather(alloc, device, found.slot, id) {
+    match receipt_of_slot(alloc, device, found.slot, id) {
         Ok(Some(receipt)) => within_limit(receipt),
         Ok(None) => Err(name_unkept(device, found.slot)),
         Err(AskFault::NoMemory) => Err(Refusal::NoMemory),
@@ -39,13 +39,13 @@ pub fn make_receipt<D: Device>(alloc: Global, device: &mut D, id: &[u8]) -> Resu
 }
 
 /// The receipt of the document with this identifier in this slot, `None` where it is not kept.
-fn gather<D: Device>(
+fn receipt_of_slot<D: Device>(
     alloc: Global,
     device: &mut D,
     slot: u32,
     id: &[u8],
 ) -> Result<Option<Receipt>, AskFault>
-    ensures { GathersReceipt slot id.now (D.state device.old) (D.state device.new) result }
+    ensures { GivesReceipt slot id.now (D.state device.old) (D.state device.new) result }
 {
     let cells = device.cells();
     let Ok(identifier) = Vec::from_slice(alloc, id) else {

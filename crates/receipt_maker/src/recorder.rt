@@ -19,7 +19,7 @@ pub(crate) struct Recorder<'a, V: View> {
 impl<'a, V: View> Recorder<'a, V> {
     ghost use Rattle.std.specs.Prelude.{[]};
 
-    /// Lists in these cells, of which none is there yet, what is read through the view.
+    /// ListsRead in these cells, of which none is there yet, what is read through the view.
     pub fn new(view: &'a mut V, listed: &'a mut ListedCells) -> Recorder<'a, V>
         requires { listed.old ≡ [] }
         ensures view { result.view.now ≡ view.old }
@@ -36,11 +36,11 @@ impl<'a, V: View> Recorder<'a, V> {
 
 impl<'a, V: View> View for Recorder<'a, V> {
     ghost use Rattle.worm_device.specs.Views.{ViewReads};
-    ghost use Rattle.receipt_maker.specs.Recording.{Lists, seen_through, through_is_view};
+    ghost use Rattle.receipt_maker.specs.Recording.{ListsRead, seen_by_recorder, recorder_is_view};
 
-    ghost seen = { λ r. seen_through r.view.ghost_name r.listed.ghost_name (V.seen r.view.now) };
+    ghost seen = { λ r. seen_by_recorder r.view.ghost_name r.listed.ghost_name (V.seen r.view.now) };
 
-    ghost proper = { λ r. through_is_view r.view.ghost_name r.listed.ghost_name (V.seen r.view.now) (V.proper r.view.now) };
+    ghost proper = { λ r. recorder_is_view r.view.ghost_name r.listed.ghost_name (V.seen r.view.now) (V.proper r.view.now) };
 
     fn cells(&self) -> u32 {
         self.view.cells()
@@ -50,9 +50,9 @@ impl<'a, V: View> View for Recorder<'a, V> {
     fn read(&mut self, at: u32) -> Result<Option<Cell>, Failed>
         requires { at < (V.seen self.old.view.now).cells }
         ensures reads { ViewReads at
-            (seen_through self.old.view.ghost_name self.old.listed.ghost_name (V.seen self.old.view.now))
-            (seen_through self.new.view.ghost_name self.new.listed.ghost_name (V.seen self.new.view.now)) result }
-        ensures lists { Lists at self.old.listed.now self.new.listed.now self.new.lost result }
+            (seen_by_recorder self.old.view.ghost_name self.old.listed.ghost_name (V.seen self.old.view.now))
+            (seen_by_recorder self.new.view.ghost_name self.new.listed.ghost_name (V.seen self.new.view.now)) result }
+        ensures lists { ListsRead at self.old.listed.now self.new.listed.now self.new.lost result }
     {
         let Ok(found) = self.view.read(at) else {
             return Err(Failed);

@@ -7,15 +7,17 @@ use Rattle.cell_types.specs.declared.refusal.Refusal.{Refusal}
 use Rattle.cell_types.specs.declared.refusal.Refusal.TheVariants.{Usage}
 use Rattle.worm_device.specs.Calls.{Called}
 use Rattle.worm_device.specs.State.{IsDevice}
-use Rattle.record_top.specs.Commands.{Asks, Does, IsAnswered, IsUnhindered, Request, ToAudit, ToExercise, ToFind, ToFormat, ToIngest, ToLookUp, ToRecover, ToReplay}
+use Rattle.record_top.specs.Commands.{Asks, Does, IsAnswered, IsUnhindered, Request, ToAudit, ToCheck, ToExercise, ToFind, ToFormat, ToIngest, ToLookUp, ToMakeReceipt, ToRecover, ToReplay}
 use Rattle.record_top.specs.Ports.{Ports}
 use Rattle.record_top.specs.Words.{digits_value}
 use Rattle.record_top.proofs.Audits.{audit_completes, audit_is_used}
+use Rattle.record_top.proofs.Checks.{check_called, check_completes, check_is_used}
 use Rattle.record_top.proofs.Completing.{format_completes, ingest_completes, recover_completes}
 use Rattle.record_top.proofs.Ending.{ingest_called, ingest_is_used, recover_is_used}
 use Rattle.record_top.proofs.Exercises.{exercise_called, exercise_completes, exercise_is_used}
 use Rattle.record_top.proofs.Finds.{find_called, find_completes, find_is_used}
 use Rattle.record_top.proofs.LookUps.{look_up_called, look_up_completes, look_up_is_used}
+use Rattle.record_top.proofs.Receipts.{receipt_called, receipt_completes, receipt_is_used}
 use Rattle.record_top.proofs.Replays.{replay_called, replay_completes, replay_is_used}
 
 to_format : List (List ℕ) → Option Request
@@ -49,6 +51,14 @@ to_exercise : List (List ℕ) → Option Request
 to_exercise (documents ∷ []) = Some (ToExercise (digits_value documents))
 to_exercise _ = None
 
+to_check : List (List ℕ) → Option Request
+to_check [] = Some ToCheck
+to_check _ = None
+
+to_receipt : List (List ℕ) → Option Request
+to_receipt (id ∷ []) = Some (ToMakeReceipt id)
+to_receipt _ = None
+
 -- what the words could ask for, by the first of them
 read : List (List ℕ) → Option Request
 read [] = None
@@ -60,10 +70,12 @@ read (command ∷ words) =
     (cond (bytes_eq command (codes "recover")) (to_recover words)
     (cond (bytes_eq command (codes "audit")) (to_audit words)
     (cond (bytes_eq command (codes "replay")) (to_replay words)
-    (cond (bytes_eq command (codes "exercise")) (to_exercise words) None)))))))
+    (cond (bytes_eq command (codes "exercise")) (to_exercise words)
+    (cond (bytes_eq command (codes "check")) (to_check words)
+    (cond (bytes_eq command (codes "receipt")) (to_receipt words) None)))))))))
 
 asks_reads : (words : List (List ℕ)) (request : Request) → Asks words request → read words ≡ Some request
-unfolding read to_format to_ingest to_look_up to_recover to_audit to_replay to_exercise
+unfolding read to_format to_ingest to_look_up to_recover to_audit to_replay to_exercise to_check to_receipt
 asks_reads words (ToFormat slots lists version) (inl (asks, first)) =
     ap read asks.asked
     ∙ ap (λ (n : ℕ). Some (ToFormat n (digits_value asks.second) FIRST_VERSION)) (sym asks.slots_word.number.value)
@@ -85,6 +97,8 @@ asks_reads words ToAudit asks = ap read asks
 asks_reads words ToReplay asks = ap read asks
 asks_reads words (ToExercise documents) asks =
     ap read asks.asked ∙ ap (λ (n : ℕ). Some (ToExercise n)) (sym asks.documents_word.number.value)
+asks_reads words ToCheck asks = ap read asks
+asks_reads words (ToMakeReceipt id) asks = ap read asks.asked
 
 some_is : (a b : Request) → Some a ≡ Some b → a ≡ b
 some_is a b e = cc
@@ -105,6 +119,8 @@ module _ (old new : Ports) where
   called_of ToAudit result does = does.audits.called
   called_of ToReplay result does = replay_called old new result does
   called_of (ToExercise documents) result does = exercise_called documents old new result does
+  called_of ToCheck result does = check_called old new result does
+  called_of (ToMakeReceipt id) result does = receipt_called id old new result does
 
   -- what is done never ends with `Usage`
   pub is_used : (request : Request) → Does request old new (Err Usage) → ⊥
@@ -116,6 +132,8 @@ module _ (old new : Ports) where
   is_used ToAudit does = audit_is_used old new does
   is_used ToReplay does = replay_is_used old new does
   is_used (ToExercise documents) does = exercise_is_used documents old new does
+  is_used ToCheck does = check_is_used old new does
+  is_used (ToMakeReceipt id) does = receipt_is_used id old new does
 
   -- where nothing keeps it from being done, it is, or ends for the one cause that is left
   pub completes : IsDevice old.device → IsDevice new.device → (request : Request) (result : Result Unit Refusal)
@@ -132,3 +150,6 @@ module _ (old new : Ports) where
   completes device device_new ToAudit result does free = audit_completes free.0 old new free.1 device device_new result does
   completes device device_new ToReplay result does free = replay_completes free.0 free.1 old new free.2 result does
   completes device device_new (ToExercise documents) result does free = exercise_completes documents old new result does free
+  completes device device_new ToCheck result does free = check_completes free.0 free.1 old new free.2 device result does
+  completes device device_new (ToMakeReceipt id) result does free = receipt_completes id free.0 old new free.1 device
+      device_new result does

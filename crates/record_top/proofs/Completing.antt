@@ -5,7 +5,7 @@ use Rattle.cell_types.specs.Layout.{Layout}
 use Rattle.cell_types.specs.declared.refusal.Refusal.{Refusal}
 use Rattle.cell_types.specs.declared.refusal.Refusal.TheVariants as refusals
 use Rattle.host_ports.specs.Sources.{Gives, IsAtEnd}
-use Rattle.stored_documents.specs.Documents.{IsBody}
+use Rattle.stored_documents.specs.declared.limits.TheConstants.{MAX_BODY_BYTES}
 use Rattle.worm_device.specs.Calls.{Called}
 use Rattle.worm_device.specs.Counts.{IsStill}
 use Rattle.worm_device.specs.State.{IsDevice}
@@ -43,14 +43,14 @@ gives_all left body given new e gives end = all new (subst (λ (l : Option (List
     all None h at_end = absurd h
     all (Some rest) h at_end = sym (append-nil given) ∙ ap (λ (r : List ℕ). given ++ r) (sym at_end) ∙ sym h
 
-module _ (body : List ℕ) (old new : Ports) (holds : old.source.left ≡ Some body) (is_body : IsBody body)
+module _ (limit : ℕ) (body : List ℕ) (old new : Ports) (holds : old.source.left ≡ Some body) (most : length body ≤ limit)
     (no_fault : IsStill old.source.faults new.source.faults) where
-  -- a source that holds a body, and none of whose calls fails, gives it
+  -- a source that holds no more than is taken, and none of whose calls fails, gives it
   pub body_taken : (given : List ℕ) (fault : BodyFault) → Gives old.source.left new.source.left given
-      → BodyFails given old.source new.source fault → IsOkOrNoMemory (Err (refusal_of_body_fault fault))
+      → BodyFails limit given old.source new.source fault → IsOkOrNoMemory (Err (refusal_of_body_fault fault))
   body_taken given faults.TooLong gives fails =
       let within = gives_within old.source.left body given new.source.left holds gives in
-      omega (arith, within, is_body.most, fails)
+      omega (arith, within, most, fails)
   body_taken given faults.SourceFailed gives fails = rose_or_still _ _ fails.1 no_fault
   body_taken given faults.NoMemory gives fails = tt
 
@@ -88,7 +88,7 @@ module _ (id : List ℕ) (stamp : Option ℕ) (body : List ℕ) (g : Layout) (sl
     ingest_completes result (misnamed bad is same) = absurd (bad ready.identifier)
     ingest_completes result (untaken given fault name gives fails is same keeps) =
         subst IsOkOrNoMemory (sym is)
-        (body_taken body old new ready.source ready.is_body ready.no_source_fault given fault gives fails)
+        (body_taken MAX_BODY_BYTES body old new ready.source ready.is_body.most ready.no_source_fault given fault gives fails)
     ingest_completes result (taken given answer name is gives end ingests tells) =
         let all = gives_all old.source.left body given new.source.left ready.source gives end in
         ends_told ready device device_new result answer ingests.called

@@ -27,9 +27,9 @@ ends_used n from to old new (unmade is same) =
     other_refusal (Err refusals.Usage) refusals.Usage refusals.NoMemory (λ s. absurd cc) refl is
 ends_used n from to old new (refused replies refusal world first not is same) =
     not (subst IsOfWords (one_refusal (Err refusals.Usage) refusals.Usage refusal refl is) tt)
-ends_used n from to old new (told replies world first is gets) =
+ends_used n from to old new (told replies world first leaves is gets) =
     no_answer (Err refusals.Usage) tt refusals.Usage is refl
-ends_used n from to old new (untold replies world first is part) =
+ends_used n from to old new (untold replies world first leaves is part) =
     other_refusal (Err refusals.Usage) refusals.Usage refusals.SinkFault (λ s. absurd cc) refl is
 
 -- it never ends with `Usage`
@@ -41,8 +41,8 @@ ends_complete : (n : ℕ) (from to : Memory) (old new : SinkState) (result : Res
 ends_complete n from to old new result still (unmade is same) = subst IsOkOrOfAnEvent (sym is) (λ of. of)
 ends_complete n from to old new result still (refused replies refusal world first not is same) =
     subst IsOkOrOfAnEvent (sym is) not
-ends_complete n from to old new result still (told replies world first is gets) = subst IsOkOrOfAnEvent (sym is) tt
-ends_complete n from to old new result still (untold replies world first is part) =
+ends_complete n from to old new result still (told replies world first leaves is gets) = subst IsOkOrOfAnEvent (sym is) tt
+ends_complete n from to old new result still (untold replies world first leaves is part) =
     absurd (rose_or_still _ _ part.faults still)
 
 -- the answer is Ok, or of an event

@@ -8,7 +8,6 @@ use Rattle.std.specs.Prelude.{Contains, IsTrue}
 use Rattle.cell_types.specs.Layout.{Layout}
 use Rattle.cell_types.specs.declared.refusal.Refusal.{Refusal}
 use Rattle.cell_types.specs.declared.refusal.Refusal.TheVariants as refusals
-use Rattle.stored_documents.specs.Documents.{Document}
 use Rattle.stored_documents.specs.Words.{rule_of}
 use Rattle.stored_documents.specs.declared.word_rules.WordRule.{WordRule}
 use Rattle.stored_documents.proofs.Extending.{volume_on}
@@ -20,7 +19,7 @@ use Rattle.worm_device.specs.Calls.{Called}
 use Rattle.worm_device.specs.State.{DeviceState, IsDevice}
 use Rattle.worm_device.proofs.Counting.{rose_or_still}
 use Rattle.worm_device.proofs.Elapsing.{called_then}
-use Rattle.record_query.specs.Finding.{FindEnds, HasTerms, Searches}
+use Rattle.record_query.specs.Finding.{FindEnds, Searches}
 use Rattle.record_query.specs.declared.found.Match.{Match}
 use Rattle.record_top.specs.Finding.{AreTermsOf, DoesFind, FindsKept, HasOneTerm, IsFirstBadWord, IsReadyToFind, TermsEnd, found_text, misworded, searched, unread, unruled}
 use Rattle.record_top.specs.Ruling.{AsksRule, RuleEnds}

@@ -1,5 +1,6 @@
 pub mod Asking
 pub mod Audits
+pub mod Checks
 pub mod Completing
 pub mod Ending
 pub mod Exercises
@@ -11,6 +12,9 @@ pub mod MatchLines
 pub mod OneMore
 pub mod Options
 pub mod Pieces
+pub mod Ready
+pub mod ReceiptSizes
+pub mod Receipts
 pub mod Replays
 pub mod Reports
 pub mod Steadily

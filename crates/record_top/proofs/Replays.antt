@@ -4,6 +4,7 @@ use Rattle.std.proofs.Common.{◌≡◌, ℕ, List, Result, Ok, Err, refl, subst
 use Rattle.cell_types.specs.declared.refusal.Evidence.{Evidence}
 use Rattle.cell_types.specs.declared.refusal.Refusal.{Refusal}
 use Rattle.cell_types.specs.declared.refusal.Refusal.TheVariants as refusals
+use Rattle.stored_documents.specs.declared.limits.TheConstants.{MAX_BODY_BYTES}
 use Rattle.worm_device.specs.Calls.{Called}
 use Rattle.worm_device.specs.State.{DeviceState}
 use Rattle.worm_device.proofs.Counting.{rose_or_still}
@@ -93,7 +94,7 @@ module _ (text : List ℕ) (script : Script) (old new : Ports) (ready : IsReadyT
   pub replay_completes : (result : Result Unit Refusal) → DoesReplay old new result → IsOkOrNoMemory result
   replay_completes result (untaken given fault gives fails is same keeps) =
       subst IsOkOrNoMemory (sym is)
-      (body_taken text old new ready.source ready.is_body ready.no_source_fault given fault gives fails)
+      (body_taken MAX_BODY_BYTES text old new ready.source ready.is_body.most ready.no_source_fault given fault gives fails)
   replay_completes result (unread given refusal is gives end ends named same keeps) =
       subst IsOkOrNoMemory (sym named)
       (read_whole given refusal (gives_all old.source.left text given new.source.left ready.source gives end) ends)

@@ -15,20 +15,26 @@ use Rattle.ingest_engine.specs.Formats.{FormatEnds}
 use Rattle.commit_record.specs.Licences.{IsLicensed}
 use Rattle.record_query.specs.Finding.{FindEnds}
 use Rattle.record_query.specs.LookingUp.{LookUpEnds}
+use Rattle.receipt_text.specs.Form.{text_of_receipt}
 use Rattle.record_query.specs.declared.found.Found.{Found}
 use Rattle.record_query.specs.declared.found.Match.{Match}
 use Rattle.volume_audit.specs.Audits.{SettlesThenAudits}
 use Rattle.volume_audit.specs.declared.report.AuditReport.{AuditReport}
 use Rattle.volume_audit.proofs.Comes.{licensed, settles_first}
 use Rattle.record_top.specs.Auditing.{DoesAudit, report_text}
-use Rattle.record_top.specs.Commands.{Does, Request, ToAudit, ToExercise, ToFind, ToFormat, ToIngest, ToLookUp, ToRecover, ToReplay, layout_on}
+use Rattle.record_top.specs.Checking.{DoesCheck}
+use Rattle.record_top.specs.Commands.{Does, Request, ToAudit, ToCheck, ToExercise, ToFind, ToFormat, ToIngest, ToLookUp, ToMakeReceipt, ToRecover, ToReplay, layout_on}
 use Rattle.record_top.specs.Finding.{DoesFind, found_text, misworded, searched, unread, unruled}
+use Rattle.record_top.specs.Receipting.{DoesReceipt, made}
+use Rattle.record_top.specs.Receipting as receipts
 use Rattle.record_top.specs.Ruling.{AsksRule, RuleEnds}
 use Rattle.record_top.specs.Formatting.{DoesFormat, FormatCommandEnds}
 use Rattle.record_top.specs.LookingUp.{Answers, DoesLookUp, looked, misnamed}
 use Rattle.record_top.specs.Replaying.{DoesReplay}
 use Rattle.record_top.specs.Ports.{Ports, Tells, TellsFromMemory}
 use Rattle.record_top.specs.Recovering.{DoesRecover, recovered}
+use Rattle.record_top.proofs.Checks.{check_called, check_only, check_refuses}
+use Rattle.record_top.proofs.Receipts.{receipt_held, told_alarm}
 use Rattle.command_laws.proofs.Alarms.{query_alarms, settling_alarms}
 use Rattle.record_top.proofs.HeldAnswers.{find_held, look_up_held}
 use Rattle.record_top.proofs.OneMore.{ingest_adds}
@@ -179,6 +185,19 @@ module _ (old new : Ports) (device : IsDevice old.device) (device_new : IsDevice
         keeps = held_unmoved same;
       }) (λ e is. replay_names_none old new e (subst (DoesReplay old new) is does))
 
+  check_adds : (result : Result Unit Refusal) → DoesCheck old new result → AddsNone old new result
+  check_adds result does = leaves_none
+      (looked_leaves old.device new.device new.device device (check_called old new result does) (called_self new.device)
+      (check_only old new result does) begins device_new)
+      (λ e is. check_refuses old new (refusals.Tampered e) (subst (DoesCheck old new) is does))
+
+  receipt_adds : (id : List ℕ) (result : Result Unit Refusal) → DoesReceipt id old new result → AddsNone old new result
+  receipt_adds id result (receipts.misnamed bad is same) = unused_adds same
+      (λ e named. other_refusal result refusals.BadIdentifier (refusals.Tampered e) (λ s. absurd cc) is named)
+  receipt_adds id result (made answer name makes source tells) = leaves_none (query_adds makes.comes)
+      (λ e named. told_alarm id old new device device_new begins answer makes.comes makes.ends e
+      (subst (TellsFromMemory text_of_receipt answer old new) named tells))
+
   -- whatever was asked for
   pub leaves_whole : (request : Request) (result : Result Unit Refusal) → Does request old new result
       → LeavesWhole request old new result
@@ -198,3 +217,6 @@ module _ (old new : Ports) (device : IsDevice old.device) (device_new : IsDevice
     stays = unused_steady old.device new.device device begins.steady does.device;
     keeps = held_unmoved does.device;
   }
+  leaves_whole ToCheck result does = check_adds result does
+  leaves_whole (ToMakeReceipt id) result does =
+      (receipt_adds id result does, receipt_held id old new device device_new begins result does)

@@ -1,4 +1,4 @@
--- What a source has given when a body was not taken.
+-- What a source has given when a body was not taken, and when one was.
 use Rattle.std.proofs.Common.{◌≡◌, ◌≤◌, ◌+◌, ◌++◌, ℕ, List, length, Option, Err, sym, ap, subst, arith, length-append}
 use Rattle.host_ports.specs.Sources.{SourceState, Gives}
 use Rattle.stored_documents.specs.Documents.{IsBody}
@@ -6,15 +6,15 @@ use Rattle.stored_documents.specs.declared.limits.TheConstants.{MAX_BODY_BYTES}
 use Rattle.worm_device.specs.Counts.{Rose}
 use Rattle.record_top.specs.declared.body.BodyFault.{BodyFault}
 use Rattle.record_top.specs.declared.body.BodyFault.TheVariants.{TooLong, SourceFailed, NoMemory}
-use Rattle.record_top.specs.Taking.{BodyFails, PieceEnds, TakesPiece}
+use Rattle.record_top.specs.Taking.{AreBytesUpTo, BodyFails, PieceEnds, TakesPiece}
 use Rattle.record_top.proofs.Pieces.{gives_then}
 
-module _ (body body' : List ℕ) (first old new : SourceState) (so_far : Gives first.left old.left body) (room : ℕ)
-    (within : length body + room ≤ MAX_BODY_BYTES + 1) where
+module _ (limit : ℕ) (body body' : List ℕ) (first old new : SourceState) (so_far : Gives first.left old.left body) (room : ℕ)
+    (within : length body + room ≤ limit + 1) where
   -- the last piece could not be taken
-  pub piece_failed : (fault : BodyFault) → PieceEnds room body body' old new (Err fault) → IsBody body
+  pub piece_failed : (fault : BodyFault) → PieceEnds room body body' old new (Err fault) → AreBytesUpTo limit body
       → old.faults ≡ first.faults
-      → (given : List ℕ) × Gives first.left new.left given × BodyFails given first new fault
+      → (given : List ℕ) × Gives first.left new.left given × BodyFails limit given first new fault
   piece_failed TooLong ends is same = absurd ends
   piece_failed SourceFailed ends is same = (
     body,
@@ -28,11 +28,15 @@ module _ (body body' : List ℕ) (first old new : SourceState) (so_far : Gives f
   )
 
   -- the last piece was one byte too long
-  pub piece_too_long : (n : ℕ) → TakesPiece room body body' old new n → MAX_BODY_BYTES + 1 ≤ length body'
-      → (given : List ℕ) × Gives first.left new.left given × BodyFails given first new TooLong
+  pub piece_too_long : (n : ℕ) → TakesPiece room body body' old new n → limit + 1 ≤ length body'
+      → (given : List ℕ) × Gives first.left new.left given × BodyFails limit given first new TooLong
   piece_too_long n takes past = (
     body',
     subst (λ (l : List ℕ). Gives first.left new.left l) (sym takes.whole)
         (gives_then first.left old.left new.left body takes.piece so_far takes.gives),
     omega (arith, ap length takes.whole, length-append body takes.piece, takes.count, takes.most, within, past),
   )
+
+-- bytes as many as a body may have
+pub is_body : {body : List ℕ} → AreBytesUpTo MAX_BODY_BYTES body → IsBody body
+is_body up = record { bytes = up.bytes; most = up.most }

@@ -4,18 +4,21 @@ use Rattle.std.specs.Prelude.{ℕ, List, Option, Result, map}
 use Rattle.std.specs.String.{string_bytes}
 use Rattle.cell_types.specs.Layout.{Layout}
 use Rattle.cell_types.specs.declared.refusal.Refusal.{Refusal}
+use Rattle.receipt_text.specs.declared.receipt.Receipt.{Receipt}
 use Rattle.script_events.specs.declared.event.Script.{Script}
 use Rattle.record_top.specs.Auditing.{AsksToAudit, DoesAudit, IsReadyToAudit}
+use Rattle.record_top.specs.Checking.{AsksToCheck, DoesCheck, IsReadyToCheck}
 use Rattle.record_top.specs.Exercising.{AsksToExercise, DoesExercise, IsOkOrOfAnEvent, IsReadyToExercise}
 use Rattle.record_top.specs.Finding.{AsksToFind, DoesFind, IsReadyToFind}
 use Rattle.record_top.specs.Formatting.{AsksToFormat, DoesFormat, IsReadyToFormat}
 use Rattle.record_top.specs.Ingesting.{AsksToIngest, DoesIngest, IsReadyToIngest}
 use Rattle.record_top.specs.LookingUp.{AsksToLookUp, DoesLookUp, IsReadyToLookUp}
 use Rattle.record_top.specs.Ports.{IsOkAlone, IsOkOrAbsent, IsOkOrNoMemory, Ports}
+use Rattle.record_top.specs.Receipting.{AsksForReceipt, DoesReceipt, IsOkOrNoReceipt, IsReadyForReceipt}
 use Rattle.record_top.specs.Recovering.{AsksToRecover, DoesRecover, IsReadyToRecover}
 use Rattle.record_top.specs.Replaying.{AsksToReplay, DoesReplay, IsReadyToReplay}
 use Rattle.record_top.specs.declared.words.Command.{Command}
-use Rattle.record_top.specs.declared.words.Command.TheVariants.{Audit, Exercise, Find, Format, Ingest, LookUp, Recover, Replay}
+use Rattle.record_top.specs.declared.words.Command.TheVariants.{Audit, Check, Exercise, Find, Format, Ingest, LookUp, MakeReceipt, Recover, Replay}
 
 -- what may be asked for, with what is given
 pub data Request : Type 0 where
@@ -27,6 +30,8 @@ pub data Request : Type 0 where
   ToAudit : Request
   ToReplay : Request
   ToExercise : (documents : ℕ) → Request
+  ToCheck : Request
+  ToMakeReceipt : (id : List ℕ) → Request
 
 -- the request that a command stands for
 abbrev pub request_of : Command → Request
@@ -38,6 +43,8 @@ request_of Recover = ToRecover
 request_of Audit = ToAudit
 request_of Replay = ToReplay
 request_of (Exercise documents) = ToExercise documents
+request_of Check = ToCheck
+request_of (MakeReceipt id) = ToMakeReceipt id.now
 
 -- the words ask for this
 abbrev pub Asks : List (List ℕ) → Request → Type 0
@@ -49,6 +56,8 @@ Asks words ToRecover = AsksToRecover words
 Asks words ToAudit = AsksToAudit words
 Asks words ToReplay = AsksToReplay words
 Asks words (ToExercise documents) = AsksToExercise words documents
+Asks words ToCheck = AsksToCheck words
+Asks words (ToMakeReceipt id) = AsksForReceipt words id
 
 -- the words ask for nothing
 abbrev pub AsksNothing : List (List ℕ) → Type 0
@@ -73,6 +82,8 @@ Does ToRecover old new result = DoesRecover old new result
 Does ToAudit old new result = DoesAudit old new result
 Does ToReplay old new result = DoesReplay old new result
 Does (ToExercise documents) old new result = DoesExercise documents old new result
+Does ToCheck old new result = DoesCheck old new result
+Does (ToMakeReceipt id) old new result = DoesReceipt id old new result
 
 -- nothing hinders this
 abbrev pub IsUnhindered : Request → Ports → Ports → Type 0
@@ -85,9 +96,12 @@ IsUnhindered ToRecover old new = (g : Layout) × IsReadyToRecover g old new
 IsUnhindered ToAudit old new = (g : Layout) × IsReadyToAudit g old new
 IsUnhindered ToReplay old new = (text : List ℕ) × (script : Script) × IsReadyToReplay text script old new
 IsUnhindered (ToExercise documents) old new = IsReadyToExercise old new
+IsUnhindered ToCheck old new = (r : Receipt) × (body : List ℕ) × IsReadyToCheck r body old new
+IsUnhindered (ToMakeReceipt id) old new = (g : Layout) × IsReadyForReceipt id g old new
 
 -- What is answered where nothing hinders this: it is done; or, where memory is taken, none was to be had; or, where a
--- document is looked up, none has the identifier. Of an exercise it is only said which refusals are not its own.
+-- document is looked up or a receipt of it is asked for, none has the identifier; or the receipt would have too many cells. Of
+-- an exercise it is only said which refusals are not its own.
 abbrev pub IsAnswered : Request → Result Unit Refusal → Type 0
 IsAnswered (ToFormat slots lists version) result = IsOkAlone result
 IsAnswered (ToIngest id stamp) result = IsOkOrNoMemory result
@@ -97,3 +111,5 @@ IsAnswered ToRecover result = IsOkAlone result
 IsAnswered ToAudit result = IsOkOrNoMemory result
 IsAnswered ToReplay result = IsOkOrNoMemory result
 IsAnswered (ToExercise documents) result = IsOkOrOfAnEvent result
+IsAnswered ToCheck result = IsOkOrNoMemory result
+IsAnswered (ToMakeReceipt id) result = IsOkOrNoReceipt result

@@ -55,10 +55,14 @@ TermsEnd rule asked (Err (BadWord i)) = IsFirstBadWord rule asked i
 TermsEnd rule asked (Err NoMemory) = ⊤
 TermsEnd rule asked (Err refusal) = ⊥
 
--- the line that tells of a match: its slot, its identifier, and how many bytes its body has
+-- the line that tells of a document: its slot, its identifier, and how many bytes its body has
+abbrev pub document_line : ℕ → List ℕ → ℕ → List ℕ
+document_line slot identifier bytes =
+    decimal slot ++ (codes " " ++ (identifier ++ (codes " " ++ (decimal bytes ++ codes "\n"))))
+
+-- the line that tells of a match
 abbrev pub match_line : Match → List ℕ
-match_line m =
-    decimal m.slot ++ (codes " " ++ (m.identifier ++ (codes " " ++ (decimal m.bytes ++ codes "\n"))))
+match_line m = document_line m.slot m.identifier m.bytes
 
 -- the lines that tell of matches
 abbrev pub match_lines : List Match → List ℕ

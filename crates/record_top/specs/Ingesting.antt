@@ -6,6 +6,7 @@ use Rattle.cell_types.specs.declared.refusal.Refusal.{Refusal}
 use Rattle.cell_types.specs.declared.refusal.Refusal.TheVariants.{BadIdentifier, DeviceFault, SinkFault}
 use Rattle.host_ports.specs.Sources.{Gives, IsAtEnd}
 use Rattle.stored_documents.specs.Documents.{IsBody, IsIdentifier}
+use Rattle.stored_documents.specs.declared.limits.TheConstants.{MAX_BODY_BYTES}
 use Rattle.worm_device.specs.Counts.{IsStill}
 use Rattle.ingest_engine.specs.Ingesting.{Ingests}
 use Rattle.command_laws.specs.Begins.{BeginsSteady}
@@ -43,7 +44,7 @@ pub data DoesIngest (id : List ℕ) (stamp : Option ℕ) (old new : Ports) (resu
   misnamed : (IsIdentifier id → ⊥) → result ≡ Err BadIdentifier → new ≡ old → DoesIngest id stamp old new result
   -- no body is taken, and nothing is done with the device and the sink
   untaken : (given : List ℕ) (fault : BodyFault) → IsIdentifier id → Gives old.source.left new.source.left given
-      → BodyFails given old.source new.source fault → result ≡ Err (refusal_of_body_fault fault)
+      → BodyFails MAX_BODY_BYTES given old.source new.source fault → result ≡ Err (refusal_of_body_fault fault)
       → new.device ≡ old.device → KeepsSink old new → DoesIngest id stamp old new result
   -- The body is what the source gives up to its end. It is stored with the stamp, or that is ended, as the engine says,
   -- and its answer is told.

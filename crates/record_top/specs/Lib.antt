@@ -1,11 +1,14 @@
 pub mod Auditing
+pub mod Checking
 pub mod Commands
 pub mod Exercising
 pub mod Finding
 pub mod Formatting
 pub mod Ingesting
+pub mod Laws
 pub mod LookingUp
 pub mod Ports
+pub mod Receipting
 pub mod Recovering
 pub mod Replaying
 pub mod Ruling

@@ -5,6 +5,7 @@ use Rattle.cell_types.specs.declared.refusal.Refusal.{Refusal}
 use Rattle.cell_types.specs.declared.refusal.Refusal.TheVariants.{NoMemory}
 use Rattle.host_ports.specs.Sources.{Gives, IsAtEnd}
 use Rattle.stored_documents.specs.Documents.{IsBody}
+use Rattle.stored_documents.specs.declared.limits.TheConstants.{MAX_BODY_BYTES}
 use Rattle.worm_device.specs.Counts.{IsStill}
 use Rattle.worm_memory.specs.Memory.{Memory}
 use Rattle.worm_memory.specs.Plans.{no_plan}
@@ -52,7 +53,7 @@ ReplayEnds script (Err refusal) = refusal ≡ NoMemory
 pub data DoesReplay (old new : Ports) (result : Result Unit Refusal) : Type 0 where
   -- no text is taken
   untaken : (given : List ℕ) (fault : BodyFault) → Gives old.source.left new.source.left given
-      → BodyFails given old.source new.source fault → result ≡ Err (refusal_of_body_fault fault)
+      → BodyFails MAX_BODY_BYTES given old.source new.source fault → result ≡ Err (refusal_of_body_fault fault)
       → new.device ≡ old.device → KeepsSink old new → DoesReplay old new result
   -- the text is no script, or no memory was to be had to read it
   unread : (text : List ℕ) (refusal : Refusal) → IsBody text → Gives old.source.left new.source.left text

@@ -16,8 +16,11 @@ use Rattle.worm_device.specs.State.{DeviceState}
 use Rattle.settling_laws.specs.Steadiness.{StaysSteady}
 use Rattle.crash_laws.specs.Steadiness.{HasOneMore, StaysSteadyBy}
 use Rattle.record_query.specs.declared.found.Match.{Match}
+use Rattle.receipt_text.specs.Form.{text_of_receipt}
+use Rattle.receipt_text.specs.declared.receipt.Receipt.{Receipt}
+use Rattle.receipt_check.specs.Checks.{ShowsDocument}
 use Rattle.command_laws.specs.Telling.{AreMatchesOf, IsFormatted, LeavesHeld}
-use Rattle.record_top.specs.Commands.{Request, ToAudit, ToExercise, ToFind, ToFormat, ToIngest, ToLookUp, ToRecover, ToReplay}
+use Rattle.record_top.specs.Commands.{Request, ToAudit, ToCheck, ToExercise, ToFind, ToFormat, ToIngest, ToLookUp, ToMakeReceipt, ToRecover, ToReplay}
 use Rattle.record_top.specs.Ingesting.{HasRefused, HasStored, acknowledgement}
 use Rattle.record_top.specs.Finding.{AreTermsOf, find_text}
 use Rattle.record_top.specs.Ports.{Ports, PutsOut, Tells}
@@ -52,6 +55,18 @@ LooksUpHeld id old new (Err Absent) =
     (documents : List Document) → Held old.device.cells old.device.image documents
     → (d : Document) → Contains documents d → d.id ≡ id → ⊥
 LooksUpHeld id old new (Err refusal) = ⊤
+
+-- A receipt that is put out is of a document that the volume held at entry, with the identifier: its cells alone keep it.
+-- Where it answers that there is none, none had the identifier.
+abbrev pub ShowsHeld : List ℕ → Ports → Ports → Result Unit Refusal → Type 0
+ShowsHeld id old new (Ok u) =
+    (documents : List Document) → Held old.device.cells old.device.image documents
+    → (r : Receipt) × (body : List ℕ) × Contains documents (record { slot = r.slot; id = id; body = body })
+    × ShowsDocument new.device.cells r body × PutsOut (text_of_receipt r) old new
+ShowsHeld id old new (Err Absent) =
+    (documents : List Document) → Held old.device.cells old.device.image documents
+    → (d : Document) → Contains documents d → d.id ≡ id → ⊥
+ShowsHeld id old new (Err refusal) = ⊤
 
 -- a format that is done leaves a settled volume without documents, also where it could not be told
 abbrev pub LeavesFormatted : Ports → Result Unit Refusal → Type 0
@@ -101,3 +116,5 @@ LeavesWhole ToRecover old new result = AddsNone old new result
 LeavesWhole ToAudit old new result = AddsNone old new result
 LeavesWhole ToReplay old new result = AddsNone old new result
 LeavesWhole (ToExercise documents) old new result = LeavesHeld old.device new.device
+LeavesWhole ToCheck old new result = AddsNone old new result
+LeavesWhole (ToMakeReceipt id) old new result = AddsNone old new result × ShowsHeld id old new result

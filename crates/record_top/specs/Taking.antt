@@ -4,8 +4,6 @@ use Rattle.cell_types.specs.Bytes.{AreBytes}
 use Rattle.cell_types.specs.declared.refusal.Refusal.{Refusal}
 use Rattle.cell_types.specs.declared.refusal.Refusal.TheVariants as refusals
 use Rattle.host_ports.specs.Sources.{SourceState, Gives, IsAtEnd}
-use Rattle.stored_documents.specs.Documents.{IsBody}
-use Rattle.stored_documents.specs.declared.limits.TheConstants.{MAX_BODY_BYTES}
 use Rattle.worm_device.specs.Counts.{Rose}
 use Rattle.record_top.specs.declared.body.BodyFault.{BodyFault}
 use Rattle.record_top.specs.declared.body.BodyFault.TheVariants.{TooLong, SourceFailed, NoMemory}
@@ -40,8 +38,13 @@ PieceEnds room body body' old new (Err SourceFailed) = (new.left ≡ old.left) �
 PieceEnds room body body' old new (Err NoMemory) = LosesPiece room old new
 PieceEnds room body body' old new (Err TooLong) = ⊥
 
--- What the source has given where a body was not taken, and why: at most one byte more than a body may have.
-abbrev pub BodyFails : List ℕ → SourceState → SourceState → BodyFault → Type 0
-BodyFails given old new TooLong = length given ≡ MAX_BODY_BYTES + 1
-BodyFails given old new SourceFailed = IsBody given × Rose old.faults new.faults
-BodyFails given old new NoMemory = length given ≤ MAX_BODY_BYTES + 1
+-- at most so many bytes
+pub record AreBytesUpTo (limit : ℕ) (body : List ℕ) : Type 0 where
+  pub bytes : AreBytes body
+  pub most : length body ≤ limit
+
+-- What the source has given where a body of at most so many bytes was not taken, and why: at most one byte more.
+abbrev pub BodyFails : ℕ → List ℕ → SourceState → SourceState → BodyFault → Type 0
+BodyFails limit given old new TooLong = length given ≡ limit + 1
+BodyFails limit given old new SourceFailed = AreBytesUpTo limit given × Rose old.faults new.faults
+BodyFails limit given old new NoMemory = length given ≤ limit + 1

@@ -1,14 +1,15 @@
-//! A body, taken from a source to its end.
-ghost use Rattle.std.specs.Prelude.{◌≡◌, ℕ, List, length, IfOk, IfErr};
+//! A body, or another text, taken from a source to its end.
+ghost use Rattle.std.specs.Prelude.{◌≡◌, ◌≤◌, ℕ, List, length, IfOk, IfErr};
 ghost use Rattle.host_ports.specs.Sources.{Gives, IsAtEnd};
-ghost use Rattle.record_top.specs.Taking.{BodyFails, PieceEnds, refusal_of_body_fault};
+ghost use Rattle.record_top.specs.Taking.{AreBytesUpTo, BodyFails, PieceEnds, refusal_of_body_fault};
 ghost use Rattle.record_top.specs.declared.body.BodyFault.TheVariants as faults;
-ghost use Rattle.stored_documents.specs.Documents.{IsBody};
 
 use cell_types::Refusal;
 use host_ports::{Failed, Source};
 use std::alloc::{AllocError, Global};
-use stored_documents::MAX_BODY_BYTES;
+
+/// The greatest number of bytes that the text of a receipt may have. No command takes more.
+pub const MAX_RECEIPT_BYTES: usize = 67_108_864;
 
 /// How many bytes a source is asked for at once.
 const PIECE_BYTES: usize = 4_096;
@@ -16,7 +17,7 @@ const PIECE_BYTES: usize = 4_096;
 /// What keeps a body from being taken.
 #[derive(Clone, Copy, Debug, PartialEq, Eq)]
 pub enum BodyFault {
-    /// The source gave one byte more than a body may have.
+    /// The source gave one byte more than is taken.
     TooLong,
     /// A call of the source failed.
     SourceFailed,
@@ -52,25 +53,29 @@ impl From<BodyFault> for Refusal {
     }
 }
 
-/// Takes what the source gives up to its end. Where that is more than a body may have, it stops at the first
-/// byte too many.
-pub fn take_body<S: Source>(alloc: Global, source: &mut S) -> Result<Vec<u8>, BodyFault>
-    ensures body { IfOk result (λ body. IsBody body.items
+/// Takes what the source gives up to its end. Where that is more than so many bytes, it stops at the first byte too many.
+pub fn take_body<S: Source>(
+    alloc: Global,
+    source: &mut S,
+    limit: usize,
+) -> Result<Vec<u8>, BodyFault>
+    requires limit { limit ≤ MAX_RECEIPT_BYTES }
+    ensures body { IfOk result (λ body. AreBytesUpTo limit body.items
         × Gives (S.state source.old).left (S.state source.new).left body.items × IsAtEnd (S.state source.new).left) }
     ensures fails { IfErr result (λ fault. (given : List ℕ)
         × Gives (S.state source.old).left (S.state source.new).left given
-        × BodyFails given (S.state source.old) (S.state source.new) fault) }
+        × BodyFails limit given (S.state source.old) (S.state source.new) fault) }
 {
     let mut body = Vec::new(alloc);
     let mut piece = [0; PIECE_BYTES];
     loop {
-        // One byte more than a body may have is asked for, to tell a body of the greatest length from a longer one.
-        let room = PIECE_BYTES.min(MAX_BODY_BYTES + 1 - body.len());
+        // One byte more than the limit is asked for, to tell a body of the greatest length from a longer one.
+        let room = PIECE_BYTES.min(limit + 1 - body.len());
         let taken = take_piece(source, &mut piece[..room], &mut body)?;
         if taken == 0 {
             return Ok(body);
         }
-        if body.len() > MAX_BODY_BYTES {
+        if body.len() > limit {
             return Err(BodyFault::TooLong);
         }
     }

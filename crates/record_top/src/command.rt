@@ -8,11 +8,13 @@ ghost use Rattle.record_top.specs.Ports.{ports_of};
 ghost use Rattle.record_top.specs.Steadiness.{LeavesWhole};
 
 use crate::audit::audit_volume;
+use crate::check::check_source;
 use crate::exercise::exercise_volume;
 use crate::find::find_documents;
 use crate::format::format_device;
 use crate::ingest::ingest_body;
 use crate::lookup::look_up_document;
+use crate::receipt::put_receipt;
 use crate::recover::recover_device;
 use crate::replay::replay_script;
 use crate::words::{Command, command_of};
@@ -45,8 +47,8 @@ pub fn run<D: Device, S: Source, K: Sink>(
         (ports_of (D.state device.old) (S.state source.old) (K.state sink.old))
         (ports_of (D.state device.new) (S.state source.new) (K.state sink.new)) result }
 
-    // Where nothing hinders what they ask for, it is done; or no memory was to be had, or no document has the
-    // identifier.
+    // Where nothing hinders what they ask for, it is done; or no memory was to be had, no document has the identifier, or
+    // its receipt would have too many cells.
     ensures complete { (request : Request) → Asks (map string_bytes words.now) request → IsUnhindered request
         (ports_of (D.state device.old) (S.state source.old) (K.state sink.old))
         (ports_of (D.state device.new) (S.state source.new) (K.state sink.new)) → IsAnswered request result }
@@ -91,5 +93,7 @@ fn carry_out<D: Device, S: Source, K: Sink>(
         Command::Exercise { documents } => {
             exercise_volume(alloc, documents, device, source, sink)
         }
+        Command::Check => check_source(alloc, device, source, sink),
+        Command::MakeReceipt { id } => put_receipt(alloc, id, device, source, sink),
     }
 }

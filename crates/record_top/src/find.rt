@@ -1,13 +1,13 @@
 //! The command `find`.
-ghost use Rattle.std.specs.Prelude.{◌≡◌, ◌≤◌, ◌++◌, length, map, IfOk, OnOk};
+ghost use Rattle.std.specs.Prelude.{◌≡◌, ◌≤◌, length, map, IfOk};
 ghost use Rattle.std.specs.String.{string_bytes};
-ghost use Rattle.record_top.specs.Finding.{DoesFind, TermsEnd, find_text, match_line};
+ghost use Rattle.record_top.specs.Finding.{DoesFind, TermsEnd, find_text};
 ghost use Rattle.record_top.specs.Ports.{ports_of};
 ghost use Rattle.record_top.specs.Ruling.{AsksRule};
 ghost use Rattle.record_top.specs.declared.words.TheConstants.{MAX_QUERY_WORDS};
 
 use crate::command::Outcome;
-use crate::text::put_text;
+use crate::text::{push_document_line, put_text};
 use cell_types::Refusal;
 use commit_record::volume_of;
 use host_ports::{Sink, Source};
@@ -79,23 +79,10 @@ fn text_of(alloc: Global, matches: &[Match]) -> Result<Vec<u8>, AllocError>
 {
     let mut text = Vec::new(alloc);
     for found in matches {
-        push_line(&mut text, found)?;
+        push_document_line(&mut text, found.slot, found.identifier.bytes(), found.bytes)?;
     }
     let mut digits = Buffer::new();
     text.extend_from_slice(digits.format(matches.len()).as_bytes())?;
     text.extend_from_slice(b" found\n")?;
     Ok(text)
-}
-
-/// Puts the line that tells of a match behind the text.
-fn push_line(text: &mut Vec<u8>, found: &Match) -> Result<(), AllocError>
-    ensures { OnOk result (text.new.items ≡ text.old.items ++ match_line found.now) }
-{
-    let mut digits = Buffer::new();
-    text.extend_from_slice(digits.format(found.slot).as_bytes())?;
-    text.extend_from_slice(b" ")?;
-    text.extend_from_slice(found.identifier.bytes())?;
-    text.extend_from_slice(b" ")?;
-    text.extend_from_slice(digits.format(found.bytes).as_bytes())?;
-    text.extend_from_slice(b"\n")
 }

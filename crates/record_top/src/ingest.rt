@@ -9,6 +9,7 @@ use cell_types::Refusal;
 use document_store::is_identifier;
 use host_ports::{Sink, Source};
 use std::alloc::Global;
+use stored_documents::MAX_BODY_BYTES;
 use worm_device::Device;
 
 /// Stores the body that the source gives, in the first free slot, and acknowledges it. On a volume of stamped documents
@@ -27,7 +28,7 @@ pub fn ingest_body<D: Device, S: Source, K: Sink>(
     if !is_identifier(id) {
         return Err(Refusal::BadIdentifier);
     }
-    let body = take_body(alloc, source)?;
+    let body = take_body(alloc, source, MAX_BODY_BYTES)?;
     let slot = ingest_engine::ingest(alloc, device, id, stamp, &body)?;
     // No memory is taken any more: the document is sure.
     put_slot_line(sink, "acknowledged ", slot, "\n")?;

@@ -1,12 +1,15 @@
-//! A text, put into a sink whole.
-ghost use Rattle.std.specs.Prelude.{◌≡◌, ◌≤◌, ⊤, length, OnOk, OnErr};
+//! Lines of a text, and a text put into a sink whole.
+ghost use Rattle.std.specs.Prelude.{◌≡◌, ◌≤◌, ◌++◌, ⊤, length, OnOk, OnErr};
 ghost use Rattle.cell_types.specs.declared.refusal.Refusal.TheVariants.{SinkFault};
 ghost use Rattle.host_ports.specs.Sinks.{Gets, PutsPart};
+ghost use Rattle.record_top.specs.Finding.{document_line};
 ghost use Rattle.record_top.specs.Recovering.{slot_line};
 
 use arrayvec::ArrayString;
 use cell_types::Refusal;
 use host_ports::{Failed, Sink, put_all};
+use itoa::Buffer;
+use std::alloc::AllocError;
 
 /// How many bytes a line may have that tells of a slot.
 const LINE_BYTES: usize = 64;
@@ -54,10 +57,28 @@ pub fn put_slot_line<K: Sink>(
         (slot_line before.now slot after.now)) }
     ensures part { OnErr result (PutsPart (slot_line before.now slot after.now) (K.state sink.old) (K.state sink.new)) }
 {
-    let mut digits = itoa::Buffer::new();
+    let mut digits = Buffer::new();
     let mut line = ArrayString::<LINE_BYTES>::new();
     line.push_str(before);
     line.push_str(digits.format(slot));
     line.push_str(after);
     put_text(sink, line.as_bytes())
+}
+
+/// Puts the line that tells of a document behind the text: its slot, its identifier, and how many bytes its body has.
+pub fn push_document_line(
+    text: &mut Vec<u8>,
+    slot: u32,
+    identifier: &[u8],
+    bytes: u32,
+) -> Result<(), AllocError>
+    ensures { OnOk result (text.new.items ≡ text.old.items ++ document_line slot identifier.now bytes) }
+{
+    let mut digits = Buffer::new();
+    text.extend_from_slice(digits.format(slot).as_bytes())?;
+    text.extend_from_slice(b" ")?;
+    text.extend_from_slice(identifier)?;
+    text.extend_from_slice(b" ")?;
+    text.extend_from_slice(digits.format(bytes).as_bytes())?;
+    text.extend_from_slice(b"\n")
 }

@@ -2,12 +2,14 @@
 ghost use Rattle.std.specs.Prelude.{◌≡◌, ◌≢◌, ◌<◌, ◌≤◌, ◌↔◌, ℕ, List, Option, map, length, slice_index, IsTrue, IfSome, IfNone};
 ghost use Rattle.std.specs.String.{string_bytes};
 ghost use Rattle.record_top.specs.Auditing.{AsksToAudit};
+ghost use Rattle.record_top.specs.Checking.{AsksToCheck};
 ghost use Rattle.record_top.specs.Commands.{Asks, AsksNothing, request_of};
 ghost use Rattle.record_top.specs.Exercising.{AsksToExercise};
 ghost use Rattle.record_top.specs.Finding.{AsksToFind};
 ghost use Rattle.record_top.specs.Formatting.{AsksByVersion, AsksPlainly, AsksToFormat};
 ghost use Rattle.record_top.specs.Ingesting.{AsksToIngest, AsksWithStamp, AsksWithoutStamp};
 ghost use Rattle.record_top.specs.LookingUp.{AsksToLookUp};
+ghost use Rattle.record_top.specs.Receipting.{AsksForReceipt};
 ghost use Rattle.record_top.specs.Recovering.{AsksToRecover};
 ghost use Rattle.record_top.specs.Replaying.{AsksToReplay};
 ghost use Rattle.record_top.specs.Words.{AreSeconds, IsNoOption, IsNumber, IsNumberUpTo};
@@ -41,6 +43,10 @@ pub enum Command<'a> {
     Replay,
     /// Do the exercise with so many documents on a device in memory.
     Exercise { documents: u32 },
+    /// Check a receipt.
+    Check,
+    /// Put out a receipt of the document of this name, which may be an identifier or not.
+    MakeReceipt { id: &'a [u8] },
 }
 
 /// The command that the words ask for.
@@ -69,7 +75,13 @@ pub fn command_of(words: &[String]) -> Option<Command<'_>>
     if let Some(command) = replay_of(words) {
         return Some(command);
     }
-    exercise_of(words)
+    if let Some(command) = exercise_of(words) {
+        return Some(command);
+    }
+    if let Some(command) = check_of(words) {
+        return Some(command);
+    }
+    receipt_of(words)
 }
 
 /// The command `format`, where the words are this and two or three numbers in range.
@@ -266,6 +278,35 @@ fn exercise_of(words: &[String]) -> Option<Command<'_>>
     }
     let documents = number_up_to(MAX_DOCUMENTS, documents.as_bytes())?;
     Some(Command::Exercise { documents })
+}
+
+/// The command `check`, where the words are this alone.
+fn check_of(words: &[String]) -> Option<Command<'_>>
+    ensures some { IfSome result (λ command. Asks (map string_bytes words.now) (request_of command)) }
+    ensures none { IfNone result (AsksToCheck (map string_bytes words.now) → ⊥) }
+{
+    let [command] = words else {
+        return None;
+    };
+    if command.as_str() != "check" {
+        return None;
+    }
+    Some(Command::Check)
+}
+
+/// The command `receipt`, where the words are this and one that is not empty and begins with no hyphen.
+fn receipt_of(words: &[String]) -> Option<Command<'_>>
+    ensures some { IfSome result (λ command. Asks (map string_bytes words.now) (request_of command)) }
+    ensures none { IfNone result ((id : List ℕ) → AsksForReceipt (map string_bytes words.now) id → ⊥) }
+{
+    let [command, id] = words else {
+        return None;
+    };
+    let id = id.as_bytes();
+    if command.as_str() != "receipt" || is_option(id) {
+        return None;
+    }
+    Some(Command::MakeReceipt { id })
 }
 
 /// The number that the word stands for, where it is 1 to 10 digits and the number from 1 to the most.

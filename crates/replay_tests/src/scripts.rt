@@ -91,6 +91,48 @@ fn a_script_states_its_version(rt: HostRuntime) -> Result<(), Fail> {
     Ok(())
 }
 
+/// Stamps rise on a volume of the third version: one that is not past the last is refused, and so is none.
+#[test]
+fn stamps_rise(rt: HostRuntime) -> Result<(), Fail> {
+    let script = "{\"cells\": 1200, \"version\": 3, \"events\": [
+        {\"do\": \"format\", \"slots\": 8, \"lists\": 2},
+        {\"do\": \"ingest\", \"id\": \"a\", \"stamp\": 1000, \"body\": \"\"},
+        {\"do\": \"audit\"},
+        {\"do\": \"ingest\", \"id\": \"b\", \"stamp\": 1000, \"body\": \"\"},
+        {\"do\": \"ingest\", \"id\": \"b\", \"body\": \"\"},
+        {\"do\": \"ingest\", \"id\": \"b\", \"stamp\": 4294967295, \"body\": \"\"},
+        {\"do\": \"ingest\", \"id\": \"c\", \"stamp\": 5, \"body\": \"\"}]}";
+    let lines =
+        "1 0 formatted\n2 0 acknowledged 0\n3 0 sound: 1 done, 0 abandoned, 10 written cells\n4 2 refused\n5 2 refused\n6 0 acknowledged 1\n7 2 refused\n";
+    assert!(rt; printed(rt.alloc(), script)?.as_str() == lines);
+    Ok(())
+}
+
+/// A volume of the first version takes no stamps.
+#[test]
+fn a_volume_of_the_first_version_takes_no_stamp(rt: HostRuntime) -> Result<(), Fail> {
+    let script = "{\"cells\": 1000, \"events\": [
+        {\"do\": \"format\", \"slots\": 8, \"lists\": 2},
+        {\"do\": \"ingest\", \"id\": \"c\", \"stamp\": 5, \"body\": \"\"}]}";
+    assert!(rt; printed(rt.alloc(), script)?.as_str() == "1 0 formatted\n2 2 refused\n");
+    Ok(())
+}
+
+/// An ingest is cut short behind its stamp cell, and a crash keeps it: the slot is given up, and its stamp may stay.
+#[test]
+fn a_stamp_of_an_abandoned_slot_is_sound(rt: HostRuntime) -> Result<(), Fail> {
+    let script = "{\"cells\": 1200, \"version\": 3, \"events\": [
+        {\"do\": \"format\", \"slots\": 8, \"lists\": 2},
+        {\"do\": \"ingest\", \"id\": \"a\", \"stamp\": 1000, \"body\": \"\", \"stop\": {\"step\": 4}},
+        {\"do\": \"crash\", \"keep\": [7]},
+        {\"do\": \"recover\"},
+        {\"do\": \"audit\"}]}";
+    let lines =
+        "1 0 formatted\n2 5 refused\n3 0 kept 1 of 1\n4 0 slot 0 abandoned\n5 0 sound: 0 done, 1 abandoned, 4 written cells\n";
+    assert!(rt; printed(rt.alloc(), script)?.as_str() == lines);
+    Ok(())
+}
+
 /// Somebody else writes an abandon cell before the ingest's commit cell: it is named, and the document is absent.
 #[test]
 fn a_foreign_outcome_is_named(rt: HostRuntime) -> Result<(), Fail> {

@@ -50,7 +50,7 @@ crash_sure {keep} {old} device c = record {
 pub turn_goes : (e : Event) (r : Reply) (old new : Memory) → IsDevice (device_of old) → Turns e r old new
     → Goes (device_of old) (device_of new)
 turn_goes (event.Format slots lists version plan) r old new device t = goes_called t
-turn_goes (event.Ingest id body plan) r old new device t = goes_called t
+turn_goes (event.Ingest id stamp body plan) r old new device t = goes_called t
 turn_goes (event.Find terms plan) r old new device t = goes_called t
 turn_goes (event.Lookup id plan) r old new device t = goes_called t
 turn_goes (event.Audit plan) r old new device t = goes_called t

@@ -1,5 +1,5 @@
 -- Each command that can be done is done: its refusals have causes that do not stand.
-use Rattle.std.proofs.Common.{◌≡◌, ⊎_elim, ℕ, List, refl, sym, subst}
+use Rattle.std.proofs.Common.{◌≡◌, ⊎_elim, ℕ, List, Option, refl, sym, subst}
 use Rattle.cell_types.specs.Layout.{Layout}
 use Rattle.cell_types.specs.declared.refusal.Refusal.{Refusal}
 use Rattle.cell_types.specs.declared.refusal.Refusal.TheVariants as refusals
@@ -42,13 +42,13 @@ module _ (plan : Schedule) (old new : Memory) (device : IsDevice (device_of (beg
       (record { layout = is; tells = refl; blank = blank; alone = alone }) no_fault refusal turned.answers.ends
   format_done slots lists version r turned = absurd turned.answers
 
-  ingest_done : (id body : List ℕ) (r : Reply) → Turns (event.Ingest id body plan) r old new
-      → IsDoneWherePossible (event.Ingest id body plan) r s
-  ingest_done id body (reply.Acknowledged n) turned = λ g slot place. tt
-  ingest_done id body (reply.Refused refusal) turned = λ g slot place.
+  ingest_done : (id : List ℕ) (stamp : Option ℕ) (body : List ℕ) (r : Reply)
+      → Turns (event.Ingest id stamp body plan) r old new → IsDoneWherePossible (event.Ingest id stamp body plan) r s
+  ingest_done id stamp body (reply.Acknowledged n) turned = λ g slot place. tt
+  ingest_done id stamp body (reply.Refused refusal) turned = λ g slot place.
       subst (λ (x : Refusal). IsAcknowledgedReply (reply.Refused x))
       (sym (ingests_whole begins place device device_new turned.called no_fault refusal turned.answers.ends)) tt
-  ingest_done id body r turned = absurd turned.answers
+  ingest_done id stamp body r turned = absurd turned.answers
 
   find_done : (terms : List (List ℕ)) (r : Reply) → Turns (event.Find terms plan) r old new
       → IsDoneWherePossible (event.Find terms plan) r s
@@ -93,8 +93,8 @@ module _ (plan : Schedule) (old new : Memory) (device : IsDevice (device_of (beg
 pub commands_complete : CommandsComplete
 commands_complete (event.Format slots lists version plan) r old new device device_new steady alone no_fault t =
     format_done plan old new device device_new steady alone no_fault slots lists version r t
-commands_complete (event.Ingest id body plan) r old new device device_new steady alone no_fault t =
-    ingest_done plan old new device device_new steady alone no_fault id body r t
+commands_complete (event.Ingest id stamp body plan) r old new device device_new steady alone no_fault t =
+    ingest_done plan old new device device_new steady alone no_fault id stamp body r t
 commands_complete (event.Find terms plan) r old new device device_new steady alone no_fault t =
     find_done plan old new device device_new steady alone no_fault terms r t
 commands_complete (event.Lookup id plan) r old new device device_new steady alone no_fault t =

@@ -1,5 +1,5 @@
 -- What is named as tampering is evident.
-use Rattle.std.proofs.Common.{◌≡◌, ◌≤◌, ◌<◌, ◌⊎◌, ⊎_elim, inl, inr, ℕ, List, Err, refl, sym, subst, arith}
+use Rattle.std.proofs.Common.{◌≡◌, ◌≤◌, ◌<◌, ◌⊎◌, ⊎_elim, inl, inr, ℕ, List, Option, Err, refl, sym, subst, arith}
 use Rattle.std.proofs.lemmas.Bool.{cases_lt}
 use Rattle.cell_types.specs.declared.refusal.Evidence.{Evidence}
 use Rattle.cell_types.specs.declared.refusal.Refusal.{Refusal}
@@ -42,7 +42,8 @@ evident e old new later l = record {
       (rose_or_still old.foreign_writes new.foreign_writes later);
 }
 
-named_licensed : {id body : List ℕ} {old new : DeviceState} {e : Evidence} → IsNamed id body old new e → IsLicensed old new e
+named_licensed : {id : List ℕ} {stamp : Option ℕ} {body : List ℕ} {old new : DeviceState} {e : Evidence}
+    → IsNamed id stamp body old new e → IsLicensed old new e
 named_licensed (by_settling settles found) = found.licensed
 named_licensed (by_plan way) = way.found.licensed
 named_licensed (in_index ready slot rule licensed) = licensed
@@ -61,7 +62,7 @@ at_entry plan old new e l = record {
 turn_named : (d : Event) (old new : Memory) (e : Evidence) → Turns d (reply.Refused (refusals.Tampered e)) old new
     → IsLicensed (device_of old) (device_of new) e × (old.foreign_writes ≤ new.foreign_writes)
 turn_named (event.Format slots lists version plan) old new e t = absurd t.answers.ends
-turn_named (event.Ingest id body plan) old new e t =
+turn_named (event.Ingest id stamp body plan) old new e t =
     (at_entry plan old new e (named_licensed (t.answers.ends refl)), t.called.foreign_writes)
 turn_named (event.Find terms plan) old new e t =
     (at_entry plan old new e (t.answers.ends refl), t.called.foreign_writes)

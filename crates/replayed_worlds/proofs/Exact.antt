@@ -18,7 +18,7 @@ query_is_command : (e : Event) (r : Reply) → IsDoneQuery e r → IsCommand e
 query_is_command (event.Find terms plan) r done = tt
 query_is_command (event.Lookup id plan) r done = tt
 query_is_command (event.Format slots lists version plan) r done = tt
-query_is_command (event.Ingest id body plan) r done = tt
+query_is_command (event.Ingest id stamp body plan) r done = tt
 query_is_command (event.Audit plan) r done = tt
 query_is_command (event.Recover plan) r done = tt
 query_is_command (event.Foreign at value) r done = absurd done

@@ -265,7 +265,7 @@ begun_stands plan m stands =
 
 pub begun_by_device : (e : Event) (m : Memory) → IsDevice (device_of m) → IsDevice (device_of (begun_by e m))
 begun_by_device (event.Format slots lists version plan) m d = begun_device plan m d
-begun_by_device (event.Ingest id body plan) m d = begun_device plan m d
+begun_by_device (event.Ingest id stamp body plan) m d = begun_device plan m d
 begun_by_device (event.Find terms plan) m d = begun_device plan m d
 begun_by_device (event.Lookup id plan) m d = begun_device plan m d
 begun_by_device (event.Audit plan) m d = begun_device plan m d
@@ -277,7 +277,7 @@ begun_by_device (event.Crash keep) m d =
 
 pub begun_by_steady : (e : Event) (m : Memory) → IsSteady (device_of m) → IsSteady (device_of (begun_by e m))
 begun_by_steady (event.Format slots lists version plan) m s = begun_steady plan m s
-begun_by_steady (event.Ingest id body plan) m s = begun_steady plan m s
+begun_by_steady (event.Ingest id stamp body plan) m s = begun_steady plan m s
 begun_by_steady (event.Find terms plan) m s = begun_steady plan m s
 begun_by_steady (event.Lookup id plan) m s = begun_steady plan m s
 begun_by_steady (event.Audit plan) m s = begun_steady plan m s
@@ -315,22 +315,22 @@ module _ (whole : CommandsAreWhole) {turns : List Turn} (old new : Memory) (devi
       (said.none (event.Audit plan) r tt) t (whole_turn (event.Audit plan) r tt t).leaves
   step (event.Recover plan) r t = adds_none (event.Recover plan) r plan
       (said.none (event.Recover plan) r tt) t (whole_turn (event.Recover plan) r tt t).leaves
-  step (event.Ingest id body plan) (reply.Acknowledged n) t =
-      let adds = (whole_turn (event.Ingest id body plan) (reply.Acknowledged n) tt t).leaves in
-      acknowledged (begun_device plan old device) device_new (same_cells (event.Ingest id body plan) (reply.Acknowledged n) t)
-      (begun_stands plan old stands) id body (turn_of (event.Ingest id body plan) (reply.Acknowledged n) old new) n
-      (said.stored id body plan n) adds.stays.steady (adds.adds n refl)
-  step (event.Ingest id body plan) (reply.Refused refusals.DeviceFault) t =
-      let adds = (whole_turn (event.Ingest id body plan) (reply.Refused refusals.DeviceFault) tt t).leaves in
-      cut_short (begun_device plan old device) device_new (same_cells (event.Ingest id body plan) (reply.Refused refusals.DeviceFault) t)
-      (begun_stands plan old stands) id body (turn_of (event.Ingest id body plan) (reply.Refused refusals.DeviceFault) old new)
-      (λ n. said.cut_short id body plan n) (said.none (event.Ingest id body plan) (reply.Refused refusals.DeviceFault) tt) adds.stays
-  step (event.Ingest id body plan) (reply.Refused refusal) t =
-      let adds = (whole_turn (event.Ingest id body plan) (reply.Refused refusal) tt t).leaves in
-      refused (begun_device plan old device) device_new (same_cells (event.Ingest id body plan) (reply.Refused refusal) t)
-      (begun_stands plan old stands) id body (turn_of (event.Ingest id body plan) (reply.Refused refusal) old new)
-      (said.none (event.Ingest id body plan) (reply.Refused refusal) tt) adds.stays (adds.keeps tt)
-  step (event.Ingest id body plan) r t = absurd t.answers
+  step (event.Ingest id stamp body plan) (reply.Acknowledged n) t =
+      let adds = (whole_turn (event.Ingest id stamp body plan) (reply.Acknowledged n) tt t).leaves in
+      acknowledged (begun_device plan old device) device_new (same_cells (event.Ingest id stamp body plan) (reply.Acknowledged n) t)
+      (begun_stands plan old stands) id body (turn_of (event.Ingest id stamp body plan) (reply.Acknowledged n) old new) n
+      (said.stored id stamp body plan n) adds.stays.steady (adds.adds n refl)
+  step (event.Ingest id stamp body plan) (reply.Refused refusals.DeviceFault) t =
+      let adds = (whole_turn (event.Ingest id stamp body plan) (reply.Refused refusals.DeviceFault) tt t).leaves in
+      cut_short (begun_device plan old device) device_new (same_cells (event.Ingest id stamp body plan) (reply.Refused refusals.DeviceFault) t)
+      (begun_stands plan old stands) id body (turn_of (event.Ingest id stamp body plan) (reply.Refused refusals.DeviceFault) old new)
+      (λ n. said.cut_short id stamp body plan n) (said.none (event.Ingest id stamp body plan) (reply.Refused refusals.DeviceFault) tt) adds.stays
+  step (event.Ingest id stamp body plan) (reply.Refused refusal) t =
+      let adds = (whole_turn (event.Ingest id stamp body plan) (reply.Refused refusal) tt t).leaves in
+      refused (begun_device plan old device) device_new (same_cells (event.Ingest id stamp body plan) (reply.Refused refusal) t)
+      (begun_stands plan old stands) id body (turn_of (event.Ingest id stamp body plan) (reply.Refused refusal) old new)
+      (said.none (event.Ingest id stamp body plan) (reply.Refused refusal) tt) adds.stays (adds.keeps tt)
+  step (event.Ingest id stamp body plan) r t = absurd t.answers
   step (event.Foreign at value) reply.ForeignDone t =
       absurd (omega (arith, alone, ap (λ (m : Memory). m.foreign_writes) t.1))
   step (event.Foreign at value) (reply.ForeignTaken found) t =

@@ -1,4 +1,4 @@
-mod Along
+pub mod Along
 mod Complete
 mod Evident
 mod Exact

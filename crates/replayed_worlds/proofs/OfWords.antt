@@ -1,5 +1,5 @@
 -- No event of a script is refused for its words, nor for a source or a sink.
-use Rattle.std.proofs.Common.{◌≡◌, ⊎_elim, ℕ, List, Err, refl, subst}
+use Rattle.std.proofs.Common.{◌≡◌, ⊎_elim, ℕ, List, Option, Err, refl, subst}
 use Rattle.cell_types.specs.Layout.{Layout}
 use Rattle.cell_types.specs.declared.refusal.Refusal.{Refusal}
 use Rattle.cell_types.specs.declared.refusal.Refusal.TheVariants as refusals
@@ -35,15 +35,16 @@ no_format g old new refusals.SourceFault ends of = ends
 no_format g old new refusals.SinkFault ends of = ends
 no_format g old new refusal ends of = of
 
-no_ingest : (id body : List ℕ) (old new : DeviceState) (refusal : Refusal) → IngestEnds id body old new (Err refusal) → IsOfWords refusal → ⊥
-no_ingest id body old new refusals.Usage ends of = ends
-no_ingest id body old new refusals.BadIdentifier ends of = ends
-no_ingest id body old new (refusals.BadWord i) ends of = ends
-no_ingest id body old new refusals.TooLong ends of = ends
-no_ingest id body old new (refusals.BadScript i) ends of = ends
-no_ingest id body old new refusals.SourceFault ends of = ends
-no_ingest id body old new refusals.SinkFault ends of = ends
-no_ingest id body old new refusal ends of = of
+no_ingest : (id : List ℕ) (stamp : Option ℕ) (body : List ℕ) (old new : DeviceState) (refusal : Refusal)
+    → IngestEnds id stamp body old new (Err refusal) → IsOfWords refusal → ⊥
+no_ingest id stamp body old new refusals.Usage ends of = ends
+no_ingest id stamp body old new refusals.BadIdentifier ends of = ends
+no_ingest id stamp body old new (refusals.BadWord i) ends of = ends
+no_ingest id stamp body old new refusals.TooLong ends of = ends
+no_ingest id stamp body old new (refusals.BadScript i) ends of = ends
+no_ingest id stamp body old new refusals.SourceFault ends of = ends
+no_ingest id stamp body old new refusals.SinkFault ends of = ends
+no_ingest id stamp body old new refusal ends of = of
 
 no_find : (terms : List (List ℕ)) (old new : DeviceState) (refusal : Refusal) → FindEnds terms old new (Err refusal) → IsOfWords refusal → ⊥
 no_find terms old new refusals.Usage ends of = ends
@@ -97,8 +98,8 @@ pub none_of_words : NoneIsOfWords
 none_of_words (event.Format slots lists version plan) refusal old new t of =
     no_format (layout_on slots lists version old.cells) (device_of (begun_with plan old)) (device_of new)
     refusal t.answers.ends of
-none_of_words (event.Ingest id body plan) refusal old new t of =
-    no_ingest id body (device_of (begun_with plan old)) (device_of new) refusal t.answers.ends of
+none_of_words (event.Ingest id stamp body plan) refusal old new t of =
+    no_ingest id stamp body (device_of (begun_with plan old)) (device_of new) refusal t.answers.ends of
 none_of_words (event.Find terms plan) refusal old new t of =
     no_find terms (device_of (begun_with plan old)) (device_of new) refusal t.answers.ends of
 none_of_words (event.Lookup id plan) refusal old new t of =

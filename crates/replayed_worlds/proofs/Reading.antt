@@ -1,5 +1,5 @@
 -- A command that is done, from a steady device on, where nobody else writes, has read the device, and leaves it settled.
-use Rattle.std.proofs.Common.{◌≡◌, ◌≤◌, ◌+◌, ◌^◌, ℕ, List, [], ◌∷◌, ◌++◌, length, Result, Ok, Err, refl, sym, ap, ◌∙◌, subst, arith}
+use Rattle.std.proofs.Common.{◌≡◌, ◌≤◌, ◌+◌, ◌^◌, ℕ, List, [], ◌∷◌, ◌++◌, length, Option, Result, Ok, Err, refl, sym, ap, ◌∙◌, subst, arith}
 use Rattle.std.proofs.lemmas.List.{length-append}
 use Rattle.std.proofs.lemmas.Option.{none-some}
 use Rattle.cell_types.specs.Image.{Image}
@@ -75,7 +75,7 @@ module _ (s t : DeviceState) (device : IsDevice s) (device_new : IsDevice t) (be
         longer documents (document_in n id body)
         (lists_one t.cells t.image documents (documents ++ document_in n id body ∷ []) now added)
 
-    ingest_read : ComesTo id body s t → Rose s.reads t.reads
+    ingest_read : {stamp : Option ℕ} → ComesTo id stamp body s t → Rose s.reads t.reads
     ingest_read (ingesting.nothing same) = absurd (not_held (held_unmoved same documents held))
     ingest_read (ingesting.settling refusal settles) = absurd (not_held
         (subst (λ (k : ℕ). Held k t.image documents) (sym settles.called.cells)
@@ -108,17 +108,17 @@ module _ (plan : Schedule) (old new : Memory) (device : IsDevice (device_of (beg
   format_so slots lists version (reply.Refused refusal) turned done = absurd done
   format_so slots lists version r turned done = absurd turned.answers
 
-  ingest_so : (id body : List ℕ) (r : Reply) → Turns (event.Ingest id body plan) r old new
-      → IsWholeTurn (event.Ingest id body plan) r old new → (documents : List Document)
+  ingest_so : (id : List ℕ) (stamp : Option ℕ) (body : List ℕ) (r : Reply)
+      → Turns (event.Ingest id stamp body plan) r old new → IsWholeTurn (event.Ingest id stamp body plan) r old new → (documents : List Document)
       → Held s.cells s.image documents → IsDoneReply r → IsDoneSo s t
-  ingest_so id body (reply.Acknowledged n) turned whole documents held done =
+  ingest_so id stamp body (reply.Acknowledged n) turned whole documents held done =
       let more = whole.leaves.adds n refl in
       record {
         read = ingest_read s t device device_new begins id body n more documents held turned.answers.comes;
         settled = more.settled;
       }
-  ingest_so id body (reply.Refused refusal) turned whole documents held done = absurd done
-  ingest_so id body r turned whole documents held done = absurd turned.answers
+  ingest_so id stamp body (reply.Refused refusal) turned whole documents held done = absurd done
+  ingest_so id stamp body r turned whole documents held done = absurd turned.answers
 
   find_so : (terms : List (List ℕ)) (r : Reply) → Turns (event.Find terms plan) r old new → IsDoneReply r
       → IsDoneSo s t
@@ -152,8 +152,8 @@ pub done_so : (e : Event) (r : Reply) (old new : Memory) → IsDevice (device_of
     → Held old.cells (device_of old).image documents → IsDoneReply r → IsDoneSo (device_of (begun_by e old)) (device_of new)
 done_so (event.Format slots lists version plan) r old new device device_new steady alone command turned whole documents held done =
     format_so plan old new device device_new steady alone slots lists version r turned done
-done_so (event.Ingest id body plan) r old new device device_new steady alone command turned whole documents held done =
-    ingest_so plan old new device device_new steady alone id body r turned whole documents held done
+done_so (event.Ingest id stamp body plan) r old new device device_new steady alone command turned whole documents held done =
+    ingest_so plan old new device device_new steady alone id stamp body r turned whole documents held done
 done_so (event.Find terms plan) r old new device device_new steady alone command turned whole documents held done =
     find_so plan old new device device_new steady alone terms r turned done
 done_so (event.Lookup id plan) r old new device device_new steady alone command turned whole documents held done =

@@ -1,5 +1,5 @@
 -- Acknowledged documents are kept from then on, and so they are returned.
-use Rattle.std.proofs.Common.{◌≡◌, ⊎_elim, ℕ, List, [], ◌∷◌, refl, sym, subst, ◌∙◌, arith}
+use Rattle.std.proofs.Common.{◌≡◌, ⊎_elim, ℕ, List, Option, [], ◌∷◌, refl, sym, subst, ◌∙◌, arith}
 use Rattle.std.specs.Prelude.{Contains, Err, IsTrue}
 use Rattle.std.proofs.lemmas.List.Elements.{Contains-append_cases, Contains-push, Contains-push_cases}
 use Rattle.cell_types.specs.Layout.{Layout}
@@ -43,9 +43,9 @@ the_one d e among = ⊎_elim (λ (c : Contains [] e). absurd (no_one e c)) (λ (
     no_one e c = omega (arith, c.1)
 
 -- what an ingest has stored is kept by what is sure
-ingested_kept : {id body : List ℕ} {n : ℕ} {old new : DeviceState} → IsDevice new → IsIngested id body n old new
-    → IsSurelyKept new (document_in n id body)
-ingested_kept {id} {body} {n} {old} {new} device i = record {
+ingested_kept : {id : List ℕ} {stamp : Option ℕ} {body : List ℕ} {n : ℕ} {old new : DeviceState} → IsDevice new
+    → IsIngested id stamp body n old new → IsSurelyKept new (document_in n id body)
+ingested_kept {id} {stamp} {body} {n} {old} {new} device i = record {
   layout = i.layout;
   volume = subst (λ (g : Layout). IsVolume new.cells new.sure g)
       (one_layout i.document.layout i.layout (volume_on device.sure i.document.volume) i.volume)
@@ -57,7 +57,7 @@ ingested_kept {id} {body} {n} {old} {new} device i = record {
 -- what is acknowledged is kept
 turn_keeps : (e : Event) (r : Reply) (old new : Memory) → IsDevice (device_of new) → Turns e r old new → (d : Document)
     → Contains (acknowledged_by e r) d → IsSurelyKept (device_of new) d
-turn_keeps (event.Ingest id body plan) (reply.Acknowledged n) old new device t d among =
+turn_keeps (event.Ingest id stamp body plan) (reply.Acknowledged n) old new device t d among =
     subst (IsSurelyKept (device_of new)) (the_one (document_in n id body) d among)
     (ingested_kept device (t.answers.ends refl))
 turn_keeps e r old new device t d among = absurd (omega (arith, among.1))

@@ -73,7 +73,7 @@ plain_faults {plan} {old} {new} c plain =
 pub turn_unshared : (e : Event) (r : Reply) (old new : Memory) → IsUnshared e → Turns e r old new
     → new.foreign_writes ≡ old.foreign_writes
 turn_unshared (event.Format slots lists version plan) r old new alone t = unshared_count t alone
-turn_unshared (event.Ingest id body plan) r old new alone t = unshared_count t alone
+turn_unshared (event.Ingest id stamp body plan) r old new alone t = unshared_count t alone
 turn_unshared (event.Find terms plan) r old new alone t = unshared_count t alone
 turn_unshared (event.Lookup id plan) r old new alone t = unshared_count t alone
 turn_unshared (event.Audit plan) r old new alone t = unshared_count t alone
@@ -85,7 +85,7 @@ turn_unshared (event.Crash keep) r old new alone t = absurd t
 pub turn_unfailed : (e : Event) (r : Reply) (old new : Memory) → IsPlain e → Turns e r old new
     → new.faults ≡ old.faults
 turn_unfailed (event.Format slots lists version plan) r old new plain t = plain_faults t plain
-turn_unfailed (event.Ingest id body plan) r old new plain t = plain_faults t plain
+turn_unfailed (event.Ingest id stamp body plan) r old new plain t = plain_faults t plain
 turn_unfailed (event.Find terms plan) r old new plain t = plain_faults t plain
 turn_unfailed (event.Lookup id plan) r old new plain t = plain_faults t plain
 turn_unfailed (event.Audit plan) r old new plain t = plain_faults t plain
@@ -95,7 +95,7 @@ turn_unfailed (event.Crash keep) r old new plain t = absurd plain
 
 plain_unshared : (e : Event) → IsPlain e → IsUnshared e
 plain_unshared (event.Format slots lists version plan) plain = plain.foreign
-plain_unshared (event.Ingest id body plan) plain = plain.foreign
+plain_unshared (event.Ingest id stamp body plan) plain = plain.foreign
 plain_unshared (event.Find terms plan) plain = plain.foreign
 plain_unshared (event.Lookup id plan) plain = plain.foreign
 plain_unshared (event.Audit plan) plain = plain.foreign
@@ -105,7 +105,7 @@ plain_unshared (event.Crash keep) plain = absurd plain
 
 plain_command : (e : Event) → IsPlain e → IsCommand e
 plain_command (event.Format slots lists version plan) plain = tt
-plain_command (event.Ingest id body plan) plain = tt
+plain_command (event.Ingest id stamp body plan) plain = tt
 plain_command (event.Find terms plan) plain = tt
 plain_command (event.Lookup id plan) plain = tt
 plain_command (event.Audit plan) plain = tt
@@ -142,7 +142,7 @@ unshared_alone whole from turns to device new leads all =
 
 -- no ingest was cut short
 abbrev IsUncut : Event → Reply → Type 0
-IsUncut (event.Ingest id body plan) (reply.Refused refusals.DeviceFault) = ⊥
+IsUncut (event.Ingest id stamp body plan) (reply.Refused refusals.DeviceFault) = ⊥
 IsUncut e r = ⊤
 
 abbrev AreUncut : List Turn → Type 0
@@ -151,14 +151,14 @@ AreUncut (t ∷ turns) = IsUncut t.event t.reply × AreUncut turns
 
 -- so each gave its document just where it was acknowledged
 none_acknowledged : (e : Event) (r : Reply) → MayGiveNone e r → [] ≡ acknowledged_by e r
-none_acknowledged (event.Ingest id body plan) (reply.Acknowledged n) gives = absurd gives
-none_acknowledged (event.Ingest id body plan) r gives = refl
+none_acknowledged (event.Ingest id stamp body plan) (reply.Acknowledged n) gives = absurd gives
+none_acknowledged (event.Ingest id stamp body plan) r gives = refl
 none_acknowledged e r gives = refl
 
 given_is : (e : Event) (r : Reply) (given : List Document) → MayGive e r given → IsUncut e r
     → given ≡ acknowledged_by e r
-given_is e r given (stored id body plan n) uncut = refl
-given_is e r given (cut_short id body plan n) uncut = absurd uncut
+given_is e r given (stored id stamp body plan n) uncut = refl
+given_is e r given (cut_short id stamp body plan n) uncut = absurd uncut
 given_is e r given (none f s gives) uncut = none_acknowledged f s gives
 
 acknowledged_then : (turns : List Turn) (t : Turn)
@@ -184,10 +184,10 @@ come_acknowledged turns documents (followed before kept t given come gives) uncu
 -- an ingest in which no call fails is not refused for a fault of the device
 uncut_turn : (e : Event) (r : Reply) (old new : Memory) → old.faults ≡ 0 → new.faults ≡ old.faults
     → Turns e r old new → IsUncut e r
-uncut_turn (event.Ingest id body plan) (reply.Refused refusals.DeviceFault) old new unfailed same t =
+uncut_turn (event.Ingest id stamp body plan) (reply.Refused refusals.DeviceFault) old new unfailed same t =
     absurd (omega (arith, unfailed, same, t.answers.ends))
-uncut_turn (event.Ingest id body plan) (reply.Refused refusal) old new unfailed same t = tt
-uncut_turn (event.Ingest id body plan) r old new unfailed same t = tt
+uncut_turn (event.Ingest id stamp body plan) (reply.Refused refusal) old new unfailed same t = tt
+uncut_turn (event.Ingest id stamp body plan) r old new unfailed same t = tt
 uncut_turn e r old new unfailed same t = tt
 
 uncut_along : (from : Memory) (turns : List Turn) (to : Memory) → from.faults ≡ 0 → AreInTurn from turns to
@@ -203,7 +203,7 @@ uncut_along from (t ∷ turns) to unfailed leads all =
 -- a beginning reads nothing
 begun_reads : (e : Event) (m : Memory) → (device_of (begun_by e m)).reads ≡ m.reads
 begun_reads (event.Format slots lists version plan) m = refl
-begun_reads (event.Ingest id body plan) m = refl
+begun_reads (event.Ingest id stamp body plan) m = refl
 begun_reads (event.Find terms plan) m = refl
 begun_reads (event.Lookup id plan) m = refl
 begun_reads (event.Audit plan) m = refl
@@ -267,7 +267,7 @@ module _ (whole : CommandsAreWhole) (complete : CommandsComplete) where
 -- each turn leaves a mark
 turn_marks : (e : Event) (r : Reply) (old new : Memory) → Turns e r old new → new.marks ≡ old.marks ++ mark_of old ∷ []
 turn_marks (event.Format slots lists version plan) r old new t = t.by_plan.marks
-turn_marks (event.Ingest id body plan) r old new t = t.by_plan.marks
+turn_marks (event.Ingest id stamp body plan) r old new t = t.by_plan.marks
 turn_marks (event.Find terms plan) r old new t = t.by_plan.marks
 turn_marks (event.Lookup id plan) r old new t = t.by_plan.marks
 turn_marks (event.Audit plan) r old new t = t.by_plan.marks

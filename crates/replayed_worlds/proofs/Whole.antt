@@ -1,5 +1,5 @@
 -- Each command is whole, from a steady device on, where nobody else writes: what the engines' clauses say of it.
-use Rattle.std.proofs.Common.{◌≡◌, ⊎_elim, ℕ, List, Ok, Err, refl, sym, ap, ◌∙◌, subst}
+use Rattle.std.proofs.Common.{◌≡◌, ⊎_elim, ℕ, List, Option, Ok, Err, refl, sym, ap, ◌∙◌, subst}
 use Rattle.std.specs.Prelude.{Contains}
 use Rattle.cell_types.specs.declared.refusal.Evidence.{Evidence}
 use Rattle.cell_types.specs.declared.refusal.Refusal.{Refusal}
@@ -69,33 +69,33 @@ module _ (plan : Schedule) (old new : Memory) (device : IsDevice (device_of (beg
   }
   format_whole slots lists version r turned = absurd turned.answers
 
-  ingest_whole : (id body : List ℕ) (r : Reply) → Turns (event.Ingest id body plan) r old new
-      → IsWholeTurn (event.Ingest id body plan) r old new
-  ingest_whole id body (reply.Acknowledged n) turned = record {
+  ingest_whole : (id : List ℕ) (stamp : Option ℕ) (body : List ℕ) (r : Reply)
+      → Turns (event.Ingest id stamp body plan) r old new → IsWholeTurn (event.Ingest id stamp body plan) r old new
+  ingest_whole id stamp body (reply.Acknowledged n) turned = record {
     leaves = record {
-      stays = comes_steady id body s t device device_new refl alone steady turned.answers.comes;
+      stays = comes_steady id stamp body s t device device_new refl alone steady turned.answers.comes;
       adds = λ m same. subst (λ (k : ℕ). HasOneMore id body k s t)
           (let one : reply.Acknowledged n ≡ reply.Acknowledged m = same in cc)
-          (comes_more id body s t n device device_new refl alone steady (turned.answers.ends refl) turned.answers.comes);
+          (comes_more id stamp body s t n device device_new refl alone steady (turned.answers.ends refl) turned.answers.comes);
       keeps = λ refused. absurd refused;
     };
     tells = λ done. absurd done;
     no_alarm = λ e named. absurd cc;
   }
-  ingest_whole id body (reply.Refused refusal) turned = record {
+  ingest_whole id stamp body (reply.Refused refusal) turned = record {
     leaves = record {
-      stays = comes_steady id body s t device device_new refl alone steady turned.answers.comes;
+      stays = comes_steady id stamp body s t device device_new refl alone steady turned.answers.comes;
       adds = λ m same. absurd cc;
       keeps = λ refused documents held.
-          refused_keeps id body s t turned.answers.called device device_new refl alone steady documents held refusal
+          refused_keeps id stamp body s t turned.answers.called device device_new refl alone steady documents held refusal
           (λ fault. subst IsTurnedDown (ap reply.Refused fault) refused) turned.answers.comes turned.answers.ends;
     };
     tells = λ done. absurd done;
     no_alarm = λ e named. none_named s t e device device_new refl alone steady
-        ((subst (λ (r : Refusal). Ingests id body s t (Err r)) (same_refusal refusal (refusals.Tampered e) named)
+        ((subst (λ (r : Refusal). Ingests id stamp body s t (Err r)) (same_refusal refusal (refusals.Tampered e) named)
         turned.answers).ends refl);
   }
-  ingest_whole id body r turned = absurd turned.answers
+  ingest_whole id stamp body r turned = absurd turned.answers
 
   find_whole : (terms : List (List ℕ)) (r : Reply) → Turns (event.Find terms plan) r old new
       → IsWholeTurn (event.Find terms plan) r old new
@@ -207,8 +207,8 @@ module _ (plan : Schedule) (old new : Memory) (device : IsDevice (device_of (beg
 pub commands_whole : CommandsAreWhole
 commands_whole (event.Format slots lists version plan) r old new device device_new steady alone command turned =
     format_whole plan old new device device_new steady alone slots lists version r turned
-commands_whole (event.Ingest id body plan) r old new device device_new steady alone command turned =
-    ingest_whole plan old new device device_new steady alone id body r turned
+commands_whole (event.Ingest id stamp body plan) r old new device device_new steady alone command turned =
+    ingest_whole plan old new device device_new steady alone id stamp body r turned
 commands_whole (event.Find terms plan) r old new device device_new steady alone command turned =
     find_whole plan old new device device_new steady alone terms r turned
 commands_whole (event.Lookup id plan) r old new device device_new steady alone command turned =

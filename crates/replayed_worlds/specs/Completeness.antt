@@ -52,8 +52,8 @@ IsSettledReply r = ⊥
 abbrev pub IsDoneWherePossible : Event → Reply → DeviceState → Type 0
 IsDoneWherePossible (event.Format slots lists version plan) r old =
     IsLayout (layout_on slots lists version old.cells) → ((cell : ℕ) → old.image cell ≡ None) → IsFormattedReply r
-IsDoneWherePossible (event.Ingest id body plan) r old =
-    (g : Layout) (slot : ℕ) → HasPlaceFor id body g slot old → IsAcknowledgedReply r
+IsDoneWherePossible (event.Ingest id stamp body plan) r old =
+    (g : Layout) (slot : ℕ) → HasPlaceFor id stamp body g slot old → IsAcknowledgedReply r
 IsDoneWherePossible (event.Find terms plan) r old = (g : Layout) → IsVolume old.cells old.image g → IsFoundReply r
 IsDoneWherePossible (event.Lookup id plan) r old = (g : Layout) → IsVolume old.cells old.image g → IsLookedUpReply r
 IsDoneWherePossible (event.Audit plan) r old = (g : Layout) → IsVolume old.cells old.image g → IsSoundReply r

@@ -6,7 +6,7 @@
 --
 -- Turns that follow one another (`AreInTurn`) are the events with their replies and the device's states between them. Each
 -- sentence is said of one turn `t` of them, with those before and after it. `Headline`, at the end, is all of it.
-use Rattle.std.specs.Prelude.{◌≡◌, ◌⊎◌, ℕ, List, [], ◌∷◌, ◌++◌, length, Contains, Some, ⊤}
+use Rattle.std.specs.Prelude.{◌≡◌, ◌⊎◌, ℕ, List, [], ◌∷◌, ◌++◌, length, Contains, Option, Some, ⊤}
 use Rattle.cell_types.specs.Layout.{Layout}
 use Rattle.cell_types.specs.declared.refusal.Evidence.{Evidence}
 use Rattle.cell_types.specs.declared.refusal.Refusal.TheVariants as refusals
@@ -121,16 +121,16 @@ pub record ToldIsExact : Type 0 where
 
 -- an event gives no document, unless it is an ingest that was acknowledged
 abbrev pub MayGiveNone : Event → Reply → Type 0
-MayGiveNone (event.Ingest id body plan) (reply.Acknowledged n) = ⊥
+MayGiveNone (event.Ingest id stamp body plan) (reply.Acknowledged n) = ⊥
 MayGiveNone e r = ⊤
 
 -- Which documents an event may have given, by its answer: an ingest gives its own whole, in the slot that it was
 -- acknowledged in; where it was cut short, its own whole in some slot, or none; and nothing else gives any.
 pub data MayGive : Event → Reply → List Document → Type 0 where
-  stored : (id body : List ℕ) (plan : Schedule) (n : ℕ)
-      → MayGive (event.Ingest id body plan) (reply.Acknowledged n) (document_in n id body ∷ [])
-  cut_short : (id body : List ℕ) (plan : Schedule) (n : ℕ)
-      → MayGive (event.Ingest id body plan) (reply.Refused refusals.DeviceFault) (document_in n id body ∷ [])
+  stored : (id : List ℕ) (stamp : Option ℕ) (body : List ℕ) (plan : Schedule) (n : ℕ)
+      → MayGive (event.Ingest id stamp body plan) (reply.Acknowledged n) (document_in n id body ∷ [])
+  cut_short : (id : List ℕ) (stamp : Option ℕ) (body : List ℕ) (plan : Schedule) (n : ℕ)
+      → MayGive (event.Ingest id stamp body plan) (reply.Refused refusals.DeviceFault) (document_in n id body ∷ [])
   none : (e : Event) (r : Reply) → MayGiveNone e r → MayGive e r []
 
 -- these documents come from these turns, in their order

@@ -35,7 +35,7 @@ pub record LeavesIngest (id body : List ℕ) (r : Reply) (old new : DeviceState)
 
 -- what a command leaves
 abbrev pub Leaves : Event → Reply → DeviceState → DeviceState → Type 0
-Leaves (event.Ingest id body plan) r old new = LeavesIngest id body r old new
+Leaves (event.Ingest id stamp body plan) r old new = LeavesIngest id body r old new
 Leaves e r old new = LeavesHeld old new
 
 -- a command, and no foreign write or crash
@@ -53,7 +53,7 @@ TellsHeld e r old new =
 -- the device as an event begins
 abbrev pub begun_by : Event → Memory → Memory
 begun_by (event.Format slots lists version plan) m = begun_with plan m
-begun_by (event.Ingest id body plan) m = begun_with plan m
+begun_by (event.Ingest id stamp body plan) m = begun_with plan m
 begun_by (event.Find terms plan) m = begun_with plan m
 begun_by (event.Lookup id plan) m = begun_with plan m
 begun_by (event.Audit plan) m = begun_with plan m

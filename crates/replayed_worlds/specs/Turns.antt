@@ -1,5 +1,5 @@
 -- What an event does to the device, and how it is answered.
-use Rattle.std.specs.Prelude.{◌≡◌, ◌⊎◌, ℕ, List, [], length, true, None, Some, Ok, Err}
+use Rattle.std.specs.Prelude.{◌≡◌, ◌⊎◌, ℕ, List, [], length, true, Option, None, Some, Ok, Err}
 use Rattle.std.specs.Global.{Vec}
 use Rattle.cell_types.specs.Layout.{Layout}
 use Rattle.cell_types.specs.declared.refusal.Refusal.{Refusal}
@@ -42,10 +42,10 @@ FormatAnswers slots lists version old new (reply.Refused refusal) =
     Formats (layout_on slots lists version old.cells) old new (Err refusal)
 FormatAnswers slots lists version old new other = ⊥
 
-abbrev pub IngestAnswers : List ℕ → List ℕ → DeviceState → DeviceState → Reply → Type 0
-IngestAnswers id body old new (reply.Acknowledged n) = Ingests id body old new (Ok n)
-IngestAnswers id body old new (reply.Refused refusal) = Ingests id body old new (Err refusal)
-IngestAnswers id body old new other = ⊥
+abbrev pub IngestAnswers : List ℕ → Option ℕ → List ℕ → DeviceState → DeviceState → Reply → Type 0
+IngestAnswers id stamp body old new (reply.Acknowledged n) = Ingests id stamp body old new (Ok n)
+IngestAnswers id stamp body old new (reply.Refused refusal) = Ingests id stamp body old new (Err refusal)
+IngestAnswers id stamp body old new other = ⊥
 
 -- the search answered these matches
 pub record FindAnswered (terms : List (List ℕ)) (old new : DeviceState) (matches : List Match) : Type 0 where
@@ -131,7 +131,8 @@ CrashAnswers keep old new other = ⊥
 abbrev pub Turns : Event → Reply → Memory → Memory → Type 0
 Turns (event.Format slots lists version plan) r old new =
     CarriesOut plan old new (λ s t. FormatAnswers slots lists version s t r)
-Turns (event.Ingest id body plan) r old new = CarriesOut plan old new (λ s t. IngestAnswers id body s t r)
+Turns (event.Ingest id stamp body plan) r old new =
+    CarriesOut plan old new (λ s t. IngestAnswers id stamp body s t r)
 Turns (event.Find terms plan) r old new = CarriesOut plan old new (λ s t. FindAnswers terms s t r)
 Turns (event.Lookup id plan) r old new = CarriesOut plan old new (λ s t. LookUpAnswers id s t r)
 Turns (event.Audit plan) r old new = CarriesOut plan old new (λ s t. AuditAnswers s t r)

@@ -22,7 +22,7 @@ use Rattle.replayed_worlds.specs.Worlds.{AreInTurn, Turn, acknowledged}
 -- nobody else writes in the event: none is planned to, and it is no foreign write itself
 abbrev pub IsUnshared : Event → Type 0
 IsUnshared (event.Format slots lists version plan) = plan.foreign ≡ []
-IsUnshared (event.Ingest id body plan) = plan.foreign ≡ []
+IsUnshared (event.Ingest id stamp body plan) = plan.foreign ≡ []
 IsUnshared (event.Find terms plan) = plan.foreign ≡ []
 IsUnshared (event.Lookup id plan) = plan.foreign ≡ []
 IsUnshared (event.Audit plan) = plan.foreign ≡ []
@@ -39,7 +39,7 @@ pub record PlansNothing (plan : Schedule) : Type 0 where
 -- nothing befalls the event: it is a command, and nothing is planned for it
 abbrev pub IsPlain : Event → Type 0
 IsPlain (event.Format slots lists version plan) = PlansNothing plan
-IsPlain (event.Ingest id body plan) = PlansNothing plan
+IsPlain (event.Ingest id stamp body plan) = PlansNothing plan
 IsPlain (event.Find terms plan) = PlansNothing plan
 IsPlain (event.Lookup id plan) = PlansNothing plan
 IsPlain (event.Audit plan) = PlansNothing plan

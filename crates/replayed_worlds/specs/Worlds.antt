@@ -33,7 +33,7 @@ pub record IsWorld (events : List Event) (replies : List Reply) (from to : Memor
 
 -- the document that an event acknowledged, with the identifier and the body that it was given, in the slot of the reply
 abbrev pub acknowledged_by : Event → Reply → List Document
-acknowledged_by (event.Ingest id body plan) (reply.Acknowledged n) = document_in n id body ∷ []
+acknowledged_by (event.Ingest id stamp body plan) (reply.Acknowledged n) = document_in n id body ∷ []
 acknowledged_by e r = []
 
 -- the documents that were acknowledged, in order

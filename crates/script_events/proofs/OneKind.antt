@@ -31,8 +31,8 @@ none_format cells stated d said none (Format slots lists version plan) h = none 
 none_format cells stated d said none e h = two_texts _ _ _ said h.0 refl
 
 pub none_ingest : (cells stated : ℕ) (d : Data) → get (codes "do") d ≡ Some (string (codes "ingest"))
-    → ((x : List ℕ × List ℕ × Schedule) → SaysIngest cells x.0 x.1 x.2 d → ⊥) → (e : Event) → SaysEvent cells stated e d → ⊥
-none_ingest cells stated d said none (Ingest id body plan) h = none (id, body, plan) h.1
+    → ((x : List ℕ × Option ℕ × List ℕ × Schedule) → SaysIngest cells x.0 x.1 x.2 x.3 d → ⊥) → (e : Event) → SaysEvent cells stated e d → ⊥
+none_ingest cells stated d said none (Ingest id stamp body plan) h = none (id, stamp, body, plan) h.1
 none_ingest cells stated d said none e h = two_texts _ _ _ said h.0 refl
 
 pub none_find : (cells stated : ℕ) (d : Data) → get (codes "do") d ≡ Some (string (codes "find"))

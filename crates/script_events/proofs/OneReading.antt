@@ -8,7 +8,7 @@ use Rattle.stored_documents.proofs.Words.{words_are_one}
 use Rattle.worm_memory.specs.declared.moment.Moment.{Moment}
 use Rattle.worm_memory.specs.declared.moment.Moment.TheVariants.{Step, Call}
 use Rattle.script_events.proofs.OneKind.{two_texts}
-use Rattle.script_events.specs.Grammar.{SaysBody, SaysBytes, SaysCell, SaysEvent, SaysIdentifier, SaysMoment, SaysPlan, SaysTerm, SaysTimed}
+use Rattle.script_events.specs.Grammar.{SaysBody, SaysBytes, SaysCell, SaysEvent, SaysIdentifier, SaysMoment, SaysPlan, SaysSeconds, SaysTerm, SaysTimed}
 use Rattle.script_events.specs.Json.{AreItems, HasMember, IsArrayOf, IsNumberBelow, IsNumberIn, MayHaveMember}
 use Rattle.script_events.specs.declared.event.Event.{Event}
 use Rattle.script_events.specs.declared.event.Event.TheVariants.{Format, Ingest, Find, Lookup, Audit, Recover, Foreign, Crash}
@@ -137,9 +137,11 @@ event_one cells stated (Format s l v p) (Format t m w q) d h k =
     ∙ ap (λ x. Format t x v p) (member_number (codes "lists") _ _ l m d h.1.1.2 k.1.1.2)
     ∙ ap (λ x. Format t m x p) (h.1.0 ∙ sym k.1.0)
     ∙ ap (Format t m w) (plan_one cells p q d h.1.1.3 k.1.1.3)
-event_one cells stated (Ingest i b p) (Ingest j c q) d h k =
-    ap (λ x. Ingest x b p) (member_identifier i j d h.1.1 k.1.1) ∙ ap (λ x. Ingest j x p) (body_one b c d h.1.2 k.1.2)
-    ∙ ap (Ingest j c) (plan_one cells p q d h.1.3 k.1.3)
+event_one cells stated (Ingest i s b p) (Ingest j t c q) d h k =
+    ap (λ x. Ingest x s b p) (member_identifier i j d h.1.1 k.1.1)
+    ∙ ap (λ x. Ingest j x b p) (may_one (codes "stamp") SaysSeconds (number_one _ _) s t d h.1.2 k.1.2)
+    ∙ ap (λ x. Ingest j t x p) (body_one b c d h.1.3 k.1.3)
+    ∙ ap (Ingest j t c) (plan_one cells p q d h.1.4 k.1.4)
 event_one cells stated (Find t p) (Find u q) d h k =
     ap (λ x. Find x p) (both (get (codes "words") d) _ _ h.1.1 k.1.1 (λ e a b. array_one (SaysTerm (rule_of stated)) (term_one (rule_of stated)) _ _ t u e a b))
     ∙ ap (Find u) (plan_one cells p q d h.1.2 k.1.2)

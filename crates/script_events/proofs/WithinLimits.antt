@@ -9,8 +9,8 @@ use Rattle.stored_documents.specs.Words.{rule_of}
 use Rattle.stored_documents.specs.declared.word_rules.WordRule.{WordRule}
 use Rattle.worm_memory.specs.declared.moment.Moment.{Moment}
 use Rattle.worm_memory.specs.declared.moment.Moment.TheVariants.{Step, Call}
-use Rattle.script_events.specs.Events.{IsEventOn, IsPlanOn, IsScriptMoment, IsScriptStop, IsTermOfWord, IsTimedOn}
-use Rattle.script_events.specs.Grammar.{SaysEvent, SaysMoment, SaysPlan, SaysTerm, SaysTimed}
+use Rattle.script_events.specs.Events.{IsEventOn, IsPlanOn, IsScriptMoment, IsScriptStamp, IsScriptStop, IsTermOfWord, IsTimedOn}
+use Rattle.script_events.specs.Grammar.{SaysEvent, SaysMoment, SaysPlan, SaysSeconds, SaysTerm, SaysTimed}
 use Rattle.script_events.specs.Json.{AreItems, IsArrayOf, IsNumberIn, MayHaveMember}
 use Rattle.script_events.specs.Scripts.{ScriptsAreInLimits}
 use Rattle.script_events.specs.declared.event.Event.{Event}
@@ -63,6 +63,10 @@ stop_so : (stop : Option Moment) (d : Data) → MayHaveMember (codes "stop") Say
 stop_so None d h = tt
 stop_so (Some moment) d h = member (get (codes "stop") d) _ h (moment_so moment)
 
+stamp_so : (stamp : Option ℕ) (d : Data) → MayHaveMember (codes "stamp") SaysSeconds stamp d → IsScriptStamp stamp
+stamp_so None d h = tt
+stamp_so (Some seconds) d h = member (get (codes "stamp") d) _ h (λ e p. omega (arith, p.2))
+
 timed_so : (cells : ℕ) (timed : Timed) (d : Data) → SaysTimed cells timed d → IsTimedOn cells timed
 timed_so cells timed d h = (
   member (get (codes "before") d) _ h.1 (moment_so timed.before),
@@ -104,8 +108,12 @@ event_so cells stated from to (Format slots lists version plan) d h =
       omega (arith, h.1.0, to),
       plan_so cells plan d h.1.1.3,
     )
-event_so cells stated from to (Ingest id body plan) d h =
-    (member (get (codes "id") d) _ h.1.1 (λ e p. p.1), h.1.2.0, plan_so cells plan d h.1.3)
+event_so cells stated from to (Ingest id stamp body plan) d h = (
+  member (get (codes "id") d) _ h.1.1 (λ e p. p.1),
+  stamp_so stamp d h.1.2,
+  h.1.3.0,
+  plan_so cells plan d h.1.4,
+)
 event_so cells stated from to (Find terms plan) d h =
     let so = member (get (codes "words") d) _ h.1.1 (array_so (SaysTerm (rule_of stated)) IsTermOfWord (term_so (rule_of stated)) _ _ terms) in
     (so.0, so.1, so.2, plan_so cells plan d h.1.2)

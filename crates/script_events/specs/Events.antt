@@ -1,5 +1,5 @@
 -- Which events are of the grammar on a device of so many cells.
-use Rattle.std.specs.Prelude.{◌<◌, ◌≤◌, ℕ, List, [], ◌∷◌, length, Option, Some, None, ⊤}
+use Rattle.std.specs.Prelude.{◌<◌, ◌≤◌, ◌^◌, ℕ, List, [], ◌∷◌, length, Option, Some, None, ⊤}
 use Rattle.std.specs.List.{All}
 use Rattle.cell_types.specs.declared.geometry.TheConstants.{FIRST_VERSION, MAX_LISTS, MAX_SLOTS, NEWEST_VERSION}
 use Rattle.stored_documents.specs.Documents.{IsBody, IsIdentifier}
@@ -44,12 +44,18 @@ pub record IsPlanOn (cells : ℕ) (plan : Schedule) : Type 0 where
 abbrev pub IsTermOfWord : List ℕ → Type 0
 IsTermOfWord term = (rule : WordRule) × (word : List ℕ) × AreWords rule word (term ∷ [])
 
+-- the seconds of a stamp have 32 bits, where there is one
+abbrev pub IsScriptStamp : Option ℕ → Type 0
+IsScriptStamp None = ⊤
+IsScriptStamp (Some seconds) = seconds < 2 ^ 32
+
 -- an event of a script, on a device of so many cells
 abbrev pub IsEventOn : ℕ → Event → Type 0
 IsEventOn cells (event.Format slots lists version plan) =
     (1 ≤ slots) × (slots ≤ MAX_SLOTS) × (1 ≤ lists) × (lists ≤ MAX_LISTS)
     × (FIRST_VERSION ≤ version) × (version ≤ NEWEST_VERSION) × IsPlanOn cells plan
-IsEventOn cells (event.Ingest id body plan) = IsIdentifier id × IsBody body × IsPlanOn cells plan
+IsEventOn cells (event.Ingest id stamp body plan) =
+    IsIdentifier id × IsScriptStamp stamp × IsBody body × IsPlanOn cells plan
 IsEventOn cells (event.Find terms plan) =
     (1 ≤ length terms) × (length terms ≤ MAX_WORDS) × All IsTermOfWord terms × IsPlanOn cells plan
 IsEventOn cells (event.Lookup id plan) = IsIdentifier id × IsPlanOn cells plan

@@ -1,6 +1,6 @@
 -- The grammar of events: which JSON value is which event, on a device of so many cells, where volumes are of the
 -- script's version.
-use Rattle.std.specs.Prelude.{◌≡◌, ◌≢◌, ◌^◌, ◌-◌, ℕ, List, [], ◌∷◌, codes, replicate, Some, None, Ok, MatchOption, option_map, true}
+use Rattle.std.specs.Prelude.{◌≡◌, ◌≢◌, ◌^◌, ◌-◌, ℕ, List, [], ◌∷◌, codes, replicate, Option, Some, None, Ok, MatchOption, option_map, true}
 use Rattle.hex.specs.Hex.{decode_of, decode_sized}
 use Rattle.serde_json.specs.Data.{Data, string}
 use Rattle.serde_json.specs.Find.{get, as_str}
@@ -72,6 +72,10 @@ SaysBody body d =
     (HasMember (codes "hex") (SaysBytes body) d)
     (λ e. (get (codes "hex") d ≡ None) × (e ≡ string body))
 
+-- a number of seconds that has 32 bits
+abbrev pub SaysSeconds : ℕ → Data → Type 0
+SaysSeconds seconds d = IsNumberIn 0 (2 ^ 32 - 1) seconds d
+
 -- the members of each kind of event
 abbrev pub SaysFormat : ℕ → ℕ → ℕ → Schedule → Data → Type 0
 SaysFormat cells slots lists plan d =
@@ -80,10 +84,11 @@ SaysFormat cells slots lists plan d =
     × HasMember (codes "lists") (IsNumberIn 1 MAX_LISTS lists) d
     × SaysPlan cells plan d
 
-abbrev pub SaysIngest : ℕ → List ℕ → List ℕ → Schedule → Data → Type 0
-SaysIngest cells id body plan d =
-    (is_object_of (codes "do" ∷ codes "id" ∷ codes "body" ∷ codes "hex" ∷ plan_names) d ≡ true)
+abbrev pub SaysIngest : ℕ → List ℕ → Option ℕ → List ℕ → Schedule → Data → Type 0
+SaysIngest cells id stamp body plan d =
+    (is_object_of (codes "do" ∷ codes "id" ∷ codes "stamp" ∷ codes "body" ∷ codes "hex" ∷ plan_names) d ≡ true)
     × HasMember (codes "id") (SaysIdentifier id) d
+    × MayHaveMember (codes "stamp") SaysSeconds stamp d
     × SaysBody body d
     × SaysPlan cells plan d
 
@@ -116,7 +121,7 @@ SaysCrash keep d =
 -- what an event does
 abbrev pub kind_of_event : Event → EventKind
 kind_of_event (event.Format slots lists version plan) = kind.Format
-kind_of_event (event.Ingest id body plan) = kind.Ingest
+kind_of_event (event.Ingest id stamp body plan) = kind.Ingest
 kind_of_event (event.Find terms plan) = kind.Find
 kind_of_event (event.Lookup id plan) = kind.Lookup
 kind_of_event (event.Audit plan) = kind.Audit
@@ -142,7 +147,7 @@ SaysKind kind d = get (codes "do") d ≡ Some (string (kind_name kind))
 abbrev pub SaysMembers : ℕ → ℕ → Event → Data → Type 0
 SaysMembers cells stated (event.Format slots lists version plan) d =
     (version ≡ stated) × SaysFormat cells slots lists plan d
-SaysMembers cells stated (event.Ingest id body plan) d = SaysIngest cells id body plan d
+SaysMembers cells stated (event.Ingest id stamp body plan) d = SaysIngest cells id stamp body plan d
 SaysMembers cells stated (event.Find terms plan) d = SaysFind cells (rule_of stated) terms plan d
 SaysMembers cells stated (event.Lookup id plan) d = SaysLookup cells id plan d
 SaysMembers cells stated (event.Audit plan) d = SaysPlanAlone cells plan d

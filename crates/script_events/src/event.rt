@@ -24,8 +24,7 @@ pub struct Schedule {
     pub foreign: Sequence<Timed>,
 }
 
-/// One event of a script. A volume whose documents are stamped can't be made yet: once it can, a stamp stands here
-/// beside the identifier of `Ingest`.
+/// One event of a script.
 #[derive(Debug, Drop)]
 pub enum Event {
     /// Make the device a volume of this version, which is the script's.
@@ -35,9 +34,11 @@ pub enum Event {
         version: u8,
         plan: Schedule,
     },
-    /// Take a document in.
+    /// Take a document in, with this stamp, in seconds. In a volume of version 3 each document needs one, and in those of
+    /// earlier versions none may have one.
     Ingest {
         id: Text,
+        stamp: Option<u32>,
         body: Text,
         plan: Schedule,
     },

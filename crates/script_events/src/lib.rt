@@ -11,14 +11,15 @@
 //!      {"do": "find", "words": ["hello"]}]}
 //!
 //!     1   Format { slots: 8, lists: 2, plan }      the plan is empty: nothing befalls the command
-//!     2   Ingest { id, body, plan }                after the 12th write or sync each call of it fails
+//!     2   Ingest { id, stamp, body, plan }         it has no stamp; after the 12th write or sync each call of it fails
 //!     3   Crash { keep }                           of the cells that are not sure, 37 alone stays
 //!     4   Recover { plan }
 //!     5   Find { terms, plan }
 //!
-//! Each event has the member `do` and just the members of its kind. A number is whole, without sign, point or exponent,
-//! and in range. A text that is none is refused by the number of its first event that is none, from 1, and with 0 where
-//! it is no script as a whole:
+//! Each event has the member `do` and just the members of its kind. An ingest may have a stamp, in seconds, as documents
+//! of a volume of version 3 need one: `{"do": "ingest", "id": "a", "stamp": 1000, "body": ""}`. A number is whole,
+//! without sign, point or exponent, and in range. A text that is none is refused by the number of its first event that is
+//! none, from 1, and with 0 where it is no script as a whole:
 //!
 //!     {"cells": 9, "events": [{"do": "audit"}, {"do": "fly"}]}      BadScript(2)
 //!     {"cells": 0, "events": []}                                    BadScript(0)

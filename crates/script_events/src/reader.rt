@@ -71,10 +71,15 @@ fn ingest_event(
     requires { get (codes "do") (view value.now) ≡ Some (string (codes "ingest")) }
     ensures { IfOk result (Exactly (λ event. SaysEvent cells version event (view value.now))) }
 {
-    let Some((id, body, plan)) = ingest(alloc, value, cells)? else {
+    let Some((id, stamp, body, plan)) = ingest(alloc, value, cells)? else {
         return Ok(None);
     };
-    Ok(Some(Event::Ingest { id, body, plan }))
+    Ok(Some(Event::Ingest {
+        id,
+        stamp,
+        body,
+        plan,
+    }))
 }
 
 /// The `find` that the value is.

@@ -1,8 +1,8 @@
 //! The members of each kind of event.
-ghost use Rattle.std.specs.Prelude.{IfOk};
+ghost use Rattle.std.specs.Prelude.{codes, IfOk};
 ghost use Rattle.serde_json.specs.View.{view};
-ghost use Rattle.script_events.specs.Grammar.{SaysCrash, SaysFind, SaysForeign, SaysFormat, SaysIngest, SaysLookup, SaysPlanAlone};
-ghost use Rattle.script_events.specs.Json.{Exactly};
+ghost use Rattle.script_events.specs.Grammar.{SaysCrash, SaysFind, SaysForeign, SaysFormat, SaysIngest, SaysLookup, SaysPlanAlone, SaysSeconds};
+ghost use Rattle.script_events.specs.Json.{Exactly, MayHaveMember};
 
 use crate::event::Schedule;
 use crate::limits::MAX_KEPT;
@@ -48,17 +48,20 @@ pub(crate) fn format(
     Ok(Some((slots, lists as u16, plan)))
 }
 
-/// The document and the plan of an `ingest`.
+/// The document, its stamp and the plan of an `ingest`.
 pub(crate) fn ingest(
     alloc: Global,
     value: &Value,
     cells: u32,
-) -> Result<Option<(Text, Text, Schedule)>, AllocError>
-    ensures { IfOk result (Exactly (λ said. SaysIngest cells said.0 said.1 said.2 (view value.now))) }
+) -> Result<Option<(Text, Option<u32>, Text, Schedule)>, AllocError>
+    ensures { IfOk result (Exactly (λ said.
+        SaysIngest cells said.0 said.1 said.2 said.3 (view value.now))) }
 {
     if !has_only(
         value,
-        &["do", "id", "body", "hex", "stop", "fail", "foreign"],
+        &[
+            "do", "id", "stamp", "body", "hex", "stop", "fail", "foreign",
+        ],
     ) {
         return Ok(None);
     }
@@ -68,13 +71,29 @@ pub(crate) fn ingest(
     let Some(id) = identifier(alloc, id)? else {
         return Ok(None);
     };
+    let Some(stamp) = stamp(value) else {
+        return Ok(None);
+    };
     let Some(body) = body(alloc, value)? else {
         return Ok(None);
     };
     let Some(plan) = plan(alloc, value, cells)? else {
         return Ok(None);
     };
-    Ok(Some((id, body, plan)))
+    Ok(Some((id, stamp, body, plan)))
+}
+
+/// The stamp of a document, where the value has one.
+fn stamp(value: &Value) -> Option<Option<u32>>
+    ensures { Exactly (λ stamp. MayHaveMember (codes "stamp") SaysSeconds stamp (view value.now)) result }
+{
+    let Some(stamp) = value.get("stamp") else {
+        return Some(None);
+    };
+    match number(stamp, 0, u32::MAX) {
+        Some(seconds) => Some(Some(seconds)),
+        None => None,
+    }
 }
 
 /// The terms and the plan of a `find`, its words read by this rule.

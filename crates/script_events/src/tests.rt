@@ -60,9 +60,16 @@ fn a_script_is_read(rt: HostRuntime) -> Result<(), Fail> {
         )
     );
     assert!(rt; matches!(recover, Event::Recover { .. }));
-    let Event::Ingest { id, body, plan } = ingest else {
+    let Event::Ingest {
+        id,
+        stamp,
+        body,
+        plan,
+    } = ingest
+    else {
         return Err(Fail::from("no ingest"));
     };
+    assert_eq!(rt; *stamp, None);
     assert_eq!(rt; id.bytes(), b"a".as_slice());
     assert_eq!(rt; body.bytes(), b"hello world".as_slice());
     assert_eq!(rt; plan.stop, Some(Moment::Step(12)));
@@ -86,7 +93,7 @@ const PLANNED: &str = "{'cells': 9, 'events': [
   'foreign': [{'before': {'call': 3}, 'at': 8, 'cell': '0000000000000000000000000000000F'}]},
  {'do': 'foreign', 'at': 0, 'cell': '0000000000000000000000000000000f'},
  {'do': 'lookup', 'id': '~', 'id': '!'},
- {'do': 'ingest', 'id': 'x', 'hex': '00fF'}]}";
+ {'do': 'ingest', 'id': 'x', 'stamp': 4294967295, 'hex': '00fF'}]}";
 
 #[test]
 fn plans_are_read(rt: HostRuntime) -> Result<(), Fail> {
@@ -118,15 +125,16 @@ fn plans_are_read(rt: HostRuntime) -> Result<(), Fail> {
         return Err(Fail::from("no look-up"));
     };
     assert_eq!(rt; id.bytes(), b"!".as_slice());
-    let Event::Ingest { body, .. } = ingest else {
+    let Event::Ingest { stamp, body, .. } = ingest else {
         return Err(Fail::from("no ingest"));
     };
+    assert_eq!(rt; *stamp, Some(4_294_967_295));
     assert_eq!(rt; body.bytes(), b"\x00\xff".as_slice());
     Ok(())
 }
 
 /// Texts, and the fault for which each is no script; none for a script.
-const WHOLES: [(&str, Option<u32>); 20] = [
+const WHOLES: [(&str, Option<u32>); 21] = [
     ("{'cells': 1, 'events': []}", None),
     ("{'cells': 65536, 'events': []}", None),
     ("{'cells': 0, 'events': []}", Some(0)),
@@ -140,7 +148,8 @@ const WHOLES: [(&str, Option<u32>); 20] = [
     ("{'events': []}", Some(0)),
     ("{'cells': 1, 'version': 1, 'events': []}", None),
     ("{'cells': 1, 'version': 2, 'events': []}", None),
-    ("{'cells': 1, 'version': 3, 'events': []}", Some(0)),
+    ("{'cells': 1, 'version': 3, 'events': []}", None),
+    ("{'cells': 1, 'version': 4, 'events': []}", Some(0)),
     ("{'cells': 1, 'version': 0, 'events': []}", Some(0)),
     ("{'cells': 1, 'version': '2', 'events': []}", Some(0)),
     ("{'cells': 1, 'events': [], 'note': 1}", Some(0)),
@@ -163,7 +172,7 @@ fn a_text_is_a_script_as_a_whole_or_none(rt: HostRuntime) -> Result<(), Fail> {
 }
 
 /// Events on nine cells, and the number of the first that is none.
-const EVENTS: [(&str, Option<u32>); 42] = [
+const EVENTS: [(&str, Option<u32>); 51] = [
     (
         "{'do': 'audit'}, {'do': 'audit'}, {'do': 'fly'}, {'do': 'flee'}",
         Some(3),
@@ -187,6 +196,36 @@ const EVENTS: [(&str, Option<u32>); 42] = [
     ),
     ("{'do': 'ingest', 'id': 'a', 'hex': '000'}", Some(1)),
     ("{'do': 'ingest', 'id': 'a', 'hex': '0g'}", Some(1)),
+    ("{'do': 'ingest', 'id': 'a', 'stamp': 0, 'body': ''}", None),
+    (
+        "{'do': 'ingest', 'id': 'a', 'stamp': 4294967295, 'body': ''}",
+        None,
+    ),
+    (
+        "{'do': 'ingest', 'id': 'a', 'stamp': 4294967296, 'body': ''}",
+        Some(1),
+    ),
+    (
+        "{'do': 'ingest', 'id': 'a', 'stamp': -1, 'body': ''}",
+        Some(1),
+    ),
+    (
+        "{'do': 'ingest', 'id': 'a', 'stamp': 1.0, 'body': ''}",
+        Some(1),
+    ),
+    (
+        "{'do': 'ingest', 'id': 'a', 'stamp': '1', 'body': ''}",
+        Some(1),
+    ),
+    (
+        "{'do': 'ingest', 'id': 'a', 'stamp': null, 'body': ''}",
+        Some(1),
+    ),
+    ("{'do': 'lookup', 'id': 'a', 'stamp': 1}", Some(1)),
+    (
+        "{'do': 'format', 'slots': 1, 'lists': 1, 'stamp': 1}",
+        Some(1),
+    ),
     ("{'do': 'find', 'words': []}", Some(1)),
     (
         "{'do': 'find', 'words': ['a', 'b', 'c', 'd', 'e', 'f', 'g', 'h']}",

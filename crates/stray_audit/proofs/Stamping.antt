@@ -1,10 +1,15 @@
 -- The greatest stamp of the done slots below one.
-use Rattle.std.proofs.Common.{◌≡◌, ◌<◌, ◌≤◌, ◌+◌, ◌⊎◌, ⊎_elim, ℕ, max, Option, Some, None, subst, arith}
+use Rattle.std.proofs.Common.{rules, ◌≡◌, ◌<◌, ◌≤◌, ◌+◌, ◌⊎◌, ⊎_elim, ℕ, max, Option, Some, None, subst, true, nat_lt, arith}
+use Rattle.std.specs.Prelude.{IsTrue}
 use Rattle.cell_types.specs.Image.{Image}
-use Rattle.cell_types.specs.Layout.{Layout, spare_at}
+use Rattle.cell_types.specs.Layout.{Layout, spare_at, reserve_at}
+use Rattle.cell_types.specs.declared.geometry.TheConstants.{STAMPED_VERSION}
 use Rattle.cell_types.specs.declared.record_cell.RecordCell.TheVariants.{Stamp}
 use Rattle.stored_documents.specs.Slots.{IsDoneSlot, HasStamp}
 use Rattle.stored_documents.proofs.Holding.{one_record_holds}
+use Rattle.stored_documents.specs.Volumes.{IsWritten}
+use Rattle.tamper_rules.specs.Rules.{IsTrueStamp}
+use Rattle.log_audit.proofs.Deciding.{yes}
 use Rattle.log_audit.specs.Stored.{IsStored}
 use Rattle.log_audit.specs.declared.stored.StoredSlot.{StoredSlot}
 use Rattle.stray_audit.specs.Strays.{IsLatest}
@@ -16,6 +21,12 @@ below_or_at k n h = grind arith
 pub one_stamp : {image : Image} (n : ℕ) {a b : ℕ} → HasStamp image n a → HasStamp image n b → a ≡ b
 one_stamp {image} n {a} {b} x y =
     let same : Stamp a ≡ Stamp b = one_record_holds image (spare_at n) (Stamp a) (Stamp b) x y in cc
+
+less_of : (a b : ℕ) → IsTrue (nat_lt a b) → a < b
+less_of a b h = search rules
+
+less_is : (a b : ℕ) → a < b → IsTrue (nat_lt a b)
+less_is a b h = search rules
 
 -- a stored slot is done
 pub done_stored : {g : Layout} {image : Image} {s : StoredSlot} {n : ℕ} → IsStored g image s → s.slot ≡ n → IsDoneSlot g image n
@@ -81,3 +92,32 @@ module _ (g : Layout) (image : Image) (n : ℕ) where
             (λ (ge : own ≤ latest). let e : latest ≡ greater = omega (arith, ge, same) in
             (is.0.0, omega (arith, is.0.1), is.0.2, subst (HasStamp image is.0.0) e is.0.3))
             (order latest own)
+
+  module _ (own : ℕ) (version : g.version ≡ STAMPED_VERSION) (reserve : IsWritten image (reserve_at n))
+      (stamp : HasStamp image n own) where
+    -- no done slot below has a stamp
+    pub first_is_true : IsLatest g image n None → (IsTrue true → IsTrueStamp g image n) × (IsTrueStamp g image n → IsTrue true)
+    first_is_true none = yes (record {
+      version = version;
+      reserve = reserve;
+      seconds = own;
+      stamp = stamp;
+      rises = λ m lower less done has. absurd (none m lower less done has);
+    })
+
+    -- the greatest stamp of the done slots below is smaller
+    pub greater_is_true : (latest : ℕ) → IsLatest g image n (Some latest)
+        → (IsTrue (nat_lt latest own) → IsTrueStamp g image n) × (IsTrueStamp g image n → IsTrue (nat_lt latest own))
+    greater_is_true latest is = (
+      λ greater. record {
+        version = version;
+        reserve = reserve;
+        seconds = own;
+        stamp = stamp;
+        rises = λ m lower less done has.
+            let most = is.1 m lower less done has in omega (arith, most, less_of latest own greater);
+      },
+      λ rule.
+          let rises = rule.rises is.0.0 latest is.0.1 is.0.2 is.0.3 in
+          less_is latest own (omega (arith, rises, one_stamp n rule.stamp stamp)),
+    )

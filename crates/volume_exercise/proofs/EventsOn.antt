@@ -10,6 +10,7 @@ use Rattle.script_events.specs.Events.{AreEventsOn, IsEventOn, IsPlanOn, IsTermO
 use Rattle.script_events.specs.declared.event.Event.{Event}
 use Rattle.stored_documents.specs.Documents.{IsBody, IsIdentifier}
 use Rattle.stored_documents.specs.declared.word_rules.WordRule.TheVariants.{Ascii}
+use Rattle.replayed_worlds.specs.Undisturbed.{IsPlain, PlansNothing}
 use Rattle.volume_exercise.specs.Documents.{body_of, digit_of, identifier_of, word_at, word_of}
 use Rattle.volume_exercise.specs.Events.{audit_event, exercise_events, format_event, ingest_event, ingests, look_up_event, look_ups, no_schedule, pair_event, pairs, single_event, singles}
 use Rattle.volume_exercise.proofs.Words.{AreDigits, decimal_digits, word_is_one}
@@ -131,7 +132,7 @@ exercise_events_on cells n some most =
     All-append On (format_event n ∷ []) (ingests n ++ (singles ++ (pairs ++ (look_ups n ++ audit_event ∷ []))))
     (all_one On (format_event n) (some, omega (arith, most), omega arith, omega arith, omega arith, omega arith, plan))
     (All-append On (ingests n) (singles ++ (pairs ++ (look_ups n ++ audit_event ∷ [])))
-    (each_of On ingest_event n (λ i below. (identifier_is_identifier i, body_is_body i, plan)))
+    (each_of On ingest_event n (λ i below. (identifier_is_identifier i, tt, body_is_body i, plan)))
     (All-append On singles (pairs ++ (look_ups n ++ audit_event ∷ []))
     (each_of On single_event 200 (λ k below. (
       omega arith,
@@ -150,3 +151,21 @@ exercise_events_on cells n some most =
     (All-append On (look_ups n) (audit_event ∷ [])
     (each_of On look_up_event n (λ i below. (identifier_is_identifier i, plan)))
     (all_one On audit_event plan)))))
+
+-- and nothing befalls them
+plain_schedule : PlansNothing no_schedule
+plain_schedule = record { stop = refl; fail = refl; foreign = refl }
+
+pub exercise_events_plain : (n : ℕ) → All IsPlain (exercise_events n)
+exercise_events_plain n =
+    All-append IsPlain (format_event n ∷ []) (ingests n ++ (singles ++ (pairs ++ (look_ups n ++ audit_event ∷ []))))
+    (all_one IsPlain (format_event n) plain_schedule)
+    (All-append IsPlain (ingests n) (singles ++ (pairs ++ (look_ups n ++ audit_event ∷ [])))
+    (each_of IsPlain ingest_event n (λ i below. plain_schedule))
+    (All-append IsPlain singles (pairs ++ (look_ups n ++ audit_event ∷ []))
+    (each_of IsPlain single_event 200 (λ k below. plain_schedule))
+    (All-append IsPlain pairs (look_ups n ++ audit_event ∷ [])
+    (each_of IsPlain pair_event 199 (λ k below. plain_schedule))
+    (All-append IsPlain (look_ups n) (audit_event ∷ [])
+    (each_of IsPlain look_up_event n (λ i below. plain_schedule))
+    (all_one IsPlain audit_event plain_schedule)))))

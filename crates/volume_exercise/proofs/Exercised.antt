@@ -13,7 +13,7 @@ use Rattle.replayed_worlds.specs.Worlds.{AreInTurn, IsWorld, Turn}
 use Rattle.volume_exercise.specs.Events.{audit_event, exercise_events, ingest_event, ingests, look_up_event, look_ups, pair_event, pairs, single_event, singles}
 use Rattle.volume_exercise.specs.Tallies.{first_refusal}
 
-as_many : {A B : Type 0} (f : A → B) (xs : List A) → length (map f xs) ≡ length xs
+pub as_many : {A B : Type 0} (f : A → B) (xs : List A) → length (map f xs) ≡ length xs
 as_many f [] = refl
 as_many f (x ∷ xs) = ap suc (as_many f xs)
 

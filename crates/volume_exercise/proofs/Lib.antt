@@ -1,5 +1,10 @@
 mod Counted
+mod Counting
 mod EventsOn
 mod Exercised
+mod Leaving
+mod Played
+mod Rowed
 mod Rows
+mod Told
 mod Words

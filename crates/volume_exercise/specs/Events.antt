@@ -18,7 +18,7 @@ format_event n = event.Format n LISTS FIRST_VERSION no_schedule
 
 -- document i is taken in
 abbrev pub ingest_event : ℕ → Event
-ingest_event i = event.Ingest (identifier_of i) (body_of i) no_schedule
+ingest_event i = event.Ingest (identifier_of i) None (body_of i) no_schedule
 
 -- word k is sought alone
 abbrev pub single_event : ℕ → Event

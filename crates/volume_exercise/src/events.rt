@@ -94,6 +94,7 @@ fn ingest_event(alloc: Global, document: u32) -> Result<Event, AllocError>
     let body = body(alloc, document)?;
     Ok(Event::Ingest {
         id: Text::new(id),
+        stamp: None,
         body: Text::new(body.into_bytes()),
         plan: no_schedule(alloc),
     })

@@ -9,9 +9,11 @@ use crate::tallies::{first_refusal, text_of};
 use cell_types::Refusal;
 use host_ports::{Sink, put_all};
 use hostile_replay::replay;
-use replayed_worlds::none_is_of_words;
+use replayed_worlds::{
+    acknowledged_are_returned, none_is_of_words, plain_is_done, turns_are_marked,
+};
 use std::alloc::Global;
-use worm_memory::MemoryDevice;
+use worm_memory::{MemoryDevice, the_count_is_recorded};
 
 /// Does the exercise with so many documents on this new device, and puts its lines into the sink. The text is made before
 /// its first byte goes out.
@@ -34,6 +36,10 @@ pub fn exercise<K: Sink>(
         return Err(Refusal::NoMemory);
     };
     none_is_of_words();
+    plain_is_done();
+    acknowledged_are_returned();
+    turns_are_marked();
+    the_count_is_recorded();
     if let Some(refusal) = first_refusal(&replies) {
         return Err(refusal);
     }

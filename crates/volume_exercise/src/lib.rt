@@ -11,20 +11,24 @@
 //!
 //! It is a replay of events that are made in memory, on a new device: a format, the ingests, the finds, the look-ups and
 //! an audit. So whatever it tells is counted from the replies of a world, of which all is true that is promised of worlds.
-//! Where an event was refused, the first refusal is handed on and no line is put out.
+//! Where an event was refused, the first refusal is handed on and no line is put out. Where none was, the lines are those
+//! that the documents and their words ask for, and the device holds just the documents: nothing befalls the exercise, and
+//! nobody else writes.
 //!
 //! Stands on `hostile_replay`, which carries the events out, and on `replayed_worlds`, which says what a world promises.
-//! Begin with `exercising.rt`; `specs/Documents.antt` has the documents, `specs/Events.antt` the events, and
-//! `specs/Exercising.antt` says how an exercise ends.
+//! Begin with `exercising.rt`; `specs/Documents.antt` has the documents, `specs/Events.antt` the events,
+//! `specs/Telling.antt` the lines, and `specs/Exercising.antt` says how an exercise ends and what it leaves.
 #![tactic(auto)]
 
 mod documents;
 mod events;
 mod exercising;
+mod laws;
 mod limits;
 mod tallies;
 
 pub use exercising::exercise;
+pub use laws::terms_are_words;
 pub use limits::{
     BASE_CELLS, BODY_WORDS, CELLS_PER_DOCUMENT, DISTINCT_WORDS, LISTS, MAX_DOCUMENTS,
 };

@@ -7,6 +7,8 @@
 //!     worm volume.img lookup invoice-4711 > invoice.txt
 //!     worm volume.img recover
 //!     worm volume.img audit
+//!     worm volume.img receipt invoice-4711 > invoice.receipt
+//!     worm volume.img check < invoice.receipt
 //!     worm - replay < script.json
 //!     worm - exercise 200
 //!

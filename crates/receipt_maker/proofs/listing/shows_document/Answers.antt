@@ -1,5 +1,5 @@
 -- The listed cells were judged.
-use Rattle.receipt_maker.proofs.Gathered.{judged, judged_none}
+use Rattle.receipt_maker.proofs.SlotReceipts.{judged, judged_none}
 use Rattle.receipt_maker.proofs.listing.shows_document.Goals as goal
 
 -- they keep the document

@@ -11,18 +11,18 @@ returns-in_err-taken-clause-fails g c =
     let fault = c.in_err-taken.field-0.0 in
     let piece = length-take c.min-room.result c.loop-body.piece in
     rw (handed c.from_residual.result fault c.from_residual.ensures.1)
-    (piece_failed c.loop-body.body.items c.take_piece.new.body.items (state c.args.source.now)
+    (piece_failed c.args.limit c.loop-body.body.items c.take_piece.new.body.items (state c.args.source.now)
     (state c.loop-body.source)
     (state c.take_piece.new.source) invariant.1 _
     (omega (arith, piece, c.min-room.ensures, c.len.ensures, invariant.0.most))
     fault c.in_err-taken.ensures invariant.0 invariant.2)
 
-pub returns-then-len-gt-MAX_BODY_BYTES-clause-fails : goal.returns-then-len-gt-MAX_BODY_BYTES-clause-fails
-returns-then-len-gt-MAX_BODY_BYTES-clause-fails g c =
+pub returns-then-len-limit-clause-fails : goal.returns-then-len-limit-clause-fails
+returns-then-len-limit-clause-fails g c =
     let state = g.S.Source.state in
     let invariant = c.loop-body.invariant in
     let piece = length-take c.min-room.result c.loop-body.piece in
-    piece_too_long c.loop-body.body.items c.take_piece.new.body.items (state c.args.source.now)
+    piece_too_long c.args.limit c.loop-body.body.items c.take_piece.new.body.items (state c.args.source.now)
     (state c.loop-body.source)
     (state c.take_piece.new.source) invariant.1 _
     (omega (arith, piece, c.min-room.ensures, c.len.ensures, invariant.0.most))

@@ -23,3 +23,9 @@ exercise_volume-requires-clause-some g c =
 pub exercise_volume-requires-clause-most : goal.exercise_volume-requires-clause-most
 exercise_volume-requires-clause-most g c =
     (subst (λ (command : Command). IsAskedFor (request_of command)) c.in-Exercise.is c.requires).1.documents_word.to
+
+pub returns-in-Check : goal.returns-in-Check
+returns-in-Check g c = rw c.in-Check.is c.check_source.ensures
+
+pub returns-in-MakeReceipt : goal.returns-in-MakeReceipt
+returns-in-MakeReceipt g c = rw c.in-MakeReceipt.is c.put_receipt.ensures

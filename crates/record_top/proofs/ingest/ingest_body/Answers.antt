@@ -5,6 +5,7 @@ use Rattle.cell_types.proofs.Passed.{handed}
 use Rattle.ingest_engine.specs.Ingesting.{Ingests}
 use Rattle.record_top.specs.Ingesting.{taken, untaken}
 use Rattle.record_top.specs.Taking.{refusal_of_body_fault}
+use Rattle.record_top.proofs.Taken.{is_body}
 use Rattle.record_top.proofs.ingest.ingest_body.Goals as goal
 
 -- the body was not taken
@@ -23,7 +24,7 @@ returns-in_err-slot g c =
     let body = c.in_ok-body.ensures.body in
     let refusal = c.in_err-slot.field-0.0 in
     rw (handed c.from_residual-in_err-slot.result refusal c.from_residual-in_err-slot.ensures.1)
-    (taken c.in_ok-body.body.items (Err refusal) (c.is_identifier.ensures.0 (search rules)) body.0 body.1 body.2
+    (taken c.in_ok-body.body.items (Err refusal) (c.is_identifier.ensures.0 (search rules)) (is_body body.0) body.1 body.2
     (subst (λ (b : List ℕ). Ingests c.args.id.now c.args.stamp b device later (Err refusal)) c.deref.ensures.value
     c.in_err-slot.ensures)
     (refl, refl))
@@ -37,7 +38,7 @@ returns-in_err-put_slot_line g c =
     let slot = c.in_ok-slot.slot in
     let failed = c.from_residual-in_err-put_slot_line in
     rw (handed failed.result SinkFault failed.ensures.1)
-    (taken c.in_ok-body.body.items (Ok slot) (c.is_identifier.ensures.0 (search rules)) body.0 body.1 body.2
+    (taken c.in_ok-body.body.items (Ok slot) (c.is_identifier.ensures.0 (search rules)) (is_body body.0) body.1 body.2
     (subst (λ (b : List ℕ). Ingests c.args.id.now c.args.stamp b device later (Ok slot)) c.deref.ensures.value c.in_ok-slot.ensures)
     c.in_err-put_slot_line.ensures.part)
 
@@ -48,6 +49,6 @@ returns g c =
     let later = g.D.Device.state c.ingest.new.device in
     let body = c.in_ok-body.ensures.body in
     let slot = c.in_ok-slot.slot in
-    taken c.in_ok-body.body.items (Ok slot) (c.is_identifier.ensures.0 (search rules)) body.0 body.1 body.2
+    taken c.in_ok-body.body.items (Ok slot) (c.is_identifier.ensures.0 (search rules)) (is_body body.0) body.1 body.2
     (subst (λ (b : List ℕ). Ingests c.args.id.now c.args.stamp b device later (Ok slot)) c.deref.ensures.value c.in_ok-slot.ensures)
     c.in_ok-put_slot_line.ensures.whole

@@ -6,6 +6,7 @@ use Rattle.host_ports.specs.Sinks.{Gets, PutsPart}
 use Rattle.script_events.specs.Scripts.{IsScript, ReadScriptEnds}
 use Rattle.record_top.specs.Replaying.{replayed, unread, untaken}
 use Rattle.record_top.specs.Taking.{refusal_of_body_fault}
+use Rattle.record_top.proofs.Taken.{is_body}
 use Rattle.record_top.proofs.replay.replay_script.Goals as goal
 
 -- what was read is within the limits
@@ -26,7 +27,7 @@ returns-in_err-script g c =
     let body = c.in_ok-text.ensures.body in
     let refusal = c.in_err-script.field-0.0 in
     rw (handed c.from_residual-in_err-script.result refusal c.from_residual-in_err-script.ensures.1)
-    (unread c.in_ok-text.text.items refusal body.0 body.1 body.2
+    (unread c.in_ok-text.text.items refusal (is_body body.0) body.1 body.2
     (subst (λ (t : List ℕ). ReadScriptEnds t (Err refusal)) c.deref.ensures.value c.in_err-script.ensures) refl refl refl)
 
 -- no memory was to be had to replay it
@@ -35,7 +36,7 @@ returns-in_err-lines g c =
     let body = c.in_ok-text.ensures.body in
     let script = c.in_ok-script.script in
     rw (handed c.from_residual-in_err-lines.result NoMemory c.from_residual-in_err-lines.ensures.1)
-    (replayed c.in_ok-text.text.items script (Err NoMemory) body.0 body.1 body.2
+    (replayed c.in_ok-text.text.items script (Err NoMemory) (is_body body.0) body.1 body.2
     (subst (λ (t : List ℕ). IsScript t script) c.deref.ensures.value c.in_ok-script.ensures) refl refl (refl, refl))
 
 -- the sink failed
@@ -46,7 +47,7 @@ returns-in_err-put_text g c =
     let told = c.in_ok-lines.ensures in
     let failed = c.from_residual-in_err-put_text in
     rw (handed failed.result SinkFault failed.ensures.1)
-    (replayed c.in_ok-text.text.items script (Ok told.0) body.0 body.1 body.2
+    (replayed c.in_ok-text.text.items script (Ok told.0) (is_body body.0) body.1 body.2
     (subst (λ (t : List ℕ). IsScript t script) c.deref.ensures.value c.in_ok-script.ensures) told.1 refl
     (subst (λ (t : List ℕ). PutsPart t (g.K.Sink.state c.args.sink.now) (g.K.Sink.state c.put_text.new.sink))
     (c.as_bytes.ensures.value ∙ told.2) c.in_err-put_text.ensures.part))
@@ -57,7 +58,7 @@ returns g c =
     let body = c.in_ok-text.ensures.body in
     let script = c.in_ok-script.script in
     let told = c.in_ok-lines.ensures in
-    replayed c.in_ok-text.text.items script (Ok told.0) body.0 body.1 body.2
+    replayed c.in_ok-text.text.items script (Ok told.0) (is_body body.0) body.1 body.2
     (subst (λ (t : List ℕ). IsScript t script) c.deref.ensures.value c.in_ok-script.ensures) told.1 refl
     (subst (λ (t : List ℕ). Gets (g.K.Sink.state c.args.sink.now).held (g.K.Sink.state c.put_text.new.sink).held t)
     (c.as_bytes.ensures.value ∙ told.2) c.in_ok-put_text.ensures.whole)

@@ -12,6 +12,7 @@ use Rattle.volume_exercise.specs.Exercising.{ExerciseEnds, refused, told, unmade
 use Rattle.volume_exercise.specs.Tallies.{counted_text, first_refusal}
 use Rattle.volume_exercise.proofs.EventsOn.{exercise_events_on}
 use Rattle.volume_exercise.proofs.Exercised.{not_of_words, replies_count}
+use Rattle.volume_exercise.proofs.Leaving.{exercise_whole}
 use Rattle.volume_exercise.proofs.exercising.exercise.Goals as goal
 
 pub replay-requires-clause-cells : goal.replay-requires-clause-cells
@@ -54,25 +55,35 @@ returns-in-Some g c =
 -- the sink failed
 pub returns-in_default-put_all : goal.returns-in_default-put_all
 returns-in_default-put_all g c =
+    let n = c.args.documents in
     let from = memory_of c.args.device.now in
     let to = memory_of c.replay.new.device in
     let replies = c.in-Ok-replay.replies.items in
-    untold replies
-    (subst (λ (l : List Event). IsWorld l replies from to) (c.deref.ensures.value ∙ c.in-Ok.ensures) c.in-Ok-replay.ensures)
-    (ap first_refusal (sym c.deref-2.ensures.value) ∙ sym c.first_refusal.ensures ∙ c.in_default-first_refusal.is) refl
+    let world = subst (λ (l : List Event). IsWorld l replies from to) (c.deref.ensures.value ∙ c.in-Ok.ensures)
+    c.in-Ok-replay.ensures in
+    let first = ap first_refusal (sym c.deref-2.ensures.value) ∙ sym c.first_refusal.ensures
+    ∙ c.in_default-first_refusal.is in
+    let whole = exercise_whole c.plain_is_done.ensures c.acknowledged_are_returned.ensures c.turns_are_marked.ensures n
+    c.requires.most from to c.requires.new replies world first (c.the_count_is_recorded.ensures c.replay.new.device) in
+    untold replies world first whole.0 refl
     (subst (λ (l : List ℕ). PutsPart l (g.K.Sink.state c.args.sink.now) (g.K.Sink.state c.put_all.new.sink))
-    (c.as_bytes.ensures.value ∙ c.in-Ok-text_of.ensures ∙ ap (counted_text c.args.documents) c.deref-3.ensures.value)
+    (c.as_bytes.ensures.value ∙ c.in-Ok-text_of.ensures ∙ ap (counted_text n) c.deref-3.ensures.value ∙ whole.1)
     c.in_default-put_all.ensures.part)
 
 -- the lines were put out
 pub returns : goal.returns
 returns g c =
+    let n = c.args.documents in
     let from = memory_of c.args.device.now in
     let to = memory_of c.replay.new.device in
     let replies = c.in-Ok-replay.replies.items in
-    told replies
-    (subst (λ (l : List Event). IsWorld l replies from to) (c.deref.ensures.value ∙ c.in-Ok.ensures) c.in-Ok-replay.ensures)
-    (ap first_refusal (sym c.deref-2.ensures.value) ∙ sym c.first_refusal.ensures ∙ c.in_default-first_refusal.is) refl
+    let world = subst (λ (l : List Event). IsWorld l replies from to) (c.deref.ensures.value ∙ c.in-Ok.ensures)
+    c.in-Ok-replay.ensures in
+    let first = ap first_refusal (sym c.deref-2.ensures.value) ∙ sym c.first_refusal.ensures
+    ∙ c.in_default-first_refusal.is in
+    let whole = exercise_whole c.plain_is_done.ensures c.acknowledged_are_returned.ensures c.turns_are_marked.ensures n
+    c.requires.most from to c.requires.new replies world first (c.the_count_is_recorded.ensures c.replay.new.device) in
+    told replies world first whole.0 refl
     (subst (λ (l : List ℕ). Gets (g.K.Sink.state c.args.sink.now).held (g.K.Sink.state c.put_all.new.sink).held l)
-    (c.as_bytes.ensures.value ∙ c.in-Ok-text_of.ensures ∙ ap (counted_text c.args.documents) c.deref-3.ensures.value)
+    (c.as_bytes.ensures.value ∙ c.in-Ok-text_of.ensures ∙ ap (counted_text n) c.deref-3.ensures.value ∙ whole.1)
     c.in-Ok-put_all.ensures.whole)

@@ -1,8 +1,8 @@
 -- What was listed is a receipt.
 use Rattle.std.proofs.Common.{arith, refl, ◌∙◌}
 use Rattle.receipt_check.proofs.Comparing.{are_shown}
-use Rattle.receipt_maker.proofs.Gathered.{gathered, listed_for}
-use Rattle.receipt_maker.proofs.making.gather.Goals as goal
+use Rattle.receipt_maker.proofs.SlotReceipts.{slot_receipt, listed_for}
+use Rattle.receipt_maker.proofs.making.receipt_of_slot.Goals as goal
 
 -- its cells are cells of the device
 pub shows_document-requires-clause-shown : goal.shows_document-requires-clause-shown
@@ -23,7 +23,7 @@ returns-in-Ok-true g c =
     let new = g.D.Device.state c.list_kept.new.device in
     record {
       viewed = c.list_kept.ensures.asks.viewed;
-      ends = gathered c.args.slot c.args.id.now old new c.list_kept.new.listed c.list_kept.result c.list_kept.ensures
+      ends = slot_receipt c.args.slot c.args.id.now old new c.list_kept.new.listed c.list_kept.result c.list_kept.ensures
           (record { slot = c.args.slot; identifier = c.new.result; cells = c.list_kept.new.listed })
           c.cells-cells.result refl (c.new.ensures ∙ c.in-Ok.ensures.items) refl c.len-count.ensures.listed
           c.cells-cells.ensures.cells (rw c.in-Ok-true.field-0-test at c.in-Ok-true.ensures);

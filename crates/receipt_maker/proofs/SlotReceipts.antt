@@ -1,5 +1,5 @@
 -- What listed cells show, and what receipt they give.
-use Rattle.std.proofs.Common.{◌≡◌, ◌<◌, ◌≤◌, ◌+◌, ◌^◌, ℕ, List, Option, Some, None, Result, Ok, Err, refl, sym, subst, arith, length, ◌∙◌}
+use Rattle.std.proofs.Common.{◌≡◌, ◌<◌, ◌≤◌, ◌+◌, ◌^◌, ℕ, List, Option, Some, None, Result, Ok, refl, sym, subst, arith, length, ◌∙◌}
 use Rattle.std.specs.Prelude.{IsTrue, [], ◌∷◌, cond}
 use Rattle.std.specs.Ordering.{MatchOrdering, is_eq, nat_cmp}
 use Rattle.std.specs.declared.cmp.Ordering.{Ordering}
@@ -18,8 +18,8 @@ use Rattle.receipt_text.specs.Listed.{AreListed, AreListedFrom, listed_image}
 use Rattle.receipt_text.specs.declared.receipt.Receipt.{Receipt}
 use Rattle.receipt_check.specs.Checks.{ShowsDocument}
 use Rattle.receipt_check.specs.Viewing.{listed_view}
-use Rattle.receipt_maker.specs.Judging.{IsGathered, JudgesReceipt}
-use Rattle.receipt_maker.specs.Recording.{AreRead, ListsKept}
+use Rattle.receipt_maker.specs.Judging.{IsSlotReceipt}
+use Rattle.receipt_maker.specs.Recording.{ListsKept}
 
 -- a listed cell is at or past the first address
 listed_from : (size from : ℕ) (cells : List (ℕ × List ℕ)) (at : ℕ) (value : List ℕ) → AreListedFrom size from cells
@@ -106,10 +106,10 @@ module _ (n : ℕ) (id : List ℕ) (old new : DeviceState) (listed : List (ℕ �
   listed_for are = listed_on (2 ^ 32) new.cells 0 listed are (λ at value there. (lists.read at value there).0)
 
   -- and with a document that they keep they are a receipt
-  pub gathered : (r : Receipt) (cells : ℕ) → r.slot ≡ n → r.identifier ≡ id → r.cells ≡ listed
+  pub slot_receipt : (r : Receipt) (cells : ℕ) → r.slot ≡ n → r.identifier ≡ id → r.cells ≡ listed
       → AreListed (2 ^ 32) listed → cells ≡ old.cells → (body : List ℕ) × ShowsDocument cells r body
-      → IsGathered n id old new r
-  gathered r cells slot identifier same are size shows = record {
+      → IsSlotReceipt n id old new r
+  slot_receipt r cells slot identifier same are size shows = record {
     slot = slot;
     identifier = identifier;
     listed = subst (AreListed new.cells) (sym same) (listed_for are);

@@ -1,0 +1,212 @@
+//! Receipts of the small volume, and what a check makes of them. What is expected was written by hand.
+use cell_types::Refusal;
+use std::alloc::Global;
+use std::test::Fail;
+use stored_documents::MAX_BODY_BYTES;
+use test_volumes::{
+    begin, formatted, outcome_of, run, sink, small_volume, source_of, volume_with_a, words_of,
+};
+use worm_memory::MemoryDevice;
+
+/// The receipt of the document `a`, whose body is `hello world`, in slot 0.
+const RECEIPT: &str = "receipt 0 a
+0 0101000000080002000003e800000000
+4 02000002440000000400000000000004
+5 030000000d0000000300000000000005
+6 05000000000000000000000000000006
+36 0600000000012cf24dba5fb000000024
+37 060000000101486ea46224d100000025
+560 0800000000ca978112ca1bbd00000230
+580 1d016168656c6c6f20776f726c640000
+end 8
+";
+
+/// The receipt of `b`, whose body is empty, in slot 1 behind it.
+const SECOND_RECEIPT: &str = "receipt 1 b
+0 0101000000080002000003e800000000
+8 02000002480000000200000000000008
+9 03000000020000000100000000000009
+10 0500000001000000000000000000000a
+551 08000000013e23e81600395900000227
+584 12016200000000000000000000000000
+end 6
+";
+
+/// Why a check refuses the text. Where it accepts it, it says that `a` is kept; and it writes nothing.
+fn check(alloc: Global, text: &str, device: &mut MemoryDevice) -> Result<Option<Refusal>, Fail> {
+    begin(device)?;
+    let before = device.changes().len();
+    let (outcome, put) = outcome_of(alloc, "check", device, text.as_bytes())?;
+    let line: &[u8] = if outcome.is_ok() {
+        b"kept 0 a 11\n"
+    } else {
+        b""
+    };
+    if put.as_slice() != line || device.changes().len() != before {
+        return Err(Fail::from("another line, or something was written"));
+    }
+    Ok(outcome.err())
+}
+
+#[test]
+fn a_receipt_is_put_out(rt: HostRuntime) -> Result<(), Fail> {
+    let alloc = rt.alloc();
+    let mut device = volume_with_a(alloc)?;
+    for (words, body, want) in [
+        ("receipt|a", "", RECEIPT),
+        ("ingest|b", "", "acknowledged 1\n"),
+        ("receipt|a", "", RECEIPT),
+        ("receipt|b", "", SECOND_RECEIPT),
+        ("check", SECOND_RECEIPT, "kept 1 b 0\n"),
+    ] {
+        begin(&mut device)?;
+        let (outcome, put) = outcome_of(alloc, words, &mut device, body.as_bytes())?;
+        assert_eq!(rt; outcome, Ok(()), "{words}");
+        assert_eq!(rt; put.as_slice(), want.as_bytes(), "{words}");
+    }
+    Ok(())
+}
+
+#[test]
+fn there_is_no_receipt_of_a_document_that_is_absent(rt: HostRuntime) -> Result<(), Fail> {
+    let alloc = rt.alloc();
+    let mut with_a = volume_with_a(alloc)?;
+    let mut blank = MemoryDevice::new(alloc, 1_000)?;
+    for (words, on_volume, on_blank) in [
+        ("receipt|b", Refusal::Absent, Refusal::NotFormatted),
+        (
+            "receipt|a b",
+            Refusal::BadIdentifier,
+            Refusal::BadIdentifier,
+        ),
+        ("receipt|-a", Refusal::Usage, Refusal::Usage),
+    ] {
+        let (outcome, put) = outcome_of(alloc, words, &mut with_a, b"")?;
+        assert_eq!(rt; outcome, Err(on_volume), "{words}");
+        assert_eq!(rt; put.len(), 0);
+        let (outcome, put) = outcome_of(alloc, words, &mut blank, b"")?;
+        assert_eq!(rt; outcome, Err(on_blank), "{words}");
+        assert_eq!(rt; put.len(), 0);
+    }
+    Ok(())
+}
+
+#[test]
+fn a_receipt_is_checked(rt: HostRuntime) -> Result<(), Fail> {
+    let alloc = rt.alloc();
+    let mut device = volume_with_a(alloc)?;
+    assert_eq!(rt; check(alloc, RECEIPT, &mut device)?, None);
+
+    // It holds on: other documents come, and a slot is given up.
+    for (words, body) in [("ingest|b", "hello again"), ("recover", "")] {
+        begin(&mut device)?;
+        let (outcome, _) = outcome_of(alloc, words, &mut device, body.as_bytes())?;
+        assert_eq!(rt; outcome, Ok(()));
+        assert_eq!(rt; check(alloc, RECEIPT, &mut device)?, None);
+    }
+    Ok(())
+}
+
+#[test]
+fn a_receipt_is_refused_for_its_first_fault(rt: HostRuntime) -> Result<(), Fail> {
+    let alloc = rt.alloc();
+    let without_36 = "36 0600000000012cf24dba5fb000000024\n";
+    for (old, new, want) in [
+        ("00000024\n", "00000025\n", Refusal::CellDiffers(36)),
+        ("end 8", "end 9", Refusal::BadReceipt(10)),
+        ("receipt 0 a", "receipt 1 a", Refusal::NotShown(1)),
+        ("receipt 0 a", "receipt 0 b", Refusal::NotShown(0)),
+        ("580 1d", "600 1d", Refusal::CellDiffers(600)),
+        ("580 1d", "1000 1d", Refusal::BadReceipt(9)),
+    ] {
+        let text = RECEIPT.replace(alloc, old, new)?;
+        let mut device = volume_with_a(alloc)?;
+        let refused = check(alloc, text.as_str(), &mut device)?;
+        assert_eq!(rt; refused, Some(want), "{old} {new}");
+    }
+
+    // A line that is left out, with the number of the others; then with a cell that differs; then with a line that is none.
+    let text = RECEIPT.replace(alloc, without_36, "")?;
+    let text = text.replace(alloc, "end 8", "end 7")?;
+    let differs = text.replace(alloc, "00000025\n", "00000026\n")?;
+    let broken = differs.replace(alloc, "560 ", "0560 ")?;
+    for (text, want) in [
+        (text, Refusal::NotShown(0)),
+        (differs, Refusal::CellDiffers(37)),
+        (broken, Refusal::BadReceipt(7)),
+    ] {
+        let mut device = volume_with_a(alloc)?;
+        assert_eq!(rt; check(alloc, text.as_str(), &mut device)?, Some(want));
+    }
+    Ok(())
+}
+
+#[test]
+fn a_receipt_is_of_its_volume(rt: HostRuntime) -> Result<(), Fail> {
+    let alloc = rt.alloc();
+    let mut empty = small_volume(alloc)?;
+    assert_eq!(rt;
+        check(alloc, RECEIPT, &mut empty)?,
+        Some(Refusal::CellDiffers(4))
+    );
+    let mut blank = MemoryDevice::new(alloc, 1_000)?;
+    assert_eq!(rt;
+        check(alloc, RECEIPT, &mut blank)?,
+        Some(Refusal::CellDiffers(0))
+    );
+    let mut least = formatted(alloc, 580, "format|8|2")?;
+    assert_eq!(rt;
+        check(alloc, RECEIPT, &mut least)?,
+        Some(Refusal::BadReceipt(9))
+    );
+    Ok(())
+}
+
+#[test]
+fn a_check_takes_more_than_a_body_may_have(rt: HostRuntime) -> Result<(), Fail> {
+    let alloc = rt.alloc();
+    let mut device = volume_with_a(alloc)?;
+    let long = vec![in alloc; b'\n'; MAX_BODY_BYTES + 1]?;
+    for (words, want) in [
+        ("check", Refusal::BadReceipt(1)),
+        ("replay", Refusal::TooLong),
+    ] {
+        let (outcome, put) = outcome_of(alloc, words, &mut device, &long)?;
+        assert_eq!(rt; outcome, Err(want), "{words}");
+        assert_eq!(rt; put.len(), 0);
+    }
+    Ok(())
+}
+
+#[test]
+fn the_source_and_the_sink_of_a_check_fail(rt: HostRuntime) -> Result<(), Fail> {
+    let alloc = rt.alloc();
+    let words = words_of(alloc, "check")?;
+    let mut device = volume_with_a(alloc)?;
+    let mut source = source_of(alloc, b"no receipt")?;
+    source.fail_at(2);
+    let mut put = sink(alloc)?;
+    let outcome = run(alloc, &words, &mut device, &mut source, &mut put);
+    assert_eq!(rt; outcome, Err(Refusal::SourceFault));
+    assert_eq!(rt; put.bytes().len(), 0);
+    let mut source = source_of(alloc, RECEIPT.as_bytes())?;
+    put.fail_at(1);
+    let outcome = run(alloc, &words, &mut device, &mut source, &mut put);
+    assert_eq!(rt; outcome, Err(Refusal::SinkFault));
+    assert!(rt; b"kept 0 a 11\n".starts_with(put.bytes()));
+    Ok(())
+}
+
+#[test]
+fn the_sink_of_a_receipt_fails(rt: HostRuntime) -> Result<(), Fail> {
+    let alloc = rt.alloc();
+    let words = words_of(alloc, "receipt|a")?;
+    let mut device = volume_with_a(alloc)?;
+    let mut source = source_of(alloc, b"")?;
+    let mut put = sink(alloc)?;
+    put.fail_at(1);
+    let outcome = run(alloc, &words, &mut device, &mut source, &mut put);
+    assert_eq!(rt; outcome, Err(Refusal::SinkFault));
+    assert!(rt; RECEIPT.as_bytes().starts_with(put.bytes()));
+    Ok(())
+}
