@@ -1,5 +1,5 @@
 -- That a search which tells of just the documents with its terms tells of as many as there are.
-use Rattle.std.proofs.Common.{◌≡◌, ◌≤◌, ◌+◌, ◌&&◌, ◌||◌, ◌⊎◌, ⊎_elim, inl, inr, if◌then◌else◌, cond, ℕ, suc, zero, Bool, true, false, List, [], ◌∷◌, length, refl, sym, ap, ◌∙◌, subst, arith}
+use Rattle.std.proofs.Common.{◌≡◌, ◌≤◌, ◌+◌, ◌⊎◌, ⊎_elim, inl, inr, if◌then◌else◌, cond, ℕ, suc, zero, Bool, true, false, List, [], ◌∷◌, length, refl, sym, ap, ◌∙◌, subst, arith}
 use Rattle.std.specs.Prelude.{Contains}
 use Rattle.std.specs.List.{count_by, list_all, list_any}
 use Rattle.std.specs.Str.{bytes_eq}
@@ -13,7 +13,7 @@ use Rattle.stored_documents.proofs.Lists.{Rising, one_list}
 use Rattle.stored_documents.proofs.Words.{words_are_one}
 use Rattle.record_query.specs.Finding.{Rises}
 use Rattle.record_query.specs.declared.found.Match.{Match}
-use Rattle.volume_exercise.specs.Telling.{TermsAreWords, has_all}
+use Rattle.volume_exercise.specs.Telling.{TermsAreWords}
 
 -- a member is the first, or one of the rest
 in_cons : {A : Type 0} (x : A) (xs : List A) (y : A) → Contains (x ∷ xs) y → (x ≡ y) ⊎ Contains xs y

@@ -1,27 +1,24 @@
 -- Where an event of the exercise was refused, the first refusal is want of memory, or that a path is full.
-use Rattle.std.proofs.Common.{◌≡◌, ◌≤◌, ◌<◌, ◌+◌, ◌*◌, ◌-◌, ◌^◌, ◌⊎◌, ⊎_elim, inl, inr, ℕ, suc, zero, List, [], ◌∷◌, ◌++◌, length, map, Option, Some, None, Ok, Err, refl, sym, ap, ◌∙◌, subst, arith}
-use Rattle.std.proofs.lemmas.List.{append_assoc, append-nil, map-append}
+use Rattle.std.proofs.Common.{◌≡◌, ◌≤◌, ◌<◌, ◌+◌, ◌*◌, ◌⊎◌, ⊎_elim, inl, inr, ℕ, suc, zero, List, [], ◌∷◌, ◌++◌, length, map, Some, None, refl, sym, ap, ◌∙◌, subst, arith}
+use Rattle.std.proofs.lemmas.List.{append_assoc, map-append}
 use Rattle.std.proofs.lemmas.List.Elements.{All-append, Contains-append_left}
 use Rattle.std.proofs.lemmas.Option.{none-some}
 use Rattle.std.specs.Prelude.{Contains, ⊤}
 use Rattle.std.specs.List.{All, range_with_len}
 use Rattle.cell_types.specs.Layout.{IsLayout, Layout, pool_at, reserve_at}
-use Rattle.cell_types.specs.declared.refusal.Evidence.{Evidence}
 use Rattle.cell_types.specs.declared.refusal.Refusal.{Refusal}
 use Rattle.cell_types.specs.declared.refusal.Refusal.TheVariants as refusals
 use Rattle.stored_documents.specs.Documents.{Document}
-use Rattle.stored_documents.specs.Slots.{IsEdge}
 use Rattle.stored_documents.specs.Volumes.{IsVolume}
 use Rattle.stored_documents.proofs.Extending.{volume_on}
 use Rattle.tamper_rules.specs.Settling.{Held, Settled}
 use Rattle.settling_laws.specs.Steadiness.{IsSteady}
 use Rattle.worm_device.specs.Counts.{IsStill}
-use Rattle.worm_device.specs.State.{DeviceState, IsDevice}
+use Rattle.worm_device.specs.State.{IsDevice}
 use Rattle.worm_device.proofs.Images.{extends_then}
 use Rattle.worm_memory.specs.Memory.{Memory, device_of}
 use Rattle.worm_memory.specs.Worlds.{foreign_writes_in, world}
 use Rattle.worm_memory.specs.declared.change.Change.{Change}
-use Rattle.ingest_engine.specs.Ingesting.{IngestEnds}
 use Rattle.crash_laws.proofs.Alarms.{none_named}
 use Rattle.command_laws.specs.Begins.{BeginsSteady}
 use Rattle.script_events.specs.declared.event.Event.{Event}
@@ -37,7 +34,7 @@ use Rattle.replayed_worlds.specs.Undisturbed.{IsDoneReply, IsLeftPlain, IsPlain,
 use Rattle.replayed_worlds.specs.Worlds.{AreInTurn, IsWorld, Turn, acknowledged, acknowledged_by}
 use Rattle.replayed_worlds.proofs.Along.{along, split}
 use Rattle.replayed_worlds.proofs.Undisturbed.{all_at, all_left, turn_unfailed, turn_unshared}
-use Rattle.volume_exercise.specs.Documents.{body_of, identifier_of, up_to}
+use Rattle.volume_exercise.specs.Documents.{body_of, identifier_of}
 use Rattle.volume_exercise.specs.Events as events
 use Rattle.volume_exercise.specs.Events.{audit_event, exercise_events, format_event, ingest_event, look_up_event, no_schedule, pair_event, single_event}
 use Rattle.volume_exercise.specs.Exercising.{IsUntroubled, exercise_device}
@@ -45,10 +42,10 @@ use Rattle.volume_exercise.specs.Refusing.{IsOfExercise}
 use Rattle.volume_exercise.specs.Tallies.{first_refusal}
 use Rattle.volume_exercise.proofs.EventsOn.{all_one, each_of, exercise_events_plain, plain_schedule}
 use Rattle.volume_exercise.proofs.Few.{few_cells, few_postings}
-use Rattle.volume_exercise.proofs.Played.{AreDone, AreTurns, acknowledged_both, are_turns, done_at, done_first, event_of, first_event, no_events, reply_of, rest_events, turns_first}
+use Rattle.volume_exercise.proofs.Played.{AreDone, acknowledged_both, are_turns, done_first, event_of, first_event, no_events, reply_of, rest_events, turns_first}
 use Rattle.volume_exercise.proofs.Refused.{ingest_refused}
-use Rattle.volume_exercise.proofs.Rowed.{AreFrom, AreIngested, among_from, ingested, one_ingest}
-use Rattle.volume_exercise.proofs.Stocked.{IsOneFurther, IsStocked, one_further, stocked_more}
+use Rattle.volume_exercise.proofs.Rowed.{AreFrom, among_from, ingested}
+use Rattle.volume_exercise.proofs.Stocked.{IsStocked, one_further, stocked_more}
 use Rattle.volume_exercise.proofs.Told.{IsCut, cut_all, new_device, one_format}
 
 -- the first turn that was refused

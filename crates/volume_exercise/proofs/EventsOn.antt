@@ -1,5 +1,5 @@
 -- The events of the exercise are events of the grammar, on a device of any size.
-use Rattle.std.proofs.Common.{◌≡◌, ◌+◌, ◌-◌, ◌*◌, ◌%◌, ◌/◌, ◌^◌, ◌<◌, ◌≤◌, ℕ, suc, zero, List, [], ◌∷◌, ◌++◌, length, map, refl, sym, ap, subst, ◌∙◌, arith, get_or}
+use Rattle.std.proofs.Common.{◌+◌, ◌*◌, ◌%◌, ◌/◌, ◌<◌, ◌≤◌, ℕ, suc, zero, List, [], ◌∷◌, ◌++◌, length, map, refl, sym, subst, arith, get_or}
 use Rattle.std.proofs.lemmas.Fmt.{length-decimal-le}
 use Rattle.std.proofs.lemmas.List.{length-append}
 use Rattle.std.proofs.lemmas.List.Elements.{All-append}
@@ -7,11 +7,10 @@ use Rattle.std.proofs.lemmas.List.FromFn.{get_or-map-range_with_len, length-map-
 use Rattle.std.specs.Prelude.{decimal, slice_index}
 use Rattle.std.specs.List.{All, flat_map, range_with_len}
 use Rattle.script_events.specs.Events.{AreEventsOn, IsEventOn, IsPlanOn, IsTermOfWord}
-use Rattle.script_events.specs.declared.event.Event.{Event}
 use Rattle.stored_documents.specs.Documents.{IsBody, IsIdentifier}
 use Rattle.stored_documents.specs.declared.word_rules.WordRule.TheVariants.{Ascii}
 use Rattle.replayed_worlds.specs.Undisturbed.{IsPlain, PlansNothing}
-use Rattle.volume_exercise.specs.Documents.{body_of, digit_of, identifier_of, word_at, word_of}
+use Rattle.volume_exercise.specs.Documents.{body_of, identifier_of, word_at, word_of}
 use Rattle.volume_exercise.specs.Events.{audit_event, exercise_events, format_event, ingest_event, ingests, look_up_event, look_ups, no_schedule, pair_event, pairs, single_event, singles}
 use Rattle.volume_exercise.proofs.Words.{AreDigits, decimal_digits, word_is_one}
 

@@ -1,17 +1,11 @@
 -- A world of the events of the exercise has one reply to each.
-use Rattle.std.proofs.Common.{◌≡◌, ◌+◌, ◌*◌, ℕ, suc, List, [], ◌∷◌, ◌++◌, Option, Some, None, length, map, refl, subst, sym, ap, ◌∙◌, arith}
+use Rattle.std.proofs.Common.{◌≡◌, ◌+◌, ◌*◌, ℕ, suc, List, [], ◌∷◌, ◌++◌, length, map, refl, sym, ap, ◌∙◌, arith}
 use Rattle.std.proofs.lemmas.List.{length-append}
 use Rattle.std.proofs.lemmas.List.FromFn.{length-map-range_with_len}
-use Rattle.cell_types.specs.declared.refusal.Refusal.{Refusal}
 use Rattle.worm_memory.specs.Memory.{Memory}
-use Rattle.script_events.specs.declared.event.Event.{Event}
 use Rattle.script_replies.specs.declared.reply.Reply.{Reply}
-use Rattle.script_replies.specs.declared.reply.Reply.TheVariants as reply
-use Rattle.replayed_worlds.specs.Refusals.{IsOfWords, NoneIsOfWords}
-use Rattle.replayed_worlds.specs.Turns.{Turns}
-use Rattle.replayed_worlds.specs.Worlds.{AreInTurn, IsWorld, Turn}
+use Rattle.replayed_worlds.specs.Worlds.{IsWorld, Turn}
 use Rattle.volume_exercise.specs.Events.{audit_event, exercise_events, ingest_event, ingests, look_up_event, look_ups, pair_event, pairs, single_event, singles}
-use Rattle.volume_exercise.specs.Tallies.{first_refusal}
 
 pub as_many : {A B : Type 0} (f : A → B) (xs : List A) → length (map f xs) ≡ length xs
 as_many f [] = refl

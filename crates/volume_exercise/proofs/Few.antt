@@ -1,8 +1,7 @@
 -- A document of the exercise has few words: so it has few postings, no list gets too many of its tags, and its stored bytes
 -- take few cells. And its identifier is no other document's.
-use Rattle.std.proofs.Common.{◌≡◌, ◌≤◌, ◌<◌, ◌+◌, ◌*◌, ◌/◌, ◌%◌, ◌⊎◌, ⊎_elim, inl, inr, ℕ, suc, zero, List, [], ◌∷◌, length, map, get_or, Option, Some, None, refl, sym, ap, ◌∙◌, subst, arith}
+use Rattle.std.proofs.Common.{◌≡◌, ◌≤◌, ◌<◌, ◌+◌, ◌⊎◌, ⊎_elim, inl, inr, ℕ, suc, zero, List, [], ◌∷◌, length, get_or, Some, None, refl, sym, ap, ◌∙◌, subst, arith}
 use Rattle.std.specs.Prelude.{Contains, slice_get}
-use Rattle.std.specs.List.{range_with_len}
 use Rattle.std.proofs.lemmas.List.FromFn.{length-map-range_with_len}
 use Rattle.std.proofs.lemmas.Option.{none-some}
 use Rattle.byteorder.specs.Endian.{big_number}
@@ -14,7 +13,7 @@ use Rattle.stored_documents.specs.declared.word_rules.WordRule.{WordRule}
 use Rattle.stored_documents.specs.declared.word_rules.WordRule.TheVariants.{Ascii}
 use Rattle.stored_documents.proofs.Words.{words_are_one}
 use Rattle.index_paths.proofs.Tags.{tags_one}
-use Rattle.index_paths.specs.Postings.{ArePostings, AreTags, HasTag, IsWordPosting, ListedPosting, list_of, tag_of}
+use Rattle.index_paths.specs.Postings.{ArePostings, AreTags, IsWordPosting, ListedPosting, list_of, tag_of}
 use Rattle.volume_exercise.specs.Documents.{body_of, digit_of, document_words, identifier_of, word_at, word_of}
 use Rattle.volume_exercise.proofs.EventsOn.{body_short}
 use Rattle.volume_exercise.proofs.Words.{document_has_words}

@@ -1,5 +1,5 @@
 -- A world of the exercise in which no event was refused: its lines, and what it leaves on the device.
-use Rattle.std.proofs.Common.{◌≡◌, ◌≤◌, ◌<◌, ◌+◌, ◌*◌, ℕ, List, [], ◌∷◌, ◌++◌, codes, length, map, None, refl, sym, ap, ◌∙◌, subst, arith}
+use Rattle.std.proofs.Common.{◌≡◌, ◌≤◌, ◌<◌, ◌+◌, ℕ, List, [], ◌∷◌, ◌++◌, codes, length, map, None, refl, sym, ap, ◌∙◌, subst, arith}
 use Rattle.std.proofs.lemmas.List.{append_assoc, append-nil, length-append, map-append}
 use Rattle.std.proofs.lemmas.List.FromFn.{length-map-range_with_len}
 use Rattle.std.specs.Prelude.{Contains}
@@ -12,7 +12,6 @@ use Rattle.tamper_rules.proofs.GivenUp.{one_layout}
 use Rattle.worm_device.specs.State.{IsDevice}
 use Rattle.worm_memory.specs.Memory.{Memory, device_of}
 use Rattle.worm_memory.specs.Worlds.{foreign_writes_in}
-use Rattle.worm_memory.specs.declared.change.Change.{Change}
 use Rattle.worm_memory.specs.declared.mark.Mark.{Mark}
 use Rattle.script_events.specs.declared.event.Event.{Event}
 use Rattle.script_replies.specs.declared.reply.Reply.{Reply}
@@ -21,7 +20,6 @@ use Rattle.replayed_worlds.specs.Turns.{Turns, layout_on}
 use Rattle.replayed_worlds.specs.Undisturbed.{IsLeftPlain, IsPlain, PlainIsDone, TurnsAreMarked, events_of}
 use Rattle.replayed_worlds.specs.Worlds.{AreInTurn, IsWorld, Turn, acknowledged, acknowledged_by}
 use Rattle.replayed_worlds.proofs.Reading.{settled_documents}
-use Rattle.volume_exercise.specs.Documents.{up_to}
 use Rattle.volume_exercise.specs.Events as events
 use Rattle.volume_exercise.specs.Events.{audit_event, exercise_events, ingest_event, look_up_event, pair_event, single_event}
 use Rattle.volume_exercise.specs.Exercising.{LeavesExercise, ReadsRise, exercise_device, exercise_document, exercise_documents}

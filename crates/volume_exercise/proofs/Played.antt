@@ -1,5 +1,5 @@
 -- What holds at each turn of a world of the exercise in which no event was refused.
-use Rattle.std.proofs.Common.{◌≡◌, ◌+◌, ℕ, suc, List, [], ◌∷◌, ◌++◌, map, Option, Some, None, refl, sym, ap, ◌∙◌, subst, arith}
+use Rattle.std.proofs.Common.{◌≡◌, ℕ, List, [], ◌∷◌, ◌++◌, map, Some, None, refl, sym, ap, ◌∙◌, subst}
 use Rattle.std.proofs.lemmas.List.{append_assoc, append-nil, map-append}
 use Rattle.std.specs.Prelude.{⊤}
 use Rattle.std.specs.List.{All}
@@ -19,7 +19,7 @@ use Rattle.replayed_worlds.specs.Headline.{AcknowledgedAreReturned, IsNew, Retur
 use Rattle.replayed_worlds.specs.Turns.{Turns}
 use Rattle.replayed_worlds.specs.Undisturbed.{IsDoneReply, IsLeftPlain, IsPlain, IsPlainTurn, PlainIsDone, events_of}
 use Rattle.replayed_worlds.specs.Worlds.{AreInTurn, Turn, acknowledged, acknowledged_by}
-use Rattle.replayed_worlds.proofs.Along.{Goes, along, split, turn_goes}
+use Rattle.replayed_worlds.proofs.Along.{Goes, along, split}
 use Rattle.replayed_worlds.proofs.Undisturbed.{all_left}
 use Rattle.volume_exercise.specs.Tallies.{first_refusal}
 

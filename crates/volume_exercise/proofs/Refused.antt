@@ -1,26 +1,23 @@
 -- Which refusals an event of the exercise may meet, where those before it were done.
-use Rattle.std.proofs.Common.{◌≡◌, ◌≤◌, ◌<◌, ◌+◌, ◌*◌, ◌-◌, ◌^◌, ◌⊎◌, ⊎_elim, inl, inr, ℕ, suc, zero, List, [], ◌∷◌, ◌++◌, length, map, Option, Some, None, Ok, Err, refl, sym, ap, ◌∙◌, subst, arith}
-use Rattle.std.specs.Prelude.{Contains, IsTrue, ⊤}
-use Rattle.std.specs.List.{range_with_len}
-use Rattle.std.proofs.lemmas.Option.{none-some}
+use Rattle.std.proofs.Common.{◌≡◌, ◌≤◌, ◌<◌, ◌+◌, ◌*◌, ◌-◌, ◌^◌, ℕ, suc, zero, List, [], ◌∷◌, length, None, Err, refl, sym, ap, ◌∙◌, subst, arith}
+use Rattle.std.specs.Prelude.{Contains}
 use Rattle.cell_types.specs.Image.{Image}
-use Rattle.cell_types.specs.Layout.{Layout, pool_at, reserve_at}
+use Rattle.cell_types.specs.Layout.{Layout}
 use Rattle.cell_types.specs.declared.refusal.Evidence.{Evidence}
 use Rattle.cell_types.specs.declared.refusal.Refusal.{Refusal}
 use Rattle.cell_types.specs.declared.refusal.Refusal.TheVariants as refusals
-use Rattle.stored_documents.specs.Documents.{AreDocuments, Document, Stands, stored_bytes}
-use Rattle.stored_documents.specs.Slots.{IsEdge, IsHorizon, cells_for}
+use Rattle.stored_documents.specs.Documents.{AreDocuments, Document, Stands}
+use Rattle.stored_documents.specs.Slots.{IsEdge, IsHorizon}
 use Rattle.stored_documents.specs.Volumes.{IsVolume}
 use Rattle.stored_documents.specs.Words.{rule_of}
 use Rattle.stored_documents.specs.declared.word_rules.WordRule.TheVariants.{Ascii}
 use Rattle.stored_documents.proofs.Extending.{volume_on, written_on}
-use Rattle.tamper_rules.specs.Settling.{Held, Settled, Sound, nothing}
+use Rattle.tamper_rules.specs.Settling.{Held, Sound, nothing}
 use Rattle.tamper_rules.proofs.Settled.{one_horizon}
 use Rattle.worm_device.specs.Calls.{Called}
 use Rattle.worm_device.specs.Counts.{IsStill}
 use Rattle.worm_device.specs.State.{DeviceState, IsDevice}
-use Rattle.worm_device.proofs.Counting.{rose_or_still, still_second}
-use Rattle.worm_device.proofs.Images.{extends_self}
+use Rattle.worm_device.proofs.Counting.{rose_or_still}
 use Rattle.document_store.proofs.Holding.{held_stands}
 use Rattle.index_paths.specs.Postings.{ArePostings, AreTags}
 use Rattle.recovery_engine.specs.Settling.{HasSettled}

@@ -1,5 +1,5 @@
 -- What rows of turns of the exercise come to: of ingests, of finds, of look-ups, and of the audit.
-use Rattle.std.proofs.Common.{◌≡◌, ◌≤◌, ◌<◌, ◌+◌, ◌==◌, if◌then◌else◌, cond, ℕ, suc, zero, true, List, [], ◌∷◌, ◌++◌, codes, length, map, refl, sym, ap, ◌∙◌, subst, arith}
+use Rattle.std.proofs.Common.{◌≡◌, ◌≤◌, ◌<◌, ◌+◌, ◌==◌, cond, ℕ, suc, zero, List, [], ◌∷◌, ◌++◌, codes, length, map, refl, sym, ap, ◌∙◌, subst, arith}
 use Rattle.std.proofs.lemmas.Bool.{cond-true, eq-eqb}
 use Rattle.std.proofs.lemmas.List.Sums.{sum_by-cons}
 use Rattle.std.specs.Prelude.{Contains, ⊤}
@@ -15,7 +15,7 @@ use Rattle.tamper_rules.proofs.GivenUp.{one_layout}
 use Rattle.worm_device.specs.State.{DeviceState}
 use Rattle.worm_memory.specs.Memory.{Memory, device_of}
 use Rattle.ingest_engine.specs.Ingesting.{document_in}
-use Rattle.record_query.specs.Finding.{HasMatch, HasTerms}
+use Rattle.record_query.specs.Finding.{HasTerms}
 use Rattle.record_query.specs.declared.found.Match.{Match}
 use Rattle.volume_audit.specs.declared.report.AuditReport.{AuditReport}
 use Rattle.command_laws.specs.Telling.{AreMatchesOf}
@@ -31,9 +31,9 @@ use Rattle.replayed_worlds.specs.Worlds.{Turn, acknowledged, acknowledged_by}
 use Rattle.volume_exercise.specs.Documents.{body_of, identifier_of}
 use Rattle.volume_exercise.specs.Events.{audit_event, ingest_event, look_up_event, no_schedule}
 use Rattle.volume_exercise.specs.Tallies.{is_acknowledged, matches_in, returned, returned_from, sound_line}
-use Rattle.volume_exercise.specs.Telling.{documents_with, has_all}
+use Rattle.volume_exercise.specs.Telling.{has_all}
 use Rattle.volume_exercise.proofs.Counting.{as_many_found, terms_are_words}
-use Rattle.volume_exercise.proofs.Played.{AreDone, ArePlayed, AreTurns, IsPlayed, event_of, first_event, no_events, reply_of, rest_events}
+use Rattle.volume_exercise.proofs.Played.{AreDone, ArePlayed, AreTurns, event_of, first_event, no_events, reply_of, rest_events}
 
 -- these are the documents of the exercise from the one of this number on, in some slots
 abbrev pub AreFrom : ℕ → List Document → Type 0

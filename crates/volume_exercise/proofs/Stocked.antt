@@ -1,9 +1,9 @@
 -- How an ingest that is acknowledged moves the horizon and the edge of a settled volume: by one slot, and by no more cells
 -- than the document and its postings can need.
-use Rattle.std.proofs.Common.{◌≡◌, ◌≤◌, ◌<◌, ◌+◌, ◌*◌, ◌⊎◌, ⊎_elim, ℕ, List, [], ◌∷◌, ◌++◌, length, Some, None, Ok, Err, refl, sym, ap, ◌∙◌, subst, arith}
+use Rattle.std.proofs.Common.{◌≡◌, ◌≤◌, ◌<◌, ◌+◌, ◌*◌, ⊎_elim, ℕ, List, length, Some, None, Err, refl, sym, ap, ◌∙◌, subst, arith}
 use Rattle.std.specs.Prelude.{IsTrue}
 use Rattle.std.proofs.lemmas.Option.{none-some}
-use Rattle.cell_types.specs.Image.{Extends, Image}
+use Rattle.cell_types.specs.Image.{Image}
 use Rattle.cell_types.specs.Layout.{Layout, pool_at, reserve_at}
 use Rattle.stored_documents.specs.Documents.{Document, Stands, stored_bytes}
 use Rattle.stored_documents.specs.Slots.{IsEdge, IsHorizon, cells_for}
@@ -15,7 +15,6 @@ use Rattle.tamper_rules.proofs.Settled.{one_horizon}
 use Rattle.index_paths.specs.Postings.{ArePostings, ListedPosting}
 use Rattle.worm_device.specs.Counts.{IsStill}
 use Rattle.worm_device.specs.State.{DeviceState, IsDevice}
-use Rattle.worm_device.proofs.Counting.{still_first, still_second}
 use Rattle.phase_writer.specs.Putting.{IsInFirst, IsPut}
 use Rattle.recovery_engine.specs.Settling.{HasSettled}
 use Rattle.recovery_engine.specs.declared.settling.Ready.{Ready}
@@ -36,7 +35,7 @@ use Rattle.settling_laws.proofs.LookedAt.{looked_ends, looking_keeps}
 use Rattle.crash_laws.specs.Steadiness.{HasOneMore}
 use Rattle.crash_laws.proofs.AddsOne.{put_whole}
 use Rattle.crash_laws.proofs.PutPlans.{still_looked, still_put, sure, tells_looked, well_made}
-use Rattle.crash_laws.proofs.ReserveCells.{one_slot, stood_before}
+use Rattle.crash_laws.proofs.ReserveCells.{one_slot}
 use Rattle.crash_laws.proofs.WellPlanned.{plan_of}
 use Rattle.command_laws.specs.Begins.{BeginsSteady}
 use Rattle.replayed_worlds.proofs.Reading.{not_held}

@@ -1,44 +1,32 @@
 -- The lines of the exercise are those of its documents and their words, and what is left on its device are the documents.
-use Rattle.std.proofs.Common.{◌≡◌, ◌≤◌, ◌<◌, ◌+◌, ◌*◌, ℕ, suc, zero, List, [], ◌∷◌, ◌++◌, codes, length, map, take, drop, Some, None, refl, sym, ap, ◌∙◌, subst, arith}
+use Rattle.std.proofs.Common.{◌≡◌, ◌≤◌, ◌<◌, ◌+◌, ℕ, suc, zero, List, [], ◌∷◌, ◌++◌, length, map, take, drop, refl, sym, ap, ◌∙◌, subst, arith}
 use Rattle.std.proofs.Math.Seq.{drop-append_seam, take-append_seam}
-use Rattle.std.proofs.lemmas.List.{append_assoc, append-nil, length-append, map-append}
-use Rattle.std.proofs.lemmas.List.FromFn.{length-map-range_with_len}
 use Rattle.std.proofs.lemmas.List.Sums.{sum_by-cons}
 use Rattle.std.proofs.lemmas.Option.{none-some}
 use Rattle.std.specs.Prelude.{Contains, ⊤}
-use Rattle.std.specs.List.{All, count_by, range_with_len, sum_by}
-use Rattle.cell_types.specs.Image.{Image}
-use Rattle.cell_types.specs.Layout.{Layout}
-use Rattle.stored_documents.specs.Documents.{AreDocuments, Document, Rise}
+use Rattle.std.specs.List.{count_by, range_with_len, sum_by}
+use Rattle.stored_documents.specs.Documents.{Document, Rise}
 use Rattle.stored_documents.specs.Volumes.{IsVolume}
-use Rattle.tamper_rules.specs.Settling.{Held, Settled}
-use Rattle.tamper_rules.proofs.GivenUp.{one_layout}
 use Rattle.worm_device.specs.Counts.{Rose}
 use Rattle.worm_device.specs.State.{IsDevice}
 use Rattle.worm_memory.specs.Memory.{Memory, device_of, mark_of}
-use Rattle.worm_memory.specs.Worlds.{foreign_writes_in}
 use Rattle.worm_memory.specs.declared.mark.Mark.{Mark}
 use Rattle.ingest_engine.specs.Formats.{volume_cell}
 use Rattle.script_events.specs.declared.event.Event.{Event}
 use Rattle.script_events.specs.declared.event.Event.TheVariants as event
 use Rattle.script_replies.specs.declared.reply.Reply.{Reply}
 use Rattle.script_replies.specs.declared.reply.Reply.TheVariants as reply
-use Rattle.replayed_worlds.specs.Headline.{AcknowledgedAreReturned, IsNew}
 use Rattle.replayed_worlds.specs.Turns.{Turns, layout_on}
-use Rattle.replayed_worlds.specs.Undisturbed.{IsDoneReply, IsPlain, IsPlainTurn, PlainIsDone, TurnsAreMarked, events_of}
-use Rattle.replayed_worlds.specs.Worlds.{AreInTurn, IsWorld, Turn, acknowledged, acknowledged_by}
-use Rattle.replayed_worlds.proofs.Reading.{settled_documents}
-use Rattle.volume_exercise.specs.Documents.{body_of, identifier_of, up_to}
+use Rattle.replayed_worlds.specs.Undisturbed.{IsDoneReply}
+use Rattle.replayed_worlds.specs.Worlds.{AreInTurn, Turn, acknowledged_by}
+use Rattle.volume_exercise.specs.Documents.{body_of, identifier_of}
 use Rattle.volume_exercise.specs.Events as events
 use Rattle.volume_exercise.specs.Events.{audit_event, exercise_events, format_event, ingest_event, look_up_event, no_schedule, pair_event, single_event}
-use Rattle.volume_exercise.specs.Exercising.{LeavesExercise, ReadsRise, exercise_device, exercise_document, exercise_documents, next_reads}
-use Rattle.volume_exercise.specs.Tallies.{counted_text, first_refusal, is_acknowledged, matches_in, of_ingests, of_look_ups, of_pairs, of_singles, part_of, returned_from, sound_line}
-use Rattle.volume_exercise.specs.Telling.{documents_with, exercise_text, has_all, pair_matches, pair_terms, single_matches, single_terms}
-use Rattle.volume_exercise.proofs.Counted.{same_lines}
-use Rattle.volume_exercise.proofs.EventsOn.{exercise_events_plain}
-use Rattle.volume_exercise.proofs.Exercised.{as_many, events_count}
-use Rattle.volume_exercise.proofs.Played.{AreDone, ArePlayed, AreTurns, Cuts, GiveNone, acknowledged_both, are_done, are_turns, cut, done_at, done_first, ends_plain, ends_volume, event_of, first_event, no_events, none_given, played_row, reply_of, rest_events, turns_first}
-use Rattle.volume_exercise.proofs.Rowed.{AreFrom, AreIngested, bodies_count, finds_sum, ingested, look_ups_sum, one_audit, sound_last}
+use Rattle.volume_exercise.specs.Exercising.{ReadsRise, exercise_device, exercise_document, next_reads}
+use Rattle.volume_exercise.specs.Tallies.{part_of}
+use Rattle.volume_exercise.specs.Telling.{documents_with, has_all, pair_matches, pair_terms, single_matches, single_terms}
+use Rattle.volume_exercise.proofs.Played.{GiveNone, cut, event_of, first_event, no_events, rest_events}
+use Rattle.volume_exercise.proofs.Rowed.{AreFrom, bodies_count}
 
 -- the turns of the exercise, by what they are for
 pub record IsCut (n : ℕ) (turns : List Turn) : Type 0 where

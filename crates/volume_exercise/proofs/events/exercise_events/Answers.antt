@@ -1,5 +1,5 @@
 -- The rows stand one behind another.
-use Rattle.std.proofs.Common.{◌++◌, ◌∷◌, [], List, ap, ◌∙◌}
+use Rattle.std.proofs.Common.{◌++◌, ◌∷◌, [], ap, ◌∙◌}
 use Rattle.script_events.specs.declared.event.Event.{Event}
 use Rattle.volume_exercise.specs.Events.{audit_event, format_event, ingests, look_ups, pairs, singles}
 use Rattle.volume_exercise.proofs.Rows.{rows_joined}

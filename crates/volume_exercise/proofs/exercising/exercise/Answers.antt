@@ -7,8 +7,7 @@ use Rattle.script_replies.specs.declared.reply.Reply.{Reply}
 use Rattle.worm_memory.specs.Device.{memory_of}
 use Rattle.worm_memory.specs.Memory.{Memory}
 use Rattle.replayed_worlds.specs.Worlds.{IsWorld}
-use Rattle.volume_exercise.specs.Events.{exercise_events}
-use Rattle.volume_exercise.specs.Exercising.{ExerciseEnds, refused, told, unmade, untold}
+use Rattle.volume_exercise.specs.Exercising.{refused, told, unmade, untold}
 use Rattle.volume_exercise.specs.Tallies.{counted_text, first_refusal}
 use Rattle.volume_exercise.proofs.EventsOn.{exercise_events_on}
 use Rattle.volume_exercise.proofs.Ending.{exercise_refused, exercise_untroubled}
