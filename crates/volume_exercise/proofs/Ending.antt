@@ -185,7 +185,7 @@ query_refused n (event.Lookup id plan) x old g documents query volume stored ret
 query_refused n (event.Audit plan) x old g documents query volume stored returns done =
     sound_only x (done g (record { volume = volume.volume; size = volume.size }))
 query_refused n (event.Format slots lists version plan) x old g documents query volume stored returns done = absurd query
-query_refused n (event.Ingest id body plan) x old g documents query volume stored returns done = absurd query
+query_refused n (event.Ingest id stamp body plan) x old g documents query volume stored returns done = absurd query
 query_refused n (event.Recover plan) x old g documents query volume stored returns done = absurd query
 query_refused n (event.Foreign at cell) x old g documents query volume stored returns done = absurd query
 query_refused n (event.Crash keep) x old g documents query volume stored returns done = absurd query
@@ -424,7 +424,7 @@ module _ (plain : PlainIsDone) (returned : AcknowledgedAreReturned) (n : ℕ) (s
       let t = device_of new in
       ingest_refused n k g s t begins begun device_new turned.answers.called no_fault
       (record { volume = stocked.volume; settled = stocked.settled; horizon = stocked.horizon; edge = stocked.edge }) less
-      most refl refl cells_are refl documents are many held
+      most refl refl cells_are refl (omega arith) documents are many held
       (λ e ends. none_named s t e begun device_new refl begins.alone begins.steady (ends refl)) x turned.answers.ends
 
   refused_ingest : (x : Refusal) (pre : List Turn) (t : Turn) (mid : List Turn) → c.taken ≡ pre ++ t ∷ mid → AreDone pre

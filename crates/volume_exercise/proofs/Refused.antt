@@ -1,8 +1,10 @@
 -- Which refusals an event of the exercise may meet, where those before it were done.
 use Rattle.std.proofs.Common.{◌≡◌, ◌≤◌, ◌<◌, ◌+◌, ◌*◌, ◌-◌, ◌^◌, ℕ, suc, zero, List, [], ◌∷◌, length, None, Err, refl, sym, ap, ◌∙◌, subst, arith}
 use Rattle.std.specs.Prelude.{Contains}
+use Rattle.std.proofs.lemmas.Option.{none-some}
 use Rattle.cell_types.specs.Image.{Image}
 use Rattle.cell_types.specs.Layout.{Layout}
+use Rattle.cell_types.specs.declared.geometry.TheConstants.{STAMPED_VERSION}
 use Rattle.cell_types.specs.declared.refusal.Evidence.{Evidence}
 use Rattle.cell_types.specs.declared.refusal.Refusal.{Refusal}
 use Rattle.cell_types.specs.declared.refusal.Refusal.TheVariants as refusals
@@ -25,7 +27,7 @@ use Rattle.recovery_engine.specs.declared.settling.Ready.{Ready}
 use Rattle.plan_writer.proofs.PutFrom.{volume_2}
 use Rattle.settling_laws.proofs.LookedAt.{looked_ends}
 use Rattle.crash_laws.proofs.WellPlanned as planned
-use Rattle.ingest_engine.specs.Ingesting.{HasNoRoom, HasNoSlot, IngestEnds, IsTaken, IsTooMany}
+use Rattle.ingest_engine.specs.Ingesting.{HasNoRoom, HasNoSlot, IngestEnds, IsTaken, IsTooMany, TakesNoSuchStamp}
 use Rattle.ingest_engine.proofs.CrashedIngests.{ready_layout}
 use Rattle.command_laws.specs.Begins.{BeginsSteady}
 use Rattle.command_laws.proofs.HeldAnswers.{stands_among}
@@ -53,9 +55,9 @@ number_of k (e ∷ ds) are d (suc p, low, is) =
 module _ (n k : ℕ) (g : Layout) (s t : DeviceState) (begins : BeginsSteady s t) (device : IsDevice s)
     (device_new : IsDevice t) (called : Called s t) (no_fault : IsStill s.faults t.faults) (stocked : IsStocked g k s)
     (less : k < n) (most : n ≤ 2000) (slots : g.slots ≡ n) (lists : g.lists ≡ 16) (cells : g.cells ≡ 8192 + 5300 * n)
-    (rule : rule_of g.version ≡ Ascii) (documents : List Document) (are : AreFrom 0 documents)
+    (rule : rule_of g.version ≡ Ascii) (unstamped : g.version < STAMPED_VERSION) (documents : List Document) (are : AreFrom 0 documents)
     (many : length documents ≡ k) (held : Held s.cells s.image documents)
-    (no_alarm : (e : Evidence) → IngestEnds (identifier_of k) (body_of k) s t (Err (refusals.Tampered e)) → ⊥) where
+    (no_alarm : (e : Evidence) → IngestEnds (identifier_of k) None (body_of k) s t (Err (refusals.Tampered e)) → ⊥) where
   abbrev id : List ℕ
   id = identifier_of k
 
@@ -75,7 +77,12 @@ module _ (n k : ℕ) (g : Layout) (s t : DeviceState) (begins : BeginsSteady s t
   horizon_here : (u : ℕ) → IsHorizon g s.image s.image u → u ≡ k
   horizon_here u is = one_horizon g s.image (settled_by g s stocked.volume stocked.settled) u k is stocked.horizon
 
-  not_full : HasNoSlot s t → ⊥
+  -- no document of a volume of the first version has a stamp
+  not_needed : TakesNoSuchStamp None s t refusals.StampNeeded → ⊥
+  not_needed h =
+      omega (arith, unstamped, h.ends.0, ap (λ (l : Layout). l.version) (layout h.ready h.settled))
+
+  not_full : HasNoSlot None s t → ⊥
   not_full h =
       let has = h.settled in
       let ends = has.settles.ends.1 begins.tells in
@@ -88,7 +95,7 @@ module _ (n k : ℕ) (g : Layout) (s t : DeviceState) (begins : BeginsSteady s t
       let is = horizon_here g.slots (subst (λ (i : Image). IsHorizon g i i g.slots) (same_image h.ready has) there) in
       omega (arith, is, slots, less)
 
-  not_taken : (m : ℕ) → IsTaken id m s t → ⊥
+  not_taken : (m : ℕ) → IsTaken id None m s t → ⊥
   not_taken m h =
       let has = h.settled.settled in
       let taken = h.holds begins.tells in
@@ -111,21 +118,21 @@ module _ (n k : ℕ) (g : Layout) (s t : DeviceState) (begins : BeginsSteady s t
       still_below : s.foreign_writes < 2 ^ 64 - 1
       still_below = omega (arith, begins.alone.same, begins.alone.below)
 
-  few : (list count : ℕ) → IsTooMany id body list count s t → ⊥
+  few : (list count : ℕ) → IsTooMany id None body list count s t → ⊥
   few list count h =
       let many_tags = h.ends.many in
       let one = layout h.ready h.settled.settled in
       let tags = subst (λ (l : Layout). AreTags l body list many_tags.tags) one many_tags.are in
       omega (arith, few_tags g rule k list many_tags.tags tags, many_tags.number, many_tags.many)
 
-  fits : (need free : ℕ) → HasNoRoom id body need free s t → ⊥
+  fits : (need free : ℕ) → HasNoRoom id None body need free s t → ⊥
   fits need free h =
       let has = h.settled.settled in
       let one = layout h.ready has in
       let edge : IsEdge g s.image s.image h.ready.edge =
       subst (λ (l : Layout). IsEdge l s.image s.image h.ready.edge) one
       (subst (λ (i : Image). IsEdge h.ready.volume.geometry i i h.ready.edge) (same_image h.ready has)
-      (planned.edge_now s t h.ready begins.tells has begins.alone device device_new begins.steady id body h.index
+      (planned.edge_now s t h.ready begins.tells has begins.alone device device_new begins.steady id None body h.settled.takes h.index
       h.settled.slot h.has)) in
       let low = stocked.edge h.ready.edge edge in
       let rows = few_postings g rule k h.ready.horizon h.has.planned.rows
@@ -136,11 +143,14 @@ module _ (n k : ℕ) (g : Layout) (s t : DeviceState) (begins : BeginsSteady s t
   volume_now : IsVolume t.cells t.image g
   volume_now = subst (λ (c : ℕ). IsVolume c t.image g) (sym called.cells) (volume_on called.image stocked.volume)
 
-  pub ingest_refused : (refusal : Refusal) → IngestEnds id body s t (Err refusal) → IsOfExercise refusal
+  pub ingest_refused : (refusal : Refusal) → IngestEnds id None body s t (Err refusal) → IsOfExercise refusal
   ingest_refused refusals.NoMemory ends = tt
   ingest_refused refusals.PathFull ends = tt
   ingest_refused refusals.DeviceFault ends = absurd (rose_or_still _ _ ends no_fault)
   ingest_refused (refusals.Tampered e) ends = absurd (no_alarm e ends)
+  ingest_refused refusals.StampNeeded ends = absurd (not_needed ends)
+  ingest_refused refusals.StampUnused ends = absurd (none-some ends.ends.1.0 ends.ends.1.1)
+  ingest_refused (refusals.StampTooEarly given last) ends = absurd (none-some given ends.early.given_is)
   ingest_refused refusals.SlotsFull ends = absurd (not_full ends)
   ingest_refused (refusals.Duplicate m) ends = absurd (not_taken m ends)
   ingest_refused (refusals.TooManyTerms list count) ends = absurd (few list count ends)

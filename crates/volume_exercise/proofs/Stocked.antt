@@ -56,7 +56,7 @@ pub record IsOneFurther (g : Layout) (id body : List ℕ) (old new : Image) : Ty
 
 module _ (id body : List ℕ) (old new : DeviceState) (n : ℕ) (device : IsDevice old) (device_new : IsDevice new)
     (tells : IsTrue old.tells) (still : IsStill old.foreign_writes new.foreign_writes) (steady : IsSteady old)
-    (is : IsIngested id body n old new) (whole : Settled old.cells old.image) where
+    (is : IsIngested id None body n old new) (whole : Settled old.cells old.image) where
   reserve_stands : (value : List ℕ) × (new.image (reserve_at n) ≡ Some value)
   reserve_stands =
       let h = is.document.done.commits.reserves.reserve in
@@ -66,20 +66,20 @@ module _ (id body : List ℕ) (old new : DeviceState) (n : ℕ) (device : IsDevi
   sound_old = record { after = old.image; is = nothing whole (λ cell. refl); settled = whole }
 
   module _ (looked : DeviceState) (r : Ready) (p : Plan) (h : HasSettled old looked r) (device_looked : IsDevice looked)
-      (less : r.horizon < r.volume.geometry.slots) (plans : IsPlanFor r id body h.settled looked p)
+      (less : r.horizon < r.volume.geometry.slots) (plans : IsPlanFor r id None body h.settled looked p)
       (puts : PutsPlan r.horizon p looked new) where
     abbrev g : Layout
     g = r.volume.geometry
 
     still_first_looks : IsStill old.foreign_writes looked.foreign_writes
     still_first_looks =
-        still_looked id body old looked new r p tells h device device_looked less plans puts still steady
+        still_looked id None body old looked new r p tells h device device_looked less plans puts still steady
 
     still_then : IsStill looked.foreign_writes new.foreign_writes
-    still_then = still_put id body old looked new r p tells h device device_looked less plans puts still steady
+    still_then = still_put id None body old looked new r p tells h device device_looked less plans puts still steady
 
     tells_then : IsTrue looked.tells
-    tells_then = tells_looked id body old looked new r p tells h device device_looked less plans puts still steady
+    tells_then = tells_looked id None body old looked new r p tells h device device_looked less plans puts still steady
 
     same_looked : looked.image ≡ old.image
     same_looked = (looked_ends old looked r tells h still_first_looks device_looked.sure sound_old).image
@@ -98,11 +98,11 @@ module _ (id body : List ℕ) (old new : DeviceState) (n : ℕ) (device : IsDevi
         (puts.only tells_then still_then (reserve_at n) reserve_stands.0 reserve_stands.1)
 
     made : (after : Image) × IsWellPlanned g looked.image after (plan_of r.horizon p id body)
-    made = well_made id body old looked new r p tells h device device_looked less plans puts still steady
+    made = well_made id None body old looked new r p tells h device device_looked less plans puts still steady
 
     ends : new.image ≡ made.0
     ends = (put_whole g r.horizon p id body looked new made.0 plans.document plans.suits made.1 tells_then
-        (sure id body old looked new r p tells h device device_looked less plans puts still steady) still_then puts
+        (sure id None body old looked new r p tells h device device_looked less plans puts still steady) still_then puts
         device_new (subst (λ (m : ℕ). Stands new.cells new.sure m id body) slot_is is.document)).0
 
     filled : IsFilled g looked.image made.0 (plan_of r.horizon p id body)
@@ -148,7 +148,7 @@ module _ (id body : List ℕ) (old new : DeviceState) (n : ℕ) (device : IsDevi
     not_so : Held new.cells new.image documents → ⊥
     not_so now = not_held old new device device_new begins id body n more documents held now
 
-    pub one_further : ComesTo id body old new → IsOneFurther g id body old.image new.image
+    pub one_further : ComesTo id None body old new → IsOneFurther g id body old.image new.image
     one_further (ingesting.nothing same) = absurd (not_so (held_unmoved same documents held))
     one_further (ingesting.settling refusal settles) = absurd (not_so
         (subst (λ (k : ℕ). Held k new.image documents) (sym settles.called.cells)
