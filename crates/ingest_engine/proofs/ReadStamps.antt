@@ -126,7 +126,12 @@ module _ (g : Layout) (n : ℕ) (greatest : Option ℕ) where
     done_now tells =
         let there = is.3 tells in
         let d : IsDoneSlot g mid.image n = record {
-          start = there.first; length = there.reserved; bytes = part.bytes; journal = part.journal; done = there.done } in
+          start = there.first;
+          length = there.reserved;
+          bytes = part.bytes;
+          journal = part.journal;
+          done = there.done;
+        } in
         done_slot_on second.image second.image d
 
     stamps : (a b : ℕ) → Stamp a ≡ Stamp b → a ≡ b

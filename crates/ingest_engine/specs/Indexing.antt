@@ -111,9 +111,9 @@ PastEnds r stamp entry new (Err refusal) = ⊥
 -- such a look changes nothing
 pub record LooksPast (r : Ready) (stamp : Option ℕ) (entry new : DeviceState) (result : Result Unit Refusal) : Type 0
   where
-  pub called : Called entry new
-  pub quiet : IsStill entry.foreign_writes new.foreign_writes → IsUnchanged entry.image new.image
-  pub ends : PastEnds r stamp entry new result
+    pub called : Called entry new
+    pub quiet : IsStill entry.foreign_writes new.foreign_writes → IsUnchanged entry.image new.image
+    pub ends : PastEnds r stamp entry new result
 
 -- The index of the document is planned, with its bucket at the end of its identifier's path. Its stamp is past the others.
 pub record HasIndex (r : Ready) (id : List ℕ) (stamp : Option ℕ) (body : List ℕ) (index : PlannedIndex)

@@ -198,16 +198,16 @@ IsLogRule number = IsSettlingRule number ⊎ (number ≡ STRAY_CELL)
 -- document was put, and the rule was broken there before the command.
 pub record IsInTheWay (id : List ℕ) (stamp : Option ℕ) (body : List ℕ) (old new : DeviceState) (e : Evidence) : Type 0
   where
-  pub found : IsFound IsLogRule old new e
-  pub ready : Ready
-  pub looked : DeviceState
-  pub slot : HasSlot stamp old looked ready
-  pub index : PlannedIndex
-  pub has : HasIndex ready id stamp body index slot.settled.settled looked
-  pub room : need_with id body index ≤ ready.volume.geometry.cells - ready.edge
-  pub own : IsOfSlot ready.horizon (record { start = ready.edge; length = need_with id body index }) e.cell
-  pub since : Called looked new
-  pub unput : IsStill old.foreign_writes new.foreign_writes → IsUnchanged looked.image new.image
+    pub found : IsFound IsLogRule old new e
+    pub ready : Ready
+    pub looked : DeviceState
+    pub slot : HasSlot stamp old looked ready
+    pub index : PlannedIndex
+    pub has : HasIndex ready id stamp body index slot.settled.settled looked
+    pub room : need_with id body index ≤ ready.volume.geometry.cells - ready.edge
+    pub own : IsOfSlot ready.horizon (record { start = ready.edge; length = need_with id body index }) e.cell
+    pub since : Called looked new
+    pub unput : IsStill old.foreign_writes new.foreign_writes → IsUnchanged looked.image new.image
 
 -- How tampering is named: while the volume was settled; in the way of the plan; or on the way through the log for the
 -- stamps of its slots and through the index, where the volume was settled and had a free slot, and was only looked at.

@@ -41,11 +41,7 @@ fn last_stamp<D: Device>(device: &mut D, ready: &Ready) -> Result<Option<u32>, F
 }
 
 /// The greatest stamp of a done slot below this one, if there is one. The slots are read from the greatest down.
-fn greatest_stamp<V: View>(
-    view: &mut V,
-    volume: &Volume,
-    below: u32,
-) -> Result<Option<u32>, Fault>
+fn greatest_stamp<V: View>(view: &mut V, volume: &Volume, below: u32) -> Result<Option<u32>, Fault>
     requires below { below ≤ volume.now.geometry.slots }
     requires size { volume.now.geometry.cells ≤ (V.seen view.old).cells }
     ensures { ReadsStamps volume.now.geometry below (V.seen view.old) (V.seen view.new) result }

@@ -109,10 +109,11 @@ module _ (g : Layout) (stamp : Option ℕ) (body : List ℕ) (n : ℕ) (rows : L
   past image later i p is = ⊎_elim
       (λ (word : IsWordPosting g body n p.list p.posting).
       (λ words. (word_key word).0, λ same. absurd (omega (arith, word.list, same))))
-      (λ (time : IsTime g stamp n p).
-      (λ words. absurd (omega (arith, time.2, words)),
-      λ same. subst (λ (k : ℕ). IsPastStamps g image n k) (sym (ap (λ (f : PostingFields). f.key) time.3))
-      (subst (λ (s : Option ℕ). IsLater g image n s) time.1 later)))
+      (λ (time : IsTime g stamp n p). (
+        λ words. absurd (omega (arith, time.2, words)),
+        λ same. subst (λ (k : ℕ). IsPastStamps g image n k) (sym (ap (λ (f : PostingFields). f.key) time.3))
+            (subst (λ (s : Option ℕ). IsLater g image n s) time.1 later),
+      ))
       (are.each i p is).1
 
 -- the rows that were asked for are the postings of the body whose words were handed in
