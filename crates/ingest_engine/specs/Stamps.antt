@@ -36,6 +36,17 @@ abbrev pub AreUpTo : Layout → Image → ℕ → ℕ → Option ℕ → Type 0
 AreUpTo g image from n last =
     (m seconds : ℕ) → from ≤ m → m < n → IsDoneSlot g image m → HasStamp image m seconds → IsUpTo (Some seconds) last
 
+-- of the stamps of the done slots below n this is the greatest
+pub record IsGreatestStamp (g : Layout) (image : Image) (n seconds : ℕ) : Type 0 where
+  pub one : IsStampBelow g image n seconds
+  pub most : AreUpTo g image 0 n (Some seconds)
+
+-- it is one
+abbrev pub GreatestStampsAreOne : Type 0
+GreatestStampsAreOne =
+    (g : Layout) (image : Image) (n one other : ℕ) → IsGreatestStamp g image n one → IsGreatestStamp g image n other
+    → one ≡ other
+
 -- the record is this stamp, or none
 abbrev pub IsStampIn : RecordCell → Option ℕ → Type 0
 IsStampIn held None = (seconds : ℕ) → held ≡ Stamp seconds → ⊥

@@ -16,6 +16,9 @@
 //! to 583 are blank. All memory is taken by then: from there on only a fault of the device, or a cell that another has
 //! taken, ends an ingest.
 //!
+//! On a volume of stamped documents an ingest is given a stamp, and looks first whether it is past those of all done slots,
+//! which it reads from the last down. The stamp goes into cell 7, before cell 580, and its posting into the time list.
+//!
 //! Where a crash cuts an ingest short, the next command settles the volume: the slot is given up, or its document is
 //! done, with its whole index.
 //!
@@ -33,8 +36,10 @@ mod document;
 mod format;
 mod indexing;
 mod ingesting;
+mod laws;
 mod stamps;
 
 pub use document::StoredDocument;
 pub use format::format_volume;
 pub use ingesting::ingest;
+pub use laws::greatest_stamps_are_one;
