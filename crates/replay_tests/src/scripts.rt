@@ -145,3 +145,73 @@ fn a_foreign_outcome_is_named(rt: HostRuntime) -> Result<(), Fail> {
     assert!(rt; printed(rt.alloc(), script)?.as_str() == lines);
     Ok(())
 }
+
+/// Somebody else writes a cell that no document needs: a find passes it, an audit names it, and so does an ingest whose
+/// reservation would have it.
+#[test]
+fn a_stray_cell_is_named_where_it_is_met(rt: HostRuntime) -> Result<(), Fail> {
+    let mut body = String::new(rt.alloc());
+    for _letter in 0..1800 {
+        body.push_str("x")?;
+    }
+    let body = body.as_str();
+    let script = format!(in rt.alloc();
+        "{{\"cells\": 1000, \"events\": [
+        {{\"do\": \"format\", \"slots\": 8, \"lists\": 2}},
+        {{\"do\": \"ingest\", \"id\": \"a\", \"body\": \"hello world\"}},
+        {{\"do\": \"foreign\", \"at\": 700, \"cell\": \"ffffffffffffffffffffffffffffffff\"}},
+        {{\"do\": \"find\", \"words\": [\"hello\"]}},
+        {{\"do\": \"audit\"}},
+        {{\"do\": \"ingest\", \"id\": \"c\", \"body\": \"{body}\"}}]}}"
+    )?;
+    let lines = "1 0 formatted\n2 0 acknowledged 0\n3 0 done\n4 0 found 0\n\
+5 4 tampered 7 700 ffffffffffffffffffffffffffffffff\n6 4 tampered 7 700 ffffffffffffffffffffffffffffffff\n";
+    assert!(rt; printed(rt.alloc(), script.as_str())?.as_str() == lines);
+    Ok(())
+}
+
+/// Somebody else writes a pointer out of a full block: a find that comes to it names it, and a look-up goes another way.
+#[test]
+fn a_pointer_that_leads_astray_is_named(rt: HostRuntime) -> Result<(), Fail> {
+    let mut script = String::new(rt.alloc());
+    script.push_str(
+        "{\"cells\": 10000, \"events\": [{\"do\": \"format\", \"slots\": 200, \"lists\": 1},\n",
+    )?;
+    for document in 0..129 {
+        let (hundreds, tens, ones) = (document / 100, document / 10 % 10, document % 10);
+        let event = format!(in rt.alloc();
+            "{{\"do\": \"ingest\", \"id\": \"d{hundreds}{tens}{ones}\", \"body\": \"hello\"}},\n"
+        )?;
+        script.push_str(event.as_str())?;
+    }
+    script.push_str(
+        "{\"do\": \"foreign\", \"at\": 963, \"cell\": \"070000232800000000000000000003c3\"},\n",
+    )?;
+    script.push_str(
+        "{\"do\": \"find\", \"words\": [\"hello\"]}, {\"do\": \"lookup\", \"id\": \"d005\"}]}",
+    )?;
+    let lines = "130 0 acknowledged 128\n131 0 done\n\
+132 4 tampered 10 963 070000232800000000000000000003c3\n133 0 slot 5, 5 bytes\n";
+    assert!(rt;
+        printed(rt.alloc(), script.as_str())?
+            .as_str()
+            .ends_with(lines)
+    );
+    Ok(())
+}
+
+/// Somebody else writes a posting of a later slot into the list of a word: whoever asks for the word is told so, and
+/// whoever asks for another is not.
+#[test]
+fn a_posting_that_lies_is_named(rt: HostRuntime) -> Result<(), Fail> {
+    let script = "{\"cells\": 1000, \"events\": [
+        {\"do\": \"format\", \"slots\": 8, \"lists\": 2},
+        {\"do\": \"ingest\", \"id\": \"a\", \"body\": \"hello world\"},
+        {\"do\": \"foreign\", \"at\": 38, \"cell\": \"0600000500002cf24dba5fb000000026\"},
+        {\"do\": \"find\", \"words\": [\"hello\"]},
+        {\"do\": \"find\", \"words\": [\"foo\"]}]}";
+    let lines = "1 0 formatted\n2 0 acknowledged 0\n3 0 done\n\
+4 4 tampered 9 38 0600000500002cf24dba5fb000000026\n5 0 found\n";
+    assert!(rt; printed(rt.alloc(), script)?.as_str() == lines);
+    Ok(())
+}
