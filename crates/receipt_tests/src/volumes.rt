@@ -46,7 +46,7 @@ pub(crate) fn store(
     if !is_identifier(id) {
         return Err("no identifier".into());
     }
-    let slot = ingest(alloc, device, id, body)?;
+    let slot = ingest(alloc, device, id, None, body)?;
     Ok(slot)
 }
 
