@@ -1,5 +1,5 @@
 //! The receipts of the small volume: 8 slots and 2 lists on 1,000 cells, with the document `a`, `hello world`.
-use crate::volumes::{Answer, answer_to, blank_volume, receipt, store};
+use crate::volumes::{Answer, answer_to, blank_volume, receipt, stamped_volume, store};
 use cell_types::{Cell, Refusal};
 use document_store::is_identifier;
 use receipt_maker::make_receipt;
@@ -38,6 +38,19 @@ const OF_B: &str = "receipt 1 b
 end 9
 ";
 
+/// The receipt of `a` with no body, on the stamped volume: its stamp cell, and the posting of its stamp.
+const OF_STAMPED: &str = "receipt 0 a
+0 0103000000080002000004b000000000
+4 02000003440000000300000000000004
+5 03000000020000000200000000000005
+6 05000000000000000000000000000006
+7 0a000003e80000000000000000000007
+560 0800000000ca978112ca1bbd00000230
+580 06000003e8ff00000000000000000244
+836 12016100000000000000000000000000
+end 8
+";
+
 /// The small volume.
 pub(crate) fn small_volume(alloc: Global) -> Result<MemoryDevice, Fail> {
     let mut device = blank_volume(alloc, 1_000, 2)?;
@@ -55,6 +68,18 @@ fn a_receipt_lists_what_its_document_rests_on(rt: HostRuntime) -> Result<(), Fai
     assert!(rt; of_b.as_slice() == OF_B.as_bytes());
     let again = receipt(rt.alloc(), &mut device, b"a")?;
     assert!(rt; again.as_slice() == OF_A.as_bytes());
+    Ok(())
+}
+
+#[test]
+fn a_receipt_of_a_stamped_document_lists_its_stamp(rt: HostRuntime) -> Result<(), Fail> {
+    let mut device = stamped_volume(rt.alloc())?;
+    let of_a = receipt(rt.alloc(), &mut device, b"a")?;
+    assert!(rt; of_a.as_slice() == OF_STAMPED.as_bytes());
+    assert_eq!(rt;
+        answer_to(rt.alloc(), &mut device, OF_STAMPED.as_bytes()),
+        Answer::Accepted(0, 0)
+    );
     Ok(())
 }
 

@@ -1,5 +1,5 @@
 //! Volumes in memory, and what a stranger says of the text of a receipt.
-use cell_types::FIRST_VERSION;
+use cell_types::{FIRST_VERSION, STAMPED_VERSION};
 use document_store::is_identifier;
 use ingest_engine::{format_volume, ingest};
 use receipt_check::{CheckRefusal, check_receipt};
@@ -33,11 +33,31 @@ pub(crate) fn blank_volume(alloc: Global, cells: u32, lists: u16) -> Result<Memo
     Ok(device)
 }
 
+/// The stamped volume: 8 slots and 2 lists on 1,200 cells, with the document `a`, no body, and the stamp 1000.
+pub(crate) fn stamped_volume(alloc: Global) -> Result<MemoryDevice, Fail> {
+    let mut device = MemoryDevice::new(alloc, 1_200)?;
+    device.reserve(1_000)?;
+    format_volume(&mut device, 8, 2, STAMPED_VERSION)?;
+    store_with(alloc, &mut device, b"a", Some(1_000), b"")?;
+    Ok(device)
+}
+
 /// Stores a document.
 pub(crate) fn store(
     alloc: Global,
     device: &mut MemoryDevice,
     id: &[u8],
+    body: &[u8],
+) -> Result<u32, Fail> {
+    store_with(alloc, device, id, None, body)
+}
+
+/// Stores a document with a stamp, or with none.
+fn store_with(
+    alloc: Global,
+    device: &mut MemoryDevice,
+    id: &[u8],
+    stamp: Option<u32>,
     body: &[u8],
 ) -> Result<u32, Fail> {
     if body.len() > MAX_BODY_BYTES {
@@ -46,7 +66,7 @@ pub(crate) fn store(
     if !is_identifier(id) {
         return Err("no identifier".into());
     }
-    let slot = ingest(alloc, device, id, None, body)?;
+    let slot = ingest(alloc, device, id, stamp, body)?;
     Ok(slot)
 }
 
