@@ -4,8 +4,8 @@
 //! and shares nothing with the crates. `commands` has each command with its answers; `rows` an ingest with its index,
 //! cell by cell; `stamps` the same of a document with a stamp; `sweeps` all cuts of an ingest and of `recover`, with
 //! crashes that keep each subset of what was not sure; `faults` each failed call of an ingest, of `recover` and of a
-//! find, with an audit behind it; `journals` a slot whose journal was written by hand; and `receipts` what is printed of a
-//! document's receipt, and of its check.
+//! find, with an audit behind it; `journals` a slot whose journal was written by hand; `receipts` what is printed of a
+//! document's receipt, and of its check; and `scripts` what `replay` and `exercise` print.
 #![tactic(auto)]
 
 #[cfg(test)]
@@ -18,6 +18,8 @@ mod journals;
 mod receipts;
 #[cfg(test)]
 mod rows;
+#[cfg(test)]
+mod scripts;
 #[cfg(test)]
 mod stamps;
 #[cfg(test)]
