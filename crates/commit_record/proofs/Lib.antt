@@ -4,3 +4,4 @@ pub mod CellsSeen
 pub mod HorizonSoFar
 pub mod LooksAsOne
 pub mod OneState
+pub mod StampRead

@@ -4,5 +4,6 @@ pub mod LogEnds
 pub mod Opening
 pub mod Partition
 pub mod Reservations
+pub mod Stamps
 pub mod States
 pub mod SlotCells

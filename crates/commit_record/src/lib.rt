@@ -37,8 +37,8 @@
 //! Where nobody else ever wrote, slots are taken in a row, and it is the only horizon. On any other image a free slot
 //! may stand before it, and taken ones behind.
 //!
-//! `open` makes one read, `slot_state` at most three, and one more where documents are stamped, `horizon` and
-//! `end_of_log` at most 26, and `parts` none. `end_of_log` hands over the last reserve cell as well, and `slot_state_of`
+//! `open` and `stamp_of` make one read, `slot_state` at most three, and one more where documents are stamped, `horizon`
+//! and `end_of_log` at most 26, and `parts` none. `end_of_log` hands over the last reserve cell as well, and `slot_state_of`
 //! goes on from there: it makes one read less, and never finds the slot unused, whatever the device answers. Nothing
 //! takes memory.
 //!
@@ -64,4 +64,5 @@ pub use partition::Parts;
 pub use reservation::Reservation;
 pub use slot::{SlotState, slot_state};
 pub use slot_parts::{document_cells, parts};
+pub use stamp_cell::stamp_of;
 pub use used_slot::slot_state_of;

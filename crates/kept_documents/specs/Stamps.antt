@@ -1,19 +1,12 @@
 -- Which stamp a slot has, as a call over a view answers it.
 use Rattle.std.specs.Prelude.{◌≡◌, ℕ, Option, Some, None, Result, Ok, Err, IsTrue}
 use Rattle.cell_types.specs.Layout.{Layout}
-use Rattle.cell_types.specs.declared.record_cell.RecordCell.{RecordCell}
-use Rattle.cell_types.specs.declared.record_cell.RecordCell.TheVariants.{Stamp}
 use Rattle.stored_documents.specs.Slots.{IsStampOf}
 use Rattle.worm_device.specs.Counts.{Rose}
 use Rattle.worm_device.specs.Views.{ViewState, Viewed}
 use Rattle.worm_device.specs.declared.device.Failed.{Failed}
 use Rattle.term_tags.specs.Listing.{MayHaveStamp}
 use Rattle.kept_documents.specs.declared.stamps.SlotStamp.{SlotStamp}
-
--- the record is this stamp, or none
-abbrev pub IsStampIn : RecordCell → Option SlotStamp → Type 0
-IsStampIn r None = (seconds : ℕ) → r ≡ Stamp seconds → ⊥
-IsStampIn r (Some stamp) = (seconds : ℕ) × (stamp.seconds ≡ Some seconds) × (r ≡ Stamp seconds)
 
 -- Some: the slot's stamp at exit, which the volume's documents may have. None: the slot had no stamp at entry.
 abbrev pub StampAnswer : Layout → ℕ → ViewState → ViewState → Result (Option SlotStamp) Failed → Type 0

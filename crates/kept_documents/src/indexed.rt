@@ -7,7 +7,7 @@ ghost use Rattle.kept_documents.specs.Postings.{AsksPostings};
 use crate::fault::AskFault;
 use crate::hash_trails::has_hash_trail;
 use crate::rows::are_trailed;
-use crate::stamps::stamp_of;
+use crate::stamps::slot_stamp;
 use cell_types::{Refusal, Volume};
 use std::alloc::Global;
 use stored_documents::rule_of;
@@ -29,7 +29,7 @@ pub(crate) fn is_indexed<V: View>(
     requires size { volume.now.geometry.cells ≡ (V.seen view.old).cells }
     ensures { AsksIndexed volume.now.geometry slot id.now body.now (V.seen view.old) (V.seen view.new) result }
 {
-    let Ok(found) = stamp_of(view, &volume.geometry, slot) else {
+    let Ok(found) = slot_stamp(view, volume, slot) else {
         return Err(AskFault::ReadFault);
     };
     let Some(stamp) = found else {
