@@ -1,11 +1,13 @@
 //! The stored bytes of a document: a length, the identifier, the body.
-ghost use Rattle.std.specs.Prelude.{◌≡◌, ◌≤◌, ◌+◌, []};
+ghost use Rattle.std.specs.Prelude.{◌≡◌, ◌≤◌, ◌+◌, [], IfOk, length};
 ghost use Rattle.stored_documents.specs.Slots.{cells_for};
 ghost use Rattle.worm_device.specs.Views.{Viewed};
 ghost use Rattle.append_file.specs.Reading.{IsPosition, HasRead};
-ghost use Rattle.document_store.specs.Heads.{DocumentEnds, HeadEnds, IsHead, SkipEnds};
+ghost use Rattle.document_store.specs.Heads.{DocumentEnds, HeadEnds, IsHead, SkipEnds, id_of};
 
+use crate::text::Text;
 use append_file::{ContentFault, Position, read_byte};
+use std::alloc::{AllocError, Global};
 use stored_documents::{MAX_BODY_BYTES, MAX_IDENTIFIER_BYTES};
 use worm_device::View;
 
@@ -94,4 +96,14 @@ pub fn read_document<V: View>(view: &mut V, start: u32, bytes: u32) -> Result<He
     let head = read_head(view, start, bytes, &mut position)?;
     skip_body(view, start, bytes, &mut position, &head)?;
     Ok(head)
+}
+
+/// The identifier of a document, by its head.
+pub fn identifier_of_head(alloc: Global, head: &Head) -> Result<Text, AllocError>
+    requires { head.now.id_length ≤ length head.now.id }
+    ensures { IfOk result (λ text. text ≡ id_of head.now) }
+{
+    let mut bytes = Vec::new(alloc);
+    bytes.extend_from_slice(&head.id[..usize::from(head.id_length)])?;
+    Ok(Text::new(bytes))
 }

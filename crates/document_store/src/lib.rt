@@ -13,8 +13,8 @@
 //! is said of the image at its exit, and what it found missing was so at its entry.
 //!
 //! The calls on a slot ask that it is done. Whoever walks along slots asks `slot_part` first, which says where the
-//! document of a done slot lies, and then asks `part_has_identifier`, or reads it by `read_head` and `next_row`;
-//! `name_commit` names the commit cell of one that is broken.
+//! document of a done slot lies, and then asks `part_has_identifier`, or reads it by `read_part`, or by `read_head` and
+//! `next_row`; `name_commit` names the commit cell of one that is broken.
 //!
 //! Stands on `append_file` (bytes of cells), `commit_record` (states of slots) and `host_ports` (a sink for a body).
 //! Begin with `part.rt`; specs/Standing.antt says what it means to hold a document, and specs/Looks.antt how each call
@@ -33,8 +33,8 @@ mod text;
 pub use append_file::{ContentFault, Position, ROW_BYTES, next_row};
 pub use body::{BodyFault, body_into};
 pub use checked::{Stored, check};
-pub use head::{Head, read_document, read_head};
+pub use head::{Head, identifier_of_head, read_document, read_head};
 pub use identifier::{identifier_of, is_identifier, part_has_identifier, same_identifier};
 pub use laws::{held_is_one, held_is_standing, held_stays};
-pub use part::{Part, name_commit, slot_part};
+pub use part::{Part, name_commit, read_part, slot_part};
 pub use text::Text;

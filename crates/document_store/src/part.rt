@@ -65,12 +65,9 @@ pub fn name_commit(geometry: &Geometry, part: &Part) -> Fault
     breach(BROKEN_DOCUMENT, cell, encode(stated, cell))
 }
 
-/// Reads the document of a part, each cell once.
-pub(crate) fn read_part<V: View>(
-    view: &mut V,
-    geometry: &Geometry,
-    part: &Part,
-) -> Result<Head, Fault>
+/// Reads the document of a part, each cell once, and answers what stands before its body. Where it is broken its commit
+/// cell is named, by rule 4.
+pub fn read_part<V: View>(view: &mut V, geometry: &Geometry, part: &Part) -> Result<Head, Fault>
     requires slot { part.now.slot < geometry.now.slots }
     requires size { geometry.now.cells ≤ (V.seen view.old).cells }
     requires inside { part.now.start + cells_for part.now.bytes ≤ geometry.now.cells }

@@ -2,11 +2,8 @@
 use Rattle.std.proofs.Common.{◌≡◌, ◌<◌, ◌≤◌, ◌+◌, ◌⊎◌, ⊎_elim, inl, inr, ℕ, List, Option, None, Some, Result, Ok, Err, refl, ap, sym, subst, arith, ◌∙◌}
 use Rattle.std.specs.Prelude.{IsTrue}
 use Rattle.std.proofs.lemmas.Bool.{cases_lt}
-use Rattle.std.proofs.lemmas.Option.{none-some}
 use Rattle.cell_types.specs.Image.{Image, IsUnchanged}
 use Rattle.cell_types.specs.Layout.{Layout, spare_at}
-use Rattle.cell_types.specs.Records.{IsRecordCell}
-use Rattle.cell_types.specs.declared.record_cell.RecordCell.{RecordCell}
 use Rattle.cell_types.specs.declared.record_cell.RecordCell.TheVariants.{Stamp}
 use Rattle.cell_types.specs.declared.refusal.Fault.{Fault}
 use Rattle.cell_types.specs.declared.refusal.Fault.TheVariants as faults
@@ -14,26 +11,24 @@ use Rattle.cell_types.specs.declared.refusal.Refusal.{Refusal}
 use Rattle.cell_types.specs.declared.refusal.Refusal.TheVariants.{DeviceFault, StampTooEarly, Tampered}
 use Rattle.cell_types.specs.Refusals.{refusal_of_fault}
 use Rattle.stored_documents.specs.Slots.{HasStamp, IsDoneSlot}
-use Rattle.stored_documents.specs.Volumes.{Holds}
 use Rattle.stored_documents.proofs.Extending.{done_slot_on, holds_on}
-use Rattle.stored_documents.proofs.Holding.{one_record_holds, some_is}
+use Rattle.stored_documents.proofs.Holding.{one_record_holds}
 use Rattle.worm_device.specs.Calls.{Called}
 use Rattle.worm_device.specs.Counts.{IsStill, Rose}
-use Rattle.worm_device.specs.Looks.{LookEnds}
 use Rattle.worm_device.specs.State.{DeviceState}
 use Rattle.worm_device.specs.Views.{Viewed, ViewState, seen_directly}
-use Rattle.worm_device.specs.declared.looks.Found.{Found}
-use Rattle.worm_device.specs.declared.looks.Found.TheVariants.{Blank, Record, Stray}
+use Rattle.worm_device.specs.declared.device.Failed.{Failed}
 use Rattle.worm_device.proofs.Counting.{still_second}
 use Rattle.worm_device.proofs.Elapsing.{called_self}
 use Rattle.worm_device.proofs.Resting.{rests_of, viewed_self, viewed_then}
+use Rattle.commit_record.specs.Stamps.{IsStampOrNone, ReadsStamp}
 use Rattle.document_store.specs.Looks.{IsPartOf, IsUndone, LookFails, PartEnds}
 use Rattle.document_store.specs.declared.part.Part.{Part}
 use Rattle.identifier_lookup.specs.Walks.{IsWalkRule, WalkFails}
 use Rattle.identifier_lookup.proofs.Licence.{names_licensed}
 use Rattle.recovery_engine.specs.declared.settling.Ready.{Ready}
 use Rattle.ingest_engine.specs.Indexing.{LooksPast, PastEnds, ReadsOnDevice}
-use Rattle.ingest_engine.specs.Stamps.{AddEnds, AddsStamp, AreUpTo, IsOneBelow, IsStampBelow, IsStampFound, IsStampIn, IsUpTo, PastLast, ReadsStamps, StampsEnd, StampsSoFar}
+use Rattle.ingest_engine.specs.Stamps.{AddEnds, AddsStamp, AreUpTo, IsOneBelow, IsStampBelow, IsUpTo, PastLast, ReadsStamps, StampsEnd, StampsSoFar}
 
 -- what is up to one is up to another that this one is up to
 up_to_then : (first mid last : Option ℕ) → IsUpTo first mid → IsUpTo mid last → IsUpTo first last
@@ -107,18 +102,17 @@ module _ (g : Layout) (n : ℕ) (greatest : Option ℕ) where
       → AddsStamp g n greatest old new (Err fault)
   unasked viewed fault ends = record { viewed = viewed; ends = look_fails g n viewed fault ends }
 
-  -- or none at its spare cell
-  pub unseen : {old mid new : ViewState} {part : Part} → Viewed old mid → PartEnds g n old mid (Ok (Some part))
-      → Viewed mid new → Rose mid.base.faults new.base.faults → AddsStamp g n greatest old new (Err faults.Failed)
-  unseen first part second rose = record {
-    viewed = viewed_then first second;
-    ends = λ horizon edge. omega (arith, rose, part.2);
+  -- or its stamp could not be read
+  pub unread : {old mid new : ViewState} {part : Part} {failed : Failed} → Viewed old mid → PartEnds g n old mid (Ok (Some part))
+      → ReadsStamp n mid new (Err failed) → AddsStamp g n greatest old new (Err faults.Failed)
+  unread first part reads = record {
+    viewed = viewed_then first reads.viewed;
+    ends = λ horizon edge. omega (arith, reads.ends, part.2);
   }
 
-  module _ {old mid new : ViewState} (at : ℕ) (part : Part) (first : Viewed old mid)
-      (is : PartEnds g n old mid (Ok (Some part))) (second : Viewed mid new) (at_is : at ≡ spare_at n) (found : Found)
-      (seen : LookEnds at mid new (Ok found)) (stamp last : Option ℕ) (stamped : IsStampFound found stamp)
-      (up : IsUpTo greatest last) (up' : IsUpTo stamp last) (either : (last ≡ greatest) ⊎ (last ≡ stamp)) where
+  module _ {old mid new : ViewState} (part : Part) (first : Viewed old mid) (is : PartEnds g n old mid (Ok (Some part)))
+      (stamp last : Option ℕ) (reads : ReadsStamp n mid new (Ok stamp)) (up : IsUpTo greatest last)
+      (up' : IsUpTo stamp last) (either : (last ≡ greatest) ⊎ (last ≡ stamp)) where
     told : IsTrue old.base.tells → IsTrue mid.base.tells
     told tells = subst IsTrue (sym first.called.tells) tells
 
@@ -132,63 +126,30 @@ module _ (g : Layout) (n : ℕ) (greatest : Option ℕ) where
           journal = part.journal;
           done = there.done;
         } in
-        done_slot_on second.image second.image d
+        done_slot_on reads.viewed.image reads.viewed.image d
 
-    stamps : (a b : ℕ) → Stamp a ≡ Stamp b → a ≡ b
-    stamps a b e = cc
-
-    -- a stamp that stands in the spare cell is the one that was found
-    found_is : (found : Found) → LookEnds at mid new (Ok found) → (stamp : Option ℕ) → IsStampFound found stamp
-        → IsTrue mid.base.tells → (seconds : ℕ) → HasStamp new.image n seconds → stamp ≡ Some seconds
-    found_is Blank ends stamp is tells seconds has =
-        absurd (none-some has.cell (sym (ends.2 tells) ∙ ap new.image at_is ∙ has.stands))
-    found_is (Stray cell) ends stamp is tells seconds has =
-        let here : Holds new.image at (Stamp seconds) =
-        subst (λ (c : ℕ). Holds new.image c (Stamp seconds)) (sym at_is) has in
-        let sees = ends.2 tells in
-        absurd (sees.1 (Stamp seconds)
-        (subst (λ (v : List ℕ). IsRecordCell (Stamp seconds) at v)
-        (some_is here.cell cell (sym here.stands ∙ sees.0)) here.is))
-    found_is (Record cell held) ends None is tells seconds has =
-        let here : Holds new.image at (Stamp seconds) =
-        subst (λ (c : ℕ). Holds new.image c (Stamp seconds)) (sym at_is) has in
-        let sees = ends.2 tells in
-        absurd (is seconds (one_record_holds new.image at held (Stamp seconds)
-        (record { cell = cell; stands = sees.0; is = sees.1 }) here))
-    found_is (Record cell held) ends (Some other) is tells seconds has =
-        let here : Holds new.image at (Stamp seconds) =
-        subst (λ (c : ℕ). Holds new.image c (Stamp seconds)) (sym at_is) has in
-        let sees = ends.2 tells in
-        ap Some (stamps other seconds (sym is ∙ one_record_holds new.image at held (Stamp seconds)
-        (record { cell = cell; stands = sees.0; is = sees.1 }) here))
-
-    -- and one that was found stands there
-    found_stands : (found : Found) → LookEnds at mid new (Ok found) → (stamp : Option ℕ) → IsStampFound found stamp
-        → IsTrue mid.base.tells → (seconds : ℕ) → stamp ≡ Some seconds → HasStamp new.image n seconds
-    found_stands Blank ends stamp is tells seconds given = absurd (none-some seconds (sym is ∙ given))
-    found_stands (Stray cell) ends stamp is tells seconds given = absurd (none-some seconds (sym is ∙ given))
-    found_stands (Record cell held) ends None is tells seconds given = absurd (none-some seconds given)
-    found_stands (Record cell held) ends (Some other) is tells seconds given =
-        let sees = ends.2 tells in
-        subst (λ (c : ℕ). Holds new.image c (Stamp seconds)) at_is
-        (subst (λ (r : RecordCell). Holds new.image at r) (is ∙ ap Stamp (some_seconds other seconds given))
-        (record { cell = cell; stands = sees.0; is = sees.1 }))
+    -- a stamp that the slot has is the one that was read
+    read_is : (stamp : Option ℕ) → IsStampOrNone new.image n stamp → (seconds : ℕ) → HasStamp new.image n seconds
+        → stamp ≡ Some seconds
+    read_is None none seconds has = absurd (none seconds has)
+    read_is (Some other) there seconds has =
+        ap Some (stamps other seconds (one_record_holds new.image (spare_at n) (Stamp other) (Stamp seconds) there has))
       where
-        some_seconds : (a b : ℕ) → Some a ≡ Some b → a ≡ b
-        some_seconds a b e = cc
+        stamps : (a b : ℕ) → Stamp a ≡ Stamp b → a ≡ b
+        stamps a b e = cc
 
     pub is_done : AddsStamp g n greatest old new (Ok last)
     is_done = record {
-      viewed = viewed_then first second;
+      viewed = viewed_then first reads.viewed;
       ends = (
-        seen.1 ∙ is.2,
+        reads.ends.0 ∙ is.2,
         up,
         λ tells. (
           λ m seconds from below done has.
               let same : m ≡ n = omega (arith, from, below) in
               let here : HasStamp new.image n seconds =
-              subst (λ (k : ℕ). HasStamp new.image k seconds) same (holds_on second.image (holds_on first.image has)) in
-              subst (λ (s : Option ℕ). IsUpTo s last) (found_is found seen stamp stamped (told tells) seconds here) up',
+              subst (λ (k : ℕ). HasStamp new.image k seconds) same (holds_on reads.viewed.image (holds_on first.image has)) in
+              subst (λ (s : Option ℕ). IsUpTo s last) (read_is stamp (reads.ends.1 (told tells)) seconds here) up',
           ⊎_elim inl (λ (other : last ≡ stamp). found_one tells last stamp other refl refl) either,
         ),
       );
@@ -207,7 +168,7 @@ module _ (g : Layout) (n : ℕ) (greatest : Option ℕ) where
           seconds,
           sym is_last ∙ same,
           done_now tells,
-          found_stands found seen stamp stamped (told tells) seconds (sym is_stamp),
+          subst (λ (s : Option ℕ). IsStampOrNone new.image n s) (sym is_stamp) (reads.ends.1 (told tells)),
         )
 
 module _ (g : Layout) (n : ℕ) where

@@ -2,15 +2,11 @@
 use Rattle.std.specs.Prelude.{◌≡◌, ◌<◌, ◌≤◌, ◌+◌, ◌⊎◌, ℕ, List, Option, None, Some, Result, Ok, Err, IsTrue, ⊤}
 use Rattle.cell_types.specs.Image.{Image}
 use Rattle.cell_types.specs.Layout.{Layout}
-use Rattle.cell_types.specs.declared.record_cell.RecordCell.{RecordCell}
-use Rattle.cell_types.specs.declared.record_cell.RecordCell.TheVariants.{Stamp}
 use Rattle.cell_types.specs.declared.refusal.Fault.{Fault}
 use Rattle.cell_types.specs.declared.refusal.Refusal.{Refusal}
 use Rattle.cell_types.specs.declared.refusal.Refusal.TheVariants.{StampTooEarly}
 use Rattle.stored_documents.specs.Slots.{HasStamp, IsDoneSlot}
 use Rattle.worm_device.specs.Views.{ViewState, Viewed}
-use Rattle.worm_device.specs.declared.looks.Found.{Found}
-use Rattle.worm_device.specs.declared.looks.Found.TheVariants.{Blank, Record, Stray}
 use Rattle.identifier_lookup.specs.Walks.{WalkFails}
 
 -- a done slot below n has this stamp
@@ -46,17 +42,6 @@ abbrev pub GreatestStampsAreOne : Type 0
 GreatestStampsAreOne =
     (g : Layout) (image : Image) (n one other : ℕ) → IsGreatestStamp g image n one → IsGreatestStamp g image n other
     → one ≡ other
-
--- the record is this stamp, or none
-abbrev pub IsStampIn : RecordCell → Option ℕ → Type 0
-IsStampIn held None = (seconds : ℕ) → held ≡ Stamp seconds → ⊥
-IsStampIn held (Some seconds) = held ≡ Stamp seconds
-
--- what was found is this stamp, or none
-abbrev pub IsStampFound : Found → Option ℕ → Type 0
-IsStampFound Blank stamp = stamp ≡ None
-IsStampFound (Stray cell) stamp = stamp ≡ None
-IsStampFound (Record cell held) stamp = IsStampIn held stamp
 
 -- How reading the stamps of the done slots below n may end, and why. The greatest is told: one of them has it, and none had
 -- a greater one.

@@ -13,16 +13,17 @@ use worm_device::Device;
 
 /// Settles the volume, and stores the document in the slot at its horizon, with an index that leads to it, unless the
 /// index leads to a document with the identifier already. Answers the slot, in which it is sure then, and which no
-/// later write of anybody can hide. On a volume of stamped documents it has this stamp, in seconds. All memory is taken before the first cell is written.
+/// later write of anybody can hide. On a volume of stamped documents it has this stamp, in seconds. All memory is taken
+/// before the first cell is written.
 ///
 /// # Errors
 ///
 /// `NoMemory`; `NotFormatted`, `NotAVolume` and `WrongSize` by cell 0; `StampNeeded` where documents are stamped and no
-/// stamp is given, `StampUnused` where they are not and one is; `SlotsFull` where the last slot is taken,
-/// whatever stands before it; `StampTooEarly` where the stamp is not past those of the done slots; `Duplicate` with the slot that the identifier's path leads to; `PathFull` where each of
-/// the path's 64 buckets is another's; `TooManyTerms` where the body gives a list more than 256 postings; `Full` where
-/// the document and its index need more cells than are free; `Tampered` where a cell on the way breaks a rule, or one
-/// that is to be written is taken; `DeviceFault`.
+/// stamp is given, `StampUnused` where they are not and one is; `SlotsFull` where the last slot is taken, whatever stands
+/// before it; `StampTooEarly` where the stamp is not past those of the done slots; `Duplicate` with the slot that the
+/// identifier's path leads to; `PathFull` where each of the path's 64 buckets is another's; `TooManyTerms` where the body
+/// gives a list more than 256 postings; `Full` where the document and its index need more cells than are free;
+/// `Tampered` where a cell on the way breaks a rule, or one that is to be written is taken; `DeviceFault`.
 pub fn ingest<D: Device>(
     alloc: Global,
     device: &mut D,

@@ -2,12 +2,13 @@
 ghost use Rattle.std.specs.Prelude.{◌≡◌, ◌<◌, ◌≤◌, ◌⊎◌};
 ghost use Rattle.recovery_engine.specs.Settling.{LiesInBounds};
 ghost use Rattle.ingest_engine.specs.Indexing.{LooksPast, ReadsOnDevice};
-ghost use Rattle.ingest_engine.specs.Stamps.{AddsStamp, IsStampFound, IsStampIn, IsUpTo, PastLast, ReadsStamps};
+ghost use Rattle.ingest_engine.specs.Stamps.{AddsStamp, IsUpTo, PastLast, ReadsStamps};
 
-use cell_types::{Fault, RecordCell, Refusal, Volume};
+use cell_types::{Fault, Refusal, Volume};
+use commit_record::stamp_of;
 use document_store::slot_part;
 use recovery_engine::Ready;
-use worm_device::{Device, Direct, Found, View, look};
+use worm_device::{Device, Direct, View};
 
 /// That the stamp, if one is given, is past that of each done slot below the horizon. The slots are read from the greatest
 /// down, where a stamp is given alone.
@@ -67,29 +68,8 @@ fn with_slot<V: View>(
     let Some(_part) = slot_part(view, volume, slot)? else {
         return Ok(greatest);
     };
-    let found = look(view, volume.geometry.spare_at(slot))?;
-    Ok(later_of(greatest, stamp_found(found)))
-}
-
-/// The stamp that was found in a cell, if it is one.
-fn stamp_found(found: Found) -> Option<u32>
-    ensures { IsStampFound found result }
-{
-    match found {
-        Found::Blank => None,
-        Found::Stray(_cell) => None,
-        Found::Record(_cell, held) => stamp_in(held),
-    }
-}
-
-/// The stamp that this record is.
-fn stamp_in(held: RecordCell) -> Option<u32>
-    ensures { IsStampIn held result }
-{
-    let RecordCell::Stamp { seconds } = held else {
-        return None;
-    };
-    Some(seconds)
+    let stamp = stamp_of(view, volume, slot)?;
+    Ok(later_of(greatest, stamp))
 }
 
 /// The later one of two stamps.

@@ -27,7 +27,7 @@ some_one a b e = cc
 pub probe_fault : (r : Reach) (list key : ℕ) (old new : ViewState) (fault : Fault) → list < r.volume.geometry.lists
     → FindsGeq (within r) (head_of r list) key old new (Err fault) → Probes r list key old new (Err fault)
 probe_fault r list key old new fault less found =
-    record { viewed = found.viewed; ends = find_fault r list key old new fault less found }
+    record { viewed = found.viewed; ends = find_fault r list key old new fault (omega (arith, less)) found }
 
 -- The ordinals from low up to high are left: where the slot must not be passed, the term's is one of them.
 pub record HasSoFar (r : Reach) (term : SoughtTerm) (slot : ℕ) (old new : ViewState) (low high : ℕ) : Type 0 where

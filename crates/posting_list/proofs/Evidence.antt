@@ -4,7 +4,7 @@ use Rattle.std.specs.Prelude.{IsTrue}
 use Rattle.std.proofs.lemmas.Bool.{cases_lt}
 use Rattle.std.proofs.lemmas.Option.{none-some}
 use Rattle.cell_types.specs.Image.{Image, Extends, IsUnchanged}
-use Rattle.cell_types.specs.Layout.{Layout, pool_at, reserve_at, outcome_at, done_at}
+use Rattle.cell_types.specs.Layout.{Layout, all_lists, pool_at, reserve_at, outcome_at, done_at}
 use Rattle.cell_types.specs.declared.record_cell.RecordCell.TheVariants.{Abandon, Commit}
 use Rattle.cell_types.specs.declared.refusal.Fault.{Fault}
 use Rattle.cell_types.specs.declared.refusal.Fault.TheVariants.{Tampered, Failed}
@@ -65,7 +65,7 @@ within_edge r cells image volume reach =
       whole a b le = omega (arith, le)
 
 -- a search's fault
-pub find_fault : (r : Reach) (list x : ℕ) (old new : ViewState) (fault : Fault) → list < r.volume.geometry.lists
+pub find_fault : (r : Reach) (list x : ℕ) (old new : ViewState) (fault : Fault) → list < all_lists r.volume.geometry
     → FindsGeq (within r) (head_of r list) x old new (Err fault) → FaultSays r old new fault
 find_fault r list x old new Failed less found = found.ends
 find_fault r list x old new (Tampered e) less found = (
@@ -74,13 +74,13 @@ find_fault r list x old new (Tampered e) less found = (
       record {
         rule = inr (inr (inr (inr found.ends.0)));
         stands = licence.stands;
-        place = λ pool. licence.place r.volume.geometry list (omega (arith, less)) refl pool (omega arith);
+        place = λ pool. licence.place r.volume.geometry list less refl pool (omega arith);
       },
   λ still tells.
       let licence = found.ends.1 (told_before found.viewed tells) in
       record {
         stands = licence.stands;
-        broken = λ volume reach. licence.broken r.volume.geometry list volume (omega (arith, less)) refl reach.pool
+        broken = λ volume reach. licence.broken r.volume.geometry list volume less refl reach.pool
             (within_edge r new.cells new.image volume reach);
       },
 )
@@ -209,68 +209,77 @@ entry_on x behind = record {
   in_front = front_on x behind.in_front;
 }
 
--- a posting of a list is false where its slot is not live
-not_true : (r : Reach) (list : ℕ) (e : Entry) (image : Image) → list < r.volume.geometry.lists
-    → r.bounds.pool ≡ pool_at r.volume.geometry → IsEntryBehind (within r) image (head_of r list) e
-    → (IsLive r.volume.geometry image (e.key / 256) → ⊥)
-    → ((l block place : ℕ) (p : PostingFields) → IsBlockOf r.volume.geometry image l block → place < 128
-    → cell_of e ≡ block + place → Holds image (cell_of e) (posting_record p)
-    → IsTruePosting r.volume.geometry image l p) → ⊥
-not_true r list e image less pool behind dead met =
-    let block : IsBlockOf r.volume.geometry image list e.block = record {
-      list = omega (arith, less);
-      leads = leads_wider (pool_at r.volume.geometry) r.volume.geometry.cells (omega (arith, pool)) (omega arith)
-          behind.leads;
-    } in
-    let t = met list e.block e.place (posting_of e) block behind.place refl (front_holds behind.in_front) in
-    let slot = word_slot r.volume.geometry t.body t.slot list (posting_of e) t.postings
-    (of_word r.volume.geometry t.stamp t.body t.slot list (posting_of e) less t.is) in
-    dead (subst (λ (n : ℕ). IsLive r.volume.geometry image n) (sym slot) t.live)
+-- A posting of a list is named that is none of a live slot's document.
+module _ (r : Reach) (list : ℕ) (e : Entry) (less : list < all_lists r.volume.geometry) where
+  not_met : (image : Image) → r.bounds.pool ≡ pool_at r.volume.geometry
+      → IsEntryBehind (within r) image (head_of r list) e
+      → (IsTruePosting r.volume.geometry image list (posting_of e) → ⊥)
+      → ((l block place : ℕ) (p : PostingFields) → IsBlockOf r.volume.geometry image l block → place < 128
+      → cell_of e ≡ block + place → Holds image (cell_of e) (posting_record p)
+      → IsTruePosting r.volume.geometry image l p) → ⊥
+  not_met image pool behind untrue met =
+      let block : IsBlockOf r.volume.geometry image list e.block = record {
+        list = less;
+        leads = leads_wider (pool_at r.volume.geometry) r.volume.geometry.cells (omega (arith, pool)) (omega arith)
+            behind.leads;
+      } in
+      untrue (met list e.block e.place (posting_of e) block behind.place refl (front_holds behind.in_front))
 
--- it is named, where its slot was seen not to be live
+  module _ (old mid new : ViewState) (first : Viewed old mid) (second : Viewed mid new)
+      (behind : IsTrue old.base.tells → IsEntryBehind (within r) mid.image (head_of r list) e)
+      (untrue : IsStill mid.base.foreign_writes new.base.foreign_writes → IsTrue new.base.tells
+      → IsHorizon r.volume.geometry new.image new.image r.horizon
+      → IsTruePosting r.volume.geometry new.image list (posting_of e) → ⊥) where
+    pub false_named : (fault : Fault) → IsFalsePosting e fault → FaultSays r old new fault
+    false_named Failed names = absurd names
+    false_named (Tampered f) names = (
+      λ tells. record {
+        rule = inr (inr (inr (inl names.0)));
+        stands = stands tells;
+        place = λ pool. (Postings, names.0, place tells pool);
+      },
+      λ still tells. record { stands = stands tells; broken = broken still tells },
+    ) where
+      there : IsTrue new.base.tells → IsEntryBehind (within r) new.image (head_of r list) e
+      there tells = entry_on second.image (behind (told_before first (told_before second tells)))
+
+      stands : IsTrue new.base.tells → new.image f.cell ≡ Some f.found
+      stands tells =
+          let holds = front_holds (there tells).in_front in
+          ap new.image names.1 ∙ holds.stands ∙ ap (λ (c : List ℕ). Some c) (holds.is.same ∙ sym names.2)
+
+      place : (tells : IsTrue new.base.tells) → (pool : r.bounds.pool ≡ pool_at r.volume.geometry)
+          → IsPlace r.volume.geometry Postings f.cell
+      place tells pool = in_place r.volume.geometry new.image list r.bounds.pool (within r).edge (head_of r list)
+          e.block e.place f.cell less refl pool (omega arith) (there tells).leads (omega (arith, (there tells).place))
+          names.1
+
+      broken : IsStill old.base.foreign_writes new.base.foreign_writes → IsTrue new.base.tells
+          → IsVolume new.cells new.image r.volume.geometry → IsReachOf r new.image
+          → IsBroken new.cells new.image f.rule f.cell
+      broken still tells volume reach = record {
+        layout = r.volume.geometry;
+        volume = volume;
+        rule = Postings;
+        named = names.0;
+        place = place tells reach.pool;
+        written = record { found = f.found; stands = stands tells };
+        not_met = λ met. not_met new.image reach.pool (there tells)
+            (untrue (still_second first.called.foreign_writes second.called.foreign_writes still) tells reach.horizon)
+            (λ l block at p of less_place cell holds. met l block at p of less_place (names.1 ∙ cell)
+            (subst (λ n. Holds new.image n (posting_record p)) (sym names.1) holds));
+      }
+
+-- so is a posting of a word whose slot was seen not to be live
 pub false_posting : (r : Reach) (list : ℕ) (e : Entry) (old mid new : ViewState) (fault : Fault)
     → list < r.volume.geometry.lists → Viewed old mid
     → (IsTrue old.base.tells → IsEntryBehind (within r) mid.image (head_of r list) e)
     → LooksLive r (e.key / 256) mid new (Ok false) → IsFalsePosting e fault → FaultSays r old new fault
-false_posting r list e old mid new Failed less viewed behind dead names = absurd names
-false_posting r list e old mid new (Tampered f) less viewed behind dead names = (
-  λ tells. record {
-    rule = inr (inr (inr (inl names.0)));
-    stands = stands tells;
-    place = λ pool. (Postings, names.0, place tells pool);
-  },
-  λ still tells. record { stands = stands tells; broken = broken still tells },
-) where
-  early : IsTrue new.base.tells → IsTrue old.base.tells
-  early tells = told_before viewed (told_before dead.viewed tells)
-
-  there : IsTrue new.base.tells → IsEntryBehind (within r) new.image (head_of r list) e
-  there tells = entry_on dead.viewed.image (behind (early tells))
-
-  stands : IsTrue new.base.tells → new.image f.cell ≡ Some f.found
-  stands tells =
-      let holds = front_holds (there tells).in_front in
-      ap new.image names.1 ∙ holds.stands ∙ ap (λ (c : List ℕ). Some c) (holds.is.same ∙ sym names.2)
-
-  place : (tells : IsTrue new.base.tells) → (pool : r.bounds.pool ≡ pool_at r.volume.geometry)
-      → IsPlace r.volume.geometry Postings f.cell
-  place tells pool = in_place r.volume.geometry new.image list r.bounds.pool (within r).edge (head_of r list) e.block
-      e.place f.cell (omega (arith, less)) refl pool (omega arith) (there tells).leads
-      (omega (arith, (there tells).place)) names.1
-
-  broken : IsStill old.base.foreign_writes new.base.foreign_writes → IsTrue new.base.tells
-      → IsVolume new.cells new.image r.volume.geometry → IsReachOf r new.image
-      → IsBroken new.cells new.image f.rule f.cell
-  broken still tells volume reach = record {
-    layout = r.volume.geometry;
-    volume = volume;
-    rule = Postings;
-    named = names.0;
-    place = place tells reach.pool;
-    written = record { found = f.found; stands = stands tells };
-    not_met = λ met. not_true r list e new.image less reach.pool (there tells)
-        (dead.ends (told_before dead.viewed tells)
-        (still_second viewed.called.foreign_writes dead.viewed.called.foreign_writes still) reach.horizon)
-        (λ l block at p of less_place cell holds. met l block at p of less_place (names.1 ∙ cell)
-        (subst (λ n. Holds new.image n (posting_record p)) (sym names.1) holds));
-  }
+false_posting r list e old mid new fault less viewed behind dead names =
+    false_named r list e (omega (arith, less)) old mid new viewed dead.viewed behind
+    (λ still tells horizon t.
+    let slot = word_slot r.volume.geometry t.body t.slot list (posting_of e) t.postings
+    (of_word r.volume.geometry t.stamp t.body t.slot list (posting_of e) less t.is) in
+    dead.ends (told_before dead.viewed tells) still horizon
+    (subst (λ (n : ℕ). IsLive r.volume.geometry new.image n) (sym slot) t.live))
+    fault names

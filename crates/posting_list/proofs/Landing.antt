@@ -50,7 +50,7 @@ module _ (r : Reach) (term : SoughtTerm) (from : ℕ) (old mid new : ViewState)
       → NextSlot r term from old new (Err fault)
   next_fault fault found = record {
     viewed = found.viewed;
-    ends = find_fault r term.list (256 * from) old new fault less found;
+    ends = find_fault r term.list (256 * from) old new fault (omega (arith, less)) found;
   }
 
   pub next_none : FindsGeq (within r) (head_of r term.list) (256 * from) old new (Ok None)

@@ -6,7 +6,7 @@ ghost use Rattle.posting_list.specs.Keeping.{KeepsFronts};
 ghost use Rattle.posting_list.specs.Searches.{HasSlot, Probes};
 ghost use Rattle.posting_list.specs.declared.has_slot.TheConstants.{HAS_READS};
 
-use crate::next_slot::find;
+use crate::search::find_in_list;
 use crate::{Reach, SoughtTerm};
 use byteorder::{BigEndian, ByteOrder};
 use cell_types::Fault;
@@ -45,7 +45,7 @@ fn probe<V: View>(
     ensures reads { (V.seen view.new).base.reads ≤ (V.seen view.old).base.reads + 4096 }
     ensures probes { Probes reach.now list key (V.seen view.old) (V.seen view.new) result }
 {
-    let found = find(view, fronts, reach, list, key)?;
+    let found = find_in_list(view, fronts, reach, list, key)?;
     let Some(entry) = found else {
         return Ok(None);
     };

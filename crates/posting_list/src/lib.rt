@@ -26,28 +26,33 @@
 //! ghost field says that what the view shows has them.
 //!
 //! **What it costs** is counted: how often a list was asked for its next slot, and how often whether it has one. The
-//! slots of any one term's postings bound what a join asks for. An ask for a next slot makes at most 4,099 reads, and
+//! slots of any one term's postings bound what a join asks for. An ask for a next slot makes at most 4,100 reads, and
 //! one whether a list has a slot at most 36,864: nine searches of 4,096. So to gather the slots that T terms have in
-//! common makes at most `T * (4,099 * (2 * m + 1) + 36,864 * m)` reads, where any one term's postings are of m slots.
+//! common makes at most `T * (4,100 * (2 * m + 1) + 36,864 * m)` reads, where any one term's postings are of m slots.
 //!
 //! Stands on `jump_index` (the search of a list), `term_tags` (tags and lists) and `commit_record` (a slot's state),
-//! and implements `Lists` of `zigzag_join`. Begin with `joined.rt`, then `next_slot.rt` and `has_slot.rt`;
-//! specs/Owing.antt says what must not be passed, and specs/Naming.antt what is evidence.
+//! and implements `Lists` of `zigzag_join`. Begin with `joined.rt`, then `next_slot.rt` and `has_slot.rt`, and `search.rt`
+//! and `live.rt` below, which serve each list, that of times too; specs/Owing.antt says what must not be passed, and
+//! specs/Naming.antt what is evidence.
 #![tactic(auto)]
 
 mod has_slot;
 mod joined;
 mod laws;
+mod live;
 mod next_slot;
 mod reach;
+mod search;
 mod sought_term;
 mod sought_terms;
 mod term_lists;
 
 pub use has_slot::HAS_READS;
 pub use laws::kept_are_owed;
+pub use live::{false_posting, is_live};
 pub use next_slot::NEXT_READS;
 pub use reach::Reach;
+pub use search::find_in_list;
 pub use sought_term::SoughtTerm;
 pub use sought_terms::SoughtTerms;
 pub use term_lists::TermLists;

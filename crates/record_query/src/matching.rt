@@ -1,12 +1,12 @@
 //! The document of one slot, read once while words are sought in it.
-ghost use Rattle.std.specs.Prelude.{◌≡◌, ◌<◌, ◌≤◌, ◌+◌, [], ℕ, List, IfOk, IsTrue, take, length};
+ghost use Rattle.std.specs.Prelude.{◌≡◌, ◌<◌, ◌≤◌, ◌+◌, [], ℕ, List, IsTrue};
 ghost use Rattle.stored_documents.specs.Slots.{cells_for};
 ghost use Rattle.stored_documents.specs.Words.{rule_of};
 ghost use Rattle.stored_documents.specs.declared.word_rules.WordRule.{WordRule};
 ghost use Rattle.worm_device.specs.Views.{Viewed};
 ghost use Rattle.append_file.specs.Reading.{IsPosition};
 ghost use Rattle.word_reader.specs.Matching.{HasPushed};
-ghost use Rattle.document_store.specs.Heads.{IsHead, id_of};
+ghost use Rattle.document_store.specs.Heads.{IsHead};
 ghost use Rattle.document_store.specs.Looks.{IsPartOf, IsStated, ReadsOnce};
 ghost use Rattle.record_query.specs.Matching.{IsMatcherOf, KeepsTerms, MatchEnds, PushNextEnds, SeekEnds, SlotEnds, seek_fault_of};
 ghost use Rattle.record_query.specs.declared.matching.SeekFault.TheVariants as seeks;
@@ -14,10 +14,10 @@ ghost use Rattle.record_query.specs.declared.matching.SeekFault.TheVariants as s
 use crate::found::Match;
 use cell_types::{Geometry, NoMemory, Refusal, Volume};
 use document_store::{
-    ContentFault, Head, Part, Position, ROW_BYTES, Text, name_commit, next_row, read_head,
-    slot_part,
+    ContentFault, Head, Part, Position, ROW_BYTES, identifier_of_head, name_commit, next_row,
+    read_head, slot_part,
 };
-use std::alloc::{AllocError, Global};
+use std::alloc::Global;
 use word_reader::Matcher;
 use worm_device::View;
 
@@ -108,16 +108,6 @@ fn match_part<V: View>(
         identifier,
         bytes: head.body_length,
     }))
-}
-
-/// The identifier of a document, by its head.
-fn identifier_of_head(alloc: Global, head: &Head) -> Result<Text, AllocError>
-    requires { head.now.id_length ≤ length head.now.id }
-    ensures { IfOk result (λ text. text ≡ id_of head.now) }
-{
-    let mut bytes = Vec::new(alloc);
-    bytes.extend_from_slice(&head.id[..usize::from(head.id_length)])?;
-    Ok(Text::new(bytes))
 }
 
 /// Reads a document, each cell of it once, and answers its head where each term of the matcher is among its words.

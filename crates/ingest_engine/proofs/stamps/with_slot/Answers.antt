@@ -17,7 +17,6 @@ returns-in_default g c =
 
 pub returns : goal.returns
 returns g c =
-    is_done c.args.volume.now.geometry c.args.slot c.args.greatest _ c.in-Some._part c.slot_part.ensures.viewed
-    (rw c.in-Some.is at c.in_ok-_part.ensures.ends) c.look.ensures.viewed c.spare_at.ensures.at c.in_ok-found.found
-    c.in_ok-found.ensures.ends c.stamp_found.result c.later_of.result c.stamp_found.ensures c.later_of.ensures.first
-    c.later_of.ensures.second c.later_of.ensures.either
+    is_done c.args.volume.now.geometry c.args.slot c.args.greatest c.in-Some._part c.slot_part.ensures.viewed
+    (rw c.in-Some.is at c.in_ok-_part.ensures.ends) c.in_ok-stamp.stamp c.later_of.result c.in_ok-stamp.ensures
+    c.later_of.ensures.first c.later_of.ensures.second c.later_of.ensures.either

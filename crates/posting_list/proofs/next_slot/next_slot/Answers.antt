@@ -8,46 +8,46 @@ use Rattle.posting_list.proofs.next_slot.next_slot.Goals as goal
 pub returns-in_err-found-clause-next : goal.returns-in_err-found-clause-next
 returns-in_err-found-clause-next g c =
     rw (handed c.from_residual.result c.in_err-found.field-0.0 c.from_residual.ensures.1)
-    (let s = g.V.View.seen c.find.new.view in
+    (let s = g.V.View.seen c.find_in_list.new.view in
     next_fault c.args.reach.now c.args.term.now c.args.from _ s s c.requires.list c.in_err-found.field-0.0
     c.in_err-found.ensures.finds)
 
 -- it finds no posting
 pub returns-in_default-clause-next : goal.returns-in_default-clause-next
 returns-in_default-clause-next g c =
-    let s = g.V.View.seen c.find.new.view in
+    let s = g.V.View.seen c.find_in_list.new.view in
     next_none c.args.reach.now c.args.term.now c.args.from _ s s c.requires.list
     (rw c.in_default.is at c.in_ok-found.ensures.finds)
 
 -- the slot's cells give no answer
 pub returns-in_err-live-clause-kept : goal.returns-in_err-live-clause-kept
-returns-in_err-live-clause-kept g c = keeps_on c.find.new.fronts _ _ c.is_live.ensures.live.viewed c.find.ensures.kept
+returns-in_err-live-clause-kept g c = keeps_on c.find_in_list.new.fronts _ _ c.is_live.ensures.live.viewed c.find_in_list.ensures.kept
 
 pub returns-in_err-live-clause-next : goal.returns-in_err-live-clause-next
 returns-in_err-live-clause-next g c =
     rw (handed c.from_residual-in_err-live.result c.in_err-live.field-0.0 c.from_residual-in_err-live.ensures.1)
     (next_live_fault c.args.reach.now c.args.term.now c.args.from (g.V.View.seen c.args.view.now)
-    (g.V.View.seen c.find.new.view) (g.V.View.seen c.is_live.new.view) c.requires.list c.in-Some.entry
+    (g.V.View.seen c.find_in_list.new.view) (g.V.View.seen c.is_live.new.view) c.requires.list c.in-Some.entry
     (rw c.in-Some.is at c.in_ok-found.ensures.finds) c.in_err-live.field-0.0 c.in_err-live.ensures.live)
 
 -- the posting's slot is not live
 pub returns-then-not-live-clause-kept : goal.returns-then-not-live-clause-kept
-returns-then-not-live-clause-kept g c = keeps_on c.find.new.fronts _ _ c.is_live.ensures.live.viewed c.find.ensures.kept
+returns-then-not-live-clause-kept g c = keeps_on c.find_in_list.new.fronts _ _ c.is_live.ensures.live.viewed c.find_in_list.ensures.kept
 
 pub returns-then-not-live-clause-next : goal.returns-then-not-live-clause-next
 returns-then-not-live-clause-next g c =
     next_false c.args.reach.now c.args.term.now c.args.from (g.V.View.seen c.args.view.now)
-    (g.V.View.seen c.find.new.view) (g.V.View.seen c.is_live.new.view) c.requires.list c.in-Some.entry
-    (rw c.in-Some.is at c.in_ok-found.ensures.finds) c.not_live.result
-    (rw c.if-not-live.true at c.in_ok-live.ensures.live) c.not_live.ensures
+    (g.V.View.seen c.find_in_list.new.view) (g.V.View.seen c.is_live.new.view) c.requires.list c.in-Some.entry
+    (rw c.in-Some.is at c.in_ok-found.ensures.finds) c.false_posting.result
+    (rw c.if-not-live.true at c.in_ok-live.ensures.live) c.false_posting.ensures
 
 -- it is
 pub returns-clause-kept : goal.returns-clause-kept
-returns-clause-kept g c = keeps_on c.find.new.fronts _ _ c.is_live.ensures.live.viewed c.find.ensures.kept
+returns-clause-kept g c = keeps_on c.find_in_list.new.fronts _ _ c.is_live.ensures.live.viewed c.find_in_list.ensures.kept
 
 pub returns-clause-next : goal.returns-clause-next
 returns-clause-next g c =
     next_some c.args.reach.now c.args.term.now c.args.from (g.V.View.seen c.args.view.now)
-    (g.V.View.seen c.find.new.view) (g.V.View.seen c.is_live.new.view) c.requires.list c.in-Some.entry
+    (g.V.View.seen c.find_in_list.new.view) (g.V.View.seen c.is_live.new.view) c.requires.list c.in-Some.entry
     (rw c.in-Some.is at c.in_ok-found.ensures.finds) (search rules)
     (rw c.if-not-live.false at c.in_ok-live.ensures.live)

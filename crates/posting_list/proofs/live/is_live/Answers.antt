@@ -2,7 +2,7 @@
 use Rattle.std.proofs.Common.{arith}
 use Rattle.cell_types.proofs.Passed.{handed}
 use Rattle.posting_list.proofs.Evidence.{live_fault, live_not, live_state}
-use Rattle.posting_list.proofs.next_slot.is_live.Goals as goal
+use Rattle.posting_list.proofs.live.is_live.Goals as goal
 
 -- the slot is at or past the horizon
 pub returns-then-slot-min-clause-live : goal.returns-then-slot-min-clause-live
