@@ -2,6 +2,7 @@
 use Rattle.std.proofs.Common.{◌≡◌, ◌<◌, ◌≤◌, ◌+◌, ◌⊎◌, ⊎_elim, inl, inr, ℕ, List, Option, None, Some, Result, Ok, Err, refl, ap, sym, subst, arith, ◌∙◌}
 use Rattle.std.specs.Prelude.{IsTrue}
 use Rattle.std.proofs.lemmas.Bool.{cases_lt}
+use Rattle.std.proofs.lemmas.Option.{none-some}
 use Rattle.cell_types.specs.Image.{Image, IsUnchanged}
 use Rattle.cell_types.specs.Layout.{Layout, spare_at}
 use Rattle.cell_types.specs.declared.record_cell.RecordCell.TheVariants.{Stamp}
