@@ -7,10 +7,10 @@ use Rattle.cell_types.specs.Layout.{IsLayout, Layout, root_at}
 use Rattle.stored_documents.specs.Documents.{Document, Stands}
 use Rattle.stored_documents.specs.Volumes.{IsVolume}
 use Rattle.stored_documents.specs.Slots.{IsStampOf}
-use Rattle.stored_documents.proofs.Extending.{done_slot_on, holds_on, stands_on, volume_on}
+use Rattle.stored_documents.proofs.Extending.{done_slot_on, holds_on, volume_on}
 use Rattle.index_paths.specs.HashPaths.{IsPassed, PassedTo}
 use Rattle.index_paths.specs.Keeping.{IsKept, Kept, sought_in}
-use Rattle.index_paths.proofs.HashTrails.{hash_trail_on, passed_on, passed_to_on}
+use Rattle.index_paths.proofs.HashTrails.{passed_on, passed_to_on}
 use Rattle.index_paths.proofs.KeepingLaws.{is_kept_on}
 use Rattle.tamper_rules.proofs.DocumentLists.{only_one}
 use Rattle.tamper_rules.proofs.GivenUp.{one_layout}
@@ -23,7 +23,7 @@ use Rattle.hash_tree.specs.Steps.{IsOpenAt}
 use Rattle.hash_tree.specs.declared.level.Level.{Level}
 use Rattle.hash_insertion.specs.Readiness.{PassedDown}
 use Rattle.recovery_engine.specs.declared.settling.Ready.{Ready}
-use Rattle.identifier_lookup.specs.Walks.{EndsThere, HasTrail, IsPassedAbove, IsPassedUpToPlace, NoneHasTrail}
+use Rattle.identifier_lookup.specs.Walks.{EndsThere, IsPassedAbove, IsPassedUpToPlace}
 use Rattle.plan_writer.specs.Planned.{reserved_by}
 use Rattle.plan_writer.specs.PuttingPlans.{IsCarriedOut}
 use Rattle.plan_writer.specs.declared.plan.Plan.{Plan}

@@ -1,21 +1,18 @@
 -- The stamps of the done slots, read one after another, and what that says of a device.
-use Rattle.std.proofs.Common.{◌≡◌, ◌<◌, ◌≤◌, ◌+◌, ◌⊎◌, ⊎_elim, inl, inr, ℕ, List, Option, None, Some, Result, Ok, Err, refl, ap, sym, subst, arith, ◌∙◌}
+use Rattle.std.proofs.Common.{◌≡◌, ◌<◌, ◌≤◌, ◌+◌, ◌⊎◌, ⊎_elim, inl, inr, ℕ, Option, None, Some, Result, Ok, Err, refl, ap, sym, subst, arith, ◌∙◌}
 use Rattle.std.specs.Prelude.{IsTrue}
 use Rattle.std.proofs.lemmas.Bool.{cases_lt}
 use Rattle.std.proofs.lemmas.Option.{none-some}
-use Rattle.cell_types.specs.Image.{Image, IsUnchanged}
 use Rattle.cell_types.specs.Layout.{Layout, spare_at}
 use Rattle.cell_types.specs.declared.record_cell.RecordCell.TheVariants.{Stamp}
 use Rattle.cell_types.specs.declared.refusal.Fault.{Fault}
 use Rattle.cell_types.specs.declared.refusal.Fault.TheVariants as faults
 use Rattle.cell_types.specs.declared.refusal.Refusal.{Refusal}
-use Rattle.cell_types.specs.declared.refusal.Refusal.TheVariants.{DeviceFault, StampTooEarly, Tampered}
+use Rattle.cell_types.specs.declared.refusal.Refusal.TheVariants.{StampTooEarly}
 use Rattle.cell_types.specs.Refusals.{refusal_of_fault}
 use Rattle.stored_documents.specs.Slots.{HasStamp, IsDoneSlot}
 use Rattle.stored_documents.proofs.Extending.{done_slot_on, holds_on}
 use Rattle.stored_documents.proofs.Holding.{one_record_holds}
-use Rattle.worm_device.specs.Calls.{Called}
-use Rattle.worm_device.specs.Counts.{IsStill, Rose}
 use Rattle.worm_device.specs.State.{DeviceState}
 use Rattle.worm_device.specs.Views.{Viewed, ViewState, seen_directly}
 use Rattle.worm_device.specs.declared.device.Failed.{Failed}
@@ -23,13 +20,13 @@ use Rattle.worm_device.proofs.Counting.{still_second}
 use Rattle.worm_device.proofs.Elapsing.{called_self}
 use Rattle.worm_device.proofs.Resting.{rests_of, viewed_self, viewed_then}
 use Rattle.commit_record.specs.Stamps.{IsStampOrNone, ReadsStamp}
-use Rattle.document_store.specs.Looks.{IsPartOf, IsUndone, LookFails, PartEnds}
+use Rattle.document_store.specs.Looks.{LookFails, PartEnds}
 use Rattle.document_store.specs.declared.part.Part.{Part}
-use Rattle.identifier_lookup.specs.Walks.{IsWalkRule, WalkFails}
+use Rattle.identifier_lookup.specs.Walks.{WalkFails}
 use Rattle.identifier_lookup.proofs.Licence.{names_licensed}
 use Rattle.recovery_engine.specs.declared.settling.Ready.{Ready}
 use Rattle.ingest_engine.specs.Indexing.{LooksPast, PastEnds, ReadsOnDevice}
-use Rattle.ingest_engine.specs.Stamps.{AddEnds, AddsStamp, AreUpTo, IsOneBelow, IsStampBelow, IsUpTo, PastLast, ReadsStamps, StampsEnd, StampsSoFar}
+use Rattle.ingest_engine.specs.Stamps.{AddsStamp, AreUpTo, IsOneBelow, IsUpTo, PastLast, ReadsStamps, StampsEnd, StampsSoFar}
 
 -- what is up to one is up to another that this one is up to
 up_to_then : (first mid last : Option ℕ) → IsUpTo first mid → IsUpTo mid last → IsUpTo first last

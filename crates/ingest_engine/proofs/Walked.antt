@@ -1,8 +1,7 @@
 -- What a walk on the device, and then planning, say of the device.
-use Rattle.std.proofs.Common.{◌≡◌, ◌∙◌, ℕ, List, Option, None, Some, Result, Ok, Err, sym, subst, inl, inr, arith}
+use Rattle.std.proofs.Common.{◌≡◌, ◌∙◌, ℕ, List, Option, Result, Ok, Err, sym, subst, inl, inr, arith}
 use Rattle.std.specs.Prelude.{IsTrue}
 use Rattle.cell_types.specs.Image.{Image, IsUnchanged}
-use Rattle.cell_types.specs.Layout.{Layout}
 use Rattle.cell_types.specs.Refusals.{refusal_of_fault}
 use Rattle.cell_types.specs.declared.refusal.Fault.{Fault}
 use Rattle.cell_types.specs.declared.refusal.Fault.TheVariants as faults
@@ -21,7 +20,7 @@ use Rattle.recovery_engine.specs.declared.settling.Ready.{Ready}
 use Rattle.identifier_lookup.proofs.Loaned.{any_loan}
 use Rattle.stored_documents.proofs.Extending.{volume_on}
 use Rattle.stored_documents.specs.Volumes.{IsVolume}
-use Rattle.identifier_lookup.specs.Walks.{HasTrail, NoneHasTrail, WalkEnds}
+use Rattle.identifier_lookup.specs.Walks.{WalkEnds}
 use Rattle.identifier_lookup.specs.declared.answers.Walk.{Walk}
 use Rattle.identifier_lookup.specs.declared.answers.Walk.TheVariants as walks
 use Rattle.ingest_plan.specs.Planning.{IsLater, PlanEnds, PlansIndex}

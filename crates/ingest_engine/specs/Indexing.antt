@@ -1,6 +1,6 @@
 -- How the index of a document is planned on a volume that was settled: where the path of its identifier ends, and then
 -- which cells are planned.
-use Rattle.std.specs.Prelude.{◌≡◌, ◌<◌, ◌≤◌, ◌⊎◌, ℕ, List, Option, None, Some, Result, Ok, Err, IsTrue, ⊤}
+use Rattle.std.specs.Prelude.{◌≡◌, ◌≤◌, ◌⊎◌, ℕ, List, Option, Some, Result, Ok, Err, IsTrue, ⊤}
 use Rattle.cell_types.specs.Image.{IsUnchanged}
 use Rattle.cell_types.specs.declared.refusal.Evidence.{Evidence}
 use Rattle.cell_types.specs.declared.refusal.Fault.{Fault}
