@@ -15,7 +15,6 @@ use Rattle.stored_documents.proofs.Extending.{done_slot_on, holds_on}
 use Rattle.stored_documents.proofs.Holding.{one_record_holds}
 use Rattle.worm_device.specs.State.{DeviceState}
 use Rattle.worm_device.specs.Views.{Viewed, ViewState, seen_directly}
-use Rattle.worm_device.specs.declared.device.Failed.{Failed}
 use Rattle.worm_device.proofs.Counting.{still_second}
 use Rattle.worm_device.proofs.Elapsing.{called_self}
 use Rattle.worm_device.proofs.Resting.{rests_of, viewed_self, viewed_then}
@@ -99,14 +98,6 @@ module _ (g : Layout) (n : ℕ) (greatest : Option ℕ) where
   pub unasked : {old new : ViewState} → Viewed old new → (fault : Fault) → PartEnds g n old new (Err fault)
       → AddsStamp g n greatest old new (Err fault)
   unasked viewed fault ends = record { viewed = viewed; ends = look_fails g n viewed fault ends }
-
-  -- or its stamp could not be read
-  pub unread : {old mid new : ViewState} {part : Part} {failed : Failed} → Viewed old mid → PartEnds g n old mid (Ok (Some part))
-      → ReadsStamp n mid new (Err failed) → AddsStamp g n greatest old new (Err faults.Failed)
-  unread first part reads = record {
-    viewed = viewed_then first reads.viewed;
-    ends = λ horizon edge. omega (arith, reads.ends, part.2);
-  }
 
   module _ {old mid new : ViewState} (part : Part) (first : Viewed old mid) (is : PartEnds g n old mid (Ok (Some part)))
       (stamp last : Option ℕ) (reads : ReadsStamp n mid new (Ok stamp)) (up : IsUpTo greatest last)
