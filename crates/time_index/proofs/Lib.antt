@@ -1,0 +1,3 @@
+pub mod NextPostings
+pub mod Parts
+pub mod Matched

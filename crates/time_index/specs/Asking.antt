@@ -1,0 +1,39 @@
+-- Whether the documents of the volume that a device holds are stamped, which cell 0 tells.
+use Rattle.std.specs.Prelude.{◌≡◌, ◌<◌, ◌≤◌, ◌+◌, ℕ, Result, Ok, Err, IsTrue}
+use Rattle.cell_types.specs.Image.{Image, IsUnchanged}
+use Rattle.cell_types.specs.Layout.{Layout}
+use Rattle.cell_types.specs.declared.geometry.TheConstants.{STAMPED_VERSION}
+use Rattle.cell_types.specs.declared.refusal.Refusal.{Refusal}
+use Rattle.cell_types.specs.declared.refusal.Refusal.TheVariants.{DeviceFault, NoStamps, NotAVolume, NotFormatted, WrongSize}
+use Rattle.stored_documents.specs.Volumes.{IsVolume}
+use Rattle.worm_device.specs.Calls.{Called}
+use Rattle.worm_device.specs.Counts.{IsStill}
+use Rattle.worm_device.specs.State.{DeviceState, IsDevice}
+use Rattle.recovery_engine.specs.Settling.{SettleEnds}
+
+-- a volume stands there whose documents are stamped
+abbrev pub IsOfStamps : ℕ → Image → Type 0
+IsOfStamps cells image = (g : Layout) × IsVolume cells image g × (g.version ≡ STAMPED_VERSION)
+
+-- and one whose documents are not
+abbrev pub IsWithoutStamps : ℕ → Image → Type 0
+IsWithoutStamps cells image = (g : Layout) × IsVolume cells image g × (g.version < STAMPED_VERSION)
+
+-- How asking for it may end, and why: where there is no volume, as settling ends for that.
+abbrev pub StampsEnd : DeviceState → DeviceState → Result Unit Refusal → Type 0
+StampsEnd old new (Ok u) = (new.faults ≡ old.faults) × (IsTrue old.tells → IsOfStamps new.cells new.image)
+StampsEnd old new (Err NoStamps) =
+    (new.faults ≡ old.faults) × (IsTrue old.tells → IsWithoutStamps new.cells new.image)
+StampsEnd old new (Err DeviceFault) = SettleEnds old new (Err DeviceFault)
+StampsEnd old new (Err NotFormatted) = SettleEnds old new (Err NotFormatted)
+StampsEnd old new (Err (NotAVolume found)) = SettleEnds old new (Err (NotAVolume found))
+StampsEnd old new (Err (WrongSize stated real)) = SettleEnds old new (Err (WrongSize stated real))
+StampsEnd old new (Err refusal) = ⊥
+
+-- asking for it writes nothing, and costs one read at most
+pub record AsksStamps (old new : DeviceState) (result : Result Unit Refusal) : Type 0 where
+  pub device : IsDevice new
+  pub called : Called old new
+  pub quiet : IsStill old.foreign_writes new.foreign_writes → IsUnchanged old.image new.image
+  pub reads : new.reads ≤ old.reads + 1
+  pub ends : StampsEnd old new result
