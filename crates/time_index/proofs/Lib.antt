@@ -1,3 +1,4 @@
 pub mod NextPostings
 pub mod Parts
 pub mod Matched
+pub mod SoFar
