@@ -2,3 +2,4 @@ pub mod NextPostings
 pub mod Parts
 pub mod Matched
 pub mod SoFar
+pub mod Searched

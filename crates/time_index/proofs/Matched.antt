@@ -13,14 +13,14 @@ use Rattle.cell_types.specs.declared.refusal.Fault.TheVariants as faults
 use Rattle.cell_types.specs.declared.refusal.Refusal.{Refusal}
 use Rattle.cell_types.specs.declared.refusal.Refusal.TheVariants.{DeviceFault, NoMemory, Tampered}
 use Rattle.stored_documents.specs.Documents.{stored_bytes}
-use Rattle.stored_documents.specs.Slots.{HasStamp, IsDoneSlot, cells_for}
+use Rattle.stored_documents.specs.Slots.{HasStamp, cells_for}
 use Rattle.stored_documents.proofs.Extending.{holds_on}
 use Rattle.stored_documents.proofs.Holding.{one_record_holds}
 use Rattle.tamper_rules.specs.Rules.{IsTrueStamp, StrayCells}
 use Rattle.worm_device.specs.Views.{ViewState, Viewed}
 use Rattle.worm_device.proofs.Resting.{viewed_self, viewed_then}
 use Rattle.document_store.specs.Heads.{HasBody, id_of}
-use Rattle.document_store.specs.Looks.{IsPartOf, LookRefuses}
+use Rattle.document_store.specs.Looks.{IsPartOf}
 use Rattle.document_store.specs.Standing.{HoldsDocument}
 use Rattle.document_store.specs.declared.head.Head.{Head}
 use Rattle.document_store.specs.declared.part.Part.{Part}
@@ -31,7 +31,7 @@ use Rattle.jump_index.proofs.Telling.{told, told_before}
 use Rattle.posting_list.specs.Searches.{IsFalsePosting, head_of, within}
 use Rattle.posting_list.specs.declared.reach.Reach.{Reach}
 use Rattle.posting_list.proofs.Evidence.{false_named}
-use Rattle.time_index.specs.Matching.{IsEarlier, IsTimeMatchIn, MatchEnds, OrderEnds, ReadPartEnds, ReadsMatch, ReadsPart, StampedPartEnds, TimeFault, TimeRefuses, cells_of, stamp_breach}
+use Rattle.time_index.specs.Matching.{IsEarlier, IsTimeMatchIn, MatchEnds, OrderEnds, ReadPartEnds, ReadsMatch, ReadsPart, StampedPartEnds, TimeFault, TimeRefuses, stamp_breach}
 use Rattle.time_index.specs.declared.found.TimeMatch.{TimeMatch}
 use Rattle.time_index.specs.declared.matching.Stamped.{Stamped}
 use Rattle.time_index.proofs.Parts.{look_fails, of_lists, time_later}
@@ -40,7 +40,7 @@ stamps : (a b : ℕ) → Stamp a ≡ Stamp b → a ≡ b
 stamps a b same = cc
 
 -- a slot has one stamp
-one_stamp : (image : Image) (n a b : ℕ) → HasStamp image n a → HasStamp image n b → a ≡ b
+pub one_stamp : (image : Image) (n a b : ℕ) → HasStamp image n a → HasStamp image n b → a ≡ b
 one_stamp image n a b first second = stamps a b (one_record_holds image (spare_at n) (Stamp a) (Stamp b) first second)
 
 -- a document was read

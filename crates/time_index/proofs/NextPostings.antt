@@ -1,5 +1,5 @@
 -- The next posting of the time list, by a search for its stamp and one more for this very stamp.
-use Rattle.std.proofs.Common.{◌≡◌, ◌<◌, ◌≤◌, ℕ, Option, Some, None, Result, Ok, Err, refl, sym, ap, ⊎_elim, subst, arith, ◌∙◌}
+use Rattle.std.proofs.Common.{◌≡◌, ◌<◌, ◌≤◌, ℕ, Option, Some, None, Ok, Err, sym, ap, ⊎_elim, subst, arith, ◌∙◌}
 use Rattle.std.specs.Prelude.{IsTrue}
 use Rattle.cell_types.specs.Layout.{all_lists}
 use Rattle.cell_types.specs.declared.geometry.TheConstants.{STAMPED_VERSION}
@@ -7,9 +7,8 @@ use Rattle.cell_types.specs.declared.refusal.Fault.{Fault}
 use Rattle.index_paths.specs.Blocks.{PostingFields}
 use Rattle.worm_device.specs.Views.{ViewState, Viewed}
 use Rattle.worm_device.proofs.Resting.{viewed_then}
-use Rattle.jump_block.specs.Entries.{posting_of}
 use Rattle.jump_block.specs.declared.held_entry.Entry.{Entry}
-use Rattle.jump_index.specs.Searches.{FindsGeq, IsEntryBehind}
+use Rattle.jump_index.specs.Searches.{FindsGeq}
 use Rattle.jump_index.proofs.LookingLater.{entry_then, trail_then}
 use Rattle.jump_index.proofs.Telling.{told}
 use Rattle.posting_list.specs.Searches.{head_of, within}

@@ -1,26 +1,23 @@
 -- The document of a posting's slot: where it lies, and what is evidence.
-use Rattle.std.proofs.Common.{◌≡◌, ◌<◌, ◌≤◌, ◌^◌, min, ℕ, List, [], ◌∷◌, Option, Some, None, Result, Ok, Err, refl, sym, ap, inl, inr, ⊎_elim, subst, arith, ◌∙◌}
+use Rattle.std.proofs.Common.{◌≡◌, ◌<◌, ◌≤◌, ◌^◌, min, ℕ, [], ◌∷◌, Option, Some, None, Ok, Err, sym, ap, inl, inr, ⊎_elim, subst, arith, ◌∙◌}
 use Rattle.std.specs.Prelude.{IsTrue}
 use Rattle.byteorder.specs.Numbers.{big_number-reads_back}
 use Rattle.cell_types.specs.Image.{Image}
 use Rattle.cell_types.specs.Layout.{IsLayout, Layout, spare_at}
-use Rattle.cell_types.specs.declared.geometry.TheConstants.{STAMPED_VERSION}
 use Rattle.cell_types.specs.declared.record_cell.RecordCell.TheVariants.{Stamp}
 use Rattle.cell_types.specs.declared.refusal.Evidence.{Evidence}
 use Rattle.cell_types.specs.declared.refusal.Fault.{Fault}
 use Rattle.cell_types.specs.declared.refusal.Fault.TheVariants as faults
 use Rattle.index_paths.specs.Blocks.{PostingFields}
 use Rattle.index_paths.specs.Postings.{IsWordPosting, time_posting}
-use Rattle.stored_documents.specs.Slots.{HasStamp, IsDoneSlot, IsEdge, IsHorizon, IsLive, IsStampOf}
-use Rattle.stored_documents.specs.Volumes.{IsVolume}
+use Rattle.stored_documents.specs.Slots.{HasStamp, IsDoneSlot, IsEdge, IsLive, IsStampOf}
 use Rattle.stored_documents.proofs.Holding.{one_record_holds}
 use Rattle.tamper_rules.specs.Rules.{IsTruePosting}
 use Rattle.tamper_rules.proofs.Images.{same_image}
-use Rattle.worm_device.specs.Counts.{IsStill, Rose}
 use Rattle.worm_device.specs.Views.{ViewState, Viewed}
 use Rattle.worm_device.specs.declared.device.Failed.{Failed}
-use Rattle.worm_device.proofs.Counting.{still_first, still_second}
-use Rattle.worm_device.proofs.Resting.{rests_of, viewed_then}
+use Rattle.worm_device.proofs.Counting.{still_second}
+use Rattle.worm_device.proofs.Resting.{rests_of}
 use Rattle.commit_record.specs.Stamps.{IsStampOrNone, ReadsStamp}
 use Rattle.document_store.specs.Looks.{IsPartOf, LookFails, Names, PartEnds, of_document, of_state}
 use Rattle.document_store.specs.declared.part.Part.{Part}
@@ -33,7 +30,7 @@ use Rattle.jump_index.proofs.Telling.{told, told_before}
 use Rattle.posting_list.specs.Naming.{FaultSays, IsReachOf}
 use Rattle.posting_list.specs.declared.reach.Reach.{Reach}
 use Rattle.posting_list.proofs.Evidence.{live_not, state_rule}
-use Rattle.time_index.specs.Matching.{IsNamed, IsTimeRule, StampedPartEnds, TimeFault}
+use Rattle.time_index.specs.Matching.{IsTimeRule, StampedPartEnds, TimeFault}
 use Rattle.time_index.specs.Postings.{slot_named}
 
 -- a fault of lists is one of a search by time

@@ -1,5 +1,5 @@
 -- Posting after posting of the time list: up to which stamp the span is answered for.
-use Rattle.std.proofs.Common.{◌≡◌, ◌<◌, ◌≤◌, ◌+◌, ◌*◌, ◌-◌, ◌^◌, ◌⊎◌, ◌++◌, ℕ, List, [], ◌∷◌, length, Option, Some, None, Result, Ok, Err, refl, sym, ap, inl, inr, ⊎_elim, subst, arith, ◌∙◌}
+use Rattle.std.proofs.Common.{◌≡◌, ◌<◌, ◌≤◌, ◌+◌, ◌-◌, ◌^◌, ◌++◌, ℕ, List, [], ◌∷◌, Option, Some, None, Ok, Err, refl, sym, ap, ⊎_elim, subst, arith, ◌∙◌}
 use Rattle.std.specs.Global.{Vec}
 use Rattle.std.specs.Prelude.{Contains, IfSome, IsTrue}
 use Rattle.std.proofs.lemmas.Bool.{cases_lt}
@@ -24,9 +24,9 @@ use Rattle.jump_index.proofs.LookingLater.{trail_then}
 use Rattle.jump_index.proofs.Telling.{told}
 use Rattle.posting_list.specs.Searches.{head_of}
 use Rattle.posting_list.specs.declared.reach.Reach.{Reach}
-use Rattle.time_index.specs.Gathering.{AreAnswered, AreTimeMatches, Gathers, HasSlot, IsBehind, IsLastMatch, IsUpTo, SpanGathered, SpanSoFar, unanswered}
+use Rattle.time_index.specs.Gathering.{AreTimeMatches, Gathers, HasSlot, IsBehind, IsLastMatch, IsUpTo, SpanGathered, SpanSoFar, unanswered}
 use Rattle.time_index.specs.Matching.{IsEarlier, IsMatchOf, IsTimeMatchIn, ReadsMatch, TimeFault, TimeRefuses, cells_of}
-use Rattle.time_index.specs.Postings.{IsNextPosting, IsTimed, NextPosting, slot_named}
+use Rattle.time_index.specs.Postings.{IsTimed, NextPosting, slot_named}
 use Rattle.time_index.specs.Spans.{SlotsRise, all_cells_of}
 use Rattle.time_index.specs.declared.found.TimeMatch.{TimeMatch}
 use Rattle.time_index.specs.declared.matching.Stamped.{Stamped}
@@ -48,7 +48,7 @@ rises_on [] one from rise below low = (low, tt)
 rises_on (m ∷ matches) one from rise below low = (
   rise.0,
   rises_on matches one (m.slot + 1) rise.1 (λ n among. below n (Contains-append_right (m ∷ []) matches n among))
-      (below m (0, omega arith, refl)),
+      (omega (arith, below m (0, omega arith, refl))),
 )
 
 -- its cells count, too
@@ -219,9 +219,11 @@ module _ (r : Reach) (from to : ℕ) where
             only = λ tells o among. ⊎_elim
                 (λ (before : Contains matches o). only_on (viewed_then next.viewed reads.viewed) tells o before)
                 (λ (here : m ≡ o). subst
-                (λ (x : TimeMatch). IsTimeMatchIn r.volume.geometry new.image x × (from ≤ x.seconds) × (x.seconds ≤ to)) here
-                (is.is (told_mid tells), omega (arith, is.seconds, next.ends.from_is, so.next_is.0),
-                omega (arith, is.seconds, next.ends.to_is)))
+                (λ (x : TimeMatch). IsTimeMatchIn r.volume.geometry new.image x × (from ≤ x.seconds) × (x.seconds ≤ to)) here (
+                  is.is (told_mid tells),
+                  omega (arith, is.seconds, next.ends.from_is, so.next_is.0),
+                  omega (arith, is.seconds, next.ends.to_is),
+                ))
                 (Contains-push_cases matches m o among);
             rise = λ tells. rises_on matches m 0 (so.rise tells) (below_slot tells) (omega arith);
             up_to = λ tells o among. ⊎_elim

@@ -1,5 +1,5 @@
 -- How the documents of a span of time are gathered by the time list, posting after posting.
-use Rattle.std.specs.Prelude.{◌≡◌, ◌<◌, ◌≤◌, ◌+◌, ◌*◌, ◌^◌, ◌++◌, IfSome, ℕ, List, [], length, Contains, Option, Some, None, Result, Ok, Err, IsTrue, ⊤}
+use Rattle.std.specs.Prelude.{◌≡◌, ◌<◌, ◌≤◌, ◌+◌, ◌*◌, ◌^◌, IfSome, ℕ, List, length, Contains, Option, Some, None, Result, Ok, Err, IsTrue}
 use Rattle.std.specs.Global.{Vec}
 use Rattle.cell_types.specs.declared.refusal.Refusal.{Refusal}
 use Rattle.index_paths.specs.Postings.{time_posting}

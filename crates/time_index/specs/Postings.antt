@@ -1,5 +1,5 @@
 -- How the postings of the time list are found one after another.
-use Rattle.std.specs.Prelude.{◌≡◌, ◌<◌, ◌≤◌, ◌+◌, ◌⊎◌, ℕ, List, Option, Some, None, Result, Ok, Err, IsTrue}
+use Rattle.std.specs.Prelude.{◌≡◌, ◌≤◌, ◌⊎◌, ℕ, Option, Some, None, Result, Ok, Err, IsTrue}
 use Rattle.byteorder.specs.Endian.{big_number}
 use Rattle.cell_types.specs.declared.refusal.Fault.{Fault}
 use Rattle.index_paths.specs.Blocks.{PostingFields}

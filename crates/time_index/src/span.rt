@@ -1,6 +1,7 @@
 //! All documents of a span of time.
 ghost use Rattle.std.specs.Prelude.{◌≡◌, ◌≤◌};
 ghost use Rattle.cell_types.specs.declared.geometry.TheConstants.{STAMPED_VERSION};
+ghost use Rattle.record_query.specs.Reaching as reaching;
 ghost use Rattle.time_index.specs.Gathering.{Gathers, GathersOnDevice, IsBehind};
 ghost use Rattle.time_index.specs.Spans.{FindsBetween, SearchesTimes};
 
@@ -78,15 +79,21 @@ fn gather_on_device<D: Device>(
     requires stamped { ready.now.volume.geometry.version ≡ STAMPED_VERSION }
     ensures { GathersOnDevice ready.now from to (D.state device.old) (D.state device.new) result }
 {
-    let reach = Reach {
+    gather(alloc, &mut Direct::new(device), &reach_of(ready), from, to)
+}
+
+/// What of a settled volume its lists reach.
+fn reach_of(ready: &Ready) -> Reach
+    ensures { result ≡ reaching.reach_of ready.now }
+{
+    Reach {
         volume: ready.volume,
         horizon: ready.horizon,
         bounds: Bounds {
             pool: ready.volume.geometry.pool_at(),
             edge: ready.edge,
         },
-    };
-    gather(alloc, &mut Direct::new(device), &reach, from, to)
+    }
 }
 
 /// The same over any view.

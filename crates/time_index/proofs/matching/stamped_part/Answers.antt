@@ -2,7 +2,7 @@
 use Rattle.std.proofs.Common.{arith}
 use Rattle.cell_types.proofs.Passed.{handed}
 use Rattle.worm_device.proofs.Resting.{viewed_then}
-use Rattle.time_index.proofs.Parts.{its_stamp, look_fails, no_slot, not_done, other_stamp, unread}
+use Rattle.time_index.proofs.Parts.{its_stamp, look_fails, no_slot, not_done, other_stamp}
 use Rattle.time_index.proofs.matching.stamped_part.Goals as goal
 
 -- the slot is at or past the horizon

@@ -1,0 +1,26 @@
+-- Settling, and then the time list.
+use Rattle.cell_types.proofs.Passed.{handed}
+use Rattle.time_index.proofs.Searched.{settled_search, unsettled, without_stamps}
+use Rattle.time_index.proofs.span.search.Goals as goal
+
+-- settling was ended
+pub returns-in_err-ready : goal.returns-in_err-ready
+returns-in_err-ready g c =
+    let refusal = c.in_err-ready.field-0.0 in
+    rw (handed c.from_residual.result refusal c.from_residual.ensures.1)
+    (unsettled c.args.from c.args.to (g.D.Device.state c.args.device.now) (g.D.Device.state c.settle.new.device) refusal
+    c.in_err-ready.ensures)
+
+-- what was settled has no stamps
+pub returns-then-version-ne-STAMPED_VERSION : goal.returns-then-version-ne-STAMPED_VERSION
+returns-then-version-ne-STAMPED_VERSION g c =
+    without_stamps c.args.from c.args.to (g.D.Device.state c.args.device.now) (g.D.Device.state c.settle.new.device)
+    c.in_ok-ready.ready c.in_ok-ready.ensures (rw c.version.ensures.version at c.if-version-ne-STAMPED_VERSION.true)
+
+-- the time list was searched
+pub returns : goal.returns
+returns g c =
+    settled_search c.in_ok-ready.ready c.args.from c.args.to (g.D.Device.state c.args.device.now)
+    (g.D.Device.state c.settle.new.device) (g.D.Device.state c.gather_on_device.new.device) c.in_ok-ready.ensures
+    (rw c.version.ensures.version at c.if-version-ne-STAMPED_VERSION.false) c.gather_on_device.ensures.viewed
+    c.gather_on_device.result c.gather_on_device.ensures
