@@ -7,7 +7,7 @@ use Rattle.cell_types.specs.declared.refusal.Refusal.{Refusal}
 use Rattle.cell_types.specs.declared.refusal.Refusal.TheVariants.{Usage}
 use Rattle.worm_device.specs.Calls.{Called}
 use Rattle.worm_device.specs.State.{IsDevice}
-use Rattle.record_top.specs.Commands.{Asks, Does, IsAnswered, IsUnhindered, Request, ToAudit, ToCheck, ToExercise, ToFind, ToFormat, ToIngest, ToLookUp, ToMakeReceipt, ToRecover, ToReplay}
+use Rattle.record_top.specs.Commands.{Asks, Does, IsAnswered, IsUnhindered, Request, ToAudit, ToCheck, ToExercise, ToFind, ToFindBetween, ToFormat, ToIngest, ToLookUp, ToMakeReceipt, ToRecover, ToReplay}
 use Rattle.record_top.specs.Ports.{Ports}
 use Rattle.record_top.specs.Words.{digits_value}
 use Rattle.record_top.proofs.Audits.{audit_completes, audit_is_used}
@@ -19,6 +19,7 @@ use Rattle.record_top.proofs.Finds.{find_called, find_completes, find_is_used}
 use Rattle.record_top.proofs.LookUps.{look_up_called, look_up_completes, look_up_is_used}
 use Rattle.record_top.proofs.Receipts.{receipt_called, receipt_completes, receipt_is_used}
 use Rattle.record_top.proofs.Replays.{replay_called, replay_completes, replay_is_used}
+use Rattle.record_top.proofs.Spans.{between_completes, between_is_used}
 
 to_format : List (List ℕ) → Option Request
 to_format (slots ∷ lists ∷ []) = Some (ToFormat (digits_value slots) (digits_value lists) FIRST_VERSION)
@@ -59,6 +60,10 @@ to_receipt : List (List ℕ) → Option Request
 to_receipt (id ∷ []) = Some (ToMakeReceipt id)
 to_receipt _ = None
 
+to_between : List (List ℕ) → Option Request
+to_between (from ∷ to ∷ []) = Some (ToFindBetween (digits_value from) (digits_value to))
+to_between _ = None
+
 -- what the words could ask for, by the first of them
 read : List (List ℕ) → Option Request
 read [] = None
@@ -72,10 +77,11 @@ read (command ∷ words) =
     (cond (bytes_eq command (codes "replay")) (to_replay words)
     (cond (bytes_eq command (codes "exercise")) (to_exercise words)
     (cond (bytes_eq command (codes "check")) (to_check words)
-    (cond (bytes_eq command (codes "receipt")) (to_receipt words) None)))))))))
+    (cond (bytes_eq command (codes "receipt")) (to_receipt words)
+    (cond (bytes_eq command (codes "between")) (to_between words) None))))))))))
 
 asks_reads : (words : List (List ℕ)) (request : Request) → Asks words request → read words ≡ Some request
-unfolding read to_format to_ingest to_look_up to_recover to_audit to_replay to_exercise to_check to_receipt
+unfolding read to_format to_ingest to_look_up to_recover to_audit to_replay to_exercise to_check to_receipt to_between
 asks_reads words (ToFormat slots lists version) (inl (asks, first)) =
     ap read asks.asked
     ∙ ap (λ (n : ℕ). Some (ToFormat n (digits_value asks.second) FIRST_VERSION)) (sym asks.slots_word.number.value)
@@ -99,6 +105,10 @@ asks_reads words (ToExercise documents) asks =
     ap read asks.asked ∙ ap (λ (n : ℕ). Some (ToExercise n)) (sym asks.documents_word.number.value)
 asks_reads words ToCheck asks = ap read asks
 asks_reads words (ToMakeReceipt id) asks = ap read asks.asked
+asks_reads words (ToFindBetween from to) asks =
+    ap read asks.asked
+    ∙ ap (λ (n : ℕ). Some (ToFindBetween n (digits_value asks.second))) (sym asks.from_word.number.value)
+    ∙ ap (λ (n : ℕ). Some (ToFindBetween from n)) (sym asks.to_word.number.value)
 
 some_is : (a b : Request) → Some a ≡ Some b → a ≡ b
 some_is a b e = cc
@@ -121,6 +131,7 @@ module _ (old new : Ports) where
   called_of (ToExercise documents) result does = exercise_called documents old new result does
   called_of ToCheck result does = check_called old new result does
   called_of (ToMakeReceipt id) result does = receipt_called id old new result does
+  called_of (ToFindBetween from to) result does = does.finds.called
 
   -- what is done never ends with `Usage`
   pub is_used : (request : Request) → Does request old new (Err Usage) → ⊥
@@ -134,6 +145,7 @@ module _ (old new : Ports) where
   is_used (ToExercise documents) does = exercise_is_used documents old new does
   is_used ToCheck does = check_is_used old new does
   is_used (ToMakeReceipt id) does = receipt_is_used id old new does
+  is_used (ToFindBetween from to) does = between_is_used from to old new does
 
   -- where nothing keeps it from being done, it is, or ends for the one cause that is left
   pub completes : IsDevice old.device → IsDevice new.device → (request : Request) (result : Result Unit Refusal)
@@ -153,3 +165,5 @@ module _ (old new : Ports) where
   completes device device_new ToCheck result does free = check_completes free.0 free.1 old new free.2 device result does
   completes device device_new (ToMakeReceipt id) result does free = receipt_completes id free.0 old new free.1 device
       device_new result does
+  completes device device_new (ToFindBetween from to) result does free = between_completes from to free.0 old new free.1
+      device device_new result does

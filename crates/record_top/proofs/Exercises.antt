@@ -1,6 +1,6 @@
 -- How an exercise ends: the device that was handed in is untouched, never with `Usage` or tampering, and where no call of
 -- the sink fails with no refusal but want of memory and a full path.
-use Rattle.std.proofs.Common.{◌≡◌, ℕ, Result, Ok, Err, refl, subst, sym}
+use Rattle.std.proofs.Common.{◌≡◌, ℕ, Result, Err, refl, subst, sym}
 use Rattle.cell_types.specs.declared.refusal.Evidence.{Evidence}
 use Rattle.cell_types.specs.declared.refusal.Refusal.{Refusal}
 use Rattle.cell_types.specs.declared.refusal.Refusal.TheVariants as refusals

@@ -6,9 +6,9 @@ pub mod Ending
 pub mod Exercises
 pub mod Finds
 pub mod HeldAnswers
+pub mod Lines
 pub mod Listed
 pub mod LookUps
-pub mod MatchLines
 pub mod OneMore
 pub mod Options
 pub mod Pieces
@@ -17,6 +17,7 @@ pub mod ReceiptSizes
 pub mod Receipts
 pub mod Replays
 pub mod Reports
+pub mod Spans
 pub mod Steadily
 pub mod Taken
 pub mod Terms

@@ -23,7 +23,7 @@ use Rattle.volume_audit.specs.declared.report.AuditReport.{AuditReport}
 use Rattle.volume_audit.proofs.Comes.{licensed, settles_first}
 use Rattle.record_top.specs.Auditing.{DoesAudit, report_text}
 use Rattle.record_top.specs.Checking.{DoesCheck}
-use Rattle.record_top.specs.Commands.{Does, Request, ToAudit, ToCheck, ToExercise, ToFind, ToFormat, ToIngest, ToLookUp, ToMakeReceipt, ToRecover, ToReplay, layout_on}
+use Rattle.record_top.specs.Commands.{Does, Request, ToAudit, ToCheck, ToExercise, ToFind, ToFindBetween, ToFormat, ToIngest, ToLookUp, ToMakeReceipt, ToRecover, ToReplay, layout_on}
 use Rattle.record_top.specs.Exercising.{DoesExercise}
 use Rattle.record_top.proofs.Exercises.{exercise_names_none}
 use Rattle.record_top.specs.Finding.{DoesFind, found_text, misworded, searched, unread, unruled}
@@ -33,6 +33,7 @@ use Rattle.record_top.specs.Ruling.{AsksRule, RuleEnds}
 use Rattle.record_top.specs.Formatting.{DoesFormat, FormatCommandEnds}
 use Rattle.record_top.specs.LookingUp.{Answers, DoesLookUp, looked, misnamed}
 use Rattle.record_top.specs.Replaying.{DoesReplay}
+use Rattle.record_top.specs.Spanning.{DoesBetween}
 use Rattle.record_top.specs.Ports.{Ports, Tells, TellsFromMemory}
 use Rattle.record_top.specs.Recovering.{DoesRecover, recovered}
 use Rattle.record_top.proofs.Checks.{check_called, check_only, check_refuses}
@@ -41,6 +42,7 @@ use Rattle.command_laws.proofs.Alarms.{query_alarms, settling_alarms}
 use Rattle.record_top.proofs.HeldAnswers.{find_held, look_up_held}
 use Rattle.record_top.proofs.OneMore.{ingest_adds}
 use Rattle.record_top.proofs.Replays.{replay_keeps, replay_names_none}
+use Rattle.record_top.proofs.Spans.{between_held, between_leaves, between_names_none}
 use Rattle.command_laws.proofs.Results.{no_answer, one_refusal, other_refusal}
 use Rattle.command_laws.specs.Begins.{BeginsSteady}
 use Rattle.record_top.specs.Steadiness.{AddsNone, LeavesFormatted, LeavesWhole}
@@ -200,6 +202,11 @@ module _ (old new : Ports) (device : IsDevice old.device) (device_new : IsDevice
       (λ e named. told_alarm id old new device device_new begins answer makes.comes makes.ends e
       (subst (TellsFromMemory text_of_receipt answer old new) named tells))
 
+  between_adds : (from to : ℕ) (result : Result Unit Refusal) → DoesBetween from to old new result
+      → AddsNone old new result
+  between_adds from to result does = leaves_none (between_leaves from to old new device device_new begins result does)
+      (λ e is. between_names_none from to old new device device_new begins e (subst (DoesBetween from to old new) is does))
+
   exercise_adds : (documents : ℕ) (result : Result Unit Refusal) → DoesExercise documents old new result
       → AddsNone old new result
   exercise_adds documents result does =
@@ -227,3 +234,5 @@ module _ (old new : Ports) (device : IsDevice old.device) (device_new : IsDevice
   leaves_whole ToCheck result does = check_adds result does
   leaves_whole (ToMakeReceipt id) result does =
       (receipt_adds id result does, receipt_held id old new device device_new begins result does)
+  leaves_whole (ToFindBetween from to) result does =
+      (between_adds from to result does, between_held from to old new device device_new begins result does)

@@ -17,8 +17,9 @@ use Rattle.record_top.specs.Ports.{IsOkAlone, IsOkOrAbsent, IsOkOrNoMemory, Port
 use Rattle.record_top.specs.Receipting.{AsksForReceipt, DoesReceipt, IsOkOrNoReceipt, IsReadyForReceipt}
 use Rattle.record_top.specs.Recovering.{AsksToRecover, DoesRecover, IsReadyToRecover}
 use Rattle.record_top.specs.Replaying.{AsksToReplay, DoesReplay, IsReadyToReplay}
+use Rattle.record_top.specs.Spanning.{AsksBetween, DoesBetween, IsReadyBetween}
 use Rattle.record_top.specs.declared.words.Command.{Command}
-use Rattle.record_top.specs.declared.words.Command.TheVariants.{Audit, Check, Exercise, Find, Format, Ingest, LookUp, MakeReceipt, Recover, Replay}
+use Rattle.record_top.specs.declared.words.Command.TheVariants.{Audit, Check, Exercise, Find, FindBetween, Format, Ingest, LookUp, MakeReceipt, Recover, Replay}
 
 -- what may be asked for, with what is given
 pub data Request : Type 0 where
@@ -32,6 +33,7 @@ pub data Request : Type 0 where
   ToExercise : (documents : ℕ) → Request
   ToCheck : Request
   ToMakeReceipt : (id : List ℕ) → Request
+  ToFindBetween : (from to : ℕ) → Request
 
 -- the request that a command stands for
 abbrev pub request_of : Command → Request
@@ -45,6 +47,7 @@ request_of Replay = ToReplay
 request_of (Exercise documents) = ToExercise documents
 request_of Check = ToCheck
 request_of (MakeReceipt id) = ToMakeReceipt id.now
+request_of (FindBetween from to) = ToFindBetween from to
 
 -- the words ask for this
 abbrev pub Asks : List (List ℕ) → Request → Type 0
@@ -58,6 +61,7 @@ Asks words ToReplay = AsksToReplay words
 Asks words (ToExercise documents) = AsksToExercise words documents
 Asks words ToCheck = AsksToCheck words
 Asks words (ToMakeReceipt id) = AsksForReceipt words id
+Asks words (ToFindBetween from to) = AsksBetween words from to
 
 -- the words ask for nothing
 abbrev pub AsksNothing : List (List ℕ) → Type 0
@@ -84,6 +88,7 @@ Does ToReplay old new result = DoesReplay old new result
 Does (ToExercise documents) old new result = DoesExercise documents old new result
 Does ToCheck old new result = DoesCheck old new result
 Does (ToMakeReceipt id) old new result = DoesReceipt id old new result
+Does (ToFindBetween from to) old new result = DoesBetween from to old new result
 
 -- nothing hinders this
 abbrev pub IsUnhindered : Request → Ports → Ports → Type 0
@@ -98,6 +103,7 @@ IsUnhindered ToReplay old new = (text : List ℕ) × (script : Script) × IsRead
 IsUnhindered (ToExercise documents) old new = IsReadyToExercise old new
 IsUnhindered ToCheck old new = (r : Receipt) × (body : List ℕ) × IsReadyToCheck r body old new
 IsUnhindered (ToMakeReceipt id) old new = (g : Layout) × IsReadyForReceipt id g old new
+IsUnhindered (ToFindBetween from to) old new = (g : Layout) × IsReadyBetween g old new
 
 -- What is answered where nothing hinders this: it is done; or, where memory is taken, none was to be had; or, where a
 -- document is looked up or a receipt of it is asked for, none has the identifier; or the receipt would have too many cells. An
@@ -113,3 +119,4 @@ IsAnswered ToReplay result = IsOkOrNoMemory result
 IsAnswered (ToExercise documents) result = IsOkOrOfExercise result
 IsAnswered ToCheck result = IsOkOrNoMemory result
 IsAnswered (ToMakeReceipt id) result = IsOkOrNoReceipt result
+IsAnswered (ToFindBetween from to) result = IsOkOrNoMemory result

@@ -13,6 +13,7 @@ use Rattle.worm_device.specs.Counts.{IsStill}
 use Rattle.worm_device.specs.State.{DeviceState}
 use Rattle.record_query.specs.Finding.{FindsAllOf, Searches}
 use Rattle.record_query.specs.declared.found.Match.{Match}
+use Rattle.record_top.specs.Lines.{found_lines}
 use Rattle.record_top.specs.Ports.{Ports, TellsFromMemory}
 use Rattle.command_laws.specs.WholeLogs.{HasSteadyVolume}
 use Rattle.record_top.specs.Ruling.{AsksRule}
@@ -64,14 +65,9 @@ document_line slot identifier bytes =
 abbrev pub match_line : Match → List ℕ
 match_line m = document_line m.slot m.identifier m.bytes
 
--- the lines that tell of matches
-abbrev pub match_lines : List Match → List ℕ
-match_lines [] = []
-match_lines (m ∷ matches) = match_line m ++ match_lines matches
-
 -- the text that tells of what was found: a line a match, and how many they are
 abbrev pub find_text : List Match → List ℕ
-find_text matches = match_lines matches ++ (decimal (length matches) ++ codes " found\n")
+find_text matches = found_lines match_line matches
 
 -- the same of the engine's answer
 abbrev pub found_text : Vec Match → List ℕ

@@ -6,12 +6,14 @@ pub mod Finding
 pub mod Formatting
 pub mod Ingesting
 pub mod Laws
+pub mod Lines
 pub mod LookingUp
 pub mod Ports
 pub mod Receipting
 pub mod Recovering
 pub mod Replaying
 pub mod Ruling
+pub mod Spanning
 pub mod Steadiness
 pub mod Taking
 pub mod Words

@@ -1,6 +1,6 @@
 -- A command from a steady device on, where nobody else writes: what a crash leaves of it, at whichever moment; which
 -- documents stand behind it; and that a query tells of just those.
-use Rattle.std.specs.Prelude.{◌≡◌, ◌<◌, ◌-◌, ℕ, List, Contains, Option, Result, Ok, Err, ⊤}
+use Rattle.std.specs.Prelude.{◌≡◌, ◌<◌, ◌≤◌, ◌-◌, ℕ, List, length, Contains, Option, Result, Ok, Err, ⊤}
 use Rattle.cell_types.specs.Layout.{Layout}
 use Rattle.cell_types.specs.declared.refusal.Evidence.{Evidence}
 use Rattle.cell_types.specs.declared.refusal.Refusal.{Refusal}
@@ -20,11 +20,14 @@ use Rattle.receipt_text.specs.Form.{text_of_receipt}
 use Rattle.receipt_text.specs.declared.receipt.Receipt.{Receipt}
 use Rattle.receipt_check.specs.Checks.{ShowsDocument}
 use Rattle.command_laws.specs.Telling.{AreMatchesOf, IsFormatted}
-use Rattle.record_top.specs.Commands.{Request, ToAudit, ToCheck, ToExercise, ToFind, ToFormat, ToIngest, ToLookUp, ToMakeReceipt, ToRecover, ToReplay}
+use Rattle.record_top.specs.Commands.{Request, ToAudit, ToCheck, ToExercise, ToFind, ToFindBetween, ToFormat, ToIngest, ToLookUp, ToMakeReceipt, ToRecover, ToReplay}
 use Rattle.record_top.specs.Ingesting.{HasRefused, HasStored, acknowledgement}
 use Rattle.record_top.specs.Finding.{AreTermsOf, find_text}
 use Rattle.record_top.specs.Ports.{Ports, PutsOut, Tells}
 use Rattle.record_top.specs.Ruling.{HasRule}
+use Rattle.record_top.specs.Spanning.{span_text}
+use Rattle.time_index.specs.Spans.{FindsSpanOf, IsStampedSlot, SlotsRise}
+use Rattle.time_index.specs.declared.found.TimeMatch.{TimeMatch}
 
 -- A crash in the command leaves an image that is blank or sound, with the documents that were sure at entry or those
 -- that stood there. Behind it, whatever it answers, the device is steady and holds the documents that stood at entry; and
@@ -67,6 +70,25 @@ ShowsHeld id old new (Err Absent) =
     (documents : List Document) → Held old.device.cells old.device.image documents
     → (d : Document) → Contains documents d → d.id ≡ id → ⊥
 ShowsHeld id old new (Err refusal) = ⊤
+
+-- These are the matches of just those of the documents whose stamps lie from one time to another, by rising slot.
+pub record AreTimeMatchesOf (s : DeviceState) (from to : ℕ) (documents : List Document) (matches : List TimeMatch)
+    : Type 0 where
+  pub all : FindsSpanOf s.cells s.image from to matches documents
+  pub only : (found : TimeMatch) → Contains matches found → (body : List ℕ)
+      × Contains documents (record { slot = found.slot; id = found.identifier; body = body })
+      × (found.bytes ≡ length body) × IsStampedSlot s.cells s.image found.slot found.seconds × (from ≤ found.seconds)
+      × (found.seconds ≤ to)
+  pub rise : SlotsRise 0 matches
+
+-- A search by time that is done has told of just those documents that the volume held at entry and whose stamps lie in the
+-- span.
+abbrev pub FindsHeldBetween : ℕ → ℕ → Ports → Ports → Result Unit Refusal → Type 0
+FindsHeldBetween from to old new (Ok u) =
+    (documents : List Document) → Held old.device.cells old.device.image documents
+    → (matches : List TimeMatch) × AreTimeMatchesOf new.device from to documents matches
+    × PutsOut (span_text matches) old new
+FindsHeldBetween from to old new (Err refusal) = ⊤
 
 -- a format that is done leaves a settled volume without documents, also where it could not be told
 abbrev pub LeavesFormatted : Ports → Result Unit Refusal → Type 0
@@ -118,3 +140,4 @@ LeavesWhole ToReplay old new result = AddsNone old new result
 LeavesWhole (ToExercise documents) old new result = AddsNone old new result
 LeavesWhole ToCheck old new result = AddsNone old new result
 LeavesWhole (ToMakeReceipt id) old new result = AddsNone old new result × ShowsHeld id old new result
+LeavesWhole (ToFindBetween from to) old new result = AddsNone old new result × FindsHeldBetween from to old new result

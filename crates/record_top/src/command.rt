@@ -8,6 +8,7 @@ ghost use Rattle.record_top.specs.Ports.{ports_of};
 ghost use Rattle.record_top.specs.Steadiness.{LeavesWhole};
 
 use crate::audit::audit_volume;
+use crate::between::find_between;
 use crate::check::check_source;
 use crate::exercise::exercise_volume;
 use crate::find::find_documents;
@@ -95,5 +96,6 @@ fn carry_out<D: Device, S: Source, K: Sink>(
         }
         Command::Check => check_source(alloc, device, source, sink),
         Command::MakeReceipt { id } => put_receipt(alloc, id, device, source, sink),
+        Command::FindBetween { from, to } => { find_between(alloc, from, to, device, source, sink) }
     }
 }

@@ -7,11 +7,10 @@ ghost use Rattle.record_top.specs.Ruling.{AsksRule};
 ghost use Rattle.record_top.specs.declared.words.TheConstants.{MAX_QUERY_WORDS};
 
 use crate::command::Outcome;
-use crate::text::{push_document_line, put_text};
+use crate::text::{push_count_line, push_document_line, put_text};
 use cell_types::Refusal;
 use commit_record::volume_of;
 use host_ports::{Sink, Source};
-use itoa::Buffer;
 use record_query::{Match, find};
 use std::alloc::{AllocError, Global};
 use stored_documents::{WordRule, rule_of};
@@ -81,8 +80,6 @@ fn text_of(alloc: Global, matches: &[Match]) -> Result<Vec<u8>, AllocError>
     for found in matches {
         push_document_line(&mut text, found.slot, found.identifier.bytes(), found.bytes)?;
     }
-    let mut digits = Buffer::new();
-    text.extend_from_slice(digits.format(matches.len()).as_bytes())?;
-    text.extend_from_slice(b" found\n")?;
+    push_count_line(&mut text, matches.len())?;
     Ok(text)
 }

@@ -3,6 +3,7 @@ ghost use Rattle.std.specs.Prelude.{◌≡◌, ◌≤◌, ◌++◌, ⊤, length,
 ghost use Rattle.cell_types.specs.declared.refusal.Refusal.TheVariants.{SinkFault};
 ghost use Rattle.host_ports.specs.Sinks.{Gets, PutsPart};
 ghost use Rattle.record_top.specs.Finding.{document_line};
+ghost use Rattle.record_top.specs.Lines.{count_line};
 ghost use Rattle.record_top.specs.Recovering.{slot_line};
 
 use arrayvec::ArrayString;
@@ -81,4 +82,13 @@ pub fn push_document_line(
     text.extend_from_slice(b" ")?;
     text.extend_from_slice(digits.format(bytes).as_bytes())?;
     text.extend_from_slice(b"\n")
+}
+
+/// Puts the line that says how many were found behind the text.
+pub fn push_count_line(text: &mut Vec<u8>, count: usize) -> Result<(), AllocError>
+    ensures { OnOk result (text.new.items ≡ text.old.items ++ count_line count) }
+{
+    let mut digits = Buffer::new();
+    text.extend_from_slice(digits.format(count).as_bytes())?;
+    text.extend_from_slice(b" found\n")
 }

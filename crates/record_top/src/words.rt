@@ -12,6 +12,7 @@ ghost use Rattle.record_top.specs.LookingUp.{AsksToLookUp};
 ghost use Rattle.record_top.specs.Receipting.{AsksForReceipt};
 ghost use Rattle.record_top.specs.Recovering.{AsksToRecover};
 ghost use Rattle.record_top.specs.Replaying.{AsksToReplay};
+ghost use Rattle.record_top.specs.Spanning.{AsksBetween};
 ghost use Rattle.record_top.specs.Words.{AreSeconds, IsNoOption, IsNumber, IsNumberUpTo};
 
 use cell_types::{FIRST_VERSION, MAX_LISTS, MAX_SLOTS, NEWEST_VERSION};
@@ -47,6 +48,9 @@ pub enum Command<'a> {
     Check,
     /// Put out a receipt of the document of this name, which may be an identifier or not.
     MakeReceipt { id: &'a [u8] },
+    /// Search the documents whose stamps lie from one time to another, in seconds, of which the first is not past the
+    /// second.
+    FindBetween { from: u32, to: u32 },
 }
 
 /// The command that the words ask for.
@@ -81,7 +85,10 @@ pub fn command_of(words: &[String]) -> Option<Command<'_>>
     if let Some(command) = check_of(words) {
         return Some(command);
     }
-    receipt_of(words)
+    if let Some(command) = receipt_of(words) {
+        return Some(command);
+    }
+    between_of(words)
 }
 
 /// The command `format`, where the words are this and two or three numbers in range.
@@ -307,6 +314,25 @@ fn receipt_of(words: &[String]) -> Option<Command<'_>>
         return None;
     }
     Some(Command::MakeReceipt { id })
+}
+
+/// The command `between`, where the words are this and the seconds of two times, of which the first is not past the second.
+fn between_of(words: &[String]) -> Option<Command<'_>>
+    ensures some { IfSome result (λ command. Asks (map string_bytes words.now) (request_of command)) }
+    ensures none { IfNone result ((from to : ℕ) → AsksBetween (map string_bytes words.now) from to → ⊥) }
+{
+    let [command, from, to] = words else {
+        return None;
+    };
+    if command.as_str() != "between" {
+        return None;
+    }
+    let from = seconds_of(from.as_bytes())?;
+    let to = seconds_of(to.as_bytes())?;
+    if from > to {
+        return None;
+    }
+    Some(Command::FindBetween { from, to })
 }
 
 /// The number that the word stands for, where it is 1 to 10 digits and the number from 1 to the most.

@@ -29,3 +29,10 @@ returns-in-Check g c = rw c.in-Check.is c.check_source.ensures
 
 pub returns-in-MakeReceipt : goal.returns-in-MakeReceipt
 returns-in-MakeReceipt g c = rw c.in-MakeReceipt.is c.put_receipt.ensures
+
+pub find_between-requires : goal.find_between-requires
+find_between-requires g c =
+    (subst (λ (command : Command). IsAskedFor (request_of command)) c.in-FindBetween.is c.requires).1.order
+
+pub returns-in-FindBetween : goal.returns-in-FindBetween
+returns-in-FindBetween g c = rw c.in-FindBetween.is c.find_between.ensures

@@ -1,7 +1,7 @@
 -- The text of the matches so far has got the line of one match more.
 use Rattle.std.proofs.Common.{◌++◌, List, ℕ, sym, ap, ◌∙◌, arith}
 use Rattle.record_top.specs.Finding.{document_line, match_line}
-use Rattle.record_top.proofs.MatchLines.{lines_more}
+use Rattle.record_top.proofs.Lines.{lines_more}
 use Rattle.record_top.proofs.find.text_of.Goals as goal
 
 pub loop-found-preserved : goal.loop-found-preserved
@@ -10,4 +10,4 @@ loop-found-preserved c =
     c.in_ok-push_document_line.ensures
     ∙ ap (λ (id : List ℕ). c.loop-found.text.items ++ document_line found.slot id found.bytes) c.bytes.ensures
     ∙ ap (λ (lines : List ℕ). lines ++ match_line found) c.loop-found.invariant
-    ∙ sym (lines_more c.args.matches.now c.loop-found.found-index c.found-item.result (omega arith) c.found-item.is)
+    ∙ sym (lines_more match_line c.args.matches.now c.loop-found.found-index c.found-item.result (omega arith) c.found-item.is)
