@@ -13,7 +13,7 @@
 //!     worm - exercise 200
 //!
 //! On a volume of stamped documents, which `format 8 2 3` makes, each `ingest` has the seconds of a stamp behind the
-//! identifier, as in `ingest invoice-4711 1767225600`.
+//! identifier, as in `ingest invoice-4711 1767225600`, and `between 1767225600 1769903999` tells of the documents of a month.
 //!
 //! IMAGE is the path of a file that exists; a new device is a file of zeros. Where IMAGE is `-`, the device is one blank
 //! cell in memory, which suffices for `replay` and `exercise`: these leave the device alone, and work on one of their own.
@@ -43,16 +43,28 @@ use worm_memory::MemoryDevice;
 /// Why a command was not done.
 #[derive(Clone, Copy, Debug, Error)]
 enum Fault {
+    #[error("usage: worm IMAGE format SLOTS LISTS [VERSION], ingest ID [SECONDS], find WORD.., lookup ID, audit, recover, replay, exercise N, receipt ID, check, between FROM TO")]
+    Usage,
     #[error("image cannot be opened")]
     Image,
     #[error(transparent)]
-    Refused(#[from] Refusal),
+    Refused(Refusal),
+}
+
+impl From<Refusal> for Fault {
+    fn from(refusal: Refusal) -> Fault {
+        match refusal {
+            Refusal::Usage => Fault::Usage,
+            refused => Fault::Refused(refused),
+        }
+    }
 }
 
 impl Fault {
     /// The status that the program ends with.
     fn status(&self) -> u8 {
         match self {
+            Fault::Usage => Refusal::Usage.status(),
             Fault::Image => Refusal::DeviceFault.status(),
             Fault::Refused(refusal) => refusal.status(),
         }
@@ -86,7 +98,7 @@ fn carry_out(
     }
     // A word with a hyphen is meant as an option, and the program has none.
     if image.as_str().starts_with('-') {
-        return Err(Fault::Refused(Refusal::Usage));
+        return Err(Fault::Usage);
     }
     let pages = Pages::new(alloc).map_err(|_| Refusal::NoMemory)?;
     let mut device = FileDevice::open(rt, image.as_str(), pages).map_err(|_| Fault::Image)?;
