@@ -1,0 +1,9 @@
+pub mod Adding
+pub mod Auditing
+pub mod Beginning
+pub mod Comparing
+pub mod Copies
+pub mod Pairs
+pub mod Reading
+pub mod Refusing
+pub mod Walking
