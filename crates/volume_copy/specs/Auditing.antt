@@ -26,10 +26,10 @@ pub data Refuses (old new : DeviceState) (refusal : Refusal) : Type 0 where
   by_reading : Called old new → ReadingFails old new refusal → Refuses old new refusal
 
 -- The volume is settled, all that stands is sure, and these are the slots of its documents.
-pub record IsWhole (s : DeviceState) (slots : List ℕ) : Type 0 where
+pub record IsWhole (s : DeviceState) (done : List ℕ) : Type 0 where
   pub settled : Settled s.cells s.image
   pub sure : IsUnchanged s.image s.sure
-  pub slots : (documents : List Document) → AreDocuments s.cells s.image documents → slots_of documents ≡ slots
+  pub slots : (documents : List Document) → AreDocuments s.cells s.image documents → slots_of documents ≡ done
 
 -- A volume was audited. Its numbers are such ones over every device.
 pub record HasAudited (old new : DeviceState) (volume : AuditedVolume) : Type 0 where

@@ -51,11 +51,10 @@ CopyReadEnds g n old new (Ok copy) =
     IsIdentifier copy.identifier.items × IsBody copy.body.held × (IsTrue old.base.tells → HoldsCopy g new.image n copy)
 CopyReadEnds g n old new (Err refusal) = SlotFails g n old new refusal
 
--- the refusal names a cell that lies in a place of its rule, by this layout
-pub record NamesPlace (g : Layout) (refusal : Refusal) : Type 0 where
+-- the refusal names a cell
+pub record NamesCell (refusal : Refusal) : Type 0 where
   pub evidence : Evidence
   pub is : refusal ≡ Tampered evidence
-  pub place : IsPlaceOf g evidence.rule evidence.cell
 
 -- Why reading a volume was ended. A cell that is named stands in a place of its rule; where nobody else wrote since the
 -- first of the two states, the rule is broken there.

@@ -1,8 +1,9 @@
 //! A document of a slot, read into memory.
-ghost use Rattle.std.specs.Prelude.{◌≡◌, ◌<◌, ◌≤◌, ◌+◌, IsTrue};
+ghost use Rattle.std.specs.Prelude.{◌<◌, ◌≤◌, ◌↔◌, IsTrue};
+ghost use Rattle.stored_documents.specs.Documents.{IsBody};
 ghost use Rattle.stored_documents.specs.Slots.{IsDoneSlot};
 ghost use Rattle.worm_device.specs.Views.{Viewed};
-ghost use Rattle.volume_copy.specs.Reading.{BodyReadEnds, CopyReadEnds, NamesPlace, ReadsStored, StampReadEnds};
+ghost use Rattle.volume_copy.specs.Reading.{BodyReadEnds, CopyReadEnds, NamesCell, ReadsStored, StampReadEnds};
 
 use cell_types::{RecordCell, Refusal, STAMPED_VERSION, Volume, breach, encode};
 use commit_record::stamp_of;
@@ -61,7 +62,7 @@ fn read_in<V: View>(
     if !is_identifier(&identifier) {
         return Err(unheld(volume, slot));
     }
-    if body.bytes().len() > MAX_BODY_BYTES {
+    if !is_body(body.bytes()) {
         return Err(unheld(volume, slot));
     }
     Ok(StoredCopy {
@@ -69,6 +70,13 @@ fn read_in<V: View>(
         body,
         stamp,
     })
+}
+
+/// Whether the bytes are no more than a body may have.
+fn is_body(bytes: &[u8]) -> bool
+    ensures { IsTrue result ↔ IsBody bytes.now }
+{
+    bytes.len() <= MAX_BODY_BYTES
 }
 
 /// Reads the body of the document of a slot that is done.
@@ -123,7 +131,7 @@ fn stamp_for<V: View>(view: &mut V, volume: &Volume, slot: u32) -> Result<Option
 /// document that was seen before.
 fn unheld(volume: &Volume, slot: u32) -> Refusal
     requires { slot < volume.now.geometry.slots }
-    ensures { NamesPlace volume.now.geometry result }
+    ensures { NamesCell result }
 {
     let cell = volume.geometry.outcome_at(slot);
     Refusal::from(breach(BROKEN_DOCUMENT, cell, encode(RecordCell::Abandon, cell)))

@@ -1,5 +1,5 @@
 //! The slots of a volume's documents.
-ghost use Rattle.std.specs.Prelude.{◌<◌, ◌≤◌, ℕ, IfOk, IsTrue, length, slice_index};
+ghost use Rattle.std.specs.Prelude.{◌≡◌, ◌≤◌};
 ghost use Rattle.worm_device.specs.Views.{Viewed};
 ghost use Rattle.volume_copy.specs.Reading.{IsOnlyRead, RiseFrom};
 ghost use Rattle.volume_copy.specs.Walking.{WalkEnds, WalksSlots};
