@@ -49,7 +49,10 @@ pub(crate) fn copy_rest<D: Device, E: Device>(
 {
     let there = moved.len();
     for place in there..source.done.len() {
-        let pair = copy_next(alloc, from, source, to, place)?;
+        let pair = match copy_next(alloc, from, source, to, place) {
+            Ok(pair) => pair,
+            Err(refusal) => return Err(refusal),
+        };
         let Ok(()) = moved.push(pair) else {
             return Err(CopyRefusal::NoMemory);
         };

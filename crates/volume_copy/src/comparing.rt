@@ -29,7 +29,10 @@ pub(crate) fn compare<D: Device, E: Device>(
         if place >= source.done.len() {
             return Err(CopyRefusal::Longer(target.done[place]));
         }
-        let pair = compare_next(alloc, from, source, to, target, place)?;
+        let pair = match compare_next(alloc, from, source, to, target, place) {
+            Ok(pair) => pair,
+            Err(refusal) => return Err(refusal),
+        };
         let Ok(()) = moved.push(pair) else {
             return Err(CopyRefusal::NoMemory);
         };
