@@ -132,6 +132,10 @@ module _ (g : Layout) {old new : DeviceState} (size : g.cells ≡ old.cells) (de
         sure = same_sure;
       }
 
+-- the layout that was asked for
+abbrev layout_for : ℕ → ℕ → ℕ → DeviceState → Layout
+layout_for slots lists version s = record { slots = slots; lists = lists; cells = s.cells; version = version }
+
 -- cell 0 was blank, and the target was formatted
 pub begins_formatted : (slots lists version : ℕ) {source : AuditedVolume} {from to mid new : DeviceState} (moved : Vec Moved)
     → moved.items ≡ [] → CanBeRead from source → version ≡ source.volume.geometry.version → IsDevice mid → IsDevice new
@@ -146,10 +150,11 @@ begins_formatted slots lists version {source} {from} {to} {mid} {new} moved none
           let tells = subst IsTrue (sym called.tells) alone.to_tells in
           let still = still_second called.foreign_writes formats.called.foreign_writes alone.to_alone in (
             subst (λ (l : List Moved). CopiedSoFar from new l) (sym none)
-                (copied_none g refl device device_new tells still formats can alone.from_tells whole),
+                (copied_none (layout_for slots lists version mid) refl device device_new tells still formats can alone.from_tells whole),
             λ f h from_volume to_volume.
-                let one = one_layout {cells = new.cells} {more = new.cells} h g to_volume
-                (its_volume g refl device device_new tells still formats) in
+                let one = one_layout {cells = new.cells} {more = new.cells} h
+                (layout_for slots lists version mid) to_volume
+                (its_volume (layout_for slots lists version mid) refl device device_new tells still formats) in
                 let two = one_layout {cells = from.cells} {more = from.cells} f source.volume.geometry from_volume
                 (can.is_volume alone.from_tells) in
                 record {
@@ -159,9 +164,6 @@ begins_formatted slots lists version {source} {from} {to} {mid} {new} moved none
                 },
           );
     }
-  where
-    abbrev g : Layout
-    g = record { slots = slots; lists = lists; cells = mid.cells; version = version }
 
 -- a target that holds a volume of these numbers
 module _ (slots lists version : ℕ) {source target : AuditedVolume} {from from' to mid audited new : DeviceState}

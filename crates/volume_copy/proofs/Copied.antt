@@ -9,7 +9,7 @@ use Rattle.cell_types.specs.declared.refusal.CopyRefusal.{CopyRefusal}
 use Rattle.cell_types.specs.declared.refusal.CopyRefusal.TheVariants as copies
 use Rattle.cell_types.specs.declared.refusal.Refusal.{Refusal}
 use Rattle.cell_types.specs.declared.refusal.Refusal.TheVariants as refusals
-use Rattle.stored_documents.specs.Documents.{AreDocuments, Document}
+use Rattle.stored_documents.specs.Documents.{AreDocuments, Document, Stands}
 use Rattle.stored_documents.specs.Volumes.{IsVolume}
 use Rattle.stored_documents.proofs.Extending.{stands_on, volume_on}
 use Rattle.index_paths.specs.Keeping.{IsKept, Kept}
@@ -53,7 +53,7 @@ not_audited slots lists from from' to refusal called refuses = record {
     go r x = x
 
 -- all of the source has its pair
-module _ {slots lists : ℕ} {from from' to to' : DeviceState} {done : List ℕ} (moved : List Moved) (called : Called from from')
+module _ {slots lists : ℕ} {from from' to' : DeviceState} {done : List ℕ} (moved : List Moved) (called : Called from from')
     (so : CopiedSoFar from' to' moved) (whole : IsWhole from' done) (all : length done ≤ length moved)
     (numbers : HasNumbers slots lists so.agree.from_layout so.agree.to_layout) where
   abbrev g : Layout
@@ -117,10 +117,10 @@ module _ {slots lists : ℕ} {from from' to to' : DeviceState} {done : List ℕ}
   }
 
   keeps : KeepsAll from to' moved
-  keeps documents kept d among =
+  keeps held kept d among =
       let stands = stands_on called.image (kept.each d among).stands in
       let there = stands_among from'.cells from'.image whole.settled so.agree.source so.agree.those d.slot d.id d.body
-      (subst (λ (k : ℕ). Rattle.stored_documents.specs.Documents.Stands k from'.image d.slot d.id d.body)
+      (subst (λ (k : ℕ). Stands k from'.image d.slot d.id d.body)
       (sym called.cells) stands) in
       kept_there d (pairs_have g h from'.image to'.image so.agree.target moved so.agree.source d pairs
       (omega (arith, count, all)) there)
@@ -128,13 +128,14 @@ module _ {slots lists : ℕ} {from from' to to' : DeviceState} {done : List ℕ}
   pub has_copied : HasCopied slots lists from from' to' moved
   has_copied = record { keeps = keeps; whole = copies_whole }
 
+-- the source is whole behind its audit
+whole_audited : {source : AuditedVolume} {from audited new x y : DeviceState} → HasAudited from audited source
+    → Called audited new → AreAlone from new x y → IsWhole audited source.done.items
+whole_audited audit called alone = audit.whole alone.from_tells
+    (still_first audit.called.foreign_writes called.foreign_writes alone.from_alone)
+
 module _ {slots lists : ℕ} {source : AuditedVolume} {from audited from1 to to1 : DeviceState}
     (audit : HasAudited from audited source) where
-  -- the source is whole behind its audit
-  whole_audited : {new x y : DeviceState} → Called audited new → AreAlone from new x y → IsWhole audited source.done.items
-  whole_audited called alone = audit.whole alone.from_tells
-      (still_first audit.called.foreign_writes called.foreign_writes alone.from_alone)
-
   -- the copy did not begin
   pub not_begun : (refusal : CopyRefusal) → Begins slots lists source audited from1 to to1 (Err refusal)
       → Copies slots lists from from1 to to1 (Err refusal)
@@ -150,8 +151,8 @@ module _ {slots lists : ℕ} {source : AuditedVolume} {from audited from1 to to1
       go : (r : CopyRefusal) → BeginEnds slots lists source audited from1 to to1 (Err r)
           → CopyEnds slots lists from from1 to to1 (Err r)
       go (copies.Differs old fresh) ends = λ alone.
-          ends (behind alone) (whole_audited begins.from_read.called alone)
-      go (copies.Longer fresh) ends = λ alone. ends (behind alone) (whole_audited begins.from_read.called alone)
+          ends (behind alone) (whole_audited audit begins.from_read.called alone)
+      go (copies.Longer fresh) ends = λ alone. ends (behind alone) (whole_audited audit begins.from_read.called alone)
       go (copies.OtherVolume cell) ends = ends
       go copies.NoMemory ends = tt
       go (copies.From refusals.NoMemory) ends = absurd ends
@@ -163,15 +164,12 @@ module _ {slots lists : ℕ} {source : AuditedVolume} {from audited from1 to to1
 
   module _ {from2 to2 : DeviceState} (moved : Vec Moved) (begins : Begins slots lists source audited from1 to to1 (Ok moved))
       where
-    up_to : Called from from1
-    up_to = called_then audit.called begins.from_read.called
-
     -- the documents that have no pair were not copied
     pub not_rested : (new : List Moved) (refusal : CopyRefusal)
         → AddsRest source from1 from2 to1 to2 moved.items new (Err refusal)
         → Copies slots lists from from2 to to2 (Err refusal)
     not_rested new refusal rest = record {
-      from_called = called_then up_to rest.from_read.called;
+      from_called = called_then (called_then audit.called begins.from_read.called) rest.from_read.called;
       to_called = called_then begins.to_called rest.to_called;
       ends = go refusal rest.ends;
     }
@@ -183,8 +181,8 @@ module _ {slots lists : ℕ} {source : AuditedVolume} {from audited from1 to to1
             → CopyEnds slots lists from from2 to to2 (Err r)
         go copies.NoMemory ends = tt
         go (copies.From refusals.NoMemory) ends = absurd ends
-        go (copies.From r) ends = by_reading (called_then up_to rest.from_read.called)
-            (reading_later up_to rest.from_read.called r ends)
+        go (copies.From r) ends = by_reading (called_then (called_then audit.called begins.from_read.called) rest.from_read.called)
+            (reading_later (called_then audit.called begins.from_read.called) rest.from_read.called r ends)
         go (copies.To refusals.NoMemory) ends = absurd ends
         go (copies.To r) ends = by_ingest ends.between ends.ingests.id ends.ingests.stamp ends.ingests.body
             (called_then begins.to_called ends.called)
@@ -202,13 +200,13 @@ module _ {slots lists : ℕ} {source : AuditedVolume} {from audited from1 to to1
     pub rested : (new : Vec Moved) → AddsRest source from1 from2 to1 to2 moved.items new.items (Ok tt)
         → IsDevice audited → IsDevice from1 → IsDevice from2 → Copies slots lists from from2 to to2 (Ok new)
     rested new rest device device1 device2 = record {
-      from_called = called_then up_to rest.from_read.called;
+      from_called = called_then (called_then audit.called begins.from_read.called) rest.from_read.called;
       to_called = called_then begins.to_called rest.to_called;
       ends = λ alone.
-          let first = alone_first up_to rest.from_read.called begins.to_called rest.to_called alone in
-          let second = alone_second up_to rest.from_read.called begins.to_called rest.to_called alone in
+          let first = alone_first (called_then audit.called begins.from_read.called) rest.from_read.called begins.to_called rest.to_called alone in
+          let second = alone_second (called_then audit.called begins.from_read.called) rest.from_read.called begins.to_called rest.to_called alone in
           let behind = alone_second audit.called begins.from_read.called (called_self to) begins.to_called first in
-          let whole = whole_audited begins.from_read.called first in
+          let whole = whole_audited audit begins.from_read.called first in
           let began = begins.ends behind whole in
           let whole1 = whole_on device1 begins.from_read behind.from_alone whole in
           let whole2 = whole_on device2 rest.from_read second.from_alone whole1 in
@@ -223,7 +221,7 @@ module _ {slots lists : ℕ} {source : AuditedVolume} {from audited from1 to to1
           {more = to2.cells} so.agree.to_layout began.0.agree.to_layout so.agree.to_volume
           (subst (λ (k : ℕ). IsVolume k to2.image began.0.agree.to_layout) (sym rest.to_called.cells)
           (volume_on rest.to_called.image began.0.agree.to_volume)) in
-          has_copied new.items (called_then up_to rest.from_read.called) so whole2 rest.ends.0 (record {
+          has_copied new.items (called_then (called_then audit.called begins.from_read.called) rest.from_read.called) so whole2 rest.ends.0 (record {
             slots_are = ap (λ (k : Layout). k.slots) two ∙ n.slots_are;
             lists_are = ap (λ (k : Layout). k.lists) two ∙ n.lists_are;
             version_is = ap (λ (k : Layout). k.version) two ∙ n.version_is

@@ -249,3 +249,9 @@ module _ {old a b new : DeviceState} {report : AuditReport} (r : Ready) (audits 
       done = λ tells place less. (walk.1 (tells_b tells)).done _ (among place less);
       whole = whole;
     }
+
+-- whoever refuses, a row of calls was made
+pub refuses_called : {old new : DeviceState} {refusal : Refusal} → Refuses old new refusal → Called old new
+refuses_called (by_audit audits) = audits.called
+refuses_called (by_settling between report audits settles) = called_then audits.called settles.called
+refuses_called (by_reading called fails) = called

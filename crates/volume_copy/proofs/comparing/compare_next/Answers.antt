@@ -1,9 +1,12 @@
 -- Both documents were read, and compared.
-use Rattle.std.proofs.Common.{◌∙◌, ◌≡◌, refl}
+use Rattle.std.proofs.Common.{◌∙◌, ◌≡◌, false, refl, true}
 use Rattle.std.specs.Prelude.{slice_index}
 use Rattle.std.proofs.lemmas.Grind.{get_or_default_zero}
 use Rattle.volume_copy.proofs.Compared.{reads_both}
 use Rattle.volume_copy.proofs.comparing.compare_next.Goals as goal
+
+no_truth : false ≡ true → ⊥
+no_truth e = cc
 
 -- the slots are done
 pub read_stored-requires-clause-done : goal.read_stored-requires-clause-done
@@ -29,7 +32,7 @@ returns-then-not-is_same g c = record {
         (c.index-2.ensures ∙ get_or_default_zero c.args.target.now.done.items c.args.place _ c.requires.within)
         c.in-Ok.one c.in-Ok-read_stored.other c.in-Ok.ensures.read.called c.in-Ok-read_stored.ensures.read.called
         c.in-Ok.ensures.ends.2 c.in-Ok-read_stored.ensures.ends.2;
-    other = λ same. rw c.if-not-is_same.true at (c.is_same.ensures.1 same);
+    other = λ same. no_truth (rw c.if-not-is_same.true at (c.is_same.ensures.1 same));
   };
 }
 
