@@ -1,19 +1,19 @@
 -- One document more was copied, and then those that have no pair.
-use Rattle.std.proofs.Common.{◌≡◌, ◌≤◌, ◌<◌, ◌+◌, ◌∙◌, ℕ, List, [], ◌∷◌, ◌++◌, Option, Some, Result, Ok, Err, inr, refl, sym, ap, subst, arith, length}
-use Rattle.std.specs.Prelude.{Contains, IsTrue, slice_get, slice_index, take}
+use Rattle.std.proofs.Common.{◌≡◌, ◌<◌, ◌+◌, ◌∙◌, ℕ, List, [], ◌∷◌, ◌++◌, Some, Result, Ok, Err, inr, refl, sym, ap, subst, arith, length}
+use Rattle.std.specs.Prelude.{IsTrue, slice_get, slice_index}
 use Rattle.std.proofs.lemmas.List.{length_push, take_all}
-use Rattle.cell_types.specs.Image.{Extends, Image, IsUnchanged}
+use Rattle.cell_types.specs.Image.{Extends, Image}
 use Rattle.cell_types.specs.Layout.{Layout}
 use Rattle.cell_types.specs.declared.refusal.CopyRefusal.{CopyRefusal}
 use Rattle.cell_types.specs.declared.refusal.CopyRefusal.TheVariants as copies
 use Rattle.cell_types.specs.declared.refusal.Refusal.{Refusal}
 use Rattle.cell_types.specs.declared.refusal.Refusal.TheVariants as refusals
-use Rattle.stored_documents.specs.Documents.{AreDocuments, Document, IsDocument, Stands}
+use Rattle.stored_documents.specs.Documents.{AreDocuments, Document, Stands}
 use Rattle.stored_documents.specs.Slots.{IsStampOf}
 use Rattle.stored_documents.specs.Volumes.{IsVolume}
 use Rattle.stored_documents.proofs.Extending.{done_slot_on, volume_on}
 use Rattle.stored_documents.proofs.OneDocument.{one_document}
-use Rattle.tamper_rules.specs.Settling.{Held, Settled, Sound, nothing, of_after}
+use Rattle.tamper_rules.specs.Settling.{Settled, Sound, nothing, of_after}
 use Rattle.tamper_rules.proofs.GivenUp.{one_layout}
 use Rattle.tamper_rules.proofs.Images.{same_image}
 use Rattle.worm_device.specs.Calls.{Called}
@@ -32,13 +32,13 @@ use Rattle.crash_laws.proofs.AddsOne.{comes_more}
 use Rattle.volume_copy.specs.Adding.{AddEnds, AddFails, AddsNext, CanBeRead, CopiedSoFar, GoesOn, IngestsOf, RestFails}
 use Rattle.volume_copy.specs.Auditing.{IsWhole}
 use Rattle.volume_copy.specs.Copies.{AreAlone}
-use Rattle.volume_copy.specs.Pairs.{AgreeSoFar, ArePairs, SaysSame, slots_of}
+use Rattle.volume_copy.specs.Pairs.{AgreeSoFar, ArePairs, SaysSame}
 use Rattle.volume_copy.specs.Reading.{HoldsCopy, IsOnlyRead, ReadingFails}
 use Rattle.volume_copy.specs.Refusing.{refusal_from, refusal_to}
 use Rattle.volume_copy.specs.declared.audited.AuditedVolume.{AuditedVolume}
 use Rattle.volume_copy.specs.declared.moved.Moved.{Moved}
 use Rattle.volume_copy.specs.declared.stored.StoredCopy.{StoredCopy}
-use Rattle.volume_copy.proofs.PairLists.{by_place, pairs_long, pairs_on, pairs_push, place_in, slots_length}
+use Rattle.volume_copy.proofs.PairLists.{by_place, pairs_on, pairs_push, place_in}
 use Rattle.volume_copy.proofs.WholeVolumes.{reading_later}
 
 -- nothing was read

@@ -1,20 +1,18 @@
 -- A target was formatted, or compared.
-use Rattle.std.proofs.Common.{◌≡◌, ◌≤◌, ◌<◌, ◌+◌, ◌⊎◌, ◌∙◌, ℕ, List, [], ◌∷◌, Option, Some, None, Result, Ok, Err, inl, inr, ⊎_elim, refl, sym, ap, subst, arith, length}
+use Rattle.std.proofs.Common.{◌≡◌, ◌∙◌, ℕ, List, [], Some, None, Result, Ok, Err, inl, ⊎_elim, refl, sym, ap, subst, arith}
 use Rattle.std.specs.Prelude.{IsTrue}
 use Rattle.std.specs.Global.{Vec}
 use Rattle.std.proofs.lemmas.Option.{none-some}
-use Rattle.cell_types.specs.Image.{Between, ChangesOnly, Extends, Image, IsUnchanged}
-use Rattle.cell_types.specs.Layout.{IsLayout, Layout}
+use Rattle.cell_types.specs.Image.{Image, IsUnchanged}
+use Rattle.cell_types.specs.Layout.{Layout}
 use Rattle.cell_types.specs.Records.{IsRecordCell}
 use Rattle.cell_types.specs.declared.refusal.CopyRefusal.{CopyRefusal}
 use Rattle.cell_types.specs.declared.refusal.CopyRefusal.TheVariants as copies
 use Rattle.cell_types.specs.declared.refusal.Refusal.{Refusal}
 use Rattle.cell_types.specs.declared.refusal.Refusal.TheVariants as refusals
-use Rattle.stored_documents.specs.Documents.{AreDocuments, Document}
-use Rattle.stored_documents.specs.Volumes.{Holds, IsVolume, volume_record}
+use Rattle.stored_documents.specs.Volumes.{IsVolume, volume_record}
 use Rattle.stored_documents.proofs.Extending.{volume_on}
 use Rattle.stored_documents.proofs.Holding.{some_is}
-use Rattle.tamper_rules.specs.Settling.{Settled}
 use Rattle.tamper_rules.proofs.DocumentLists.{documents_exist}
 use Rattle.tamper_rules.proofs.GivenUp.{one_layout}
 use Rattle.tamper_rules.proofs.Images.{look, same_both}
@@ -23,17 +21,16 @@ use Rattle.worm_device.specs.Counts.{IsStill}
 use Rattle.worm_device.specs.State.{DeviceState, IsDevice}
 use Rattle.worm_device.proofs.Counting.{still_first, still_second}
 use Rattle.worm_device.proofs.Elapsing.{called_self, called_then}
-use Rattle.ingest_engine.specs.Formats.{Formats, IsBlankBelow, volume_cell}
+use Rattle.ingest_engine.specs.Formats.{Formats, volume_cell}
 use Rattle.settling_laws.specs.Steadiness.{IsSteady}
 use Rattle.command_laws.specs.Telling.{IsFormatted}
 use Rattle.command_laws.proofs.Formatting.{format_makes}
 use Rattle.volume_copy.specs.Adding.{CanBeRead, CopiedSoFar}
-use Rattle.volume_copy.specs.Auditing.{HasAudited, IsWhole, Refuses, by_reading}
+use Rattle.volume_copy.specs.Auditing.{HasAudited, IsWhole, by_reading}
 use Rattle.volume_copy.specs.Beginning.{BeginEnds, Begins, HaveNumbers, StatesNone, StatesOther}
 use Rattle.volume_copy.specs.Comparing.{CompareEnds, ComparesAll}
-use Rattle.volume_copy.specs.Copies.{AreAlone, HasNumbers, IsOfVersion, IsOtherVolume, RefusesTo, by_format, by_look, by_volume}
-use Rattle.volume_copy.specs.Pairs.{AgreeSoFar, slots_of}
-use Rattle.volume_copy.specs.Reading.{IsOnlyRead, ReadingFails}
+use Rattle.volume_copy.specs.Copies.{AreAlone, IsOfVersion, IsOtherVolume, RefusesTo, by_volume}
+use Rattle.volume_copy.specs.Reading.{IsOnlyRead}
 use Rattle.volume_copy.specs.Refusing.{refusal_to}
 use Rattle.volume_copy.specs.declared.audited.AuditedVolume.{AuditedVolume}
 use Rattle.volume_copy.specs.declared.moved.Moved.{Moved}
@@ -64,73 +61,73 @@ of_version {s} {source} version can is = λ tells. (source.volume.geometry, can.
 -- a blank device that was formatted
 module _ (g : Layout) {old new : DeviceState} (size : g.cells ≡ old.cells) (device : IsDevice old) (device_new : IsDevice new)
     (tells : IsTrue old.tells) (still : IsStill old.foreign_writes new.foreign_writes) (formats : Formats g old new (Ok tt))
-    where
-  blank : (cell : ℕ) → old.image cell ≡ None
-  blank cell = ⊎_elim (λ free. free)
-      (λ (w : (v : List ℕ) × (old.image cell ≡ Some v)).
-      (formats.ends.2 tells).blank cell (device.inside cell w.0 w.1).0)
-      (look old.image cell)
+  where
+    blank : (cell : ℕ) → old.image cell ≡ None
+    blank cell = ⊎_elim (λ free. free)
+        (λ (w : (v : List ℕ) × (old.image cell ≡ Some v)).
+        (formats.ends.2 tells).blank cell (device.inside cell w.0 w.1).0)
+        (look old.image cell)
 
-  steady : IsSteady old
-  steady = record {
-    each = λ image b. inl (λ cell. ⊎_elim (λ free. free)
-        (λ (w : (v : List ℕ) × (image cell ≡ Some v)).
-        absurd (none-some w.0 (sym (blank cell) ∙ b.below.keeps cell w.0 w.1)))
-        (look image cell));
-  }
+    steady : IsSteady old
+    steady = record {
+      each = λ image b. inl (λ cell. ⊎_elim (λ free. free)
+          (λ (w : (v : List ℕ) × (image cell ≡ Some v)).
+          absurd (none-some w.0 (sym (blank cell) ∙ b.below.keeps cell w.0 w.1)))
+          (look image cell));
+    }
 
-  made : IsFormatted new
-  made = format_makes g old new size device (record { tells = tells; steady = steady; alone = still }) formats.called
-      formats.only device_new formats.ends
+    made : IsFormatted new
+    made = format_makes g old new size device (record { tells = tells; steady = steady; alone = still }) formats.called
+        formats.only device_new formats.ends
 
-  only_first : (cell : ℕ) (value : List ℕ) → new.image cell ≡ Some value → new.sure cell ≡ Some value
-  only_first cell value stands = ⊎_elim
-      (λ (same : new.image cell ≡ old.image cell). absurd (none-some value (sym (same ∙ blank cell) ∙ stands)))
-      (λ (w : (cell ≡ 0) × (old.image cell ≡ None) × (new.image cell ≡ Some (volume_cell g))).
-      ap new.sure w.0 ∙ formats.ends.1 tells ∙ sym w.2 ∙ stands)
-      (formats.only still cell)
+    only_first : (cell : ℕ) (value : List ℕ) → new.image cell ≡ Some value → new.sure cell ≡ Some value
+    only_first cell value stands = ⊎_elim
+        (λ (same : new.image cell ≡ old.image cell). absurd (none-some value (sym (same ∙ blank cell) ∙ stands)))
+        (λ (w : (cell ≡ 0) × (old.image cell ≡ None) × (new.image cell ≡ Some (volume_cell g))).
+        ap new.sure w.0 ∙ formats.ends.1 tells ∙ sym w.2 ∙ stands)
+        (formats.only still cell)
 
-  same_sure : IsUnchanged new.image new.sure
-  same_sure cell = ap (λ (i : Image). i cell) (same_both (record { keeps = only_first }) device_new.sure)
+    same_sure : IsUnchanged new.image new.sure
+    same_sure cell = ap (λ (i : Image). i cell) (same_both (record { keeps = only_first }) device_new.sure)
 
-  pub its_volume : IsVolume new.cells new.image g
-  its_volume =
-      let is = formats.ends.0 in
-      record {
-        volume = record {
-          cell = volume_cell g;
-          stands = device_new.sure.keeps 0 (volume_cell g) (formats.ends.1 tells);
-          is = record {
-            fits = (omega arith, omega (arith, is.slots), omega (arith, is.lists), omega (arith, is.cells));
-            well_formed = (is, refl);
-            same = refl;
+    pub its_volume : IsVolume new.cells new.image g
+    its_volume =
+        let is = formats.ends.0 in
+        record {
+          volume = record {
+            cell = volume_cell g;
+            stands = device_new.sure.keeps 0 (volume_cell g) (formats.ends.1 tells);
+            is = record {
+              fits = (omega arith, omega (arith, is.slots), omega (arith, is.lists), omega (arith, is.cells));
+              well_formed = (is, refl);
+              same = refl;
+            };
           };
-        };
-        size = size ∙ sym formats.called.cells;
-      }
+          size = size ∙ sym formats.called.cells;
+        }
 
-  -- nothing was copied yet
-  pub copied_none : {s : DeviceState} {source : AuditedVolume} → CanBeRead s source → IsTrue s.tells
-      → IsWhole s source.done.items → CopiedSoFar s new []
-  copied_none {s} {source} can s_tells whole =
-      let those = documents_exist s.cells s.image whole.settled in
-      record {
-        agree = record {
-          from_layout = source.volume.geometry;
-          to_layout = g;
-          from_volume = can.is_volume s_tells;
-          to_volume = its_volume;
-          source = those.0;
-          target = [];
-          those = those.1;
-          these = made.none;
-          some = omega arith;
-          pairs = tt;
-        };
-        all = refl;
-        settled = made.settled;
-        sure = same_sure;
-      }
+    -- nothing was copied yet
+    pub copied_none : {s : DeviceState} {source : AuditedVolume} → CanBeRead s source → IsTrue s.tells
+        → IsWhole s source.done.items → CopiedSoFar s new []
+    copied_none {s} {source} can s_tells whole =
+        let those = documents_exist s.cells s.image whole.settled in
+        record {
+          agree = record {
+            from_layout = source.volume.geometry;
+            to_layout = g;
+            from_volume = can.is_volume s_tells;
+            to_volume = its_volume;
+            source = those.0;
+            target = [];
+            those = those.1;
+            these = made.none;
+            some = omega arith;
+            pairs = tt;
+          };
+          all = refl;
+          settled = made.settled;
+          sure = same_sure;
+        }
 
 -- the layout that was asked for
 abbrev layout_for : ℕ → ℕ → ℕ → DeviceState → Layout

@@ -1,9 +1,9 @@
 -- A volume was copied, or it was not.
-use Rattle.std.proofs.Common.{◌≡◌, ◌≤◌, ◌<◌, ◌+◌, ◌∙◌, ℕ, List, [], ◌∷◌, Option, Some, Result, Ok, Err, refl, sym, ap, subst, arith, length}
-use Rattle.std.specs.Prelude.{Contains, IsTrue, take}
+use Rattle.std.proofs.Common.{◌≡◌, ◌≤◌, ◌∙◌, ℕ, List, Ok, Err, sym, ap, subst, arith, length}
+use Rattle.std.specs.Prelude.{IsTrue}
 use Rattle.std.specs.Global.{Vec}
 use Rattle.std.proofs.lemmas.List.{take_all}
-use Rattle.cell_types.specs.Image.{Image, IsUnchanged}
+use Rattle.cell_types.specs.Image.{Image}
 use Rattle.cell_types.specs.Layout.{Layout}
 use Rattle.cell_types.specs.declared.refusal.CopyRefusal.{CopyRefusal}
 use Rattle.cell_types.specs.declared.refusal.CopyRefusal.TheVariants as copies
@@ -20,21 +20,19 @@ use Rattle.tamper_rules.proofs.GivenUp.{one_layout}
 use Rattle.tamper_rules.proofs.Images.{same_image}
 use Rattle.tamper_rules.proofs.Keeps.{keeps_all}
 use Rattle.worm_device.specs.Calls.{Called}
-use Rattle.worm_device.specs.Counts.{IsStill}
 use Rattle.worm_device.specs.State.{DeviceState, IsDevice}
 use Rattle.worm_device.proofs.Counting.{still_first}
 use Rattle.worm_device.proofs.Elapsing.{called_self, called_then}
 use Rattle.ingest_engine.specs.Ingesting.{document_in}
-use Rattle.volume_copy.specs.Adding.{AddsRest, CanBeRead, CopiedSoFar, RestFails}
+use Rattle.volume_copy.specs.Adding.{AddsRest, CopiedSoFar, RestFails}
 use Rattle.volume_copy.specs.Auditing.{HasAudited, IsWhole, Refuses, by_reading}
-use Rattle.volume_copy.specs.Beginning.{BeginEnds, Begins, HaveNumbers}
-use Rattle.volume_copy.specs.Copies.{AreAlone, Copies, CopiesWhole, CopyEnds, HasCopied, HasNumbers, IsKeptThere, IsOfSource, KeepsAll, RefusesTo, by_ingest}
-use Rattle.volume_copy.specs.Pairs.{ArePairs, slots_of}
-use Rattle.volume_copy.specs.Reading.{IsOnlyRead, ReadingFails}
+use Rattle.volume_copy.specs.Beginning.{BeginEnds, Begins}
+use Rattle.volume_copy.specs.Copies.{AreAlone, Copies, CopiesWhole, CopyEnds, HasCopied, HasNumbers, IsKeptThere, KeepsAll, by_ingest}
+use Rattle.volume_copy.specs.Pairs.{ArePairs}
 use Rattle.volume_copy.specs.Refusing.{refusal_from}
 use Rattle.volume_copy.specs.declared.audited.AuditedVolume.{AuditedVolume}
 use Rattle.volume_copy.specs.declared.moved.Moved.{Moved}
-use Rattle.volume_copy.proofs.AddedOn.{alone_first, alone_second, can_on, read_then, whole_on}
+use Rattle.volume_copy.proofs.AddedOn.{alone_first, alone_second, can_on, whole_on}
 use Rattle.volume_copy.proofs.Begun.{can_audited}
 use Rattle.volume_copy.proofs.PairLists.{HasPair, pairs_have, pairs_long, slots_length}
 use Rattle.volume_copy.proofs.WholeVolumes.{reading_later, stands_among}
@@ -163,68 +161,68 @@ module _ {slots lists : ℕ} {source : AuditedVolume} {from audited from1 to to1
       go r ends = absurd ends
 
   module _ {from2 to2 : DeviceState} (moved : Vec Moved) (begins : Begins slots lists source audited from1 to to1 (Ok moved))
-      where
-    -- the documents that have no pair were not copied
-    pub not_rested : (new : List Moved) (refusal : CopyRefusal)
-        → AddsRest source from1 from2 to1 to2 moved.items new (Err refusal)
-        → Copies slots lists from from2 to to2 (Err refusal)
-    not_rested new refusal rest = record {
-      from_called = called_then (called_then audit.called begins.from_read.called) rest.from_read.called;
-      to_called = called_then begins.to_called rest.to_called;
-      ends = go refusal rest.ends;
-    }
-      where
-        volume2 : IsTrue from2.tells → IsVolume from2.cells from2.image source.volume.geometry
-        volume2 = (can_on (called_then begins.from_read.called rest.from_read.called) (can_audited audit)).is_volume
+    where
+      -- the documents that have no pair were not copied
+      pub not_rested : (new : List Moved) (refusal : CopyRefusal)
+          → AddsRest source from1 from2 to1 to2 moved.items new (Err refusal)
+          → Copies slots lists from from2 to to2 (Err refusal)
+      not_rested new refusal rest = record {
+        from_called = called_then (called_then audit.called begins.from_read.called) rest.from_read.called;
+        to_called = called_then begins.to_called rest.to_called;
+        ends = go refusal rest.ends;
+      }
+        where
+          volume2 : IsTrue from2.tells → IsVolume from2.cells from2.image source.volume.geometry
+          volume2 = (can_on (called_then begins.from_read.called rest.from_read.called) (can_audited audit)).is_volume
 
-        go : (r : CopyRefusal) → RestFails source.volume.geometry from1 from2 to1 to2 r
-            → CopyEnds slots lists from from2 to to2 (Err r)
-        go copies.NoMemory ends = tt
-        go (copies.From refusals.NoMemory) ends = absurd ends
-        go (copies.From r) ends = by_reading (called_then (called_then audit.called begins.from_read.called) rest.from_read.called)
-            (reading_later (called_then audit.called begins.from_read.called) rest.from_read.called r ends)
-        go (copies.To refusals.NoMemory) ends = absurd ends
-        go (copies.To r) ends = by_ingest ends.between ends.ingests.id ends.ingests.stamp ends.ingests.body
-            (called_then begins.to_called ends.called)
-            (λ tells. record {
-              layout = source.volume.geometry;
-              volume = volume2 tells;
-              slot = ends.slot;
-              holds = ends.ingests.holds tells;
-              stamped = ends.ingests.stamped tells;
-            })
-            ends.ingests.ingests
-        go r ends = absurd ends
+          go : (r : CopyRefusal) → RestFails source.volume.geometry from1 from2 to1 to2 r
+              → CopyEnds slots lists from from2 to to2 (Err r)
+          go copies.NoMemory ends = tt
+          go (copies.From refusals.NoMemory) ends = absurd ends
+          go (copies.From r) ends = by_reading (called_then (called_then audit.called begins.from_read.called) rest.from_read.called)
+              (reading_later (called_then audit.called begins.from_read.called) rest.from_read.called r ends)
+          go (copies.To refusals.NoMemory) ends = absurd ends
+          go (copies.To r) ends = by_ingest ends.between ends.ingests.id ends.ingests.stamp ends.ingests.body
+              (called_then begins.to_called ends.called)
+              (λ tells. record {
+                layout = source.volume.geometry;
+                volume = volume2 tells;
+                slot = ends.slot;
+                holds = ends.ingests.holds tells;
+                stamped = ends.ingests.stamped tells;
+              })
+              ends.ingests.ingests
+          go r ends = absurd ends
 
-    -- they were
-    pub rested : (new : Vec Moved) → AddsRest source from1 from2 to1 to2 moved.items new.items (Ok tt)
-        → IsDevice audited → IsDevice from1 → IsDevice from2 → Copies slots lists from from2 to to2 (Ok new)
-    rested new rest device device1 device2 = record {
-      from_called = called_then (called_then audit.called begins.from_read.called) rest.from_read.called;
-      to_called = called_then begins.to_called rest.to_called;
-      ends = λ alone.
-          let first = alone_first (called_then audit.called begins.from_read.called) rest.from_read.called begins.to_called rest.to_called alone in
-          let second = alone_second (called_then audit.called begins.from_read.called) rest.from_read.called begins.to_called rest.to_called alone in
-          let behind = alone_second audit.called begins.from_read.called (called_self to) begins.to_called first in
-          let whole = whole_audited audit begins.from_read.called first in
-          let began = begins.ends behind whole in
-          let whole1 = whole_on device1 begins.from_read behind.from_alone whole in
-          let whole2 = whole_on device2 rest.from_read second.from_alone whole1 in
-          let so = rest.ends.1 second whole1 began.0 in
-          let n = began.1 began.0.agree.from_layout began.0.agree.to_layout began.0.agree.from_volume
-          began.0.agree.to_volume in
-          let one : so.agree.from_layout ≡ began.0.agree.from_layout = one_layout {cells = from2.cells}
-          {more = from2.cells} so.agree.from_layout began.0.agree.from_layout so.agree.from_volume
-          (subst (λ (k : ℕ). IsVolume k from2.image began.0.agree.from_layout) (sym rest.from_read.called.cells)
-          (volume_on rest.from_read.called.image began.0.agree.from_volume)) in
-          let two : so.agree.to_layout ≡ began.0.agree.to_layout = one_layout {cells = to2.cells}
-          {more = to2.cells} so.agree.to_layout began.0.agree.to_layout so.agree.to_volume
-          (subst (λ (k : ℕ). IsVolume k to2.image began.0.agree.to_layout) (sym rest.to_called.cells)
-          (volume_on rest.to_called.image began.0.agree.to_volume)) in
-          has_copied new.items (called_then (called_then audit.called begins.from_read.called) rest.from_read.called) so whole2 rest.ends.0 (record {
-            slots_are = ap (λ (k : Layout). k.slots) two ∙ n.slots_are;
-            lists_are = ap (λ (k : Layout). k.lists) two ∙ n.lists_are;
-            version_is = ap (λ (k : Layout). k.version) two ∙ n.version_is
-                ∙ sym (ap (λ (k : Layout). k.version) one);
-          });
-    }
+      -- they were
+      pub rested : (new : Vec Moved) → AddsRest source from1 from2 to1 to2 moved.items new.items (Ok tt)
+          → IsDevice audited → IsDevice from1 → IsDevice from2 → Copies slots lists from from2 to to2 (Ok new)
+      rested new rest device device1 device2 = record {
+        from_called = called_then (called_then audit.called begins.from_read.called) rest.from_read.called;
+        to_called = called_then begins.to_called rest.to_called;
+        ends = λ alone.
+            let first = alone_first (called_then audit.called begins.from_read.called) rest.from_read.called begins.to_called rest.to_called alone in
+            let second = alone_second (called_then audit.called begins.from_read.called) rest.from_read.called begins.to_called rest.to_called alone in
+            let behind = alone_second audit.called begins.from_read.called (called_self to) begins.to_called first in
+            let whole = whole_audited audit begins.from_read.called first in
+            let began = begins.ends behind whole in
+            let whole1 = whole_on device1 begins.from_read behind.from_alone whole in
+            let whole2 = whole_on device2 rest.from_read second.from_alone whole1 in
+            let so = rest.ends.1 second whole1 began.0 in
+            let n = began.1 began.0.agree.from_layout began.0.agree.to_layout began.0.agree.from_volume
+            began.0.agree.to_volume in
+            let one : so.agree.from_layout ≡ began.0.agree.from_layout = one_layout {cells = from2.cells}
+            {more = from2.cells} so.agree.from_layout began.0.agree.from_layout so.agree.from_volume
+            (subst (λ (k : ℕ). IsVolume k from2.image began.0.agree.from_layout) (sym rest.from_read.called.cells)
+            (volume_on rest.from_read.called.image began.0.agree.from_volume)) in
+            let two : so.agree.to_layout ≡ began.0.agree.to_layout = one_layout {cells = to2.cells}
+            {more = to2.cells} so.agree.to_layout began.0.agree.to_layout so.agree.to_volume
+            (subst (λ (k : ℕ). IsVolume k to2.image began.0.agree.to_layout) (sym rest.to_called.cells)
+            (volume_on rest.to_called.image began.0.agree.to_volume)) in
+            has_copied new.items (called_then (called_then audit.called begins.from_read.called) rest.from_read.called) so whole2 rest.ends.0 (record {
+              slots_are = ap (λ (k : Layout). k.slots) two ∙ n.slots_are;
+              lists_are = ap (λ (k : Layout). k.lists) two ∙ n.lists_are;
+              version_is = ap (λ (k : Layout). k.version) two ∙ n.version_is
+                  ∙ sym (ap (λ (k : Layout). k.version) one);
+            });
+      }

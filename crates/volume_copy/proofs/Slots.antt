@@ -1,8 +1,8 @@
 -- What was read of a slot, and why it was not.
-use Rattle.std.proofs.Common.{◌≡◌, ◌≤◌, ◌+◌, ◌∙◌, ℕ, List, Option, Some, None, Result, Ok, Err, inr, refl, sym, ap, subst, arith, length}
+use Rattle.std.proofs.Common.{◌≡◌, ◌∙◌, ℕ, List, None, Result, Ok, Err, inr, sym, ap, subst, arith}
 use Rattle.std.specs.Prelude.{IsTrue}
-use Rattle.cell_types.specs.Image.{Extends, Image, IsUnchanged}
-use Rattle.cell_types.specs.Layout.{IsLayout, Layout, outcome_at}
+use Rattle.cell_types.specs.Image.{Image}
+use Rattle.cell_types.specs.Layout.{Layout, outcome_at}
 use Rattle.cell_types.specs.Refusals.{refusal_of_fault}
 use Rattle.cell_types.specs.declared.geometry.TheConstants.{STAMPED_VERSION}
 use Rattle.cell_types.specs.declared.refusal.Evidence.{Evidence}
@@ -14,16 +14,13 @@ use Rattle.stored_documents.specs.Documents.{stored_bytes, Spells, document_at}
 use Rattle.stored_documents.specs.Slots.{IsDone, IsDoneSlot, IsStampOf, Stores}
 use Rattle.stored_documents.specs.Volumes.{IsVolume}
 use Rattle.stored_documents.proofs.Extending.{done_slot_on, holds_on, volume_on}
-use Rattle.stored_documents.proofs.Stamps.{stamp_on}
 use Rattle.tamper_rules.specs.Rules.{Documents, HasDocument, IsBroken}
 use Rattle.tamper_rules.specs.declared.numbers.TheConstants.{BROKEN_DOCUMENT}
 use Rattle.tamper_rules.proofs.Images.{same_image}
-use Rattle.worm_device.specs.Calls.{Called}
-use Rattle.worm_device.specs.Counts.{IsStill}
 use Rattle.worm_device.specs.State.{DeviceState}
 use Rattle.worm_device.specs.Views.{ViewState, Viewed, seen_directly}
 use Rattle.worm_device.proofs.Images.{extends_self}
-use Rattle.worm_device.proofs.Resting.{rests_of, viewed_then}
+use Rattle.worm_device.proofs.Resting.{rests_of}
 use Rattle.commit_record.specs.Licences.{IsLicensed}
 use Rattle.commit_record.specs.Stamps.{IsStampOrNone}
 use Rattle.document_store.specs.Looks.{HoldsBody, HoldsIdentifier, IdentifierEnds, LookFails, Names, of_document, of_state}

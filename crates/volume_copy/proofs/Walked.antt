@@ -1,23 +1,22 @@
 -- The first slots of a volume were asked whether they are done.
-use Rattle.std.proofs.Common.{◌≡◌, ◌≤◌, ◌<◌, ◌+◌, ◌⊎◌, ◌∙◌, ℕ, zero, suc, List, [], ◌∷◌, ◌++◌, Option, Some, None, Result, Ok, Err, inl, inr, ⊎_elim, refl, sym, ap, subst, arith, length}
+use Rattle.std.proofs.Common.{◌≡◌, ◌≤◌, ◌<◌, ◌+◌, ◌⊎◌, ℕ, zero, List, [], ◌∷◌, ◌++◌, Some, None, Result, Ok, Err, ⊎_elim, refl, sym, subst, arith}
 use Rattle.std.specs.Prelude.{Contains, IsTrue}
 use Rattle.std.specs.Global.{Vec}
 use Rattle.std.proofs.lemmas.List.Elements.{Contains-append_left, Contains-append_right, Contains-push, Contains-push_cases}
 use Rattle.cell_types.specs.Layout.{Layout}
 use Rattle.cell_types.specs.declared.refusal.Refusal.{Refusal}
 use Rattle.stored_documents.specs.Slots.{IsDoneSlot}
-use Rattle.stored_documents.specs.Volumes.{IsVolume}
 use Rattle.stored_documents.proofs.Extending.{done_slot_on}
 use Rattle.worm_device.specs.State.{DeviceState}
 use Rattle.worm_device.specs.Views.{ViewState, Viewed, seen_directly}
 use Rattle.worm_device.proofs.Images.{extends_self}
 use Rattle.worm_device.proofs.Resting.{viewed_self, viewed_then}
-use Rattle.document_store.specs.Looks.{IsPartOf, PartEnds}
+use Rattle.document_store.specs.Looks.{PartEnds}
 use Rattle.document_store.specs.declared.part.Part.{Part}
 use Rattle.document_store.proofs.Holding.{part_is_done}
 use Rattle.document_store.proofs.Naming.{told}
 use Rattle.volume_copy.specs.Reading.{RiseFrom, SlotFails}
-use Rattle.volume_copy.specs.Walking.{AreDoneBelow, RefusesLook, RiseBelow, WalkEnds, WalksSlots}
+use Rattle.volume_copy.specs.Walking.{WalkEnds, WalksSlots}
 use Rattle.volume_copy.proofs.Slots.{fails_later, reading_fails}
 
 -- one more number, behind the others

@@ -1,12 +1,12 @@
 -- What is known of a volume that was audited, and whose slots were asked.
-use Rattle.std.proofs.Common.{◌≡◌, ◌≤◌, ◌<◌, ◌+◌, ◌⊎◌, ◌∙◌, ℕ, zero, suc, List, [], ◌∷◌, Some, None, Result, Ok, Err, inl, inr, ⊎_elim, refl, sym, ap, subst, arith, length}
+use Rattle.std.proofs.Common.{◌≡◌, ◌<◌, ◌+◌, ◌⊎◌, ◌∙◌, ℕ, zero, suc, List, [], ◌∷◌, Ok, Err, ⊎_elim, refl, sym, ap, subst, arith, length}
 use Rattle.std.specs.Prelude.{Contains, IsTrue, slice_index}
 use Rattle.std.specs.Global.{Vec}
 use Rattle.std.proofs.lemmas.Bool.{cases_order}
 use Rattle.std.proofs.lemmas.List.Elements.{Contains-get_or}
 use Rattle.std.proofs.lemmas.Option.{none-some}
-use Rattle.cell_types.specs.Image.{Extends, Image, IsUnchanged}
-use Rattle.cell_types.specs.Layout.{IsLayout, Layout, reserve_at}
+use Rattle.cell_types.specs.Image.{Extends, Image}
+use Rattle.cell_types.specs.Layout.{Layout, reserve_at}
 use Rattle.cell_types.specs.declared.refusal.Refusal.{Refusal}
 use Rattle.cell_types.specs.declared.refusal.Refusal.TheVariants.{DeviceFault, NoMemory, Tampered}
 use Rattle.stored_documents.specs.Documents.{AreDocuments, Document, IsDocument, Rise, Stands}
@@ -18,14 +18,13 @@ use Rattle.tamper_rules.specs.Settling.{After, Settled, Sound, nothing}
 use Rattle.tamper_rules.proofs.DocumentLists.{done_stands}
 use Rattle.tamper_rules.proofs.GivenUp.{one_layout}
 use Rattle.tamper_rules.proofs.Images.{same_both, same_image}
-use Rattle.tamper_rules.proofs.Settled.{some_horizon, taken_below, written}
+use Rattle.tamper_rules.proofs.Settled.{taken_below, written}
 use Rattle.worm_device.specs.Calls.{Called}
 use Rattle.worm_device.specs.Counts.{IsStill}
 use Rattle.worm_device.specs.State.{DeviceState, IsDevice}
 use Rattle.worm_device.proofs.Counting.{still_first, still_second}
 use Rattle.worm_device.proofs.Elapsing.{called_then}
-use Rattle.worm_device.proofs.Images.{extends_self, extends_then}
-use Rattle.recovery_engine.specs.Settling.{HasSettled, Settles}
+use Rattle.recovery_engine.specs.Settling.{Settles}
 use Rattle.recovery_engine.specs.declared.settling.Ready.{Ready}
 use Rattle.settling_laws.specs.Steadiness.{EndsAs}
 use Rattle.settling_laws.proofs.EndedAs.{settling_ends}
@@ -36,7 +35,6 @@ use Rattle.volume_copy.specs.Auditing.{HasAudited, IsWhole, Refuses, by_audit, b
 use Rattle.volume_copy.specs.Pairs.{slots_of}
 use Rattle.volume_copy.specs.Reading.{IsOnlyRead, ReadingFails, RiseFrom}
 use Rattle.volume_copy.specs.Walking.{AreDoneBelow, RiseBelow, WalkEnds}
-use Rattle.volume_copy.specs.declared.audited.AuditedVolume.{AuditedVolume}
 
 -- a document that stands in a settled volume is one of its documents
 pub stands_among : (cells : ℕ) (image : Image) → Settled cells image → (documents : List Document)
@@ -79,49 +77,49 @@ of_slot (d ∷ ds) n (suc k, low, is) =
 module _ (cells : ℕ) (image : Image) (g : Layout) (volume : IsVolume cells image g) (whole : Settled cells image) (u : ℕ)
     (horizon : IsHorizon g image image u) (slots : List ℕ) (rise : RiseBelow u slots)
     (are_done : AreDoneBelow g image image u slots) (documents : List Document) (are : AreDocuments cells image documents)
-    where
-  below_horizon : (n : ℕ) → n < g.slots → ((m : ℕ) → m < n → IsWritten image (reserve_at m))
-      → IsWritten image (reserve_at n) → n < u
-  below_horizon n inside taken own = ⊎_elim
-      (λ (same : n ≡ u). absurd (none-some _
-      (sym (horizon.free (omega (arith, same, inside))) ∙ ap (λ (i : ℕ). image (reserve_at i)) (sym same) ∙ own.stands)))
-      (λ (differ : (n < u) ⊎ (u < n)). ⊎_elim (λ less. less)
-      (λ above. absurd (let w = taken u above in
-      none-some _ (sym (horizon.free (omega (arith, above, inside))) ∙ w.stands)))
-      differ)
-      (cases_order n u)
+  where
+    below_horizon : (n : ℕ) → n < g.slots → ((m : ℕ) → m < n → IsWritten image (reserve_at m))
+        → IsWritten image (reserve_at n) → n < u
+    below_horizon n inside taken own = ⊎_elim
+        (λ (same : n ≡ u). absurd (none-some _
+        (sym (horizon.free (omega (arith, same, inside))) ∙ ap (λ (i : ℕ). image (reserve_at i)) (sym same) ∙ own.stands)))
+        (λ (differ : (n < u) ⊎ (u < n)). ⊎_elim (λ less. less)
+        (λ above. absurd (let w = taken u above in
+        none-some _ (sym (horizon.free (omega (arith, above, inside))) ∙ w.stands)))
+        differ)
+        (cases_order n u)
 
-  there : (n : ℕ) → Contains (slots_of documents) n → Contains slots n
-  there n among =
-      let d = of_slot documents n among in
-      let is : IsDocument cells image (d.0).slot (d.0).id (d.0).body = (are.each d.0).1 d.1 in
-      let one : is.stands.layout ≡ g =
-      one_layout {cells = cells} {more = cells} is.stands.layout g is.stands.volume volume in
-      let done : IsDoneSlot g image (d.0).slot =
-      subst (λ (h : Layout). IsDoneSlot h image (d.0).slot) one (record {
-        start = is.stands.start;
-        length = is.stands.reserved;
-        bytes = _;
-        journal = is.stands.journal;
-        done = is.stands.done;
-      }) in
-      subst (λ (m : ℕ). Contains slots m) d.2
-      (are_done.all (d.0).slot
-      (below_horizon (d.0).slot (subst (λ (h : Layout). (d.0).slot < h.slots) one is.stands.slot) is.taken
-      (written is.stands.done.commits.reserves)) done)
+    there : (n : ℕ) → Contains (slots_of documents) n → Contains slots n
+    there n among =
+        let d = of_slot documents n among in
+        let is : IsDocument cells image (d.0).slot (d.0).id (d.0).body = (are.each d.0).1 d.1 in
+        let one : is.stands.layout ≡ g =
+        one_layout {cells = cells} {more = cells} is.stands.layout g is.stands.volume volume in
+        let done : IsDoneSlot g image (d.0).slot =
+        subst (λ (h : Layout). IsDoneSlot h image (d.0).slot) one (record {
+          start = is.stands.start;
+          length = is.stands.reserved;
+          bytes = _;
+          journal = is.stands.journal;
+          done = is.stands.done;
+        }) in
+        subst (λ (m : ℕ). Contains slots m) d.2
+        (are_done.all (d.0).slot
+        (below_horizon (d.0).slot (subst (λ (h : Layout). (d.0).slot < h.slots) one is.stands.slot) is.taken
+        (written is.stands.done.commits.reserves)) done)
 
-  here : (n : ℕ) → Contains slots n → Contains (slots_of documents) n
-  here n among =
-      let v : IsVolume g.cells image g = subst (λ (c : ℕ). IsVolume c image g) (sym volume.size) volume in
-      let one : whole.layout ≡ g = one_layout {cells = cells} {more = cells} whole.layout g whole.volume volume in
-      let s = subst (λ (h : Layout). Rattle.tamper_rules.specs.Settling.IsSettled h image) one whole.settled in
-      let found = done_stands v s u horizon (are_done.done n among) in
-      slot_in documents _ (stands_among cells image whole documents are n found.0 found.1
-      (subst (λ (c : ℕ). Stands c image n found.0 found.1) volume.size found.2))
+    here : (n : ℕ) → Contains slots n → Contains (slots_of documents) n
+    here n among =
+        let v : IsVolume g.cells image g = subst (λ (c : ℕ). IsVolume c image g) (sym volume.size) volume in
+        let one : whole.layout ≡ g = one_layout {cells = cells} {more = cells} whole.layout g whole.volume volume in
+        let s = subst (λ (h : Layout). Rattle.tamper_rules.specs.Settling.IsSettled h image) one whole.settled in
+        let found = done_stands v s u horizon (are_done.done n among) in
+        slot_in documents _ (stands_among cells image whole documents are n found.0 found.1
+        (subst (λ (c : ℕ). Stands c image n found.0 found.1) volume.size found.2))
 
-  pub same_slots : slots_of documents ≡ slots
-  same_slots = one_list (λ (n : ℕ). n) 0 (slots_of documents) slots (slots_rise 0 documents are.rise)
-      (numbers_rise 0 slots rise.rise) there here
+    pub same_slots : slots_of documents ≡ slots
+    same_slots = one_list (λ (n : ℕ). n) 0 (slots_of documents) slots (slots_rise 0 documents are.rise)
+        (numbers_rise 0 slots rise.rise) there here
 
 -- why reading was ended, from an earlier state on
 pub reading_later : {old mid new : DeviceState} → Called old mid → Called mid new → (refusal : Refusal)

@@ -1,5 +1,5 @@
 -- What copying one document does, and copying those that have no pair.
-use Rattle.std.specs.Prelude.{◌≡◌, ◌<◌, ◌≤◌, ◌+◌, ℕ, List, length, slice_index, Option, Result, Ok, Err, IsTrue, ⊤}
+use Rattle.std.specs.Prelude.{◌≡◌, ◌<◌, ◌≤◌, ℕ, List, length, slice_index, Option, Result, Ok, Err, IsTrue, ⊤}
 use Rattle.cell_types.specs.Layout.{Layout}
 use Rattle.cell_types.specs.declared.refusal.CopyRefusal.{CopyRefusal}
 use Rattle.cell_types.specs.declared.refusal.CopyRefusal.TheVariants.{From, NoMemory, To}
@@ -11,7 +11,7 @@ use Rattle.worm_device.specs.Calls.{Called}
 use Rattle.worm_device.specs.State.{DeviceState}
 use Rattle.document_store.specs.Standing.{HoldsDocument}
 use Rattle.ingest_engine.specs.Ingesting.{Ingests}
-use Rattle.volume_copy.specs.Copies.{AreAlone, IsOfSource}
+use Rattle.volume_copy.specs.Copies.{AreAlone}
 use Rattle.cell_types.specs.Image.{IsUnchanged}
 use Rattle.tamper_rules.specs.Settling.{Settled}
 use Rattle.volume_copy.specs.Auditing.{IsWhole}

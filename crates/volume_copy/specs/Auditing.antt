@@ -1,9 +1,8 @@
 -- What it means that a volume is audited before it is copied, and what is known of it then.
-use Rattle.std.specs.Prelude.{◌≡◌, ◌<◌, ℕ, List, length, slice_index, Result, Ok, Err, IsTrue, ⊤}
+use Rattle.std.specs.Prelude.{◌≡◌, ◌<◌, ℕ, List, length, slice_index, Result, Ok, Err, IsTrue}
 use Rattle.cell_types.specs.Image.{IsUnchanged}
-use Rattle.cell_types.specs.Layout.{IsLayout, Layout}
+use Rattle.cell_types.specs.Layout.{IsLayout}
 use Rattle.cell_types.specs.declared.refusal.Refusal.{Refusal}
-use Rattle.cell_types.specs.declared.refusal.Refusal.TheVariants.{NoMemory}
 use Rattle.stored_documents.specs.Documents.{AreDocuments, Document}
 use Rattle.stored_documents.specs.Slots.{IsDoneSlot}
 use Rattle.stored_documents.specs.Volumes.{IsVolume}
@@ -15,7 +14,7 @@ use Rattle.recovery_engine.specs.Settling.{Settles}
 use Rattle.volume_audit.specs.Audits.{Audits}
 use Rattle.volume_audit.specs.declared.report.AuditReport.{AuditReport}
 use Rattle.volume_copy.specs.Pairs.{slots_of}
-use Rattle.volume_copy.specs.Reading.{ReadingFails, RiseFrom}
+use Rattle.volume_copy.specs.Reading.{ReadingFails}
 use Rattle.volume_copy.specs.declared.audited.AuditedVolume.{AuditedVolume}
 
 -- Why a volume is not read: its audit refuses; or it was audited, and settling refuses behind it, or a look at its slots.

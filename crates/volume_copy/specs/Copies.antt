@@ -1,8 +1,8 @@
 -- What it means that a volume is copied, or why it is not. The states are those of the source, before and after, and of the
 -- target.
-use Rattle.std.specs.Prelude.{◌≡◌, ◌≤◌, ℕ, List, [], ◌∷◌, length, slice_get, Contains, Option, Some, Result, Ok, Err, IsTrue, ⊤}
+use Rattle.std.specs.Prelude.{◌≡◌, ℕ, List, [], ◌∷◌, length, slice_get, Contains, Option, Some, Result, Ok, Err, IsTrue, ⊤}
 use Rattle.std.specs.Global.{Vec}
-use Rattle.cell_types.specs.Image.{Image, IsUnchanged}
+use Rattle.cell_types.specs.Image.{IsUnchanged}
 use Rattle.cell_types.specs.Layout.{Layout}
 use Rattle.cell_types.specs.Records.{IsRecordCell}
 use Rattle.cell_types.specs.declared.refusal.CopyRefusal.{CopyRefusal}

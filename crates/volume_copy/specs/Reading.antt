@@ -1,25 +1,22 @@
 -- What reading the documents of a volume that was audited does.
-use Rattle.std.specs.Prelude.{◌≡◌, ◌<◌, ◌≤◌, ◌+◌, ℕ, List, [], ◌∷◌, Contains, Option, Result, Ok, Err, IsTrue, ⊤}
+use Rattle.std.specs.Prelude.{◌≡◌, ◌≤◌, ◌+◌, ℕ, List, [], ◌∷◌, Option, Result, Ok, Err, IsTrue, ⊤}
 use Rattle.cell_types.specs.Image.{Image, IsUnchanged}
-use Rattle.cell_types.specs.Layout.{IsLayout, Layout}
+use Rattle.cell_types.specs.Layout.{Layout}
 use Rattle.cell_types.specs.declared.refusal.Refusal.{Refusal}
 use Rattle.cell_types.specs.declared.refusal.Refusal.TheVariants.{DeviceFault, NoMemory, Tampered}
-use Rattle.stored_documents.specs.Documents.{AreDocuments, Document, IsBody, IsIdentifier}
-use Rattle.stored_documents.specs.Slots.{IsDoneSlot, IsStampOf}
+use Rattle.stored_documents.specs.Documents.{IsBody, IsIdentifier}
+use Rattle.stored_documents.specs.Slots.{IsStampOf}
 use Rattle.stored_documents.specs.Volumes.{IsVolume}
-use Rattle.tamper_rules.specs.Settling.{Settled}
 use Rattle.worm_device.specs.Calls.{Called}
 use Rattle.worm_device.specs.Counts.{Rose, IsStill}
 use Rattle.worm_device.specs.State.{DeviceState}
-use Rattle.worm_device.specs.Views.{ViewState, Viewed}
+use Rattle.worm_device.specs.Views.{ViewState}
 use Rattle.commit_record.specs.Licences.{IsLicensed}
 use Rattle.tamper_rules.specs.Rules.{IsPlaceOf}
 use Rattle.cell_types.specs.declared.refusal.Evidence.{Evidence}
-use Rattle.host_ports.specs.Memories.{SinkMemory}
 use Rattle.host_ports.specs.declared.memory.MemorySink.{MemorySink}
 use Rattle.document_store.specs.Looks.{HoldsBody, Names}
 use Rattle.document_store.specs.Standing.{HoldsDocument}
-use Rattle.volume_copy.specs.Pairs.{slots_of}
 use Rattle.volume_copy.specs.declared.stored.StoredCopy.{StoredCopy}
 
 -- slot n holds the document that was read, and has its stamp

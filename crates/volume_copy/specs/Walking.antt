@@ -1,5 +1,5 @@
 -- What going along the slots of a volume answers.
-use Rattle.std.specs.Prelude.{◌≡◌, ◌<◌, ℕ, List, length, slice_index, Contains, Result, Ok, Err, IsTrue, ⊤}
+use Rattle.std.specs.Prelude.{◌<◌, ℕ, List, Contains, Result, Ok, Err, IsTrue}
 use Rattle.std.specs.Global.{Vec}
 use Rattle.cell_types.specs.Image.{Image}
 use Rattle.cell_types.specs.Layout.{Layout}

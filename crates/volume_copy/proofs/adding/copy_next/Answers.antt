@@ -35,9 +35,12 @@ returns-in-Ok-ingest g c =
     record {
       from_read = c.in-Ok.ensures.read;
       to_called = c.in-Ok-ingest.ensures.called;
-      ends = (at, ingests_of c.args.source.now.volume.geometry c.index-old.result.now c.in-Ok.document _ _ _
-          c.as_slice-identifier.ensures.value c.bytes-body.ensures c.in-Ok.ensures.read.called c.in-Ok.ensures.ends.2
-          c.in-Ok-ingest.ensures);
+      ends = (
+        at,
+        ingests_of c.args.source.now.volume.geometry c.index-old.result.now c.in-Ok.document _ _ _
+            c.as_slice-identifier.ensures.value c.bytes-body.ensures c.in-Ok.ensures.read.called c.in-Ok.ensures.ends.2
+            c.in-Ok-ingest.ensures,
+      );
     }
 
 -- or it was not

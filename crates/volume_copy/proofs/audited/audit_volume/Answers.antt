@@ -1,5 +1,4 @@
 -- Who refuses, and what is known where none does.
-use Rattle.std.proofs.Common.{rules}
 use Rattle.cell_types.proofs.Passed.{handed}
 use Rattle.volume_copy.specs.Auditing.{by_audit, by_settling}
 use Rattle.volume_copy.proofs.WholeVolumes.{has_audited, walk_refuses}

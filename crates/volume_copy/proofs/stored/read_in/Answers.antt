@@ -2,8 +2,7 @@
 use Rattle.std.proofs.Common.{rules}
 use Rattle.cell_types.proofs.Passed.{handed}
 use Rattle.worm_device.proofs.Resting.{viewed_then}
-use Rattle.document_store.proofs.Holding.{held_is_done}
-use Rattle.volume_copy.proofs.Slots.{done_later, fails_later, identifier_fails, reads_copy, unheld_fails}
+use Rattle.volume_copy.proofs.Slots.{done_later, fails_later, reads_copy}
 use Rattle.volume_copy.proofs.stored.read_in.Goals as goal
 
 pub body_of-requires-clause-done : goal.body_of-requires-clause-done

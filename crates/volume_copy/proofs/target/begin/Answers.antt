@@ -1,5 +1,5 @@
 -- The target was formatted, or compared, or it refuses.
-use Rattle.std.proofs.Common.{List, ℕ, ◌∙◌, subst, sym}
+use Rattle.std.proofs.Common.{ℕ, ◌∙◌, subst, sym}
 use Rattle.std.specs.Prelude.{IsTrue}
 use Rattle.worm_device.proofs.Elapsing.{called_then}
 use Rattle.volume_copy.specs.Beginning.{StatesNone, StatesOther}

@@ -1,9 +1,9 @@
 -- Slot after slot.
-use Rattle.std.proofs.Common.{arith, rules, ◌≡◌, subst, List, ℕ, sym}
+use Rattle.std.proofs.Common.{arith, rules, ◌≡◌}
 use Rattle.cell_types.proofs.Passed.{handed}
 use Rattle.cell_types.specs.Refusals.{refusal_of_fault}
 use Rattle.volume_copy.proofs.Slots.{look_fails}
-use Rattle.volume_copy.proofs.Walked.{WalkedSoFar, walk_ends, walk_fails, walk_one, walk_over}
+use Rattle.volume_copy.proofs.Walked.{walk_ends, walk_fails, walk_one, walk_over}
 use Rattle.volume_copy.proofs.walking.done_in.Goals as goal
 
 -- a slot could not be asked
