@@ -215,9 +215,12 @@ module _ (slots lists version : ℕ) {source target : AuditedVolume} {from from'
             (whole_target compares.from_read compares.to_read alone),
         numbers compares.from_read compares.to_read alone.from_tells alone.to_tells,
       )
-      go (Err (copies.Differs old fresh)) ends = λ alone whole.
-          ends (alone_behind compares.from_read compares.to_read alone) whole
-          (whole_target compares.from_read compares.to_read alone)
+      go (Err (copies.Differs old fresh)) ends = (
+        λ from_tells to_tells. ends.0 from_tells
+            (subst IsTrue (sym (called_then called audit.called).tells) to_tells),
+        λ alone whole. ends.1 (alone_behind compares.from_read compares.to_read alone) whole
+            (whole_target compares.from_read compares.to_read alone),
+      )
       go (Err (copies.Longer fresh)) ends = λ alone whole.
           ends (alone_behind compares.from_read compares.to_read alone) whole
           (whole_target compares.from_read compares.to_read alone)

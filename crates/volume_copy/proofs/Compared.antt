@@ -21,12 +21,13 @@ use Rattle.tamper_rules.proofs.GivenUp.{one_layout}
 use Rattle.tamper_rules.proofs.Images.{same_image}
 use Rattle.worm_device.specs.Calls.{Called}
 use Rattle.worm_device.specs.State.{DeviceState, IsDevice}
+use Rattle.worm_device.proofs.Elapsing.{called_then}
 use Rattle.document_store.specs.Standing.{HoldsDocument}
 use Rattle.document_store.proofs.Holding.{held_stands}
 use Rattle.volume_copy.specs.Adding.{CanBeRead, CopiedSoFar}
 use Rattle.volume_copy.specs.Auditing.{IsWhole}
 use Rattle.volume_copy.specs.Comparing.{CompareEnds, ComparesAll, ComparesNext, FindsOther, FindsSame, IsSameCopy, NextEnds, ReadsBoth, WhereWhole}
-use Rattle.volume_copy.specs.Copies.{AreAlone, IsFirstPast, IsFirstToDiffer}
+use Rattle.volume_copy.specs.Copies.{AreAlone, HoldOthers, IsFirstPast, IsFirstToDiffer}
 use Rattle.volume_copy.specs.Pairs.{AgreeSoFar, ArePairs, SaysSame}
 use Rattle.volume_copy.specs.Reading.{HoldsCopy, IsOnlyRead, ReadingFails}
 use Rattle.volume_copy.specs.Refusing.{refusal_from, refusal_to}
@@ -213,6 +214,35 @@ module _ {source target : AuditedVolume} {s u : DeviceState} (can_s : CanBeRead 
           d_at.1 (says same) (first ∙ old_is) (second ∙ new_is));
     }
 
+-- documents that were read and are not the same stand in these slots
+hold_others : {source target : AuditedVolume} {place : ℕ} {s u : DeviceState} → CanBeRead s source → CanBeRead u target
+    → IsTrue s.tells → IsTrue u.tells → (old new : ℕ) → FindsOther source target place s u old new
+    → HoldOthers s u old new
+hold_others {source} {target} {place} {s} {u} can_s can_u s_tells u_tells old new finds =
+    let read = finds.read in
+    let there = read.there s_tells in
+    let here = read.here u_tells in
+    record {
+      from_layout = source.volume.geometry;
+      to_layout = target.volume.geometry;
+      from_volume = can_s.is_volume s_tells;
+      to_volume = can_u.is_volume u_tells;
+      d = record { slot = old; id = read.one.identifier.items; body = read.one.body.held };
+      e = record { slot = new; id = read.other.identifier.items; body = read.other.body.held };
+      old_is = refl;
+      new_is = refl;
+      there = held_stands source.volume.geometry s.cells s.image old read.one.identifier.items read.one.body.held
+          (can_s.is_volume s_tells) there.holds;
+      here = held_stands target.volume.geometry u.cells u.image new read.other.identifier.items read.other.body.held
+          (can_u.is_volume u_tells) here.holds;
+      differ = λ says. finds.other (record {
+        identifier = sym says.id;
+        body = sym says.body;
+        stamp = stamps.one source.volume.geometry s.image old read.one.stamp says.stamp there.stamped says.there
+            ∙ stamps.one target.volume.geometry u.image new says.stamp read.other.stamp says.here here.stamped;
+      });
+    }
+
 -- nothing was compared yet
 agree_none : {source target : AuditedVolume} {s u : DeviceState} → CanBeRead s source → CanBeRead u target
     → IsTrue s.tells → IsTrue u.tells → IsWhole s source.done.items → IsWhole u target.done.items → AgreeSoFar s u []
@@ -369,9 +399,15 @@ compared_fails {source} {target} {from} {now} {to} {there} {new} {then} {moved} 
   where
     go : (r : CopyRefusal) → NextEnds source target place now new there then (Err r)
         → CompareEnds source target from new to then (Err r)
-    go (copies.Differs old fresh) finds = λ alone whole_s whole_u.
-        one_other can_s can_u so_far device_now device_there device_new device_then (Err refusal) next alone whole_s
-        whole_u within inside old fresh finds
+    go (copies.Differs old fresh) finds = (
+      λ from_tells to_tells.
+          let p = called_then so_far.from_read.called next.from_read.called in
+          let q = called_then so_far.to_read.called next.to_read.called in
+          hold_others (can_on p can_s) (can_on q can_u) (subst IsTrue (sym p.tells) from_tells)
+          (subst IsTrue (sym q.tells) to_tells) old fresh finds,
+      λ alone whole_s whole_u. one_other can_s can_u so_far device_now device_there device_new device_then
+          (Err refusal) next alone whole_s whole_u within inside old fresh finds,
+    )
     go copies.NoMemory fails = tt
     go (copies.From refusals.NoMemory) fails = absurd fails
     go (copies.From r) fails = reading_later so_far.from_read.called next.from_read.called r fails

@@ -148,8 +148,10 @@ module _ {slots lists : ℕ} {source : AuditedVolume} {from audited from1 to to1
 
       go : (r : CopyRefusal) → BeginEnds slots lists source audited from1 to to1 (Err r)
           → CopyEnds slots lists from from1 to to1 (Err r)
-      go (copies.Differs old fresh) ends = λ alone.
-          ends (behind alone) (whole_audited audit begins.from_read.called alone)
+      go (copies.Differs old fresh) ends = (
+        λ from_tells to_tells. ends.0 (subst IsTrue (sym audit.called.tells) from_tells) to_tells,
+        λ alone. ends.1 (behind alone) (whole_audited audit begins.from_read.called alone),
+      )
       go (copies.Longer fresh) ends = λ alone. ends (behind alone) (whole_audited audit begins.from_read.called alone)
       go (copies.OtherVolume cell) ends = ends
       go copies.NoMemory ends = tt

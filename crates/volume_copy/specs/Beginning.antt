@@ -1,5 +1,5 @@
 -- How a copy begins on the target: a blank one is formatted, and another is compared.
-use Rattle.std.specs.Prelude.{◌≡◌, ℕ, List, Result, Ok, Err, ⊤, Bool, true, false}
+use Rattle.std.specs.Prelude.{◌≡◌, ℕ, List, Result, Ok, Err, IsTrue, ⊤, Bool, true, false}
 use Rattle.std.specs.Global.{Vec}
 use Rattle.cell_types.specs.Layout.{Layout}
 use Rattle.cell_types.specs.Records.{IsRecordCell}
@@ -11,7 +11,7 @@ use Rattle.worm_device.specs.Calls.{Called}
 use Rattle.worm_device.specs.State.{DeviceState}
 use Rattle.volume_copy.specs.Adding.{CopiedSoFar}
 use Rattle.volume_copy.specs.Auditing.{IsWhole}
-use Rattle.volume_copy.specs.Copies.{AreAlone, HasNumbers, IsFirstPast, IsFirstToDiffer, IsOtherVolume, RefusesTo}
+use Rattle.volume_copy.specs.Copies.{AreAlone, HasNumbers, HoldOthers, IsFirstPast, IsFirstToDiffer, IsOtherVolume, RefusesTo}
 use Rattle.volume_copy.specs.Reading.{IsOnlyRead, ReadingFails}
 use Rattle.volume_copy.specs.declared.audited.AuditedVolume.{AuditedVolume}
 use Rattle.volume_copy.specs.declared.moved.Moved.{Moved}
@@ -47,7 +47,8 @@ BeginEnds slots lists source from from' to to' (Ok moved) =
     WhereSourceWhole source from from' to to'
     (CopiedSoFar from' to' moved.items × HaveNumbers slots lists from' to')
 BeginEnds slots lists source from from' to to' (Err (Differs old new)) =
-    WhereSourceWhole source from from' to to' (IsFirstToDiffer from' to' old new)
+    (IsTrue from.tells → IsTrue to.tells → HoldOthers from' to' old new)
+    × WhereSourceWhole source from from' to to' (IsFirstToDiffer from' to' old new)
 BeginEnds slots lists source from from' to to' (Err (Longer new)) =
     WhereSourceWhole source from from' to to' (IsFirstPast from' to' new)
 BeginEnds slots lists source from from' to to' (Err (OtherVolume cell)) = IsOtherVolume slots lists from' to' cell

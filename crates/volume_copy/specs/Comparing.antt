@@ -7,7 +7,7 @@ use Rattle.cell_types.specs.declared.refusal.Refusal.TheVariants as refusals
 use Rattle.worm_device.specs.State.{DeviceState}
 use Rattle.volume_copy.specs.Adding.{CopiedSoFar}
 use Rattle.volume_copy.specs.Auditing.{IsWhole}
-use Rattle.volume_copy.specs.Copies.{AreAlone, IsFirstPast, IsFirstToDiffer}
+use Rattle.volume_copy.specs.Copies.{AreAlone, HoldOthers, IsFirstPast, IsFirstToDiffer}
 use Rattle.volume_copy.specs.Reading.{HoldsCopy, IsOnlyRead, ReadingFails}
 use Rattle.volume_copy.specs.declared.audited.AuditedVolume.{AuditedVolume}
 use Rattle.volume_copy.specs.declared.moved.Moved.{Moved}
@@ -69,7 +69,8 @@ abbrev pub CompareEnds
 CompareEnds source target from from' to to' (Ok moved) =
     WhereWhole source target from from' to to' (CopiedSoFar from' to' moved.items)
 CompareEnds source target from from' to to' (Err (Differs old new)) =
-    WhereWhole source target from from' to to' (IsFirstToDiffer from' to' old new)
+    (IsTrue from.tells → IsTrue to.tells → HoldOthers from' to' old new)
+    × WhereWhole source target from from' to to' (IsFirstToDiffer from' to' old new)
 CompareEnds source target from from' to to' (Err (Longer new)) =
     WhereWhole source target from from' to to' (IsFirstPast from' to' new)
 CompareEnds source target from from' to to' (Err NoMemory) = ⊤

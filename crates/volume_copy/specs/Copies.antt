@@ -9,7 +9,7 @@ use Rattle.cell_types.specs.declared.refusal.CopyRefusal.{CopyRefusal}
 use Rattle.cell_types.specs.declared.refusal.CopyRefusal.TheVariants.{Differs, From, Longer, NoMemory, OtherVolume, To}
 use Rattle.cell_types.specs.declared.refusal.Refusal.{Refusal}
 use Rattle.cell_types.specs.declared.refusal.Refusal.TheVariants as refusals
-use Rattle.stored_documents.specs.Documents.{AreDocuments, Document}
+use Rattle.stored_documents.specs.Documents.{AreDocuments, Document, Stands}
 use Rattle.stored_documents.specs.Slots.{IsStampOf}
 use Rattle.stored_documents.specs.Volumes.{IsVolume, volume_record}
 use Rattle.index_paths.specs.Keeping.{Kept}
@@ -109,6 +109,20 @@ pub record IsOtherVolume (slots lists : ℕ) (from' to' : DeviceState) (cell : L
   pub of_source : IsOfVersion from' version
   pub other : (layout.slots ≡ slots) × (layout.lists ≡ lists) × (layout.version ≡ version) → ⊥
 
+-- The documents that these slots hold, where both devices tell, do not say the same, whoever else writes.
+pub record HoldOthers (from to : DeviceState) (old new : ℕ) : Type 0 where
+  pub from_layout : Layout
+  pub to_layout : Layout
+  pub from_volume : IsVolume from.cells from.image from_layout
+  pub to_volume : IsVolume to.cells to.image to_layout
+  pub d : Document
+  pub e : Document
+  pub old_is : old ≡ d.slot
+  pub new_is : new ≡ e.slot
+  pub there : Stands from.cells from.image d.slot d.id d.body
+  pub here : Stands to.cells to.image e.slot e.id e.body
+  pub differ : SaysSame from_layout to_layout from.image to.image d e → ⊥
+
 -- the documents of these slots are the first pair, in order, that do not say the same
 pub record IsFirstToDiffer (from to : DeviceState) (old new : ℕ) : Type 0 where
   pub moved : List Moved
@@ -141,7 +155,8 @@ CopyEnds slots lists from from' to to' (Err (To refusals.NoMemory)) = ⊥
 CopyEnds slots lists from from' to to' (Err (To refusal)) = RefusesTo slots lists from' to to' refusal
 CopyEnds slots lists from from' to to' (Err (OtherVolume cell)) = IsOtherVolume slots lists from' to' cell
 CopyEnds slots lists from from' to to' (Err (Differs old new)) =
-    AreAlone from from' to to' → IsFirstToDiffer from' to' old new
+    (IsTrue from.tells → IsTrue to.tells → HoldOthers from' to' old new)
+    × (AreAlone from from' to to' → IsFirstToDiffer from' to' old new)
 CopyEnds slots lists from from' to to' (Err (Longer new)) = AreAlone from from' to to' → IsFirstPast from' to' new
 CopyEnds slots lists from from' to to' (Err NoMemory) = ⊤
 CopyEnds slots lists from from' to to' (Err refusal) = ⊥
