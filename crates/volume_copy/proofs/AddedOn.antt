@@ -35,10 +35,12 @@ use Rattle.volume_copy.specs.Copies.{AreAlone}
 use Rattle.volume_copy.specs.Pairs.{AgreeSoFar, ArePairs, SaysSame}
 use Rattle.volume_copy.specs.Reading.{HoldsCopy, IsOnlyRead, ReadingFails}
 use Rattle.volume_copy.specs.Refusing.{refusal_from, refusal_to}
+use Rattle.volume_copy.specs.Staying.{IsSoundThroughout}
 use Rattle.volume_copy.specs.declared.audited.AuditedVolume.{AuditedVolume}
 use Rattle.volume_copy.specs.declared.moved.Moved.{Moved}
 use Rattle.volume_copy.specs.declared.stored.StoredCopy.{StoredCopy}
 use Rattle.volume_copy.proofs.PairLists.{by_place, pairs_on, pairs_push, place_in}
+use Rattle.volume_copy.proofs.Stayed.{sound_self, sound_then}
 use Rattle.volume_copy.proofs.WholeVolumes.{reading_later}
 
 -- nothing was read
@@ -226,6 +228,7 @@ pub record RestSoFar (source : AuditedVolume) (from now to there : DeviceState) 
     : Type 0 where
   pub from_read : IsOnlyRead from now
   pub to_called : Called to there
+  pub to_sound : IsSoundThroughout to there
   pub count : length moved_now ≡ place
   pub goes : GoesOn source from now to there moved moved_now
 
@@ -234,6 +237,7 @@ pub rest_none : (source : AuditedVolume) (from to : DeviceState) (moved : List M
 rest_none source from to moved place count = record {
   from_read = read_none from;
   to_called = called_self to;
+  to_sound = sound_self to;
   count = count;
   goes = λ alone whole so. so;
 }
@@ -266,6 +270,7 @@ module _ {source : AuditedVolume} {from now new to there then : DeviceState} {mo
   rest_more device_now device_there device_then less pair adds = record {
     from_read = read_then so_far.from_read adds.from_read;
     to_called = called_then so_far.to_called adds.to_called;
+    to_sound = sound_then so_far.to_called adds.to_called so_far.to_sound adds.to_sound;
     count = length_push moved_now pair ∙ ap (λ (n : ℕ). n + 1) so_far.count;
     goes = λ alone whole so.
         let before = alone_first so_far.from_read.called adds.from_read.called so_far.to_called adds.to_called alone in

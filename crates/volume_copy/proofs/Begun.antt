@@ -1,5 +1,5 @@
 -- A target was formatted, or compared.
-use Rattle.std.proofs.Common.{◌≡◌, ◌∙◌, ℕ, List, [], Some, None, Result, Ok, Err, inl, ⊎_elim, refl, sym, ap, subst, arith}
+use Rattle.std.proofs.Common.{◌≡◌, ◌∙◌, ℕ, List, Option, [], Some, None, Result, Ok, Err, inl, ⊎_elim, refl, sym, ap, subst, arith}
 use Rattle.std.specs.Prelude.{IsTrue}
 use Rattle.std.specs.Global.{Vec}
 use Rattle.std.proofs.lemmas.Option.{none-some}
@@ -16,7 +16,8 @@ use Rattle.stored_documents.proofs.Holding.{some_is}
 use Rattle.tamper_rules.proofs.DocumentLists.{documents_exist}
 use Rattle.tamper_rules.proofs.GivenUp.{one_layout}
 use Rattle.tamper_rules.proofs.Images.{look, same_both}
-use Rattle.worm_device.specs.Calls.{Called}
+use Rattle.worm_device.specs.Calls.{Called, Reads}
+use Rattle.worm_device.specs.declared.device.Failed.{Failed}
 use Rattle.worm_device.specs.Counts.{IsStill}
 use Rattle.worm_device.specs.State.{DeviceState, IsDevice}
 use Rattle.worm_device.proofs.Counting.{still_first, still_second}
@@ -32,10 +33,17 @@ use Rattle.volume_copy.specs.Comparing.{CompareEnds, ComparesAll}
 use Rattle.volume_copy.specs.Copies.{AreAlone, IsOfVersion, IsOtherVolume, RefusesTo, by_volume}
 use Rattle.volume_copy.specs.Reading.{IsOnlyRead}
 use Rattle.volume_copy.specs.Refusing.{refusal_to}
+use Rattle.volume_copy.specs.Staying.{IsHeldThroughout, IsSoundThroughout}
 use Rattle.volume_copy.specs.declared.audited.AuditedVolume.{AuditedVolume}
 use Rattle.volume_copy.specs.declared.moved.Moved.{Moved}
 use Rattle.volume_copy.proofs.AddedOn.{alone_second, read_none}
+use Rattle.volume_copy.proofs.Stayed.{format_sound, read_sound, sound_of, sound_then}
 use Rattle.volume_copy.proofs.WholeVolumes.{reading_later}
+
+-- a read, as what only looks
+pub read_once : {at : ℕ} {old new : DeviceState} {result : Result (Option (List ℕ)) Failed} → Reads at old new result
+    → IsOnlyRead old new
+read_once reads = record { called = reads.called; only = reads.only }
 
 -- the target refuses
 pub begin_refuses : (slots lists : ℕ) (source : AuditedVolume) (from from' to to' : DeviceState) (refusal : Refusal)
@@ -136,13 +144,15 @@ layout_for slots lists version s = record { slots = slots; lists = lists; cells 
 -- cell 0 was blank, and the target was formatted
 pub begins_formatted : (slots lists version : ℕ) {source : AuditedVolume} {from to mid new : DeviceState} (moved : Vec Moved)
     → moved.items ≡ [] → CanBeRead from source → version ≡ source.volume.geometry.version → IsDevice mid → IsDevice new
-    → Called to mid
+    → Called to mid → IsSoundThroughout to mid
     → Formats (record { slots = slots; lists = lists; cells = mid.cells; version = version }) mid new (Ok tt)
     → Begins slots lists source from from to new (Ok moved)
-begins_formatted slots lists version {source} {from} {to} {mid} {new} moved none can version_is device device_new called formats =
+begins_formatted slots lists version {source} {from} {to} {mid} {new} moved none can version_is device device_new called sound formats =
     record {
       from_read = read_none from;
       to_called = called_then called formats.called;
+      to_sound = sound_then called formats.called sound
+          (format_sound (layout_for slots lists version mid) (Ok tt) refl device formats);
       ends = λ alone whole.
           let tells = subst IsTrue (sym called.tells) alone.to_tells in
           let still = still_second called.foreign_writes formats.called.foreign_writes alone.to_alone in (
@@ -166,7 +176,9 @@ begins_formatted slots lists version {source} {from} {to} {mid} {new} moved none
 module _ (slots lists version : ℕ) {source target : AuditedVolume} {from from' to mid audited new : DeviceState}
     (cell : List ℕ) (can : CanBeRead from source) (version_is : version ≡ source.volume.geometry.version)
     (called : Called to mid) (stands : IsTrue to.tells → mid.image 0 ≡ Some cell)
-    (stated : StatesNone slots lists version mid.cells cell) (audit : HasAudited mid audited target) where
+    (stated : StatesNone slots lists version mid.cells cell) (audit : HasAudited mid audited target)
+    (sound : IsSoundThroughout to mid) (held : IsHeldThroughout mid audited) (device_audited : IsDevice audited)
+    (device_new : IsDevice new) where
   module _ (read : IsOnlyRead from from') (to_read : IsOnlyRead audited new) where
     behind : Called mid new
     behind = called_then audit.called to_read.called
@@ -205,6 +217,9 @@ module _ (slots lists version : ℕ) {source target : AuditedVolume} {from from'
   begins_compared result compares = record {
     from_read = compares.from_read;
     to_called = called_then called (called_then audit.called compares.to_read.called);
+    to_sound = sound_then called (called_then audit.called compares.to_read.called) sound
+        (sound_then audit.called compares.to_read.called (sound_of held)
+        (read_sound device_audited device_new compares.to_read));
     ends = go result compares.ends;
   }
     where

@@ -30,19 +30,23 @@ use Rattle.volume_copy.specs.Beginning.{BeginEnds, Begins}
 use Rattle.volume_copy.specs.Copies.{AreAlone, Copies, CopiesWhole, CopyEnds, HasCopied, HasNumbers, IsKeptThere, KeepsAll, by_ingest}
 use Rattle.volume_copy.specs.Pairs.{ArePairs}
 use Rattle.volume_copy.specs.Refusing.{refusal_from}
+use Rattle.volume_copy.specs.Staying.{IsHeldThroughout, IsSoundThroughout}
 use Rattle.volume_copy.specs.declared.audited.AuditedVolume.{AuditedVolume}
 use Rattle.volume_copy.specs.declared.moved.Moved.{Moved}
-use Rattle.volume_copy.proofs.AddedOn.{alone_first, alone_second, can_on, whole_on}
+use Rattle.volume_copy.proofs.AddedOn.{alone_first, alone_second, can_on, read_then, whole_on}
 use Rattle.volume_copy.proofs.Begun.{can_audited}
 use Rattle.volume_copy.proofs.PairLists.{HasPair, pairs_have, pairs_long, slots_length}
+use Rattle.volume_copy.proofs.Stayed.{held_then, read_held, sound_self, sound_then}
 use Rattle.volume_copy.proofs.WholeVolumes.{reading_later, stands_among}
 
 -- the source was not audited
 pub not_audited : (slots lists : ℕ) (from from' to : DeviceState) (refusal : Refusal) → Called from from'
-    → Refuses from from' refusal → Copies slots lists from from' to to (Err (refusal_from refusal))
-not_audited slots lists from from' to refusal called refuses = record {
+    → IsHeldThroughout from from' → Refuses from from' refusal → Copies slots lists from from' to to (Err (refusal_from refusal))
+not_audited slots lists from from' to refusal called held refuses = record {
   from_called = called;
   to_called = called_self to;
+  from_held = held;
+  to_sound = sound_self to;
   ends = go refusal refuses;
 }
   where
@@ -133,13 +137,16 @@ whole_audited audit called alone = audit.whole alone.from_tells
     (still_first audit.called.foreign_writes called.foreign_writes alone.from_alone)
 
 module _ {slots lists : ℕ} {source : AuditedVolume} {from audited from1 to to1 : DeviceState}
-    (audit : HasAudited from audited source) where
+    (audit : HasAudited from audited source) (held : IsHeldThroughout from audited) (device : IsDevice audited)
+    (device1 : IsDevice from1) where
   -- the copy did not begin
   pub not_begun : (refusal : CopyRefusal) → Begins slots lists source audited from1 to to1 (Err refusal)
       → Copies slots lists from from1 to to1 (Err refusal)
   not_begun refusal begins = record {
     from_called = called_then audit.called begins.from_read.called;
     to_called = begins.to_called;
+    from_held = held_then audit.called begins.from_read.called held (read_held device device1 begins.from_read);
+    to_sound = begins.to_sound;
     ends = go refusal begins.ends;
   }
     where
@@ -162,7 +169,7 @@ module _ {slots lists : ℕ} {source : AuditedVolume} {from audited from1 to to1
       go (copies.To r) ends = ends
       go r ends = absurd ends
 
-  module _ {from2 to2 : DeviceState} (moved : Vec Moved) (begins : Begins slots lists source audited from1 to to1 (Ok moved))
+  module _ {from2 to2 : DeviceState} (device2 : IsDevice from2) (moved : Vec Moved) (begins : Begins slots lists source audited from1 to to1 (Ok moved))
     where
       -- the documents that have no pair were not copied
       pub not_rested : (new : List Moved) (refusal : CopyRefusal)
@@ -171,6 +178,9 @@ module _ {slots lists : ℕ} {source : AuditedVolume} {from audited from1 to to1
       not_rested new refusal rest = record {
         from_called = called_then (called_then audit.called begins.from_read.called) rest.from_read.called;
         to_called = called_then begins.to_called rest.to_called;
+        from_held = held_then audit.called (called_then begins.from_read.called rest.from_read.called) held
+            (read_held device device2 (read_then begins.from_read rest.from_read));
+        to_sound = sound_then begins.to_called rest.to_called begins.to_sound rest.to_sound;
         ends = go refusal rest.ends;
       }
         where
@@ -198,10 +208,13 @@ module _ {slots lists : ℕ} {source : AuditedVolume} {from audited from1 to to1
 
       -- they were
       pub rested : (new : Vec Moved) → AddsRest source from1 from2 to1 to2 moved.items new.items (Ok tt)
-          → IsDevice audited → IsDevice from1 → IsDevice from2 → Copies slots lists from from2 to to2 (Ok new)
-      rested new rest device device1 device2 = record {
+          → Copies slots lists from from2 to to2 (Ok new)
+      rested new rest = record {
         from_called = called_then (called_then audit.called begins.from_read.called) rest.from_read.called;
         to_called = called_then begins.to_called rest.to_called;
+        from_held = held_then audit.called (called_then begins.from_read.called rest.from_read.called) held
+            (read_held device device2 (read_then begins.from_read rest.from_read));
+        to_sound = sound_then begins.to_called rest.to_called begins.to_sound rest.to_sound;
         ends = λ alone.
             let first = alone_first (called_then audit.called begins.from_read.called) rest.from_read.called begins.to_called rest.to_called alone in
             let second = alone_second (called_then audit.called begins.from_read.called) rest.from_read.called begins.to_called rest.to_called alone in

@@ -5,5 +5,6 @@ pub mod Copied
 mod OnePairs
 pub mod PairLists
 pub mod Slots
+pub mod Stayed
 pub mod Walked
 pub mod WholeVolumes

@@ -17,6 +17,7 @@ use Rattle.tamper_rules.specs.Settling.{Settled}
 use Rattle.volume_copy.specs.Auditing.{IsWhole}
 use Rattle.volume_copy.specs.Pairs.{AgreeSoFar}
 use Rattle.volume_copy.specs.Reading.{IsOnlyRead, ReadingFails}
+use Rattle.volume_copy.specs.Staying.{IsSoundThroughout}
 use Rattle.volume_copy.specs.declared.audited.AuditedVolume.{AuditedVolume}
 use Rattle.volume_copy.specs.declared.moved.Moved.{Moved}
 
@@ -60,6 +61,7 @@ pub record AddsNext (source : AuditedVolume) (place : ℕ) (from from' to to' : 
     : Type 0 where
   pub from_read : IsOnlyRead from from'
   pub to_called : Called to to'
+  pub to_sound : IsSoundThroughout to to'
   pub ends : AddEnds source place from from' to to' result
 
 -- Nobody else writing, each document of the target has its pair among the first ones of the source; the target is settled,
@@ -104,4 +106,5 @@ pub record AddsRest (source : AuditedVolume) (from from' to to' : DeviceState) (
     (result : Result Unit CopyRefusal) : Type 0 where
   pub from_read : IsOnlyRead from from'
   pub to_called : Called to to'
+  pub to_sound : IsSoundThroughout to to'
   pub ends : RestEnds source from from' to to' moved moved' result

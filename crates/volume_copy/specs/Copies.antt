@@ -22,6 +22,7 @@ use Rattle.ingest_engine.specs.Formats.{Formats}
 use Rattle.ingest_engine.specs.Ingesting.{Ingests, document_in}
 use Rattle.volume_copy.specs.Auditing.{Refuses}
 use Rattle.volume_copy.specs.Pairs.{AgreeSoFar, ArePairs, SaysSame}
+use Rattle.volume_copy.specs.Staying.{IsHeldThroughout, IsSoundThroughout}
 use Rattle.volume_copy.specs.declared.moved.Moved.{Moved}
 
 -- both devices tell what stands in their cells, and nobody else writes on either
@@ -161,9 +162,12 @@ CopyEnds slots lists from from' to to' (Err (Longer new)) = AreAlone from from' 
 CopyEnds slots lists from from' to to' (Err NoMemory) = ⊤
 CopyEnds slots lists from from' to to' (Err refusal) = ⊥
 
--- what it means that a volume is copied, or why it is not
+-- What it means that a volume is copied, or why it is not. Where nobody else writes, what a crash leaves of the source or of
+-- the target, from a steady device on, is blank or sound at each moment, and the source holds the documents that it held.
 pub record Copies (slots lists : ℕ) (from from' to to' : DeviceState) (result : Result (Vec Moved) CopyRefusal) : Type 0
   where
     pub from_called : Called from from'
     pub to_called : Called to to'
+    pub from_held : IsHeldThroughout from from'
+    pub to_sound : IsSoundThroughout to to'
     pub ends : CopyEnds slots lists from from' to to' result

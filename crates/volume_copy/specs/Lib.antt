@@ -7,4 +7,5 @@ pub mod Laws
 pub mod Pairs
 pub mod Reading
 pub mod Refusing
+pub mod Staying
 pub mod Walking

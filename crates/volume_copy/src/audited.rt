@@ -1,5 +1,6 @@
 //! A volume that was audited, and the slots of its documents.
 ghost use Rattle.volume_copy.specs.Auditing.{SourceEnds};
+ghost use Rattle.volume_copy.specs.Staying.{IsHeldThroughout};
 
 use crate::walking::done_slots;
 use cell_types::{Refusal, Volume};
@@ -19,7 +20,8 @@ pub struct AuditedVolume {
 /// Audits the volume, and goes along its slots. An audit says how many documents there are, and not where: so the end of the
 /// log is asked for again, behind it.
 pub fn audit_volume<D: Device>(alloc: Global, device: &mut D) -> Result<AuditedVolume, Refusal>
-    ensures { SourceEnds (D.state device.old) (D.state device.new) result }
+    ensures held { IsHeldThroughout (D.state device.old) (D.state device.new) }
+    ensures ends { SourceEnds (D.state device.old) (D.state device.new) result }
 {
     let _report = audit(alloc, device)?;
     let ready = settle(device)?;

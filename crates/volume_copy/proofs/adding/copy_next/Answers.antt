@@ -4,6 +4,7 @@ use Rattle.std.specs.Prelude.{slice_index}
 use Rattle.std.proofs.lemmas.Grind.{get_or_default_zero}
 use Rattle.worm_device.proofs.Elapsing.{called_self}
 use Rattle.volume_copy.proofs.AddedOn.{ingests_of, source_fails, target_fails}
+use Rattle.volume_copy.proofs.Stayed.{ingest_sound, sound_self}
 use Rattle.volume_copy.proofs.adding.copy_next.Goals as goal
 
 -- the slot is one of those
@@ -24,6 +25,7 @@ returns-in-Err g c =
     record {
       from_read = c.in-Err.ensures.read;
       to_called = called_self _;
+      to_sound = sound_self _;
       ends = rw c.from_source.ensures (source_fails c.args.source.now.volume.geometry _ _ _ _ c.in-Err.refusal
           (c.in-Err.ensures.ends c.requires.source.is_volume));
     }
@@ -35,6 +37,8 @@ returns-in-Ok-ingest g c =
     record {
       from_read = c.in-Ok.ensures.read;
       to_called = c.in-Ok-ingest.ensures.called;
+      to_sound = ingest_sound _ (g.met.E.Device.proper c.args.to.now) (g.met.E.Device.proper c.ingest.new.device)
+          c.in-Ok-ingest.ensures;
       ends = (
         at,
         ingests_of c.args.source.now.volume.geometry c.index-old.result.now c.in-Ok.document _ _ _
@@ -50,6 +54,8 @@ returns g c =
     record {
       from_read = c.in-Ok.ensures.read;
       to_called = c.in-Err-ingest.ensures.called;
+      to_sound = ingest_sound _ (g.met.E.Device.proper c.args.to.now) (g.met.E.Device.proper c.ingest.new.device)
+          c.in-Err-ingest.ensures;
       ends = rw c.to_target.ensures (target_fails c.args.source.now.volume.geometry _ _ _ _ _ c.in-Err-ingest.refusal
           (rw (sym at) (ingests_of c.args.source.now.volume.geometry c.index-old.result.now c.in-Ok.document _ _ _
           c.as_slice-identifier.ensures.value c.bytes-body.ensures c.in-Ok.ensures.read.called c.in-Ok.ensures.ends.2

@@ -2,6 +2,7 @@
 use Rattle.std.proofs.Common.{arith, rules}
 use Rattle.worm_device.proofs.Elapsing.{called_then}
 use Rattle.volume_copy.proofs.AddedOn.{can_on, read_then, rest_fails, rest_more}
+use Rattle.volume_copy.proofs.Stayed.{sound_then}
 use Rattle.volume_copy.proofs.adding.copy_rest.Goals as goal
 
 pub copy_next-requires-clause-source : goal.copy_next-requires-clause-source
@@ -13,6 +14,8 @@ returns-in-Err g c =
     record {
       from_read = read_then c.loop-place.invariant.from_read c.in-Err.ensures.from_read;
       to_called = called_then c.loop-place.invariant.to_called c.in-Err.ensures.to_called;
+      to_sound = sound_then c.loop-place.invariant.to_called c.in-Err.ensures.to_called
+          c.loop-place.invariant.to_sound c.in-Err.ensures.to_sound;
       ends = rest_fails c.requires.source c.loop-place.invariant c.in-Err.refusal c.in-Err.ensures;
     }
 
@@ -22,6 +25,8 @@ returns-in_default g c =
     record {
       from_read = read_then c.loop-place.invariant.from_read c.in-Ok.ensures.from_read;
       to_called = called_then c.loop-place.invariant.to_called c.in-Ok.ensures.to_called;
+      to_sound = sound_then c.loop-place.invariant.to_called c.in-Ok.ensures.to_called
+          c.loop-place.invariant.to_sound c.in-Ok.ensures.to_sound;
       ends = tt;
     }
 
