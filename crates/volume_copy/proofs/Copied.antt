@@ -30,7 +30,7 @@ use Rattle.volume_copy.specs.Beginning.{BeginEnds, Begins}
 use Rattle.volume_copy.specs.Copies.{AreAlone, Copies, CopiesWhole, CopyEnds, HasCopied, HasNumbers, IsKeptThere, KeepsAll, by_ingest}
 use Rattle.volume_copy.specs.Pairs.{ArePairs}
 use Rattle.volume_copy.specs.Refusing.{refusal_from}
-use Rattle.volume_copy.specs.Staying.{IsHeldThroughout, IsSoundThroughout}
+use Rattle.volume_copy.specs.Staying.{IsHeldThroughout}
 use Rattle.volume_copy.specs.declared.audited.AuditedVolume.{AuditedVolume}
 use Rattle.volume_copy.specs.declared.moved.Moved.{Moved}
 use Rattle.volume_copy.proofs.AddedOn.{alone_first, alone_second, can_on, read_then, whole_on}

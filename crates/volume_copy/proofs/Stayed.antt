@@ -1,12 +1,9 @@
 -- What a crash leaves of one row of calls after another.
-use Rattle.std.proofs.Common.{◌≡◌, ◌≤◌, ◌⊎◌, ℕ, List, Result, inl, inr, ⊎_elim, refl, sym, subst, arith, Option}
+use Rattle.std.proofs.Common.{◌≡◌, ℕ, List, Result, inl, inr, ⊎_elim, sym, subst, arith, Option}
 use Rattle.std.specs.Prelude.{IsTrue}
-use Rattle.cell_types.specs.Image.{Image}
 use Rattle.cell_types.specs.declared.refusal.Refusal.{Refusal}
-use Rattle.stored_documents.specs.Documents.{Document}
-use Rattle.tamper_rules.specs.Settling.{Held, IsBlankOrSound}
+use Rattle.tamper_rules.specs.Settling.{IsBlankOrSound}
 use Rattle.worm_device.specs.Calls.{Called}
-use Rattle.worm_device.specs.Counts.{IsStill}
 use Rattle.worm_device.specs.State.{DeviceState, IsDevice, LeftSince}
 use Rattle.worm_device.proofs.Counting.{still_first, still_second}
 use Rattle.worm_device.proofs.Elapsing.{called_self, elapses_of}

@@ -18,8 +18,10 @@
 //!
 //! **What is promised**: whatever somebody else writes, a refusal names its cause on the device that it comes from. Where
 //! nobody else writes, a copy that ends well leaves a settled target, all of it sure, with just the documents of the source
-//! in order; and each document that was kept in the source at the beginning is kept there (`HasCopied`). **Not claimed**:
-//! that a target with fewer lists or cells has room; what a crash leaves of a copy beyond what each ingest promises.
+//! in order; and each document that was kept in the source at the beginning is kept there (`HasCopied`). Whatever a crash
+//! leaves of either device is blank or sound, at each moment and at every answer (`IsSoundThroughout`). **Not claimed**:
+//! that a target with fewer lists or cells has room, nor when a copy has to be done; nor which documents a crash leaves in
+//! the target.
 //!
 //! Stands on `volume_audit`, `document_store` (reading) and `ingest_engine` (writing). Begin with `copying.rt`;
 //! `specs/Copies.antt` says how a copy may end, and why. `copy_next` copies one document, for who tells of each.
