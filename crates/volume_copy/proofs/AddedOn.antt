@@ -1,0 +1,301 @@
+-- One document more was copied, and then those that have no pair.
+use Rattle.std.proofs.Common.{◌≡◌, ◌<◌, ◌+◌, ◌∙◌, ℕ, List, [], ◌∷◌, ◌++◌, Some, Result, Ok, Err, inr, refl, sym, ap, subst, arith, length}
+use Rattle.std.specs.Prelude.{IsTrue, slice_get, slice_index}
+use Rattle.std.proofs.lemmas.List.{length_push, take_all}
+use Rattle.cell_types.specs.Image.{Extends, Image}
+use Rattle.cell_types.specs.Layout.{Layout}
+use Rattle.cell_types.specs.declared.refusal.CopyRefusal.{CopyRefusal}
+use Rattle.cell_types.specs.declared.refusal.CopyRefusal.TheVariants as copies
+use Rattle.cell_types.specs.declared.refusal.Refusal.{Refusal}
+use Rattle.cell_types.specs.declared.refusal.Refusal.TheVariants as refusals
+use Rattle.stored_documents.specs.Documents.{AreDocuments, Document, Stands}
+use Rattle.stored_documents.specs.Slots.{IsStampOf}
+use Rattle.stored_documents.specs.Volumes.{IsVolume}
+use Rattle.stored_documents.proofs.Extending.{done_slot_on, volume_on}
+use Rattle.stored_documents.proofs.OneDocument.{one_document}
+use Rattle.tamper_rules.specs.Settling.{Settled, Sound, nothing, of_after}
+use Rattle.tamper_rules.proofs.GivenUp.{one_layout}
+use Rattle.tamper_rules.proofs.Images.{same_image}
+use Rattle.worm_device.specs.Calls.{Called}
+use Rattle.worm_device.specs.Counts.{IsStill}
+use Rattle.worm_device.specs.State.{DeviceState, IsDevice}
+use Rattle.worm_device.proofs.Counting.{still_first, still_second}
+use Rattle.worm_device.proofs.Elapsing.{called_self, called_then}
+use Rattle.worm_device.proofs.Images.{extends_self, unchanged_then}
+use Rattle.document_store.specs.Standing.{HoldsDocument}
+use Rattle.document_store.proofs.Holding.{held_stands}
+use Rattle.ingest_engine.specs.Ingesting.{Ingests, IsIngested, document_in}
+use Rattle.settling_laws.specs.Steadiness.{IsSteady}
+use Rattle.settling_laws.proofs.LeftWhole.{sure_steady}
+use Rattle.crash_laws.specs.Steadiness.{HasOneMore}
+use Rattle.crash_laws.proofs.AddsOne.{comes_more}
+use Rattle.volume_copy.specs.Adding.{AddEnds, AddFails, AddsNext, CanBeRead, CopiedSoFar, GoesOn, IngestsOf, RestFails}
+use Rattle.volume_copy.specs.Auditing.{IsWhole}
+use Rattle.volume_copy.specs.Copies.{AreAlone}
+use Rattle.volume_copy.specs.Pairs.{AgreeSoFar, ArePairs, SaysSame}
+use Rattle.volume_copy.specs.Reading.{HoldsCopy, IsOnlyRead, ReadingFails}
+use Rattle.volume_copy.specs.Refusing.{refusal_from, refusal_to}
+use Rattle.volume_copy.specs.Staying.{IsSoundThroughout}
+use Rattle.volume_copy.specs.declared.audited.AuditedVolume.{AuditedVolume}
+use Rattle.volume_copy.specs.declared.moved.Moved.{Moved}
+use Rattle.volume_copy.specs.declared.stored.StoredCopy.{StoredCopy}
+use Rattle.volume_copy.proofs.PairLists.{by_place, pairs_on, pairs_push, place_in}
+use Rattle.volume_copy.proofs.Stayed.{sound_self, sound_then}
+use Rattle.volume_copy.proofs.WholeVolumes.{reading_later}
+
+-- nothing was read
+pub read_none : (s : DeviceState) → IsOnlyRead s s
+read_none s = record { called = called_self s; only = λ still cell. refl }
+
+-- one look after another
+pub read_then : {a b c : DeviceState} → IsOnlyRead a b → IsOnlyRead b c → IsOnlyRead a c
+read_then p q = record {
+  called = called_then p.called q.called;
+  only = λ still. unchanged_then (p.only (still_first p.called.foreign_writes q.called.foreign_writes still))
+      (q.only (still_second p.called.foreign_writes q.called.foreign_writes still));
+}
+
+-- what could be read can be
+pub can_on : {s t : DeviceState} {volume : AuditedVolume} → Called s t → CanBeRead s volume → CanBeRead t volume
+can_on {s} {t} {volume} called can = record {
+  size = can.size ∙ sym called.cells;
+  below = can.below;
+  is_volume = λ tells. subst (λ (k : ℕ). IsVolume k t.image volume.volume.geometry) (sym called.cells)
+      (volume_on called.image (can.is_volume (subst IsTrue called.tells tells)));
+  done = λ tells place less. done_slot_on (extends_self s.image) called.image
+      (can.done (subst IsTrue called.tells tells) place less);
+}
+
+-- a volume stays whole while it is only read
+pub whole_on : {s t : DeviceState} {done : List ℕ} → IsDevice t → IsOnlyRead s t
+    → IsStill s.foreign_writes t.foreign_writes → IsWhole s done → IsWhole t done
+whole_on {s} {t} {done} device read still whole =
+    let same : t.image ≡ s.image = same_image (read.only still) in
+    let sure : s.sure ≡ s.image = same_image whole.sure in
+    record {
+      settled = subst (λ (k : ℕ). Settled k t.image) (sym read.called.cells)
+          (subst (λ (i : Image). Settled s.cells i) (sym same) whole.settled);
+      sure = λ cell. ap (λ (i : Image). i cell) (Rattle.tamper_rules.proofs.Images.same_both
+          (subst (λ (i : Image). Extends i t.sure) (sure ∙ sym same) read.called.sure) device.sure);
+      slots = λ documents are. whole.slots documents
+          (subst (λ (k : ℕ). AreDocuments k s.image documents) read.called.cells
+          (subst (λ (i : Image). AreDocuments t.cells i documents) same are));
+    }
+
+-- the source could not be read
+pub source_fails : (g : Layout) (n : ℕ) (from from' to : DeviceState) (refusal : Refusal) → ReadingFails from from' refusal
+    → AddFails g n from from' to to (refusal_from refusal)
+source_fails g n from from' to refusals.NoMemory fails = tt
+source_fails g n from from' to refusal fails = fails
+
+-- the document that was read was ingested, or not
+pub ingests_of : (g : Layout) (n : ℕ) {from from' to to' : DeviceState} (copy : StoredCopy) (id body : List ℕ)
+    (result : Result ℕ Refusal) → id ≡ copy.identifier.items → body ≡ copy.body.held → Called from from'
+    → (IsTrue from.tells → HoldsCopy g from'.image n copy) → Ingests id copy.stamp body to to' result
+    → IngestsOf g n from' to to' result
+ingests_of g n {from} {from'} copy id body result id_is body_is called holds ingests = record {
+  id = id;
+  stamp = copy.stamp;
+  body = body;
+  holds = λ tells. subst (λ (x : List ℕ). HoldsDocument g from'.image n x body) (sym id_is)
+      (subst (λ (x : List ℕ). HoldsDocument g from'.image n copy.identifier.items x) (sym body_is)
+      (holds (subst IsTrue called.tells tells)).holds);
+  stamped = λ tells. (holds (subst IsTrue called.tells tells)).stamped;
+  ingests = ingests;
+}
+
+pub target_fails : (g : Layout) (n : ℕ) (from from' to to' : DeviceState) (refusal : Refusal)
+    → IngestsOf g n from' to to' (Err refusal) → AddFails g n from from' to to' (refusal_to refusal)
+target_fails g n from from' to to' refusals.NoMemory ingests = tt
+target_fails g n from from' to to' refusal ingests = ingests
+
+-- one document more
+module _ (source : AuditedVolume) {s t u v : DeviceState} (device_u : IsDevice u) (device : IsDevice v) (alone : AreAlone s t u v)
+    (read : IsOnlyRead s t) (called : Called u v) (can : CanBeRead s source) (whole : IsWhole s source.done.items) (moved : List Moved)
+    (so : CopiedSoFar s u moved) (less : length moved < length source.done.items) (pair : Moved)
+    (ends : AddEnds source (length moved) s t u v (Ok pair)) where
+  abbrev g : Layout
+  g = so.agree.from_layout
+
+  abbrev h : Layout
+  h = so.agree.to_layout
+
+  same : t.image ≡ s.image
+  same = same_image (read.only alone.from_alone)
+
+  one : source.volume.geometry ≡ g
+  one = one_layout {cells = s.cells} {more = s.cells} source.volume.geometry g (can.is_volume alone.from_tells)
+      so.agree.from_volume
+
+  tells_t : IsTrue t.tells
+  tells_t = subst IsTrue (sym read.called.tells) alone.from_tells
+
+  abbrev at : (d : Document) × (slice_get so.agree.source (length moved) ≡ Some d)
+      × (d.slot ≡ slice_index source.done.items (length moved))
+  at = by_place so.agree.source source.done.items (length moved) (whole.slots so.agree.source so.agree.those) less
+
+  abbrev d : Document
+  d = at.0
+
+  old_is : pair.old ≡ d.slot
+  old_is = ends.0 ∙ sym at.2
+
+  abbrev ing : IngestsOf source.volume.geometry pair.old t u v (Ok pair.new)
+  ing = ends.1
+
+  stands : Stands s.cells s.image d.slot ing.id ing.body
+  stands = held_stands g s.cells s.image d.slot ing.id ing.body so.agree.from_volume
+      (subst (λ (n : ℕ). HoldsDocument g s.image n ing.id ing.body) old_is
+      (subst (λ (k : Layout). HoldsDocument k s.image pair.old ing.id ing.body) one
+      (subst (λ (i : Image). HoldsDocument source.volume.geometry i pair.old ing.id ing.body) same
+      (ing.holds tells_t))))
+
+  is_that : (ing.id ≡ d.id) × (ing.body ≡ d.body)
+  is_that = one_document s.cells s.image d.slot ing.id ing.body d.id d.body stands
+      ((so.agree.those.each d).1 (place_in so.agree.source (length moved) d at.1)).stands
+
+  sound : Sound u.cells u.image
+  sound = record { after = u.image; is = nothing so.settled (λ cell. refl); settled = so.settled }
+
+  steady : IsSteady u
+  steady = sure_steady u so.sure (inr sound)
+
+  ingested : IsIngested ing.id ing.stamp ing.body pair.new u v
+  ingested = ing.ingests.ends alone.to_tells
+
+  more : HasOneMore ing.id ing.body pair.new u v
+  more = comes_more ing.id ing.stamp ing.body u v pair.new device_u device alone.to_tells alone.to_alone steady ingested
+      ing.ingests.comes
+
+  sure_same : v.sure ≡ v.image
+  sure_same = same_image more.sure
+
+  abbrev e : Document
+  e = document_in pair.new ing.id ing.body
+
+  volume_v : IsVolume v.cells v.image h
+  volume_v = subst (λ (k : ℕ). IsVolume k v.image h) (sym called.cells) (volume_on called.image so.agree.to_volume)
+
+  one_there : ingested.layout ≡ h
+  one_there = one_layout {cells = v.cells} {more = v.cells} ingested.layout h ingested.volume volume_v
+
+  says : SaysSame g h t.image v.image d e
+  says = record {
+    id = is_that.0;
+    body = is_that.1;
+    stamp = ing.stamp;
+    there = subst (λ (n : ℕ). IsStampOf g t.image n ing.stamp) old_is
+        (subst (λ (k : Layout). IsStampOf k t.image pair.old ing.stamp) one (ing.stamped tells_t));
+    here = subst (λ (k : Layout). IsStampOf k v.image pair.new ing.stamp) one_there
+        (subst (λ (i : Image). IsStampOf ingested.layout i pair.new ing.stamp) sure_same ingested.stamped);
+  }
+
+  old_pairs : ArePairs g h s.image u.image so.agree.target moved so.agree.source
+  old_pairs = subst (λ (l : List Document). ArePairs g h s.image u.image l moved so.agree.source)
+      (take_all (length moved) so.agree.target (omega (arith, so.all))) so.agree.pairs
+
+  pairs : ArePairs g h t.image v.image (so.agree.target ++ e ∷ []) (moved ++ pair ∷ []) so.agree.source
+  pairs = pairs_push g h t.image v.image so.agree.target moved so.agree.source d e pair
+      (pairs_on g h read.called.image called.image so.agree.target moved so.agree.source old_pairs)
+      at.1 says old_is refl
+
+  long : length (so.agree.target ++ e ∷ []) ≡ length (moved ++ pair ∷ [])
+  long = length_push so.agree.target e ∙ ap (λ (n : ℕ). n + 1) so.all ∙ sym (length_push moved pair)
+
+  abbrev agree : AgreeSoFar t v (moved ++ pair ∷ [])
+  agree = record {
+    from_layout = g;
+    to_layout = h;
+    from_volume = subst (λ (k : ℕ). IsVolume k t.image g) (sym read.called.cells)
+        (volume_on read.called.image so.agree.from_volume);
+    to_volume = volume_v;
+    source = so.agree.source;
+    target = so.agree.target ++ e ∷ [];
+    those = subst (λ (k : ℕ). AreDocuments k t.image so.agree.source) (sym read.called.cells)
+        (subst (λ (i : Image). AreDocuments s.cells i so.agree.source) (sym same) so.agree.those);
+    these = subst (λ (i : Image). AreDocuments v.cells i (so.agree.target ++ e ∷ [])) sure_same
+        (more.documents so.agree.target (of_after u.image (nothing so.settled (λ cell. refl)) so.agree.these));
+    some = omega (arith, long);
+    pairs = subst (λ (l : List Document). ArePairs g h t.image v.image l (moved ++ pair ∷ []) so.agree.source)
+        (sym (take_all (length (moved ++ pair ∷ [])) (so.agree.target ++ e ∷ []) (omega (arith, long)))) pairs;
+  }
+
+  pub one_more : CopiedSoFar t v (moved ++ pair ∷ [])
+  one_more = record { agree = agree; all = long; settled = more.settled; sure = more.sure }
+
+-- the documents up to one place were copied
+pub record RestSoFar (source : AuditedVolume) (from now to there : DeviceState) (moved moved_now : List Moved) (place : ℕ)
+    : Type 0 where
+  pub from_read : IsOnlyRead from now
+  pub to_called : Called to there
+  pub to_sound : IsSoundThroughout to there
+  pub count : length moved_now ≡ place
+  pub goes : GoesOn source from now to there moved moved_now
+
+pub rest_none : (source : AuditedVolume) (from to : DeviceState) (moved : List Moved) (place : ℕ) → length moved ≡ place
+    → RestSoFar source from from to to moved moved place
+rest_none source from to moved place count = record {
+  from_read = read_none from;
+  to_called = called_self to;
+  to_sound = sound_self to;
+  count = count;
+  goes = λ alone whole so. so;
+}
+
+-- nobody else wrote up to a moment between
+pub alone_first : {a b c x y z : DeviceState} → Called a b → Called b c → Called x y → Called y z → AreAlone a c x z
+    → AreAlone a b x y
+alone_first p q r s alone = record {
+  from_tells = alone.from_tells;
+  to_tells = alone.to_tells;
+  from_alone = still_first p.foreign_writes q.foreign_writes alone.from_alone;
+  to_alone = still_first r.foreign_writes s.foreign_writes alone.to_alone;
+}
+
+-- nor from there on
+pub alone_second : {a b c x y z : DeviceState} → Called a b → Called b c → Called x y → Called y z → AreAlone a c x z
+    → AreAlone b c y z
+alone_second p q r s alone = record {
+  from_tells = subst IsTrue (sym p.tells) alone.from_tells;
+  to_tells = subst IsTrue (sym r.tells) alone.to_tells;
+  from_alone = still_second p.foreign_writes q.foreign_writes alone.from_alone;
+  to_alone = still_second r.foreign_writes s.foreign_writes alone.to_alone;
+}
+
+module _ {source : AuditedVolume} {from now new to there then : DeviceState} {moved moved_now : List Moved} {place : ℕ}
+    (can : CanBeRead from source) (so_far : RestSoFar source from now to there moved moved_now place) where
+  pub rest_more : IsDevice now → IsDevice there → IsDevice then → place < length source.done.items → (pair : Moved)
+      → AddsNext source place now new there then (Ok pair)
+      → RestSoFar source from new to then moved (moved_now ++ pair ∷ []) (place + 1)
+  rest_more device_now device_there device_then less pair adds = record {
+    from_read = read_then so_far.from_read adds.from_read;
+    to_called = called_then so_far.to_called adds.to_called;
+    to_sound = sound_then so_far.to_called adds.to_called so_far.to_sound adds.to_sound;
+    count = length_push moved_now pair ∙ ap (λ (n : ℕ). n + 1) so_far.count;
+    goes = λ alone whole so.
+        let before = alone_first so_far.from_read.called adds.from_read.called so_far.to_called adds.to_called alone in
+        one_more source device_there device_then
+        (alone_second so_far.from_read.called adds.from_read.called so_far.to_called adds.to_called alone)
+        adds.from_read adds.to_called (can_on so_far.from_read.called can)
+        (whole_on device_now so_far.from_read before.from_alone whole) moved_now
+        (so_far.goes before whole so) (omega (arith, so_far.count, less)) pair
+        (subst (λ (n : ℕ). AddEnds source n now new there then (Ok pair)) (sym so_far.count) adds.ends);
+  }
+
+  pub rest_fails : (refusal : CopyRefusal) → AddsNext source place now new there then (Err refusal)
+      → RestFails source.volume.geometry from new to then refusal
+  rest_fails refusal adds = go refusal adds.ends
+    where
+      go : (r : CopyRefusal) → AddFails source.volume.geometry (slice_index source.done.items place) now new there then r
+          → RestFails source.volume.geometry from new to then r
+      go copies.NoMemory fails = tt
+      go (copies.From refusals.NoMemory) fails = absurd fails
+      go (copies.From r) fails = reading_later so_far.from_read.called adds.from_read.called r fails
+      go (copies.To refusals.NoMemory) fails = absurd fails
+      go (copies.To r) fails = record {
+        between = there;
+        called = so_far.to_called;
+        slot = slice_index source.done.items place;
+        ingests = fails;
+      }
+      go r fails = absurd fails

@@ -1,0 +1,243 @@
+-- A volume was copied, or it was not.
+use Rattle.std.proofs.Common.{◌≡◌, ◌≤◌, ◌∙◌, ℕ, List, Ok, Err, sym, ap, subst, arith, length}
+use Rattle.std.specs.Prelude.{IsTrue}
+use Rattle.std.specs.Global.{Vec}
+use Rattle.std.proofs.lemmas.List.{take_all}
+use Rattle.cell_types.specs.Image.{Image}
+use Rattle.cell_types.specs.Layout.{Layout}
+use Rattle.cell_types.specs.declared.refusal.CopyRefusal.{CopyRefusal}
+use Rattle.cell_types.specs.declared.refusal.CopyRefusal.TheVariants as copies
+use Rattle.cell_types.specs.declared.refusal.Refusal.{Refusal}
+use Rattle.cell_types.specs.declared.refusal.Refusal.TheVariants as refusals
+use Rattle.stored_documents.specs.Documents.{AreDocuments, Document, Stands}
+use Rattle.stored_documents.specs.Volumes.{IsVolume}
+use Rattle.stored_documents.proofs.Extending.{stands_on, volume_on}
+use Rattle.index_paths.specs.Keeping.{IsKept, Kept}
+use Rattle.index_paths.proofs.KeepingLaws.{documents}
+use Rattle.tamper_rules.specs.Settling.{Settled}
+use Rattle.tamper_rules.proofs.DocumentLists.{only_one}
+use Rattle.tamper_rules.proofs.GivenUp.{one_layout}
+use Rattle.tamper_rules.proofs.Images.{same_image}
+use Rattle.tamper_rules.proofs.Keeps.{keeps_all}
+use Rattle.worm_device.specs.Calls.{Called}
+use Rattle.worm_device.specs.State.{DeviceState, IsDevice}
+use Rattle.worm_device.proofs.Counting.{still_first}
+use Rattle.worm_device.proofs.Elapsing.{called_self, called_then}
+use Rattle.ingest_engine.specs.Ingesting.{document_in}
+use Rattle.volume_copy.specs.Adding.{AddsRest, CopiedSoFar, RestFails}
+use Rattle.volume_copy.specs.Auditing.{HasAudited, IsWhole, Refuses, by_reading}
+use Rattle.volume_copy.specs.Beginning.{BeginEnds, Begins}
+use Rattle.volume_copy.specs.Copies.{AreAlone, Copies, CopiesWhole, CopyEnds, HasCopied, HasNumbers, IsKeptThere, KeepsAll, by_ingest}
+use Rattle.volume_copy.specs.Pairs.{ArePairs}
+use Rattle.volume_copy.specs.Refusing.{refusal_from}
+use Rattle.volume_copy.specs.Staying.{IsHeldThroughout}
+use Rattle.volume_copy.specs.declared.audited.AuditedVolume.{AuditedVolume}
+use Rattle.volume_copy.specs.declared.moved.Moved.{Moved}
+use Rattle.volume_copy.proofs.AddedOn.{alone_first, alone_second, can_on, read_then, whole_on}
+use Rattle.volume_copy.proofs.Begun.{can_audited}
+use Rattle.volume_copy.proofs.PairLists.{HasPair, pairs_have, pairs_long, slots_length}
+use Rattle.volume_copy.proofs.Stayed.{held_then, read_held, sound_self, sound_then}
+use Rattle.volume_copy.proofs.WholeVolumes.{reading_later, stands_among}
+
+-- the source was not audited
+pub not_audited : (slots lists : ℕ) (from from' to : DeviceState) (refusal : Refusal) → Called from from'
+    → IsHeldThroughout from from' → Refuses from from' refusal → Copies slots lists from from' to to (Err (refusal_from refusal))
+not_audited slots lists from from' to refusal called held refuses = record {
+  from_called = called;
+  to_called = called_self to;
+  from_held = held;
+  to_sound = sound_self to;
+  ends = go refusal refuses;
+}
+  where
+    go : (r : Refusal) → Refuses from from' r → CopyEnds slots lists from from' to to (Err (refusal_from r))
+    go refusals.NoMemory x = tt
+    go r x = x
+
+-- all of the source has its pair
+module _ {slots lists : ℕ} {from from' to' : DeviceState} {done : List ℕ} (moved : List Moved) (called : Called from from')
+    (so : CopiedSoFar from' to' moved) (whole : IsWhole from' done) (all : length done ≤ length moved)
+    (numbers : HasNumbers slots lists so.agree.from_layout so.agree.to_layout) where
+  abbrev g : Layout
+  g = so.agree.from_layout
+
+  abbrev h : Layout
+  h = so.agree.to_layout
+
+  same_sure : to'.sure ≡ to'.image
+  same_sure = same_image so.sure
+
+  pairs : ArePairs g h from'.image to'.image so.agree.target moved so.agree.source
+  pairs = subst (λ (l : List Document). ArePairs g h from'.image to'.image l moved so.agree.source)
+      (take_all (length moved) so.agree.target (omega (arith, so.all))) so.agree.pairs
+
+  count : length so.agree.source ≡ length done
+  count = sym (slots_length so.agree.source) ∙ ap (λ (l : List ℕ). length l) (whole.slots so.agree.source so.agree.those)
+
+  these : AreDocuments to'.cells to'.sure so.agree.target
+  these = subst (λ (i : Image). AreDocuments to'.cells i so.agree.target) (sym same_sure) so.agree.these
+
+  settled : Settled to'.cells to'.sure
+  settled = subst (λ (i : Image). Settled to'.cells i) (sym same_sure) so.settled
+
+  copies_whole : CopiesWhole slots lists from' to' moved
+  copies_whole = record {
+    from_layout = g;
+    to_layout = h;
+    from_volume = so.agree.from_volume;
+    to_volume = subst (λ (i : Image). IsVolume to'.cells i h) (sym same_sure) so.agree.to_volume;
+    numbers = numbers;
+    settled = settled;
+    sure = so.sure;
+    source = so.agree.source;
+    target = so.agree.target;
+    those = so.agree.those;
+    these = these;
+    whole =
+        let long = pairs_long g h from'.image to'.image so.agree.target moved so.agree.source pairs in
+        omega (arith, long.0, long.1, count, all);
+    pairs = subst (λ (i : Image). ArePairs g h from'.image i so.agree.target moved so.agree.source) (sym same_sure)
+        pairs;
+  }
+
+  all_kept : Kept to'.cells to'.sure so.agree.target
+  all_kept = keeps_all to'.cells to'.sure so.agree.target settled these
+
+  kept_there : (d : Document) → HasPair g h from'.image to'.image so.agree.target moved d → IsKeptThere to' moved d
+  kept_there d has = record {
+    pair = has.pair;
+    among = has.pair_in;
+    old_is = has.old_is;
+    kept = record {
+      layout = all_kept.layout;
+      volume = all_kept.volume;
+      each = λ x among. subst (λ (y : Document). IsKept to'.cells to'.sure all_kept.layout y)
+          (documents has.e (document_in has.pair.new d.id d.body) (sym has.new_is) has.same.id has.same.body
+          ∙ sym (only_one (document_in has.pair.new d.id d.body) x among))
+          (all_kept.each has.e has.e_in);
+    };
+  }
+
+  keeps : KeepsAll from to' moved
+  keeps held kept d among =
+      let stands = stands_on called.image (kept.each d among).stands in
+      let there = stands_among from'.cells from'.image whole.settled so.agree.source so.agree.those d.slot d.id d.body
+      (subst (λ (k : ℕ). Stands k from'.image d.slot d.id d.body)
+      (sym called.cells) stands) in
+      kept_there d (pairs_have g h from'.image to'.image so.agree.target moved so.agree.source d pairs
+      (omega (arith, count, all)) there)
+
+  pub has_copied : HasCopied slots lists from from' to' moved
+  has_copied = record { keeps = keeps; whole = copies_whole }
+
+-- the source is whole behind its audit
+whole_audited : {source : AuditedVolume} {from audited new x y : DeviceState} → HasAudited from audited source
+    → Called audited new → AreAlone from new x y → IsWhole audited source.done.items
+whole_audited audit called alone = audit.whole alone.from_tells
+    (still_first audit.called.foreign_writes called.foreign_writes alone.from_alone)
+
+module _ {slots lists : ℕ} {source : AuditedVolume} {from audited from1 to to1 : DeviceState}
+    (audit : HasAudited from audited source) (held : IsHeldThroughout from audited) (device : IsDevice audited)
+    (device1 : IsDevice from1) where
+  -- the copy did not begin
+  pub not_begun : (refusal : CopyRefusal) → Begins slots lists source audited from1 to to1 (Err refusal)
+      → Copies slots lists from from1 to to1 (Err refusal)
+  not_begun refusal begins = record {
+    from_called = called_then audit.called begins.from_read.called;
+    to_called = begins.to_called;
+    from_held = held_then audit.called begins.from_read.called held (read_held device device1 begins.from_read);
+    to_sound = begins.to_sound;
+    ends = go refusal begins.ends;
+  }
+    where
+      behind : AreAlone from from1 to to1 → AreAlone audited from1 to to1
+      behind alone = alone_second audit.called begins.from_read.called (called_self to) begins.to_called alone
+
+      go : (r : CopyRefusal) → BeginEnds slots lists source audited from1 to to1 (Err r)
+          → CopyEnds slots lists from from1 to to1 (Err r)
+      go (copies.Differs old fresh) ends = (
+        λ from_tells to_tells. ends.0 (subst IsTrue (sym audit.called.tells) from_tells) to_tells,
+        λ alone. ends.1 (behind alone) (whole_audited audit begins.from_read.called alone),
+      )
+      go (copies.Longer fresh) ends = λ alone. ends (behind alone) (whole_audited audit begins.from_read.called alone)
+      go (copies.OtherVolume cell) ends = ends
+      go copies.NoMemory ends = tt
+      go (copies.From refusals.NoMemory) ends = absurd ends
+      go (copies.From r) ends = by_reading (called_then audit.called begins.from_read.called)
+          (reading_later audit.called begins.from_read.called r ends)
+      go (copies.To refusals.NoMemory) ends = absurd ends
+      go (copies.To r) ends = ends
+      go r ends = absurd ends
+
+  module _ {from2 to2 : DeviceState} (device2 : IsDevice from2) (moved : Vec Moved) (begins : Begins slots lists source audited from1 to to1 (Ok moved))
+    where
+      -- the documents that have no pair were not copied
+      pub not_rested : (new : List Moved) (refusal : CopyRefusal)
+          → AddsRest source from1 from2 to1 to2 moved.items new (Err refusal)
+          → Copies slots lists from from2 to to2 (Err refusal)
+      not_rested new refusal rest = record {
+        from_called = called_then (called_then audit.called begins.from_read.called) rest.from_read.called;
+        to_called = called_then begins.to_called rest.to_called;
+        from_held = held_then audit.called (called_then begins.from_read.called rest.from_read.called) held
+            (read_held device device2 (read_then begins.from_read rest.from_read));
+        to_sound = sound_then begins.to_called rest.to_called begins.to_sound rest.to_sound;
+        ends = go refusal rest.ends;
+      }
+        where
+          volume2 : IsTrue from2.tells → IsVolume from2.cells from2.image source.volume.geometry
+          volume2 = (can_on (called_then begins.from_read.called rest.from_read.called) (can_audited audit)).is_volume
+
+          go : (r : CopyRefusal) → RestFails source.volume.geometry from1 from2 to1 to2 r
+              → CopyEnds slots lists from from2 to to2 (Err r)
+          go copies.NoMemory ends = tt
+          go (copies.From refusals.NoMemory) ends = absurd ends
+          go (copies.From r) ends = by_reading (called_then (called_then audit.called begins.from_read.called) rest.from_read.called)
+              (reading_later (called_then audit.called begins.from_read.called) rest.from_read.called r ends)
+          go (copies.To refusals.NoMemory) ends = absurd ends
+          go (copies.To r) ends = by_ingest ends.between ends.ingests.id ends.ingests.stamp ends.ingests.body
+              (called_then begins.to_called ends.called)
+              (λ tells. record {
+                layout = source.volume.geometry;
+                volume = volume2 tells;
+                slot = ends.slot;
+                holds = ends.ingests.holds tells;
+                stamped = ends.ingests.stamped tells;
+              })
+              ends.ingests.ingests
+          go r ends = absurd ends
+
+      -- they were
+      pub rested : (new : Vec Moved) → AddsRest source from1 from2 to1 to2 moved.items new.items (Ok tt)
+          → Copies slots lists from from2 to to2 (Ok new)
+      rested new rest = record {
+        from_called = called_then (called_then audit.called begins.from_read.called) rest.from_read.called;
+        to_called = called_then begins.to_called rest.to_called;
+        from_held = held_then audit.called (called_then begins.from_read.called rest.from_read.called) held
+            (read_held device device2 (read_then begins.from_read rest.from_read));
+        to_sound = sound_then begins.to_called rest.to_called begins.to_sound rest.to_sound;
+        ends = λ alone.
+            let first = alone_first (called_then audit.called begins.from_read.called) rest.from_read.called begins.to_called rest.to_called alone in
+            let second = alone_second (called_then audit.called begins.from_read.called) rest.from_read.called begins.to_called rest.to_called alone in
+            let behind = alone_second audit.called begins.from_read.called (called_self to) begins.to_called first in
+            let whole = whole_audited audit begins.from_read.called first in
+            let began = begins.ends behind whole in
+            let whole1 = whole_on device1 begins.from_read behind.from_alone whole in
+            let whole2 = whole_on device2 rest.from_read second.from_alone whole1 in
+            let so = rest.ends.1 second whole1 began.0 in
+            let n = began.1 began.0.agree.from_layout began.0.agree.to_layout began.0.agree.from_volume
+            began.0.agree.to_volume in
+            let one : so.agree.from_layout ≡ began.0.agree.from_layout = one_layout {cells = from2.cells}
+            {more = from2.cells} so.agree.from_layout began.0.agree.from_layout so.agree.from_volume
+            (subst (λ (k : ℕ). IsVolume k from2.image began.0.agree.from_layout) (sym rest.from_read.called.cells)
+            (volume_on rest.from_read.called.image began.0.agree.from_volume)) in
+            let two : so.agree.to_layout ≡ began.0.agree.to_layout = one_layout {cells = to2.cells}
+            {more = to2.cells} so.agree.to_layout began.0.agree.to_layout so.agree.to_volume
+            (subst (λ (k : ℕ). IsVolume k to2.image began.0.agree.to_layout) (sym rest.to_called.cells)
+            (volume_on rest.to_called.image began.0.agree.to_volume)) in
+            has_copied new.items (called_then (called_then audit.called begins.from_read.called) rest.from_read.called) so whole2 rest.ends.0 (record {
+              slots_are = ap (λ (k : Layout). k.slots) two ∙ n.slots_are;
+              lists_are = ap (λ (k : Layout). k.lists) two ∙ n.lists_are;
+              version_is = ap (λ (k : Layout). k.version) two ∙ n.version_is
+                  ∙ sym (ap (λ (k : Layout). k.version) one);
+            });
+      }

@@ -1,0 +1,10 @@
+pub mod AddedOn
+pub mod Begun
+pub mod Compared
+pub mod Copied
+mod OnePairs
+pub mod PairLists
+pub mod Slots
+pub mod Stayed
+pub mod Walked
+pub mod WholeVolumes

@@ -1,0 +1,135 @@
+-- Lists of documents that are pairs, and one pair more.
+use Rattle.std.proofs.Common.{◌≡◌, ◌≤◌, ◌<◌, ◌∙◌, ℕ, zero, suc, List, [], ◌∷◌, ◌++◌, Some, None, refl, sym, ap, subst, arith, length}
+use Rattle.std.specs.Prelude.{Contains, slice_get, slice_index}
+use Rattle.std.proofs.lemmas.Option.{get_or_from_slice_get, slice_get-get_or, slice_get_within}
+use Rattle.cell_types.specs.Image.{Extends, Image}
+use Rattle.cell_types.specs.Layout.{Layout}
+use Rattle.stored_documents.specs.Documents.{Document}
+use Rattle.stored_documents.proofs.Stamps.{stamp_on}
+use Rattle.volume_copy.specs.Pairs.{ArePairs, SaysSame, slots_of}
+use Rattle.volume_copy.specs.declared.moved.Moved.{Moved}
+
+-- documents have as many slots
+pub slots_length : (ds : List Document) → length (slots_of ds) ≡ length ds
+slots_length [] = refl
+slots_length (d ∷ ds) = ap suc (slots_length ds)
+
+-- the document of a place has the slot of that place
+pub slot_at : (ds : List Document) (k n : ℕ) → slice_get (slots_of ds) k ≡ Some n
+    → (d : Document) × (slice_get ds k ≡ Some d) × (d.slot ≡ n)
+slot_at [] k n e = absurd (no e)
+  where
+    no : None ≡ Some n → ⊥
+    no e = cc
+slot_at (d ∷ ds) zero n e = (d, refl, same e)
+  where
+    same : Some d.slot ≡ Some n → d.slot ≡ n
+    same e = cc
+slot_at (d ∷ ds) (suc k) n e = slot_at ds k n e
+
+-- a document of a place is one of them
+pub place_in : (ds : List Document) (k : ℕ) (d : Document) → slice_get ds k ≡ Some d → Contains ds d
+place_in ds k d e = (k, slice_get_within ds k d e, get_or_from_slice_get ds k d d e)
+
+-- the document of a place, by the slots of all of them
+pub by_place : (ds : List Document) (slots : List ℕ) (k : ℕ) → slots_of ds ≡ slots → k < length slots
+    → (d : Document) × (slice_get ds k ≡ Some d) × (d.slot ≡ slice_index slots k)
+by_place ds slots k same less = slot_at ds k (slice_index slots k)
+    (subst (λ (l : List ℕ). slice_get l k ≡ Some (slice_index slots k)) (sym same) (slice_get-get_or slots k 0 less))
+
+module _ (g h : Layout) where
+  same_on : {from from' to to' : Image} {d e : Document} → Extends from from' → Extends to to'
+      → SaysSame g h from to d e → SaysSame g h from' to' d e
+  same_on {from} {from'} {to} {to'} {d} {e} p q s = record {
+    id = s.id;
+    body = s.body;
+    stamp = s.stamp;
+    there = stamp_on g d.slot s.stamp p s.there;
+    here = stamp_on h e.slot s.stamp q s.here;
+  }
+
+  -- pairs stay pairs
+  pub pairs_on : {from from' to to' : Image} → Extends from from' → Extends to to' → (target : List Document)
+      (moved : List Moved) (source : List Document) → ArePairs g h from to target moved source
+      → ArePairs g h from' to' target moved source
+  pairs_on p q [] [] source are = tt
+  pairs_on p q [] (m ∷ moved) source are = absurd are
+  pairs_on p q (e ∷ target) [] source are = absurd are
+  pairs_on p q (e ∷ target) (m ∷ moved) [] are = absurd are
+  pairs_on p q (e ∷ target) (m ∷ moved) (d ∷ source) are =
+      (same_on p q are.0, are.1, are.2, pairs_on p q target moved source are.3)
+
+  module _ (from to : Image) where
+    -- one pair more, behind the others
+    pub pairs_push : (target : List Document) (moved : List Moved) (source : List Document) (d e : Document) (m : Moved)
+        → ArePairs g h from to target moved source → slice_get source (length moved) ≡ Some d
+        → SaysSame g h from to d e → m.old ≡ d.slot → m.new ≡ e.slot
+        → ArePairs g h from to (target ++ e ∷ []) (moved ++ m ∷ []) source
+    pairs_push [] [] [] d e m are at same old new = absurd (no at)
+      where
+        no : None ≡ Some d → ⊥
+        no x = cc
+    pairs_push [] [] (f ∷ source) d e m are at same old new =
+        let is : f ≡ d = one at in (
+          subst (λ (x : Document). SaysSame g h from to x e) (sym is) same,
+          old ∙ ap (λ (x : Document). x.slot) (sym is),
+          new,
+          tt,
+        )
+      where
+        one : Some f ≡ Some d → f ≡ d
+        one x = cc
+    pairs_push [] (n ∷ moved) source d e m are at same old new = absurd are
+    pairs_push (f ∷ target) [] source d e m are at same old new = absurd are
+    pairs_push (f ∷ target) (n ∷ moved) [] d e m are at same old new = absurd are
+    pairs_push (f ∷ target) (n ∷ moved) (x ∷ source) d e m are at same old new =
+        (are.0, are.1, are.2, pairs_push target moved source d e m are.3 at same old new)
+
+    -- there are as many, and no more than the source has
+    pub pairs_long : (target : List Document) (moved : List Moved) (source : List Document)
+        → ArePairs g h from to target moved source → (length target ≡ length moved) × (length moved ≤ length source)
+    pairs_long [] [] source are = (refl, omega arith)
+    pairs_long [] (m ∷ moved) source are = absurd are
+    pairs_long (e ∷ target) [] source are = absurd are
+    pairs_long (e ∷ target) (m ∷ moved) [] are = absurd are
+    pairs_long (e ∷ target) (m ∷ moved) (d ∷ source) are =
+        let rest = pairs_long target moved source are.3 in (ap suc rest.0, omega (arith, rest.1))
+
+    -- a document of the source, and its pair
+    pub record HasPair (target : List Document) (moved : List Moved) (d : Document) : Type 0 where
+      pub e : Document
+      pub pair : Moved
+      pub e_in : Contains target e
+      pub pair_in : Contains moved pair
+      pub same : SaysSame g h from to d e
+      pub old_is : pair.old ≡ d.slot
+      pub new_is : pair.new ≡ e.slot
+
+    pub pairs_have : (target : List Document) (moved : List Moved) (source : List Document) (d : Document)
+        → ArePairs g h from to target moved source → length source ≤ length moved → Contains source d
+        → HasPair target moved d
+    pairs_have [] [] [] d are all (k, low, is) = absurd (omega (arith, low))
+    pairs_have [] [] (f ∷ source) d are all among = absurd (omega (arith, all))
+    pairs_have [] (m ∷ moved) source d are all among = absurd are
+    pairs_have (e ∷ target) [] source d are all among = absurd are
+    pairs_have (e ∷ target) (m ∷ moved) [] d are all among = absurd are
+    pairs_have (e ∷ target) (m ∷ moved) (f ∷ source) d are all (zero, low, is) = record {
+      e = e;
+      pair = m;
+      e_in = (zero, omega arith, refl);
+      pair_in = (zero, omega arith, refl);
+      same = subst (λ (x : Document). SaysSame g h from to x e) is are.0;
+      old_is = are.1 ∙ ap (λ (x : Document). x.slot) is;
+      new_is = are.2;
+    }
+    pairs_have (e ∷ target) (m ∷ moved) (f ∷ source) d are all (suc k, low, is) =
+        let rest = pairs_have target moved source d are.3 (omega (arith, all)) (k, omega (arith, low), is) in
+        record {
+          e = rest.e;
+          pair = rest.pair;
+          e_in = (suc rest.e_in.0, omega (arith, rest.e_in.1), rest.e_in.2);
+          pair_in = (suc rest.pair_in.0, omega (arith, rest.pair_in.1), rest.pair_in.2);
+          same = rest.same;
+          old_is = rest.old_is;
+          new_is = rest.new_is;
+        }

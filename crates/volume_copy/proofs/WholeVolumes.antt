@@ -1,0 +1,255 @@
+-- What is known of a volume that was audited, and whose slots were asked.
+use Rattle.std.proofs.Common.{◌≡◌, ◌<◌, ◌+◌, ◌⊎◌, ◌∙◌, ℕ, zero, suc, List, [], ◌∷◌, Ok, Err, ⊎_elim, refl, sym, ap, subst, arith, length}
+use Rattle.std.specs.Prelude.{Contains, IsTrue, slice_index}
+use Rattle.std.specs.Global.{Vec}
+use Rattle.std.proofs.lemmas.Bool.{cases_order}
+use Rattle.std.proofs.lemmas.List.Elements.{Contains-get_or}
+use Rattle.std.proofs.lemmas.Option.{none-some}
+use Rattle.cell_types.specs.Image.{Extends, Image}
+use Rattle.cell_types.specs.Layout.{Layout, reserve_at}
+use Rattle.cell_types.specs.declared.refusal.Refusal.{Refusal}
+use Rattle.cell_types.specs.declared.refusal.Refusal.TheVariants.{DeviceFault, NoMemory, Tampered}
+use Rattle.stored_documents.specs.Documents.{AreDocuments, Document, IsDocument, Rise, Stands}
+use Rattle.stored_documents.specs.Slots.{IsDoneSlot, IsHorizon}
+use Rattle.stored_documents.specs.Volumes.{IsVolume, IsWritten}
+use Rattle.stored_documents.proofs.Extending.{volume_on}
+use Rattle.stored_documents.proofs.Lists.{Rising, one_list}
+use Rattle.tamper_rules.specs.Settling.{After, Settled, Sound, nothing}
+use Rattle.tamper_rules.proofs.DocumentLists.{done_stands}
+use Rattle.tamper_rules.proofs.GivenUp.{one_layout}
+use Rattle.tamper_rules.proofs.Images.{same_both, same_image}
+use Rattle.tamper_rules.proofs.Settled.{taken_below, written}
+use Rattle.worm_device.specs.Calls.{Called}
+use Rattle.worm_device.specs.Counts.{IsStill}
+use Rattle.worm_device.specs.State.{DeviceState, IsDevice}
+use Rattle.worm_device.proofs.Counting.{still_first, still_second}
+use Rattle.worm_device.proofs.Elapsing.{called_then}
+use Rattle.recovery_engine.specs.Settling.{Settles}
+use Rattle.recovery_engine.specs.declared.settling.Ready.{Ready}
+use Rattle.settling_laws.specs.Steadiness.{EndsAs}
+use Rattle.settling_laws.proofs.EndedAs.{settling_ends}
+use Rattle.volume_audit.specs.Audits.{AuditEnds, Audits, settled, settling}
+use Rattle.volume_audit.specs.Reports.{IsSound}
+use Rattle.volume_audit.specs.declared.report.AuditReport.{AuditReport}
+use Rattle.volume_copy.specs.Auditing.{HasAudited, IsWhole, Refuses, by_audit, by_reading, by_settling}
+use Rattle.volume_copy.specs.Pairs.{slots_of}
+use Rattle.volume_copy.specs.Reading.{IsOnlyRead, ReadingFails, RiseFrom}
+use Rattle.volume_copy.specs.Walking.{AreDoneBelow, RiseBelow, WalkEnds}
+
+-- a document that stands in a settled volume is one of its documents
+pub stands_among : (cells : ℕ) (image : Image) → Settled cells image → (documents : List Document)
+    → AreDocuments cells image documents → (n : ℕ) (id body : List ℕ) → Stands cells image n id body
+    → Contains documents (record { slot = n; id = id; body = body })
+stands_among cells image whole documents are n id body stands =
+    let one : stands.layout ≡ whole.layout =
+    one_layout {cells = cells} {more = cells} stands.layout whole.layout stands.volume whole.volume in
+    (are.each (record { slot = n; id = id; body = body })).0 (record {
+      stands = stands;
+      taken = taken_below whole.layout image whole.settled n
+          (subst (λ (h : Layout). n < h.slots) one stands.slot) (written stands.done.commits.reserves);
+    })
+
+-- the slots of documents rise
+slots_rise : (from : ℕ) (ds : List Document) → Rise from ds → Rising (λ (n : ℕ). n) from (slots_of ds)
+slots_rise from [] rise = tt
+slots_rise from (d ∷ ds) rise = (rise.0, slots_rise (d.slot + 1) ds rise.1)
+
+numbers_rise : (from : ℕ) (ns : List ℕ) → RiseFrom from ns → Rising (λ (n : ℕ). n) from ns
+numbers_rise from [] rise = tt
+numbers_rise from (n ∷ ns) rise = (rise.0, numbers_rise (n + 1) ns rise.1)
+
+-- a document has its slot among them
+slot_in : (ds : List Document) (d : Document) → Contains ds d → Contains (slots_of ds) d.slot
+slot_in [] d (k, low, is) = absurd (omega (arith, low))
+slot_in (e ∷ ds) d (zero, low, is) = (zero, omega arith, ap (λ (x : Document). x.slot) is)
+slot_in (e ∷ ds) d (suc k, low, is) =
+    let rest = slot_in ds d (k, omega (arith, low), is) in (suc rest.0, omega (arith, rest.1), rest.2)
+
+-- and each slot among them is that of a document
+of_slot : (ds : List Document) (n : ℕ) → Contains (slots_of ds) n → (d : Document) × Contains ds d × (d.slot ≡ n)
+of_slot [] n (k, low, is) = absurd (omega (arith, low))
+of_slot (d ∷ ds) n (zero, low, is) = (d, (zero, omega arith, refl), is)
+of_slot (d ∷ ds) n (suc k, low, is) =
+    let rest = of_slot ds n (k, omega (arith, low), is) in
+    (rest.0, ((suc (rest.1).0, omega (arith, (rest.1).1), (rest.1).2)), rest.2)
+
+-- the done slots below the horizon of a settled volume are those of its documents
+module _ (cells : ℕ) (image : Image) (g : Layout) (volume : IsVolume cells image g) (whole : Settled cells image) (u : ℕ)
+    (horizon : IsHorizon g image image u) (slots : List ℕ) (rise : RiseBelow u slots)
+    (are_done : AreDoneBelow g image image u slots) (documents : List Document) (are : AreDocuments cells image documents)
+  where
+    below_horizon : (n : ℕ) → n < g.slots → ((m : ℕ) → m < n → IsWritten image (reserve_at m))
+        → IsWritten image (reserve_at n) → n < u
+    below_horizon n inside taken own = ⊎_elim
+        (λ (same : n ≡ u). absurd (none-some _
+        (sym (horizon.free (omega (arith, same, inside))) ∙ ap (λ (i : ℕ). image (reserve_at i)) (sym same) ∙ own.stands)))
+        (λ (differ : (n < u) ⊎ (u < n)). ⊎_elim (λ less. less)
+        (λ above. absurd (let w = taken u above in
+        none-some _ (sym (horizon.free (omega (arith, above, inside))) ∙ w.stands)))
+        differ)
+        (cases_order n u)
+
+    there : (n : ℕ) → Contains (slots_of documents) n → Contains slots n
+    there n among =
+        let d = of_slot documents n among in
+        let is : IsDocument cells image (d.0).slot (d.0).id (d.0).body = (are.each d.0).1 d.1 in
+        let one : is.stands.layout ≡ g =
+        one_layout {cells = cells} {more = cells} is.stands.layout g is.stands.volume volume in
+        let done : IsDoneSlot g image (d.0).slot =
+        subst (λ (h : Layout). IsDoneSlot h image (d.0).slot) one (record {
+          start = is.stands.start;
+          length = is.stands.reserved;
+          bytes = _;
+          journal = is.stands.journal;
+          done = is.stands.done;
+        }) in
+        subst (λ (m : ℕ). Contains slots m) d.2
+        (are_done.all (d.0).slot
+        (below_horizon (d.0).slot (subst (λ (h : Layout). (d.0).slot < h.slots) one is.stands.slot) is.taken
+        (written is.stands.done.commits.reserves)) done)
+
+    here : (n : ℕ) → Contains slots n → Contains (slots_of documents) n
+    here n among =
+        let v : IsVolume g.cells image g = subst (λ (c : ℕ). IsVolume c image g) (sym volume.size) volume in
+        let one : whole.layout ≡ g = one_layout {cells = cells} {more = cells} whole.layout g whole.volume volume in
+        let s = subst (λ (h : Layout). Rattle.tamper_rules.specs.Settling.IsSettled h image) one whole.settled in
+        let found = done_stands v s u horizon (are_done.done n among) in
+        slot_in documents _ (stands_among cells image whole documents are n found.0 found.1
+        (subst (λ (c : ℕ). Stands c image n found.0 found.1) volume.size found.2))
+
+    pub same_slots : slots_of documents ≡ slots
+    same_slots = one_list (λ (n : ℕ). n) 0 (slots_of documents) slots (slots_rise 0 documents are.rise)
+        (numbers_rise 0 slots rise.rise) there here
+
+-- why reading was ended, from an earlier state on
+pub reading_later : {old mid new : DeviceState} → Called old mid → Called mid new → (refusal : Refusal)
+    → ReadingFails mid new refusal → ReadingFails old new refusal
+reading_later before after NoMemory fails = tt
+reading_later before after DeviceFault fails = omega (arith, before.faults, fails)
+reading_later before after (Tampered e) fails = λ tells.
+    let l = fails (subst IsTrue (sym before.tells) tells) in
+    record {
+      stands = l.stands;
+      layout = l.layout;
+      volume = l.volume;
+      place = l.place;
+      broken = λ still. l.broken (still_second before.foreign_writes after.foreign_writes still);
+    }
+reading_later before after refusal fails = absurd fails
+
+-- an audit that ends well has found the volume settled
+audit_sound : {old new : DeviceState} {report : AuditReport} → Audits old new (Ok report) → IsTrue old.tells
+    → IsStill old.foreign_writes new.foreign_writes → IsSound new.cells new.image report
+audit_sound {old} {new} {report} audits tells still = by_case audits.comes
+  where
+    by_case : Rattle.volume_audit.specs.Audits.SettlesThenAudits old new (Ok report)
+        → IsSound new.cells new.image report
+    by_case (settling refusal is settles) = absurd (no_error refusal is)
+      where
+        no_error : (r : Refusal) → Ok report ≡ Err r → ⊥
+        no_error r e = cc
+    by_case (settled r has ends) = ends tells still
+
+module _ {old a b new : DeviceState} {report : AuditReport} (r : Ready) (audits : Audits old a (Ok report))
+    (settles : Settles a b (Ok r)) (read : IsOnlyRead b new) (device_b : IsDevice b) (device : IsDevice new) where
+  up_to_b : Called old b
+  up_to_b = called_then audits.called settles.called
+
+  all_of_it : Called old new
+  all_of_it = called_then up_to_b read.called
+
+  tells_a : IsTrue old.tells → IsTrue a.tells
+  tells_a tells = subst IsTrue (sym audits.called.tells) tells
+
+  tells_b : IsTrue old.tells → IsTrue b.tells
+  tells_b tells = subst IsTrue (sym up_to_b.tells) tells
+
+  pub volume_b : IsTrue old.tells → IsVolume b.cells b.image r.volume.geometry
+  volume_b tells = (settles.ends.1 (tells_a tells)).volume
+
+  volume_new : IsTrue old.tells → IsVolume new.cells new.image r.volume.geometry
+  volume_new tells = subst (λ (k : ℕ). IsVolume k new.image r.volume.geometry) (sym read.called.cells)
+      (volume_on read.called.image (volume_b tells))
+
+  -- going along the slots was ended
+  pub walk_refuses : (refusal : Refusal) → WalkEnds r.volume.geometry r.horizon b new (Err refusal)
+      → Refuses old new refusal
+  walk_refuses refusal ends = by_reading all_of_it
+      (reading_later up_to_b read.called refusal (ends (λ tells.
+      volume_b (subst IsTrue up_to_b.tells tells))))
+
+  module _ (slots : Vec ℕ) (walk : WalkEnds r.volume.geometry r.horizon b new (Ok slots)) where
+    among : (place : ℕ) → place < length slots.items → Contains slots.items (slice_index slots.items place)
+    among place less = Contains-get_or slots.items place 0 less
+
+    module _ (tells : IsTrue old.tells) (still : IsStill old.foreign_writes new.foreign_writes) where
+      still_a : IsStill old.foreign_writes a.foreign_writes
+      still_a = still_first audits.called.foreign_writes
+          (called_then settles.called read.called).foreign_writes still
+
+      still_b : IsStill a.foreign_writes b.foreign_writes
+      still_b = still_second audits.called.foreign_writes settles.called.foreign_writes
+          (still_first up_to_b.foreign_writes read.called.foreign_writes still)
+
+      sound : IsSound a.cells a.image report
+      sound = audit_sound audits tells still_a
+
+      settled_a : Settled a.cells a.image
+      settled_a = record { layout = sound.layout; volume = sound.volume; settled = sound.settled }
+
+      ends : EndsAs a b a.image r.step
+      ends = settling_ends a b r a.image device_b.sure (tells_a tells) settles still_b
+          (nothing settled_a (λ cell. refl)) settled_a
+
+      same_new : new.image ≡ b.image
+      same_new = same_image (read.only (still_second up_to_b.foreign_writes read.called.foreign_writes still))
+
+      image_a : new.image ≡ a.image
+      image_a = same_new ∙ ends.image
+
+      sure_new : new.sure ≡ new.image
+      sure_new = same_both
+          (subst (λ (i : Image). Extends i new.sure) (ends.sure ∙ sym image_a) read.called.sure) device.sure
+          ∙ refl
+
+      settled_new : Settled new.cells new.image
+      settled_new = subst (λ (k : ℕ). Settled k new.image)
+          (sym ((called_then settles.called read.called).cells))
+          (subst (λ (i : Image). Settled a.cells i) (sym image_a) settled_a)
+
+      horizon : IsHorizon r.volume.geometry new.image new.image r.horizon
+      horizon = subst (λ (i : Image). IsHorizon r.volume.geometry i new.image r.horizon) (sym image_a)
+          (subst (λ (i : Image). IsHorizon r.volume.geometry a.image i r.horizon) (sym same_new)
+          (settles.ends.1 (tells_a tells)).horizon)
+
+      done_new : AreDoneBelow r.volume.geometry new.image new.image r.horizon slots.items
+      done_new = subst (λ (i : Image). AreDoneBelow r.volume.geometry i new.image r.horizon slots.items) (sym same_new)
+          (walk.1 (tells_b tells))
+
+      whole : IsWhole new slots.items
+      whole = record {
+        settled = settled_new;
+        sure = λ cell. ap (λ (i : Image). i cell) sure_new;
+        slots = λ documents are. same_slots new.cells new.image r.volume.geometry (volume_new tells) settled_new r.horizon
+            horizon slots.items walk.0 done_new documents are;
+      }
+
+    pub has_audited : HasAudited old new (record { volume = r.volume; done = slots })
+    has_audited = record {
+      called = all_of_it;
+      version = settles.ends.0.version;
+      layout = settles.ends.0.layout;
+      size = settles.ends.0.size ∙ sym read.called.cells;
+      below = λ place less.
+          let low = walk.0.below (slice_index slots.items place) (among place less) in
+          omega (arith, low, settles.ends.0.horizon);
+      is_volume = volume_new;
+      done = λ tells place less. (walk.1 (tells_b tells)).done _ (among place less);
+      whole = whole;
+    }
+
+-- whoever refuses, a row of calls was made
+pub refuses_called : {old new : DeviceState} {refusal : Refusal} → Refuses old new refusal → Called old new
+refuses_called (by_audit audits) = audits.called
+refuses_called (by_settling between report audits settles) = called_then audits.called settles.called
+refuses_called (by_reading called fails) = called

@@ -1,0 +1,63 @@
+-- The document was read, and ingested.
+use Rattle.std.proofs.Common.{sym, ◌∙◌, ◌≡◌}
+use Rattle.std.specs.Prelude.{slice_index}
+use Rattle.std.proofs.lemmas.Grind.{get_or_default_zero}
+use Rattle.worm_device.proofs.Elapsing.{called_self}
+use Rattle.volume_copy.proofs.AddedOn.{ingests_of, source_fails, target_fails}
+use Rattle.volume_copy.proofs.Stayed.{ingest_sound, sound_self}
+use Rattle.volume_copy.proofs.adding.copy_next.Goals as goal
+
+-- the slot is one of those
+pub read_stored-requires-clause-slot : goal.read_stored-requires-clause-slot
+read_stored-requires-clause-slot g c =
+    let at : c.index-old.result.now ≡ slice_index c.args.source.now.done.items c.args.place = c.index-old.ensures ∙ get_or_default_zero c.args.source.now.done.items c.args.place _ c.requires.inside in
+    rw at (c.requires.source.below c.args.place c.requires.inside)
+
+pub read_stored-requires-clause-done : goal.read_stored-requires-clause-done
+read_stored-requires-clause-done g c =
+    let at : c.index-old.result.now ≡ slice_index c.args.source.now.done.items c.args.place = c.index-old.ensures ∙ get_or_default_zero c.args.source.now.done.items c.args.place _ c.requires.inside in
+    λ tells. rw at (c.requires.source.done tells c.args.place c.requires.inside)
+
+-- it could not be read
+pub returns-in-Err : goal.returns-in-Err
+returns-in-Err g c =
+    let at : c.index-old.result.now ≡ slice_index c.args.source.now.done.items c.args.place = c.index-old.ensures ∙ get_or_default_zero c.args.source.now.done.items c.args.place _ c.requires.inside in
+    record {
+      from_read = c.in-Err.ensures.read;
+      to_called = called_self _;
+      to_sound = sound_self _;
+      ends = rw c.from_source.ensures (source_fails c.args.source.now.volume.geometry _ _ _ _ c.in-Err.refusal
+          (c.in-Err.ensures.ends c.requires.source.is_volume));
+    }
+
+-- it was ingested
+pub returns-in-Ok-ingest : goal.returns-in-Ok-ingest
+returns-in-Ok-ingest g c =
+    let at : c.index-old.result.now ≡ slice_index c.args.source.now.done.items c.args.place = c.index-old.ensures ∙ get_or_default_zero c.args.source.now.done.items c.args.place _ c.requires.inside in
+    record {
+      from_read = c.in-Ok.ensures.read;
+      to_called = c.in-Ok-ingest.ensures.called;
+      to_sound = ingest_sound _ (g.met.E.Device.proper c.args.to.now) (g.met.E.Device.proper c.ingest.new.device)
+          c.in-Ok-ingest.ensures;
+      ends = (
+        at,
+        ingests_of c.args.source.now.volume.geometry c.index-old.result.now c.in-Ok.document _ _ _
+            c.as_slice-identifier.ensures.value c.bytes-body.ensures c.in-Ok.ensures.read.called c.in-Ok.ensures.ends.2
+            c.in-Ok-ingest.ensures,
+      );
+    }
+
+-- or it was not
+pub returns : goal.returns
+returns g c =
+    let at : c.index-old.result.now ≡ slice_index c.args.source.now.done.items c.args.place = c.index-old.ensures ∙ get_or_default_zero c.args.source.now.done.items c.args.place _ c.requires.inside in
+    record {
+      from_read = c.in-Ok.ensures.read;
+      to_called = c.in-Err-ingest.ensures.called;
+      to_sound = ingest_sound _ (g.met.E.Device.proper c.args.to.now) (g.met.E.Device.proper c.ingest.new.device)
+          c.in-Err-ingest.ensures;
+      ends = rw c.to_target.ensures (target_fails c.args.source.now.volume.geometry _ _ _ _ _ c.in-Err-ingest.refusal
+          (rw (sym at) (ingests_of c.args.source.now.volume.geometry c.index-old.result.now c.in-Ok.document _ _ _
+          c.as_slice-identifier.ensures.value c.bytes-body.ensures c.in-Ok.ensures.read.called c.in-Ok.ensures.ends.2
+          c.in-Err-ingest.ensures)));
+    }

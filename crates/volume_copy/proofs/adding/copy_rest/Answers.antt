@@ -1,0 +1,39 @@
+-- Document after document.
+use Rattle.std.proofs.Common.{arith, rules}
+use Rattle.worm_device.proofs.Elapsing.{called_then}
+use Rattle.volume_copy.proofs.AddedOn.{can_on, read_then, rest_fails, rest_more}
+use Rattle.volume_copy.proofs.Stayed.{sound_then}
+use Rattle.volume_copy.proofs.adding.copy_rest.Goals as goal
+
+pub copy_next-requires-clause-source : goal.copy_next-requires-clause-source
+copy_next-requires-clause-source g c = can_on c.loop-place.invariant.from_read.called c.requires.source
+
+-- a document was not copied
+pub returns-in-Err : goal.returns-in-Err
+returns-in-Err g c =
+    record {
+      from_read = read_then c.loop-place.invariant.from_read c.in-Err.ensures.from_read;
+      to_called = called_then c.loop-place.invariant.to_called c.in-Err.ensures.to_called;
+      to_sound = sound_then c.loop-place.invariant.to_called c.in-Err.ensures.to_called
+          c.loop-place.invariant.to_sound c.in-Err.ensures.to_sound;
+      ends = rest_fails c.requires.source c.loop-place.invariant c.in-Err.refusal c.in-Err.ensures;
+    }
+
+-- there was no memory for its pair
+pub returns-in_default : goal.returns-in_default
+returns-in_default g c =
+    record {
+      from_read = read_then c.loop-place.invariant.from_read c.in-Ok.ensures.from_read;
+      to_called = called_then c.loop-place.invariant.to_called c.in-Ok.ensures.to_called;
+      to_sound = sound_then c.loop-place.invariant.to_called c.in-Ok.ensures.to_called
+          c.loop-place.invariant.to_sound c.in-Ok.ensures.to_sound;
+      ends = tt;
+    }
+
+-- one more was
+pub loop-place-preserved : goal.loop-place-preserved
+loop-place-preserved g c =
+    let more = rest_more c.requires.source c.loop-place.invariant (g.met.D.Device.proper c.loop-place.from)
+    (g.met.E.Device.proper c.loop-place.to) (g.met.E.Device.proper c.copy_next.new.to) (omega (arith, c.loop-place-test.true, c.len-place-end.ensures))
+    c.in-Ok.pair c.in-Ok.ensures in
+    search (rules, more, c.in-Ok-push.ensures.items)

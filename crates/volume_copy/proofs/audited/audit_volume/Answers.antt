@@ -1,0 +1,68 @@
+-- Who refuses, and what is known where none does.
+use Rattle.cell_types.proofs.Passed.{handed}
+use Rattle.volume_copy.specs.Auditing.{by_audit, by_settling}
+use Rattle.volume_copy.proofs.WholeVolumes.{has_audited, walk_refuses}
+use Rattle.worm_device.proofs.Elapsing.{called_then}
+use Rattle.volume_copy.proofs.Stayed.{audit_held, held_then, read_held, settle_held}
+use Rattle.volume_copy.proofs.audited.audit_volume.Goals as goal
+
+pub returns-in_err-_report-clause-ends : goal.returns-in_err-_report-clause-ends
+returns-in_err-_report-clause-ends g c =
+    let refusal = c.in_err-_report.field-0.0 in
+    rw (handed c.from_residual.result refusal c.from_residual.ensures.1) (by_audit c.in_err-_report.ensures)
+
+pub returns-in_err-ready-clause-ends : goal.returns-in_err-ready-clause-ends
+returns-in_err-ready-clause-ends g c =
+    let refusal = c.in_err-ready.field-0.0 in
+    rw (handed c.from_residual-in_err-ready.result refusal c.from_residual-in_err-ready.ensures.1)
+    (by_settling _ c.in_ok-_report._report c.in_ok-_report.ensures c.in_err-ready.ensures)
+
+pub returns-in_err-done-clause-ends : goal.returns-in_err-done-clause-ends
+returns-in_err-done-clause-ends g c =
+    let refusal = c.in_err-done.field-0.0 in
+    rw (handed c.from_residual-in_err-done.result refusal c.from_residual-in_err-done.ensures.1)
+    (walk_refuses c.in_ok-ready.ready c.in_ok-_report.ensures c.in_ok-ready.ensures c.done_slots.ensures.read
+    (g.met.D.Device.proper c.settle.new.device) (g.met.D.Device.proper c.done_slots.new.device) refusal
+    c.in_err-done.ensures.ends)
+
+pub returns-clause-ends : goal.returns-clause-ends
+returns-clause-ends g c =
+    has_audited c.in_ok-ready.ready c.in_ok-_report.ensures c.in_ok-ready.ensures c.done_slots.ensures.read
+    (g.met.D.Device.proper c.settle.new.device) (g.met.D.Device.proper c.done_slots.new.device) c.in_ok-done.done
+    c.in_ok-done.ensures.ends
+
+-- what a crash leaves of each
+pub returns-in_err-_report-clause-held : goal.returns-in_err-_report-clause-held
+returns-in_err-_report-clause-held g c =
+    audit_held c.audit.result (g.met.D.Device.proper c.args.device.now) (g.met.D.Device.proper c.audit.new.device)
+    c.audit.ensures
+
+pub returns-in_err-ready-clause-held : goal.returns-in_err-ready-clause-held
+returns-in_err-ready-clause-held g c =
+    held_then c.audit.ensures.called c.settle.ensures.called
+    (audit_held c.audit.result (g.met.D.Device.proper c.args.device.now) (g.met.D.Device.proper c.audit.new.device)
+    c.audit.ensures)
+    (settle_held c.settle.result (g.met.D.Device.proper c.audit.new.device) (g.met.D.Device.proper c.settle.new.device)
+    c.settle.ensures)
+
+pub returns-in_err-done-clause-held : goal.returns-in_err-done-clause-held
+returns-in_err-done-clause-held g c =
+    held_then (called_then c.audit.ensures.called c.settle.ensures.called) c.done_slots.ensures.read.called
+    (held_then c.audit.ensures.called c.settle.ensures.called
+    (audit_held c.audit.result (g.met.D.Device.proper c.args.device.now) (g.met.D.Device.proper c.audit.new.device)
+    c.audit.ensures)
+    (settle_held c.settle.result (g.met.D.Device.proper c.audit.new.device) (g.met.D.Device.proper c.settle.new.device)
+    c.settle.ensures))
+    (read_held (g.met.D.Device.proper c.settle.new.device) (g.met.D.Device.proper c.done_slots.new.device)
+    c.done_slots.ensures.read)
+
+pub returns-clause-held : goal.returns-clause-held
+returns-clause-held g c =
+    held_then (called_then c.audit.ensures.called c.settle.ensures.called) c.done_slots.ensures.read.called
+    (held_then c.audit.ensures.called c.settle.ensures.called
+    (audit_held c.audit.result (g.met.D.Device.proper c.args.device.now) (g.met.D.Device.proper c.audit.new.device)
+    c.audit.ensures)
+    (settle_held c.settle.result (g.met.D.Device.proper c.audit.new.device) (g.met.D.Device.proper c.settle.new.device)
+    c.settle.ensures))
+    (read_held (g.met.D.Device.proper c.settle.new.device) (g.met.D.Device.proper c.done_slots.new.device)
+    c.done_slots.ensures.read)

@@ -1,0 +1,32 @@
+-- Slot after slot.
+use Rattle.std.proofs.Common.{arith, rules, ◌≡◌}
+use Rattle.cell_types.proofs.Passed.{handed}
+use Rattle.cell_types.specs.Refusals.{refusal_of_fault}
+use Rattle.volume_copy.proofs.Slots.{look_fails}
+use Rattle.volume_copy.proofs.Walked.{walk_ends, walk_fails, walk_one, walk_over}
+use Rattle.volume_copy.proofs.walking.done_in.Goals as goal
+
+-- a slot could not be asked
+pub returns-in_err-found-clause-ends : goal.returns-in_err-found-clause-ends
+returns-in_err-found-clause-ends g c =
+    let fault = c.in_err-found.field-0.0 in
+    rw (handed c.from_residual.result (refusal_of_fault fault) c.from_residual.ensures.1)
+    (walk_fails c.loop-slot.invariant c.slot_part.ensures.viewed c.args.horizon (refusal_of_fault fault)
+    (look_fails c.args.volume.now.geometry c.loop-slot.slot _ _ fault c.in_err-found.ensures.ends))
+
+-- it is not done
+pub loop-slot-preserved-in_default : goal.loop-slot-preserved-in_default
+loop-slot-preserved-in_default g c =
+    walk_over c.loop-slot.invariant c.slot_part.ensures.viewed (rw c.in_default.is at c.in_ok-found.ensures.ends)
+
+-- it is
+pub loop-slot-preserved : goal.loop-slot-preserved
+loop-slot-preserved g c =
+    let one = walk_one c.loop-slot.invariant c.slot_part.ensures.viewed (rw c.in-Some.is at c.in_ok-found.ensures.ends) in
+    search (rules, one, c.in-Ok.ensures)
+
+-- all were asked
+pub returns-clause-ends : goal.returns-clause-ends
+returns-clause-ends g c =
+    let at_end : c.loop-slot.slot ≡ c.args.horizon = omega (arith, c.loop-slot-test.false, c.loop-slot.auto.slot-end) in
+    walk_ends c.loop-slot.done c.loop-slot.invariant at_end

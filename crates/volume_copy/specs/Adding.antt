@@ -1,0 +1,110 @@
+-- What copying one document does, and copying those that have no pair.
+use Rattle.std.specs.Prelude.{◌≡◌, ◌<◌, ◌≤◌, ℕ, List, length, slice_index, Option, Result, Ok, Err, IsTrue, ⊤}
+use Rattle.cell_types.specs.Layout.{Layout}
+use Rattle.cell_types.specs.declared.refusal.CopyRefusal.{CopyRefusal}
+use Rattle.cell_types.specs.declared.refusal.CopyRefusal.TheVariants.{From, NoMemory, To}
+use Rattle.cell_types.specs.declared.refusal.Refusal.{Refusal}
+use Rattle.cell_types.specs.declared.refusal.Refusal.TheVariants as refusals
+use Rattle.stored_documents.specs.Slots.{IsDoneSlot, IsStampOf}
+use Rattle.stored_documents.specs.Volumes.{IsVolume}
+use Rattle.worm_device.specs.Calls.{Called}
+use Rattle.worm_device.specs.State.{DeviceState}
+use Rattle.document_store.specs.Standing.{HoldsDocument}
+use Rattle.ingest_engine.specs.Ingesting.{Ingests}
+use Rattle.volume_copy.specs.Copies.{AreAlone}
+use Rattle.cell_types.specs.Image.{IsUnchanged}
+use Rattle.tamper_rules.specs.Settling.{Settled}
+use Rattle.volume_copy.specs.Auditing.{IsWhole}
+use Rattle.volume_copy.specs.Pairs.{AgreeSoFar}
+use Rattle.volume_copy.specs.Reading.{IsOnlyRead, ReadingFails}
+use Rattle.volume_copy.specs.Staying.{IsSoundThroughout}
+use Rattle.volume_copy.specs.declared.audited.AuditedVolume.{AuditedVolume}
+use Rattle.volume_copy.specs.declared.moved.Moved.{Moved}
+
+-- The slots lie in the volume, and where the device tells they are done slots of it.
+pub record CanBeRead (s : DeviceState) (volume : AuditedVolume) : Type 0 where
+  pub size : volume.volume.geometry.cells ≡ s.cells
+  pub below : (place : ℕ) → place < length volume.done.items
+      → slice_index volume.done.items place < volume.volume.geometry.slots
+  pub is_volume : IsTrue s.tells → IsVolume s.cells s.image volume.volume.geometry
+  pub done : IsTrue s.tells → (place : ℕ) → place < length volume.done.items
+      → IsDoneSlot volume.volume.geometry s.image (slice_index volume.done.items place)
+
+-- A document was ingested, and where the source tells it is the one that slot n holds there.
+pub record IngestsOf (g : Layout) (n : ℕ) (from old new : DeviceState) (result : Result ℕ Refusal) : Type 0 where
+  pub id : List ℕ
+  pub stamp : Option ℕ
+  pub body : List ℕ
+  pub holds : IsTrue from.tells → HoldsDocument g from.image n id body
+  pub stamped : IsTrue from.tells → IsStampOf g from.image n stamp
+  pub ingests : Ingests id stamp body old new result
+
+-- Copying the document of one slot was ended by the source, or by the target.
+abbrev pub AddFails : Layout → ℕ → DeviceState → DeviceState → DeviceState → DeviceState → CopyRefusal → Type 0
+AddFails g n from from' to to' NoMemory = ⊤
+AddFails g n from from' to to' (From refusals.NoMemory) = ⊥
+AddFails g n from from' to to' (From refusal) = ReadingFails from from' refusal
+AddFails g n from from' to to' (To refusals.NoMemory) = ⊥
+AddFails g n from from' to to' (To refusal) = IngestsOf g n from' to to' (Err refusal)
+AddFails g n from from' to to' refusal = ⊥
+
+-- how copying the document of one place may end, and why
+abbrev pub AddEnds
+    : AuditedVolume → ℕ → DeviceState → DeviceState → DeviceState → DeviceState → Result Moved CopyRefusal → Type 0
+AddEnds source place from from' to to' (Ok pair) =
+    (pair.old ≡ slice_index source.done.items place)
+    × IngestsOf source.volume.geometry pair.old from' to to' (Ok pair.new)
+AddEnds source place from from' to to' (Err refusal) =
+    AddFails source.volume.geometry (slice_index source.done.items place) from from' to to' refusal
+
+pub record AddsNext (source : AuditedVolume) (place : ℕ) (from from' to to' : DeviceState) (result : Result Moved CopyRefusal)
+    : Type 0 where
+  pub from_read : IsOnlyRead from from'
+  pub to_called : Called to to'
+  pub to_sound : IsSoundThroughout to to'
+  pub ends : AddEnds source place from from' to to' result
+
+-- Nobody else writing, each document of the target has its pair among the first ones of the source; the target is settled,
+-- and all of it is sure.
+pub record CopiedSoFar (from to : DeviceState) (moved : List Moved) : Type 0 where
+  pub agree : AgreeSoFar from to moved
+  pub all : length agree.target ≡ length moved
+  pub settled : Settled to.cells to.image
+  pub sure : IsUnchanged to.image to.sure
+
+-- an ingest of a document of the source was refused
+pub record IngestRefused (g : Layout) (from old new : DeviceState) (refusal : Refusal) : Type 0 where
+  pub between : DeviceState
+  pub called : Called old between
+  pub slot : ℕ
+  pub ingests : IngestsOf g slot from between new (Err refusal)
+
+-- why copying the documents that have no pair was ended
+abbrev pub RestFails : Layout → DeviceState → DeviceState → DeviceState → DeviceState → CopyRefusal → Type 0
+RestFails g from from' to to' NoMemory = ⊤
+RestFails g from from' to to' (From refusals.NoMemory) = ⊥
+RestFails g from from' to to' (From refusal) = ReadingFails from from' refusal
+RestFails g from from' to to' (To refusals.NoMemory) = ⊥
+RestFails g from from' to to' (To refusal) = IngestRefused g from' to to' refusal
+RestFails g from from' to to' refusal = ⊥
+
+-- what was copied so far, and then all, under the premises that nobody else writes and that the source is whole
+abbrev pub GoesOn : AuditedVolume → DeviceState → DeviceState → DeviceState → DeviceState → List Moved → List Moved → Type 0
+GoesOn source from from' to to' moved moved' =
+    AreAlone from from' to to' → IsWhole from source.done.items → CopiedSoFar from to moved → CopiedSoFar from' to' moved'
+
+-- how it may end, and why
+abbrev pub RestEnds
+    : AuditedVolume → DeviceState → DeviceState → DeviceState → DeviceState → List Moved → List Moved
+    → Result Unit CopyRefusal → Type 0
+RestEnds source from from' to to' moved moved' (Ok u) =
+    (length source.done.items ≤ length moved') × GoesOn source from from' to to' moved moved'
+RestEnds source from from' to to' moved moved' (Err refusal) =
+    RestFails source.volume.geometry from from' to to' refusal
+
+pub record AddsRest (source : AuditedVolume) (from from' to to' : DeviceState) (moved moved' : List Moved)
+    (result : Result Unit CopyRefusal) : Type 0 where
+  pub from_read : IsOnlyRead from from'
+  pub to_called : Called to to'
+  pub to_sound : IsSoundThroughout to to'
+  pub ends : RestEnds source from from' to to' moved moved' result

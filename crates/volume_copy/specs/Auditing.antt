@@ -1,0 +1,49 @@
+-- What it means that a volume is audited before it is copied, and what is known of it then.
+use Rattle.std.specs.Prelude.{◌≡◌, ◌<◌, ℕ, List, length, slice_index, Result, Ok, Err, IsTrue}
+use Rattle.cell_types.specs.Image.{IsUnchanged}
+use Rattle.cell_types.specs.Layout.{IsLayout}
+use Rattle.cell_types.specs.declared.refusal.Refusal.{Refusal}
+use Rattle.stored_documents.specs.Documents.{AreDocuments, Document}
+use Rattle.stored_documents.specs.Slots.{IsDoneSlot}
+use Rattle.stored_documents.specs.Volumes.{IsVolume}
+use Rattle.tamper_rules.specs.Settling.{Settled}
+use Rattle.worm_device.specs.Calls.{Called}
+use Rattle.worm_device.specs.Counts.{IsStill}
+use Rattle.worm_device.specs.State.{DeviceState}
+use Rattle.recovery_engine.specs.Settling.{Settles}
+use Rattle.volume_audit.specs.Audits.{Audits}
+use Rattle.volume_audit.specs.declared.report.AuditReport.{AuditReport}
+use Rattle.volume_copy.specs.Pairs.{slots_of}
+use Rattle.volume_copy.specs.Reading.{ReadingFails}
+use Rattle.volume_copy.specs.declared.audited.AuditedVolume.{AuditedVolume}
+
+-- Why a volume is not read: its audit refuses; or it was audited, and settling refuses behind it, or a look at its slots.
+pub data Refuses (old new : DeviceState) (refusal : Refusal) : Type 0 where
+  by_audit : Audits old new (Err refusal) → Refuses old new refusal
+  by_settling : (between : DeviceState) (report : AuditReport) → Audits old between (Ok report)
+      → Settles between new (Err refusal) → Refuses old new refusal
+  by_reading : Called old new → ReadingFails old new refusal → Refuses old new refusal
+
+-- The volume is settled, all that stands is sure, and these are the slots of its documents.
+pub record IsWhole (s : DeviceState) (done : List ℕ) : Type 0 where
+  pub settled : Settled s.cells s.image
+  pub sure : IsUnchanged s.image s.sure
+  pub slots : (documents : List Document) → AreDocuments s.cells s.image documents → slots_of documents ≡ done
+
+-- A volume was audited. Its numbers are such ones over every device.
+pub record HasAudited (old new : DeviceState) (volume : AuditedVolume) : Type 0 where
+  pub called : Called old new
+  pub version : volume.volume.version ≡ volume.volume.geometry.version
+  pub layout : IsLayout volume.volume.geometry
+  pub size : volume.volume.geometry.cells ≡ new.cells
+  pub below : (place : ℕ) → place < length volume.done.items
+      → slice_index volume.done.items place < volume.volume.geometry.slots
+  pub is_volume : IsTrue old.tells → IsVolume new.cells new.image volume.volume.geometry
+  pub done : IsTrue old.tells → (place : ℕ) → place < length volume.done.items
+      → IsDoneSlot volume.volume.geometry new.image (slice_index volume.done.items place)
+  pub whole : IsTrue old.tells → IsStill old.foreign_writes new.foreign_writes → IsWhole new volume.done.items
+
+-- how auditing a volume that is to be copied may end, and why
+abbrev pub SourceEnds : DeviceState → DeviceState → Result AuditedVolume Refusal → Type 0
+SourceEnds old new (Ok volume) = HasAudited old new volume
+SourceEnds old new (Err refusal) = Refuses old new refusal

@@ -1,0 +1,11 @@
+pub mod Adding
+pub mod Auditing
+pub mod Beginning
+pub mod Comparing
+pub mod Copies
+pub mod Laws
+pub mod Pairs
+pub mod Reading
+pub mod Refusing
+pub mod Staying
+pub mod Walking

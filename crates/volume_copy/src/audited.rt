@@ -1,0 +1,33 @@
+//! A volume that was audited, and the slots of its documents.
+ghost use Rattle.volume_copy.specs.Auditing.{SourceEnds};
+ghost use Rattle.volume_copy.specs.Staying.{IsHeldThroughout};
+
+use crate::walking::done_slots;
+use cell_types::{Refusal, Volume};
+use recovery_engine::settle;
+use std::alloc::Global;
+use volume_audit::audit;
+use worm_device::Device;
+
+/// A volume that was audited.
+#[derive(Drop)]
+pub struct AuditedVolume {
+    pub volume: Volume,
+    /// The slots of its documents, by rising number.
+    pub done: Vec<u32>,
+}
+
+/// Audits the volume, and goes along its slots. An audit says how many documents there are, and not where: so the end of the
+/// log is asked for again, behind it.
+pub fn audit_volume<D: Device>(alloc: Global, device: &mut D) -> Result<AuditedVolume, Refusal>
+    ensures held { IsHeldThroughout (D.state device.old) (D.state device.new) }
+    ensures ends { SourceEnds (D.state device.old) (D.state device.new) result }
+{
+    let _report = audit(alloc, device)?;
+    let ready = settle(device)?;
+    let done = done_slots(alloc, device, &ready.volume, ready.horizon)?;
+    Ok(AuditedVolume {
+        volume: ready.volume,
+        done,
+    })
+}

@@ -1,0 +1,50 @@
+//! The slots of a volume's documents.
+ghost use Rattle.std.specs.Prelude.{◌≡◌, ◌≤◌};
+ghost use Rattle.worm_device.specs.Views.{Viewed};
+ghost use Rattle.volume_copy.specs.Reading.{IsOnlyRead, RiseFrom};
+ghost use Rattle.volume_copy.specs.Walking.{WalkEnds, WalksSlots};
+
+use cell_types::{Refusal, Volume};
+use document_store::slot_part;
+use std::alloc::Global;
+use worm_device::{Device, Direct, View};
+
+/// The slots below a horizon that are done, by rising number. Reads the log cells of each slot below it.
+pub(crate) fn done_slots<D: Device>(
+    alloc: Global,
+    device: &mut D,
+    volume: &Volume,
+    horizon: u32,
+) -> Result<Vec<u32>, Refusal>
+    requires most { horizon ≤ volume.now.geometry.slots }
+    requires size { volume.now.geometry.cells ≡ (D.state device.old).cells }
+    ensures read { IsOnlyRead (D.state device.old) (D.state device.new) }
+    ensures ends { WalkEnds volume.now.geometry horizon (D.state device.old) (D.state device.new) result }
+{
+    done_in(alloc, &mut Direct::new(device), volume, horizon)
+}
+
+/// The same over a view.
+fn done_in<V: View>(
+    alloc: Global,
+    view: &mut V,
+    volume: &Volume,
+    horizon: u32,
+) -> Result<Vec<u32>, Refusal>
+    requires most { horizon ≤ volume.now.geometry.slots }
+    requires size { volume.now.geometry.cells ≤ (V.seen view.old).cells }
+    ensures viewed { Viewed (V.seen view.old) (V.seen view.new) }
+    ensures ends { WalksSlots volume.now.geometry horizon (V.seen view.old) (V.seen view.new) result }
+{
+    let mut done = Vec::new(alloc);
+    for slot in 0..horizon {
+        let found = slot_part(view, volume, slot)?;
+        let Some(_part) = found else {
+            continue;
+        };
+        let Ok(()) = done.push(slot) else {
+            return Err(Refusal::NoMemory);
+        };
+    }
+    Ok(done)
+}
