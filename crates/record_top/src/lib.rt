@@ -56,3 +56,5 @@ mod words;
 
 pub use command::{Outcome, run};
 pub use laws::receipts_are_ready;
+pub use text::{SinkFailed, put_text};
+pub use words::number_up_to;

@@ -336,7 +336,7 @@ fn between_of(words: &[String]) -> Option<Command<'_>>
 }
 
 /// The number that the word stands for, where it is 1 to 10 digits and the number from 1 to the most.
-fn number_up_to(most: u32, word: &[u8]) -> Option<u32>
+pub fn number_up_to(most: u32, word: &[u8]) -> Option<u32>
     ensures some { IfSome result (IsNumberUpTo most word.now) }
     ensures none { IfNone result ((n : ℕ) → IsNumberUpTo most word.now n → ⊥) }
 {
