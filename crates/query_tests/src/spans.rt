@@ -74,7 +74,10 @@ fn both_ends_of_a_span_belong_to_it(rt: HostRuntime) -> Result<(), Fail> {
         ("between|1000|1000", "0 a 1000 0\n1 found\n"),
         ("between|0|999", "0 found\n"),
         ("ingest|b|4294967295", "acknowledged 1\n"),
-        ("between|4294967295|4294967295", "1 b 4294967295 0\n1 found\n"),
+        (
+            "between|4294967295|4294967295",
+            "1 b 4294967295 0\n1 found\n",
+        ),
         (
             "between|0|4294967295",
             "0 a 1000 0\n1 b 4294967295 0\n2 found\n",
@@ -175,7 +178,11 @@ fn a_call_of_the_device_or_of_the_sink_fails(rt: HostRuntime) -> Result<(), Fail
         device.fail_at(Moment::Call(call))?;
         let (outcome, put) = outcome_of(alloc, "between|0|1000", &mut device, b"")?;
         if outcome == Ok(()) {
-            assert_eq!(rt; put.as_slice(), b"0 a 1000 0\n1 found\n".as_slice(), "{call}");
+            assert_eq!(rt;
+                put.as_slice(),
+                b"0 a 1000 0\n1 found\n".as_slice(),
+                "{call}"
+            );
         } else {
             assert_eq!(rt; outcome, Err(Refusal::DeviceFault), "{call}");
             assert_eq!(rt; put.len(), 0, "{call}");

@@ -85,6 +85,44 @@ fn characters_are_folded(rt: HostRuntime) -> Result<(), Fail> {
     Ok(())
 }
 
+/// A character of two, three or four bytes that is broken at each of its places, between two letters. By bytes all of it
+/// is one word.
+#[test]
+fn bytes_that_begin_no_character_separate(rt: HostRuntime) -> Result<(), Fail> {
+    let bodies: [(&[u8], &[u8]); 15] = [
+        // a byte that only goes on
+        (b"x\x80y", b"x y"),
+        // two bytes: a letter, or a byte that none has, at the second place
+        (b"x\xc3y", b"x y"),
+        (b"x\xc3\xffy", b"x y"),
+        // three bytes: a letter at the second place, and at the third
+        (b"x\xe1y\xa0z", b"x y z"),
+        (b"x\xe1\x8ey", b"x y"),
+        // four bytes: a byte that none has at the first place, and a letter at the second, the third and the fourth
+        (b"x\xf8\x90\x90\x80y", b"x y"),
+        (b"x\xf0y\x90\x80z", b"x y z"),
+        (b"x\xf0\x90y\x80z", b"x y z"),
+        (b"x\xf0\x90\x90y", b"x y"),
+        // the same unbroken: a Deseret letter, in its case folding
+        (b"x\xf0\x90\x90\x80y", b"x\xf0\x90\x90\xa8y"),
+        // more bytes than the character needs: a slash in two, in three and in four
+        (b"x\xc0\xafy", b"x y"),
+        (b"x\xe0\x80\xafy", b"x y"),
+        (b"x\xf0\x80\x80\xafy", b"x y"),
+        // a number past the last character
+        (b"x\xf4\x90\x80\x80y", b"x y"),
+        // a whole character behind a broken one
+        (b"x\xe1\x8e\xc3\xa9y", b"x \xc3\xa9y"),
+    ];
+    for (body, by_characters) in bodies {
+        let all = spaced(rt.alloc(), body, WordRule::Folded)?;
+        assert_eq!(rt; all.as_slice(), by_characters);
+        let all = spaced(rt.alloc(), body, WordRule::Ascii)?;
+        assert_eq!(rt; all.as_slice(), body);
+    }
+    Ok(())
+}
+
 /// What a word of a query is worth: its one term's first byte, or the fault.
 fn first_of(alloc: Global, word: &[u8], rule: WordRule) -> Result<Option<u8>, WordFault> {
     let term = single_term(alloc, word, rule)?;
