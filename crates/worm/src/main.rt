@@ -9,6 +9,7 @@
 //!     worm volume.img audit
 //!     worm volume.img receipt invoice-4711 > invoice.receipt
 //!     worm volume.img check < invoice.receipt
+//!     worm volume.img copy archive.img 1000 64
 //!     worm - replay < script.json
 //!     worm - exercise 200
 //!
@@ -19,6 +20,8 @@
 //! cell in memory, which suffices for `replay` and `exercise`: these leave the device alone, and work on one of their own.
 //! No other IMAGE begins with a hyphen.
 //!
+//! A `copy` has the path of a second file behind it, the target, which is another one than IMAGE.
+//!
 //! One program at a time works on a file: the second waits, from its first look at the file on, until the first has
 //! ended. Where standard input, output or error is closed, the file does not take its place.
 //!
@@ -26,13 +29,14 @@
 //! words that are no command, 5 a file that cannot be opened, and every other is that of `run`'s refusal.
 #![tactic(auto)]
 
-use cell_types::Refusal;
+use cell_types::{CopyRefusal, Refusal};
+use copy_top::run_two;
 use file_top::run_over_file;
-use host_files::{FileDevice, Hold, Pages};
+use host_files::{FileDevice, Hold, OsFile, Pages};
 use host_ports::{StdSink, StdSource};
 use record_top::run;
 use std::alloc::Global;
-use std::os::unix::fs::FileExt;
+use std::os::unix::fs::{FileExt, MetadataExt};
 use std::process::ExitCode;
 use std::rt::{Env, Files};
 use std::{env, io};
@@ -43,12 +47,16 @@ use worm_memory::MemoryDevice;
 /// Why a command was not done.
 #[derive(Clone, Copy, Debug, Error)]
 enum Fault {
-    #[error("usage: worm IMAGE format SLOTS LISTS [VERSION], ingest ID [SECONDS], find WORD.., lookup ID, audit, recover, replay, exercise N, receipt ID, check, between FROM TO")]
+    #[error("usage: worm IMAGE format SLOTS LISTS [VERSION], ingest ID [SECONDS], find WORD.., lookup ID, audit, recover, replay, exercise N, receipt ID, check, between FROM TO, copy TARGET SLOTS LISTS")]
     Usage,
     #[error("image cannot be opened")]
     Image,
+    #[error("target is the image itself")]
+    SameFile,
     #[error(transparent)]
     Refused(Refusal),
+    #[error(transparent)]
+    NotCopied(CopyRefusal),
 }
 
 impl From<Refusal> for Fault {
@@ -60,13 +68,23 @@ impl From<Refusal> for Fault {
     }
 }
 
+impl From<CopyRefusal> for Fault {
+    fn from(refusal: CopyRefusal) -> Fault {
+        match refusal {
+            CopyRefusal::Usage => Fault::Usage,
+            refused => Fault::NotCopied(refused),
+        }
+    }
+}
+
 impl Fault {
     /// The status that the program ends with.
     fn status(&self) -> u8 {
         match self {
-            Fault::Usage => Refusal::Usage.status(),
+            Fault::Usage | Fault::SameFile => Refusal::Usage.status(),
             Fault::Image => Refusal::DeviceFault.status(),
             Fault::Refused(refusal) => refusal.status(),
+            Fault::NotCopied(refusal) => refusal.status(),
         }
     }
 }
@@ -86,24 +104,69 @@ fn main(rt: HostRuntime) -> ExitCode {
 fn carry_out(
     rt: &(impl Env + Files<File: FileExt + Hold> + Input + Print + AllocGlobal),
 ) -> Result<(), Fault> {
-    let words = words(rt)?;
-    let (image, command) = words.split_first().ok_or(Refusal::Usage)?;
+    let mut words = words(rt)?;
+    if words.is_empty() {
+        return Err(Fault::Usage);
+    }
+    let image = words.remove(0);
+    if words.first().is_some_and(|word| word.as_str() == "copy") {
+        return copy(rt, image.as_str(), words);
+    }
     let alloc = rt.alloc();
     let mut source = StdSource::new(rt.reader());
     let mut sink = StdSink::new(io::writer(rt));
     if image.as_str() == "-" {
         let mut device = MemoryDevice::new(alloc, 1).map_err(|_| Refusal::NoMemory)?;
-        run(alloc, command, &mut device, &mut source, &mut sink)?;
+        run(alloc, &words, &mut device, &mut source, &mut sink)?;
         return Ok(());
     }
-    // A word with a hyphen is meant as an option, and the program has none.
-    if image.as_str().starts_with('-') {
+    let mut device = open(rt, image.as_str())?;
+    run_over_file(alloc, &words, &mut device, &mut source, &mut sink)?;
+    Ok(())
+}
+
+/// Copies the volume in one file to another, the target, whose path stands behind the first word.
+fn copy(
+    rt: &(impl Files<File: FileExt + Hold> + Print + AllocGlobal),
+    image: &str,
+    mut words: Vec<String>,
+) -> Result<(), Fault> {
+    if words.len() < 2 {
         return Err(Fault::Usage);
     }
-    let pages = Pages::new(alloc).map_err(|_| Refusal::NoMemory)?;
-    let mut device = FileDevice::open(rt, image.as_str(), pages).map_err(|_| Fault::Image)?;
-    run_over_file(alloc, command, &mut device, &mut source, &mut sink)?;
+    let target = words.remove(1);
+    if image.starts_with('-') || target.as_str().starts_with('-') {
+        return Err(Fault::Usage);
+    }
+    // The second device would wait for the first to let go of the file.
+    if is_one_file(rt, image, target.as_str()) {
+        return Err(Fault::SameFile);
+    }
+    let mut from = open(rt, image)?;
+    let mut to = open(rt, target.as_str())?;
+    let mut sink = StdSink::new(io::writer(rt));
+    run_two(rt.alloc(), &words, &mut from, &mut to, &mut sink)?;
     Ok(())
+}
+
+/// Whether both paths lead to one file.
+fn is_one_file(rt: &impl Files, one: &str, other: &str) -> bool {
+    let (Ok(one), Ok(other)) = (rt.metadata(one), rt.metadata(other)) else {
+        return false;
+    };
+    one.dev() == other.dev() && one.ino() == other.ino()
+}
+
+/// Opens a file that exists as a device. A word with a hyphen in front is meant as an option, and the program has none.
+fn open<R: Files<File: FileExt + Hold> + AllocGlobal>(
+    rt: &R,
+    path: &str,
+) -> Result<FileDevice<OsFile<R::File>>, Fault> {
+    if path.starts_with('-') {
+        return Err(Fault::Usage);
+    }
+    let pages = Pages::new(rt.alloc()).map_err(|_| Refusal::NoMemory)?;
+    FileDevice::open(rt, path, pages).map_err(|_| Fault::Image)
 }
 
 /// The words behind the program's name. Words that are no UTF-8 are no command.
