@@ -1,10 +1,9 @@
-//! Copies of the small volume: 8 slots and 2 lists on 1,000 cells, with `a`, `hello world`, and `b`, which is empty.
+//! Copies of the small volume.
+use crate::volumes::{begin, blank, small_volume, store};
 use cell_types::{CopyRefusal, FIRST_VERSION, Refusal, STAMPED_VERSION};
-use document_store::is_identifier;
 use ingest_engine::{format_volume, ingest};
 use std::alloc::Global;
 use std::test::Fail;
-use stored_documents::MAX_BODY_BYTES;
 use volume_copy::{Moved, copy};
 use worm_device::Device;
 use worm_memory::{MemoryDevice, Moment};
@@ -20,47 +19,6 @@ const BEHIND_SLOT_0: [Moved; 2] = [Moved { old: 0, new: 1 }, Moved { old: 1, new
 
 /// The second behind slot 1, which was given up.
 const BEHIND_SLOT_1: [Moved; 2] = [Moved { old: 0, new: 0 }, Moved { old: 1, new: 2 }];
-
-/// A device with room for what is done here.
-fn blank(alloc: Global, cells: u32) -> Result<MemoryDevice, Fail> {
-    if cells == 0 || cells > 100_000 {
-        return Err("no such device".into());
-    }
-    let mut device = MemoryDevice::new(alloc, cells)?;
-    begin(&mut device)?;
-    Ok(device)
-}
-
-/// Begins a command with room for what it does.
-fn begin(device: &mut MemoryDevice) -> Result<(), Fail> {
-    device.reserve(2_000)?;
-    device.begin();
-    Ok(())
-}
-
-/// Stores a document.
-fn store(
-    alloc: Global,
-    device: &mut MemoryDevice,
-    id: &[u8],
-    stamp: Option<u32>,
-    body: &[u8],
-) -> Result<(), Fail> {
-    if body.len() > MAX_BODY_BYTES || !is_identifier(id) {
-        return Err("no such document".into());
-    }
-    let _slot = ingest(alloc, device, id, stamp, body)?;
-    Ok(())
-}
-
-/// The small volume.
-fn small_volume(alloc: Global) -> Result<MemoryDevice, Fail> {
-    let mut device = blank(alloc, 1_000)?;
-    format_volume(&mut device, 8, 2, FIRST_VERSION)?;
-    store(alloc, &mut device, b"a", None, b"hello world")?;
-    store(alloc, &mut device, b"b", None, b"")?;
-    Ok(device)
-}
 
 /// A volume in which slot 0 was given up, with `a`, `hello there`, in slot 1.
 fn given_up_volume(alloc: Global) -> Result<MemoryDevice, Fail> {

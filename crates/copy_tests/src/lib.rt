@@ -1,6 +1,10 @@
-//! Tests of copies: what is copied where, of targets that are volumes already, and of copies that were cut and are run
-//! again. What is expected was written by hand.
+//! Tests of copies: what is copied where, of targets that are volumes already, of copies that were cut and are run
+//! again, and of the command. What is expected was written by hand.
 #![tactic(auto)]
 
 #[cfg(test)]
+mod commands;
+#[cfg(test)]
 mod copies;
+#[cfg(test)]
+mod volumes;

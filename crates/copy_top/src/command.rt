@@ -1,0 +1,71 @@
+//! The call that a program makes.
+ghost use Rattle.std.specs.Prelude.{◌≡◌, ◌↔◌, ℕ, map};
+ghost use Rattle.std.specs.String.{string_bytes};
+ghost use Rattle.worm_device.specs.Calls.{Called};
+ghost use Rattle.copy_top.specs.Copying.{AsksNoCopy, AsksToCopy, DoesCopy};
+
+use crate::text::text_of;
+use crate::words::{Numbers, numbers_of};
+use cell_types::CopyRefusal;
+use host_ports::Sink;
+use record_top::put_text;
+use std::alloc::Global;
+use volume_copy::copy;
+use worm_device::Device;
+
+/// Copies a volume to another device, where the words are `copy` and the numbers of slots and lists that the target has or
+/// is to have, and puts out in which slot each document was and in which it is. Or it refuses.
+///
+/// # Errors
+///
+/// `Usage` where the words are no copy; those of `copy`; `NoMemory` and `SinkFault` once all is copied.
+pub fn run_two<D: Device, E: Device, K: Sink>(
+    alloc: Global,
+    words: &[String],
+    from: &mut D,
+    to: &mut E,
+    sink: &mut K,
+) -> Result<(), CopyRefusal>
+    // Whatever the words are, what is written on either device stays, and what is sure.
+    ensures from_called { Called (D.state from.old) (D.state from.new) }
+    ensures to_called { Called (E.state to.old) (E.state to.new) }
+
+    // Usage comes exactly where the words ask for no copy, and then nothing is done.
+    ensures usage { (result ≡ Err CopyRefusal.Usage) ↔ AsksNoCopy (map string_bytes words.now) }
+    ensures unused { result ≡ Err CopyRefusal.Usage → (D.state from.new ≡ D.state from.old)
+        × (E.state to.new ≡ E.state to.old) × (K.state sink.new ≡ K.state sink.old) }
+
+    // The copy that the words ask for is made, and told; or it ends for a cause that is named.
+    ensures does { (slots lists : ℕ) → AsksToCopy (map string_bytes words.now) slots lists
+        → DoesCopy slots lists (D.state from.old) (D.state from.new) (E.state to.old) (E.state to.new)
+        (K.state sink.old) (K.state sink.new) result }
+{
+    let Some(numbers) = numbers_of(words) else {
+        return Err(CopyRefusal::Usage);
+    };
+    copy_volume(alloc, numbers, from, to, sink)
+}
+
+/// Copies a volume to one of these numbers, and tells of it.
+fn copy_volume<D: Device, E: Device, K: Sink>(
+    alloc: Global,
+    numbers: Numbers,
+    from: &mut D,
+    to: &mut E,
+    sink: &mut K,
+) -> Result<(), CopyRefusal>
+    ensures { DoesCopy numbers.slots numbers.lists (D.state from.old) (D.state from.new) (E.state to.old)
+        (E.state to.new) (K.state sink.old) (K.state sink.new) result }
+{
+    let moves = match copy(alloc, from, to, numbers.slots, numbers.lists) {
+        Ok(moves) => moves,
+        Err(refusal) => return Err(refusal),
+    };
+    let Ok(text) = text_of(alloc, &moves) else {
+        return Err(CopyRefusal::NoMemory);
+    };
+    match put_text(sink, &text) {
+        Ok(()) => Ok(()),
+        Err(_) => Err(CopyRefusal::SinkFault),
+    }
+}
