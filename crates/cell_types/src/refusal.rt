@@ -55,8 +55,8 @@ impl From<AllocError> for NoMemory {
 /// Why a command gives no answer. Prints as the line that a program shows for it.
 #[derive(Clone, Copy, Debug, PartialEq, Eq, Error)]
 pub enum Refusal {
-    /// The words are no command.
-    #[error("usage: worm IMAGE format SLOTS LISTS [VERSION], ingest ID [SECONDS], find WORD.., lookup ID, audit, recover, replay, exercise N, receipt ID, check")]
+    /// The words are no command. Which words are, the program says, and not this line.
+    #[error("no such command")]
     Usage,
     /// A document with this identifier stands in this slot.
     #[error("identifier stands in slot {0}")]

@@ -251,11 +251,7 @@ fn each_refusal_has_its_line_and_status(rt: HostRuntime) -> Result<(), Fail> {
         found,
     };
     for (refusal, status, line) in [
-        (
-            Refusal::Usage,
-            1,
-            "usage: worm IMAGE format SLOTS LISTS [VERSION], ingest ID [SECONDS], find WORD.., lookup ID, audit, recover, replay, exercise N, receipt ID, check",
-        ),
+        (Refusal::Usage, 1, "no such command"),
         (Refusal::Duplicate(7), 2, "identifier stands in slot 7"),
         (Refusal::BadIdentifier, 2, "bad identifier"),
         (Refusal::TooLong, 2, "input is too long"),
@@ -341,11 +337,7 @@ fn each_refusal_of_a_copy_has_its_line_and_status(rt: HostRuntime) -> Result<(),
     };
     let other = cell_of(&rt, 0x01_01_00000010_0004_000007d0_00000000);
     for (refusal, status, line) in [
-        (
-            CopyRefusal::Usage,
-            1,
-            "usage: worm IMAGE format SLOTS LISTS [VERSION], ingest ID [SECONDS], find WORD.., lookup ID, audit, recover, replay, exercise N, receipt ID, check",
-        ),
+        (CopyRefusal::Usage, 1, "no such command"),
         (CopyRefusal::SinkFault, 7, "sink fault"),
         (CopyRefusal::NoMemory, 8, "out of memory"),
         (
