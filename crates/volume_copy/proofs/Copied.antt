@@ -87,6 +87,7 @@ module _ {slots lists : ℕ} {from from' to' : DeviceState} {done : List ℕ} (m
     from_volume = so.agree.from_volume;
     to_volume = subst (λ (i : Image). IsVolume to'.cells i h) (sym same_sure) so.agree.to_volume;
     numbers = numbers;
+    from_settled = whole.settled;
     settled = settled;
     sure = so.sure;
     source = so.agree.source;

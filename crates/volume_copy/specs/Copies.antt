@@ -42,14 +42,15 @@ pub record HasNumbers (slots lists : ℕ) (g h : Layout) : Type 0 where
 abbrev pub IsOfVersion : DeviceState → ℕ → Type 0
 IsOfVersion from version = IsTrue from.tells → (g : Layout) × IsVolume from.cells from.image g × (g.version ≡ version)
 
--- The target is settled, and all of it is sure; its documents say the same as those of the source, in order, and the pairs
--- name their slots.
+-- Both volumes are settled, and all of the target is sure; its documents say the same as those of the source, in order, and
+-- the pairs name their slots.
 pub record CopiesWhole (slots lists : ℕ) (from to : DeviceState) (moved : List Moved) : Type 0 where
   pub from_layout : Layout
   pub to_layout : Layout
   pub from_volume : IsVolume from.cells from.image from_layout
   pub to_volume : IsVolume to.cells to.sure to_layout
   pub numbers : HasNumbers slots lists from_layout to_layout
+  pub from_settled : Settled from.cells from.image
   pub settled : Settled to.cells to.sure
   pub sure : IsUnchanged to.image to.sure
   pub source : List Document
