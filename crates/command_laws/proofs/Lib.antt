@@ -2,6 +2,7 @@ pub mod Alarms
 pub mod Completing
 pub mod Formatting
 pub mod HeldAnswers
+pub mod LeavesThen
 pub mod LookedFirst
 pub mod Queries
 pub mod Results

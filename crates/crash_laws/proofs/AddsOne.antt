@@ -6,6 +6,7 @@ use Rattle.std.proofs.lemmas.Bool.{cases_lt}
 use Rattle.cell_types.specs.Image.{Between, Extends, Image}
 use Rattle.cell_types.specs.Layout.{Layout, done_at, outcome_at, reserve_at}
 use Rattle.stored_documents.specs.Documents.{AreDocuments, Stands}
+use Rattle.stored_documents.specs.Slots.{IsStampOf}
 use Rattle.stored_documents.specs.Volumes.{IsVolume}
 use Rattle.stored_documents.proofs.Extending.{volume_on}
 use Rattle.tamper_rules.specs.Rules as Rules
@@ -203,7 +204,7 @@ module _ (id : List ℕ) (stamp : Option ℕ) (body : List ℕ) (old new : Devic
     volume_new = subst (λ (k : ℕ). IsVolume k new.image g) (sym puts.called.cells)
         (volume_on puts.called.image (from.volume_2 r h tells))
 
-    added : HasOneMore id body r.horizon old new
+    added : HasOneMore id stamp body r.horizon old new
     added = record {
       was = sound id stamp body old looked new r p tells h device device_looked less plans puts still steady;
       settled = record {
@@ -218,9 +219,12 @@ module _ (id : List ℕ) (stamp : Option ℕ) (body : List ℕ) (old new : Devic
           (adds_one made.1 documents
           (documents_now id stamp body old looked new r p tells h device device_looked less plans puts still steady documents
           held)));
+      stamped = λ k volume. subst (λ (m : ℕ). IsStampOf k new.sure m stamp) slot_is
+          (subst (λ (x : Layout). IsStampOf x new.sure n stamp)
+          (one_layout is.layout k is.volume (volume_on device_new.sure volume)) is.stamped);
     }
 
-  pub comes_more : ComesTo id stamp body old new → HasOneMore id body n old new
+  pub comes_more : ComesTo id stamp body old new → HasOneMore id stamp body n old new
   comes_more (ingesting.nothing same) = absurd (not_before reserve_stands.0
       (subst (λ (s : DeviceState). s.image (reserve_at n) ≡ Some reserve_stands.0) same reserve_stands.1))
   comes_more (ingesting.settling refusal s) = absurd (not_before reserve_stands.0
@@ -228,6 +232,6 @@ module _ (id : List ℕ) (stamp : Option ℕ) (body : List ℕ) (old new : Devic
   comes_more (ingesting.settled r h) =
       absurd (not_then new r h still (extends_self new.image) reserve_stands.0 reserve_stands.1)
   comes_more (ingesting.put looked r p h device_looked less plans puts) = subst
-      (λ (m : ℕ). HasOneMore id body m old new)
+      (λ (m : ℕ). HasOneMore id stamp body m old new)
       (sym (slot_is looked r p h device_looked less plans puts))
       (added looked r p h device_looked less plans puts)

@@ -5,5 +5,6 @@ pub mod LeftByIngest
 pub mod PlanPhases
 pub mod PutPlans
 pub mod ReserveCells
+mod StampLeft
 pub mod Steady
 pub mod WellPlanned

@@ -3,9 +3,12 @@ use Rattle.std.proofs.Common.{◌≡◌, ◌<◌, ℕ, List, [], ◌∷◌, ◌+
 use Rattle.std.specs.Prelude.{IsTrue}
 use Rattle.cell_types.specs.Image.{Image, Extends}
 use Rattle.cell_types.specs.Layout.{Layout, outcome_at}
-use Rattle.stored_documents.specs.Slots.{IsStampFor}
+use Rattle.stored_documents.specs.Slots.{IsStampFor, IsStampOf}
+use Rattle.stored_documents.specs.Volumes.{IsVolume}
+use Rattle.stored_documents.proofs.Extending.{volume_on}
 use Rattle.stored_documents.specs.Documents.{AreDocuments, Document}
 use Rattle.tamper_rules.specs.Settling.{Held, Sound}
+use Rattle.tamper_rules.proofs.GivenUp.{one_layout}
 use Rattle.tamper_rules.proofs.Images.{look}
 use Rattle.ingest_laws.specs.Filling.{IsWellPlanned}
 use Rattle.ingest_laws.proofs.PlanAdds.{adds_one}
@@ -29,6 +32,7 @@ use Rattle.settling_laws.proofs.LookedAt.{crashes_looked}
 use Rattle.crash_laws.specs.Steadiness.{CrashesLeaveIngest, IsLeftByIngest}
 use Rattle.crash_laws.proofs.LeftByIngest.{of_whole}
 use Rattle.crash_laws.proofs.PlanPhases.{left_in}
+use Rattle.crash_laws.proofs.StampLeft.{stamp_left}
 use Rattle.crash_laws.proofs.WellPlanned.{ends_as, plan_of, was_sound, well_planned}
 
 module _ (id : List ℕ) (stamp : Option ℕ) (body : List ℕ) (old looked new : DeviceState) (r : Ready) (p : Plan) (tells : IsTrue old.tells)
@@ -83,7 +87,14 @@ module _ (id : List ℕ) (stamp : Option ℕ) (body : List ℕ) (old looked new 
     kept : Extends looked.image image
     kept = subst (λ (i : Image). Extends i image) sure l.sure
 
-    left : IsLeftByIngest id body old image
+    -- the layout is that of any volume there, and the stamp the one that was given
+    stamp_of_left : IsStampOf g image r.horizon p.stamp → (k : Layout) → IsVolume old.cells image k
+        → IsStampOf k image r.horizon stamp
+    stamp_of_left is k volume = subst (λ (x : Option ℕ). IsStampOf k image r.horizon x) plans.stamped
+        (subst (λ (x : Layout). IsStampOf x image r.horizon p.stamp)
+        (one_layout g k (volume_on kept (from.volume_2 r h tells)) volume) is)
+
+    left : IsLeftByIngest id stamp body old image
     left =
         let w = well_made.1 in
         let f = left_in g r.horizon p id body looked.image well_made.0 plans.document plans.suits w image l.phase
@@ -103,14 +114,15 @@ module _ (id : List ℕ) (stamp : Option ℕ) (body : List ℕ) (old looked new 
                     subst (λ (k : ℕ). Held k image (documents ++ document_in r.horizon id body ∷ [])) cells_are
                     (s.written (record { found = x.0; stands = x.1 }) _
                     (adds_one w documents (documents_now documents held)));
+                stamped = λ k volume. stamp_of_left (stamp_left w f.1 x.0 x.1) k volume;
               }))
               (look image (outcome_at r.horizon));
         }
 
-  pub crashes_put : CrashesLeaveIngest id body old new
+  pub crashes_put : CrashesLeaveIngest id stamp body old new
   crashes_put since image le of = ⊎_elim
       (λ (before : LeftSince looked since image). ⊎_elim inl
-      (λ (l : IsLeftWhole old image). inr (of_whole id body old new image l))
+      (λ (l : IsLeftWhole old image). inr (of_whole id stamp body old new image l))
       (crashes_looked old looked r tells h still_looked device device_looked steady since image le before))
       (λ (l : LeavesPhases (ingest_phases r.horizon p) INGEST_PHASES looked new image). inr (left image l))
       (puts.crashes tells_looked since image (omega (arith, le, (elapses_of called).later)) of)

@@ -16,14 +16,14 @@ abbrev pub IngestStaysSteady : Type 0
 IngestStaysSteady =
     (id : List ℕ) (stamp : Option ℕ) (body : List ℕ) (old new : DeviceState) (result : Result ℕ Refusal) → IsDevice old → IsDevice new
     → IsTrue old.tells → Ingests id stamp body old new result → IsStill old.foreign_writes new.foreign_writes → IsSteady old
-    → StaysSteadyBy id body old new
+    → StaysSteadyBy id stamp body old new
 
--- one that ends well adds its document, and no other
+-- one that ends well adds its document, with its stamp, and no other
 abbrev pub IngestAddsOne : Type 0
 IngestAddsOne =
     (id : List ℕ) (stamp : Option ℕ) (body : List ℕ) (old new : DeviceState) (n : ℕ) → IsDevice old → IsDevice new → IsTrue old.tells
     → Ingests id stamp body old new (Ok n) → IsStill old.foreign_writes new.foreign_writes → IsSteady old
-    → HasOneMore id body n old new
+    → HasOneMore id stamp body n old new
 
 -- one that is refused, with no fault of the device, adds none and loses none
 abbrev pub RefusedIngestKeeps : Type 0

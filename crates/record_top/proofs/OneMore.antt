@@ -100,7 +100,7 @@ module _ (id : List ℕ) (stamp : Option ℕ) (old new : Ports) (device : IsDevi
     stored_adds : (answer : Result ℕ Refusal) (result : Result Unit Refusal)
         → Ingests id stamp body old.device new.device answer
         → Tells acknowledgement answer old new result → HasStored result
-        → (n : ℕ) × HasOneMore id body n old.device new.device × Tells acknowledgement (Ok n) old new result
+        → (n : ℕ) × HasOneMore id stamp body n old.device new.device × Tells acknowledgement (Ok n) old new result
     stored_adds (Ok n) result ingests tells has = (
       n,
       comes_more id stamp body old.device new.device n device device_new begins.tells begins.alone begins.steady
@@ -145,7 +145,7 @@ module _ (id : List ℕ) (stamp : Option ℕ) (old new : Ports) (device : IsDevi
   ingest_adds result (misnamed bad is same) = record {
     body = [];
     gives = subst (λ (p : Ports). Gives old.source.left p.source.left []) (sym same) (gives_nothing old.source.left);
-    stays = nothing_done id [] old.device new.device (ap (λ (p : Ports). p.device) same) begins.steady;
+    stays = nothing_done id stamp [] old.device new.device (ap (λ (p : Ports). p.device) same) begins.steady;
     no_alarm = λ e named. other_refusal result refusals.BadIdentifier (refusals.Tampered e) (λ s. absurd cc) is named;
     adds = λ has. absurd (subst HasStored is has);
     keeps = λ has documents held. held_unmoved (ap (λ (p : Ports). p.device) same) documents held;
@@ -155,7 +155,7 @@ module _ (id : List ℕ) (stamp : Option ℕ) (old new : Ports) (device : IsDevi
   ingest_adds result (untaken given fault name gives fails is same keeps) = record {
     body = given;
     gives = gives;
-    stays = nothing_done id given old.device new.device same begins.steady;
+    stays = nothing_done id stamp given old.device new.device same begins.steady;
     no_alarm = λ e named. not_named fault result e is named;
     adds = λ has. absurd (not_taken given fault result is has);
     keeps = λ has documents held. held_unmoved same documents held;

@@ -112,17 +112,17 @@ pub record IsExactlyTooMany (id : List ℕ) (stamp : Option ℕ) (body : List �
   pub less : free < need
 
 -- A crash in an ingest leaves an image that is blank or sound, with the documents that were sure at entry, those that
--- stood there, or these and the new one behind them; the device is steady behind it, and no tampering is named. Where
--- the document is stored, the volume is settled, all of it sure, and has it behind the documents that it held, in the
--- slot that is acknowledged; any refusal but a fault of the device leaves the documents as they were; and where there
+-- stood there, or these and the new one behind them with its stamp; the device is steady behind it, and no tampering is named. Where
+-- the document is stored, the volume is settled, all of it sure, and has it behind the documents that it held, with its
+-- stamp, in the slot that is acknowledged; any refusal but a fault of the device leaves the documents as they were; and where there
 -- was no room, the need is exact. The body is what the source gave.
 pub record AddsOne (id : List ℕ) (stamp : Option ℕ) (old new : Ports) (result : Result Unit Refusal) : Type 0 where
   pub body : List ℕ
   pub gives : Gives old.source.left new.source.left body
-  pub stays : StaysSteadyBy id body old.device new.device
+  pub stays : StaysSteadyBy id stamp body old.device new.device
   pub no_alarm : (e : Evidence) → result ≡ Err (Tampered e) → ⊥
   pub adds : HasStored result
-      → (n : ℕ) × HasOneMore id body n old.device new.device × Tells acknowledgement (Ok n) old new result
+      → (n : ℕ) × HasOneMore id stamp body n old.device new.device × Tells acknowledgement (Ok n) old new result
   pub keeps : HasRefused result → (documents : List Document)
       → Held old.device.cells old.device.image documents → Held new.device.cells new.device.image documents
   pub needs : (need free : ℕ) → result ≡ Err (Full need free) → IsExactlyTooMany id stamp body need free old.device

@@ -90,23 +90,23 @@ none_added {turns} {old} {new} t gives device device_new same stands adds = reco
 }
 
 -- a crash in an ingest leaves what one of two holds, or one document more
-left_by : (id body : List ℕ) (old new : DeviceState) (image : Image) → IsDevice old → IsSteady old → StaysSteadyBy id body old new
-    → Between new.sure new.image image → HoldsOneOf old.cells old.sure old.image image ⊎ HoldsOneMore id body old image
-left_by id body old new image device steady stays between = ⊎_elim
+left_by : (id : List ℕ) (stamp : Option ℕ) (body : List ℕ) (old new : DeviceState) (image : Image) → IsDevice old → IsSteady old → StaysSteadyBy id stamp body old new
+    → Between new.sure new.image image → HoldsOneOf old.cells old.sure old.image image ⊎ HoldsOneMore id stamp body old image
+left_by id stamp body old new image device steady stays between = ⊎_elim
     (λ (before : LeftSince old old.moment image). ⊎_elim
     (λ (b : Between old.sure old.image image). inl (left_between old device steady image b).holds)
     (λ (m : (m : ℕ) × (old.moment ≤ m) × (m < old.moment) × Between (old.past m).sure (old.past m).image image).
     absurd (omega (arith, m.1, m.2)))
     before)
-    (λ (l : IsLeftByIngest id body old image). l.holds)
+    (λ (l : IsLeftByIngest id stamp body old image). l.holds)
     (stays.crashes old.moment image (omega arith) (inl between))
 
 module _ {turns : List Turn} {old new : DeviceState} (device : IsDevice old) (device_new : IsDevice new)
     (same : new.cells ≡ old.cells) (stands : IsSteadyFrom turns old) where
-  module _ (id body : List ℕ) (t : Turn) where
+  module _ (id : List ℕ) (stamp : Option ℕ) (body : List ℕ) (t : Turn) where
     -- an ingest that was acknowledged
     acknowledged : (n : ℕ) → MayGive t.event t.reply (document_in n id body ∷ []) → IsSteady new
-        → HasOneMore id body n old new → IsSteadyFrom (turns ++ t ∷ []) new
+        → HasOneMore id stamp body n old new → IsSteadyFrom (turns ++ t ∷ []) new
     acknowledged n gives steady more = record {
       steady = steady;
       image = one_more t (document_in n id body) gives same in_image stands.image;
@@ -133,7 +133,7 @@ module _ {turns : List Turn} {old new : DeviceState} (device : IsDevice old) (de
 
     -- one that was cut short
     cut_short : ((n : ℕ) → MayGive t.event t.reply (document_in n id body ∷ [])) → MayGive t.event t.reply []
-        → StaysSteadyBy id body old new → IsSteadyFrom (turns ++ t ∷ []) new
+        → StaysSteadyBy id stamp body old new → IsSteadyFrom (turns ++ t ∷ []) new
     cut_short gives gives_none stays = record {
       steady = stays.steady;
       image = in_either new.image (record { above = device_new.sure; below = extends_self new.image });
@@ -143,12 +143,12 @@ module _ {turns : List Turn} {old new : DeviceState} (device : IsDevice old) (de
         in_either : (image : Image) → Between new.sure new.image image → HoldsFrom (turns ++ t ∷ []) new.cells image
         in_either image between = ⊎_elim
             (λ (holds : HoldsOneOf old.cells old.sure old.image image). one_of t gives_none same stands holds)
-            (λ (more : HoldsOneMore id body old image).
+            (λ (more : HoldsOneMore id stamp body old image).
             one_more t (document_in more.slot id body) (gives more.slot) same more.holds stands.image)
-            (left_by id body old new image device stands.steady stays between)
+            (left_by id stamp body old new image device stands.steady stays between)
 
     -- one that was refused in another way
-    refused : MayGive t.event t.reply [] → StaysSteadyBy id body old new
+    refused : MayGive t.event t.reply [] → StaysSteadyBy id stamp body old new
         → ((documents : List Document) → Held old.cells old.image documents → Held new.cells new.image documents)
         → IsSteadyFrom (turns ++ t ∷ []) new
     refused gives_none stays keeps = record {
@@ -156,8 +156,8 @@ module _ {turns : List Turn} {old new : DeviceState} (device : IsDevice old) (de
       image = no_more t gives_none same kept stands.image;
       sure = ⊎_elim
           (λ (holds : HoldsOneOf old.cells old.sure old.image new.sure). one_of t gives_none same stands holds)
-          (λ (more : HoldsOneMore id body old new.sure). absurd (not_more more))
-          (left_by id body old new new.sure device stands.steady stays
+          (λ (more : HoldsOneMore id stamp body old new.sure). absurd (not_more more))
+          (left_by id stamp body old new new.sure device stands.steady stays
           (record { above = extends_self new.sure; below = device_new.sure }));
     }
       where
@@ -165,7 +165,7 @@ module _ {turns : List Turn} {old new : DeviceState} (device : IsDevice old) (de
         kept documents held = subst (λ (n : ℕ). Held n new.image documents) same (keeps documents held)
 
         -- what is sure stands, and so does the document: but it doesn't
-        not_more : HoldsOneMore id body old new.sure → ⊥
+        not_more : HoldsOneMore id stamp body old new.sure → ⊥
         not_more more =
             let d = document_in more.slot id body in
             let documents = stands.image.documents in
@@ -318,17 +318,17 @@ module _ (whole : CommandsAreWhole) {turns : List Turn} (old new : Memory) (devi
   step (event.Ingest id stamp body plan) (reply.Acknowledged n) t =
       let adds = (whole_turn (event.Ingest id stamp body plan) (reply.Acknowledged n) tt t).leaves in
       acknowledged (begun_device plan old device) device_new (same_cells (event.Ingest id stamp body plan) (reply.Acknowledged n) t)
-      (begun_stands plan old stands) id body (turn_of (event.Ingest id stamp body plan) (reply.Acknowledged n) old new) n
+      (begun_stands plan old stands) id stamp body (turn_of (event.Ingest id stamp body plan) (reply.Acknowledged n) old new) n
       (said.stored id stamp body plan n) adds.stays.steady (adds.adds n refl)
   step (event.Ingest id stamp body plan) (reply.Refused refusals.DeviceFault) t =
       let adds = (whole_turn (event.Ingest id stamp body plan) (reply.Refused refusals.DeviceFault) tt t).leaves in
       cut_short (begun_device plan old device) device_new (same_cells (event.Ingest id stamp body plan) (reply.Refused refusals.DeviceFault) t)
-      (begun_stands plan old stands) id body (turn_of (event.Ingest id stamp body plan) (reply.Refused refusals.DeviceFault) old new)
+      (begun_stands plan old stands) id stamp body (turn_of (event.Ingest id stamp body plan) (reply.Refused refusals.DeviceFault) old new)
       (λ n. said.cut_short id stamp body plan n) (said.none (event.Ingest id stamp body plan) (reply.Refused refusals.DeviceFault) tt) adds.stays
   step (event.Ingest id stamp body plan) (reply.Refused refusal) t =
       let adds = (whole_turn (event.Ingest id stamp body plan) (reply.Refused refusal) tt t).leaves in
       refused (begun_device plan old device) device_new (same_cells (event.Ingest id stamp body plan) (reply.Refused refusal) t)
-      (begun_stands plan old stands) id body (turn_of (event.Ingest id stamp body plan) (reply.Refused refusal) old new)
+      (begun_stands plan old stands) id stamp body (turn_of (event.Ingest id stamp body plan) (reply.Refused refusal) old new)
       (said.none (event.Ingest id stamp body plan) (reply.Refused refusal) tt) adds.stays (adds.keeps tt)
   step (event.Ingest id stamp body plan) r t = absurd t.answers
   step (event.Foreign at value) reply.ForeignDone t =

@@ -64,7 +64,7 @@ module _ (s t : DeviceState) (device : IsDevice s) (device_new : IsDevice t) (be
   done_first a answer ok (settling refusal is settles) = absurd (no_answer answer a refusal ok is)
   done_first a answer ok (settled r has) = done_by r has
 
-  module _ (id body : List ℕ) (n : ℕ) (more : HasOneMore id body n s t) (documents : List Document)
+  module _ (id : List ℕ) (stamp : Option ℕ) (body : List ℕ) (n : ℕ) (more : HasOneMore id stamp body n s t) (documents : List Document)
       (held : Held s.cells s.image documents) where
     -- the document was added, so not just the others are held
     pub not_held : Held t.cells t.image documents → ⊥
@@ -75,7 +75,7 @@ module _ (s t : DeviceState) (device : IsDevice s) (device_new : IsDevice t) (be
         longer documents (document_in n id body)
         (lists_one t.cells t.image documents (documents ++ document_in n id body ∷ []) now added)
 
-    ingest_read : {stamp : Option ℕ} → ComesTo id stamp body s t → Rose s.reads t.reads
+    ingest_read : ComesTo id stamp body s t → Rose s.reads t.reads
     ingest_read (ingesting.nothing same) = absurd (not_held (held_unmoved same documents held))
     ingest_read (ingesting.settling refusal settles) = absurd (not_held
         (subst (λ (k : ℕ). Held k t.image documents) (sym settles.called.cells)
@@ -114,7 +114,7 @@ module _ (plan : Schedule) (old new : Memory) (device : IsDevice (device_of (beg
   ingest_so id stamp body (reply.Acknowledged n) turned whole documents held done =
       let more = whole.leaves.adds n refl in
       record {
-        read = ingest_read s t device device_new begins id body n more documents held turned.answers.comes;
+        read = ingest_read s t device device_new begins id stamp body n more documents held turned.answers.comes;
         settled = more.settled;
       }
   ingest_so id stamp body (reply.Refused refusal) turned whole documents held done = absurd done

@@ -74,7 +74,7 @@ module _ (plan : Schedule) (old new : Memory) (device : IsDevice (device_of (beg
   ingest_whole id stamp body (reply.Acknowledged n) turned = record {
     leaves = record {
       stays = comes_steady id stamp body s t device device_new refl alone steady turned.answers.comes;
-      adds = λ m same. subst (λ (k : ℕ). HasOneMore id body k s t)
+      adds = λ m same. subst (λ (k : ℕ). HasOneMore id stamp body k s t)
           (let one : reply.Acknowledged n ≡ reply.Acknowledged m = same in cc)
           (comes_more id stamp body s t n device device_new refl alone steady (turned.answers.ends refl) turned.answers.comes);
       keeps = λ refused. absurd refused;

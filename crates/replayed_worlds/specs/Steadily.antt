@@ -1,6 +1,6 @@
 -- An event from a steady device on, where nobody else writes: which documents stand behind it, and that a query tells of
 -- just those.
-use Rattle.std.specs.Prelude.{◌≡◌, ℕ, List, true, ⊤}
+use Rattle.std.specs.Prelude.{◌≡◌, ℕ, List, Option, true, ⊤}
 use Rattle.cell_types.specs.declared.refusal.Evidence.{Evidence}
 use Rattle.cell_types.specs.declared.refusal.Refusal.TheVariants as refusals
 use Rattle.stored_documents.specs.Documents.{AreDocuments, Document}
@@ -25,17 +25,18 @@ IsTurnedDown (reply.Refused refusals.DeviceFault) = ⊥
 IsTurnedDown (reply.Refused refusal) = ⊤
 IsTurnedDown r = ⊥
 
--- An ingest: where it is acknowledged its document stands behind the others, sure; where it is refused with no fault of
+-- An ingest: where it is acknowledged its document stands behind the others, with its stamp, sure; where it is refused with no fault of
 -- the device, just those that stood.
-pub record LeavesIngest (id body : List ℕ) (r : Reply) (old new : DeviceState) : Type 0 where
-  pub stays : StaysSteadyBy id body old new
-  pub adds : (n : ℕ) → r ≡ reply.Acknowledged n → HasOneMore id body n old new
-  pub keeps : IsTurnedDown r → (documents : List Document) → Held old.cells old.image documents
-      → Held new.cells new.image documents
+pub record LeavesIngest (id : List ℕ) (stamp : Option ℕ) (body : List ℕ) (r : Reply) (old new : DeviceState) : Type 0
+  where
+    pub stays : StaysSteadyBy id stamp body old new
+    pub adds : (n : ℕ) → r ≡ reply.Acknowledged n → HasOneMore id stamp body n old new
+    pub keeps : IsTurnedDown r → (documents : List Document) → Held old.cells old.image documents
+        → Held new.cells new.image documents
 
 -- what a command leaves
 abbrev pub Leaves : Event → Reply → DeviceState → DeviceState → Type 0
-Leaves (event.Ingest id stamp body plan) r old new = LeavesIngest id body r old new
+Leaves (event.Ingest id stamp body plan) r old new = LeavesIngest id stamp body r old new
 Leaves e r old new = LeavesHeld old new
 
 -- a command, and no foreign write or crash

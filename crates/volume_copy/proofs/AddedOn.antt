@@ -1,8 +1,8 @@
 -- One document more was copied, and then those that have no pair.
-use Rattle.std.proofs.Common.{◌≡◌, ◌<◌, ◌+◌, ◌∙◌, ℕ, List, [], ◌∷◌, ◌++◌, Some, Result, Ok, Err, inr, refl, sym, ap, subst, arith, length}
+use Rattle.std.proofs.Common.{◌≡◌, ◌<◌, ◌+◌, ◌∙◌, ℕ, List, [], ◌∷◌, ◌++◌, Some, None, Result, Ok, Err, inl, inr, ⊎_elim, refl, sym, ap, subst, arith, length, append-nil}
 use Rattle.std.specs.Prelude.{IsTrue, slice_get, slice_index}
 use Rattle.std.proofs.lemmas.List.{length_push, take_all}
-use Rattle.cell_types.specs.Image.{Extends, Image}
+use Rattle.cell_types.specs.Image.{Between, Extends, Image}
 use Rattle.cell_types.specs.Layout.{Layout}
 use Rattle.cell_types.specs.declared.refusal.CopyRefusal.{CopyRefusal}
 use Rattle.cell_types.specs.declared.refusal.CopyRefusal.TheVariants as copies
@@ -13,25 +13,29 @@ use Rattle.stored_documents.specs.Slots.{IsStampOf}
 use Rattle.stored_documents.specs.Volumes.{IsVolume}
 use Rattle.stored_documents.proofs.Extending.{done_slot_on, volume_on}
 use Rattle.stored_documents.proofs.OneDocument.{one_document}
-use Rattle.tamper_rules.specs.Settling.{Settled, Sound, nothing, of_after}
+use Rattle.stored_documents.proofs.Stamps.{stamp_on}
+use Rattle.tamper_rules.specs.Settling.{Held, IsBlankOrSound, Settled, Sound, nothing, of_after}
+use Rattle.tamper_rules.proofs.Between.{volume_of}
 use Rattle.tamper_rules.proofs.GivenUp.{one_layout}
 use Rattle.tamper_rules.proofs.Images.{same_image}
 use Rattle.worm_device.specs.Calls.{Called}
 use Rattle.worm_device.specs.Counts.{IsStill}
 use Rattle.worm_device.specs.State.{DeviceState, IsDevice}
 use Rattle.worm_device.proofs.Counting.{still_first, still_second}
-use Rattle.worm_device.proofs.Elapsing.{called_self, called_then}
+use Rattle.worm_device.proofs.Elapsing.{called_self, called_then, elapses_of}
 use Rattle.worm_device.proofs.Images.{extends_self, unchanged_then}
 use Rattle.document_store.specs.Standing.{HoldsDocument}
 use Rattle.document_store.proofs.Holding.{held_stands}
-use Rattle.ingest_engine.specs.Ingesting.{Ingests, IsIngested, document_in}
-use Rattle.settling_laws.specs.Steadiness.{IsSteady}
+use Rattle.ingest_engine.specs.Ingesting.{Ingests, document_in}
+use Rattle.settling_laws.specs.Steadiness.{HoldsOneOf, IsSteady}
 use Rattle.settling_laws.proofs.LeftWhole.{sure_steady}
-use Rattle.crash_laws.specs.Steadiness.{HasOneMore}
+use Rattle.crash_laws.specs.Steadiness.{HasOneMore, HoldsOneMore, IsLeftByIngest}
 use Rattle.crash_laws.proofs.AddsOne.{comes_more}
-use Rattle.volume_copy.specs.Adding.{AddEnds, AddFails, AddsNext, CanBeRead, CopiedSoFar, GoesOn, IngestsOf, RestFails}
+use Rattle.crash_laws.proofs.Steady.{comes_steady}
+use Rattle.volume_copy.specs.Adding.{AddEnds, AddFails, AddsNext, CanBeRead, CopiedSoFar, GoesOn, IngestsOf, RestFails, WhereCopied}
 use Rattle.volume_copy.specs.Auditing.{IsWhole}
 use Rattle.volume_copy.specs.Copies.{AreAlone}
+use Rattle.volume_copy.specs.First.{HoldsFirst, StaysFirst, none}
 use Rattle.volume_copy.specs.Pairs.{AgreeSoFar, ArePairs, SaysSame}
 use Rattle.volume_copy.specs.Reading.{HoldsCopy, IsOnlyRead, ReadingFails}
 use Rattle.volume_copy.specs.Refusing.{refusal_from, refusal_to}
@@ -39,6 +43,7 @@ use Rattle.volume_copy.specs.Staying.{IsSoundThroughout}
 use Rattle.volume_copy.specs.declared.audited.AuditedVolume.{AuditedVolume}
 use Rattle.volume_copy.specs.declared.moved.Moved.{Moved}
 use Rattle.volume_copy.specs.declared.stored.StoredCopy.{StoredCopy}
+use Rattle.volume_copy.proofs.First.{first_below, first_then}
 use Rattle.volume_copy.proofs.PairLists.{by_place, pairs_on, pairs_push, place_in}
 use Rattle.volume_copy.proofs.Stayed.{sound_self, sound_then}
 use Rattle.volume_copy.proofs.WholeVolumes.{reading_later}
@@ -109,11 +114,12 @@ pub target_fails : (g : Layout) (n : ℕ) (from from' to to' : DeviceState) (ref
 target_fails g n from from' to to' refusals.NoMemory ingests = tt
 target_fails g n from from' to to' refusal ingests = ingests
 
--- one document more
+-- an ingest of the next document of the source, whatever it answers
 module _ (source : AuditedVolume) {s t u v : DeviceState} (device_u : IsDevice u) (device : IsDevice v) (alone : AreAlone s t u v)
     (read : IsOnlyRead s t) (called : Called u v) (can : CanBeRead s source) (whole : IsWhole s source.done.items) (moved : List Moved)
-    (so : CopiedSoFar s u moved) (less : length moved < length source.done.items) (pair : Moved)
-    (ends : AddEnds source (length moved) s t u v (Ok pair)) where
+    (so : CopiedSoFar s u moved) (less : length moved < length source.done.items) (n : ℕ)
+    (at_place : n ≡ slice_index source.done.items (length moved)) {result : Result ℕ Refusal}
+    (ing : IngestsOf source.volume.geometry n t u v result) where
   abbrev g : Layout
   g = so.agree.from_layout
 
@@ -137,17 +143,14 @@ module _ (source : AuditedVolume) {s t u v : DeviceState} (device_u : IsDevice u
   abbrev d : Document
   d = at.0
 
-  old_is : pair.old ≡ d.slot
-  old_is = ends.0 ∙ sym at.2
-
-  abbrev ing : IngestsOf source.volume.geometry pair.old t u v (Ok pair.new)
-  ing = ends.1
+  old_is : n ≡ d.slot
+  old_is = at_place ∙ sym at.2
 
   stands : Stands s.cells s.image d.slot ing.id ing.body
   stands = held_stands g s.cells s.image d.slot ing.id ing.body so.agree.from_volume
-      (subst (λ (n : ℕ). HoldsDocument g s.image n ing.id ing.body) old_is
-      (subst (λ (k : Layout). HoldsDocument k s.image pair.old ing.id ing.body) one
-      (subst (λ (i : Image). HoldsDocument source.volume.geometry i pair.old ing.id ing.body) same
+      (subst (λ (k : ℕ). HoldsDocument g s.image k ing.id ing.body) old_is
+      (subst (λ (k : Layout). HoldsDocument k s.image n ing.id ing.body) one
+      (subst (λ (i : Image). HoldsDocument source.volume.geometry i n ing.id ing.body) same
       (ing.holds tells_t))))
 
   is_that : (ing.id ≡ d.id) × (ing.body ≡ d.body)
@@ -160,12 +163,103 @@ module _ (source : AuditedVolume) {s t u v : DeviceState} (device_u : IsDevice u
   steady : IsSteady u
   steady = sure_steady u so.sure (inr sound)
 
-  ingested : IsIngested ing.id ing.stamp ing.body pair.new u v
-  ingested = ing.ingests.ends alone.to_tells
+  volume_v : IsVolume v.cells v.image h
+  volume_v = subst (λ (k : ℕ). IsVolume k v.image h) (sym called.cells) (volume_on called.image so.agree.to_volume)
 
-  more : HasOneMore ing.id ing.body pair.new u v
-  more = comes_more ing.id ing.stamp ing.body u v pair.new device_u device alone.to_tells alone.to_alone steady ingested
-      ing.ingests.comes
+  from_volume_t : IsVolume t.cells t.image g
+  from_volume_t = subst (λ (k : ℕ). IsVolume k t.image g) (sym read.called.cells)
+      (volume_on read.called.image so.agree.from_volume)
+
+  those_t : AreDocuments t.cells t.image so.agree.source
+  those_t = subst (λ (k : ℕ). AreDocuments k t.image so.agree.source) (sym read.called.cells)
+      (subst (λ (i : Image). AreDocuments s.cells i so.agree.source) (sym same) so.agree.those)
+
+  old_pairs : ArePairs g h t.image v.image so.agree.target moved so.agree.source
+  old_pairs = pairs_on g h read.called.image called.image so.agree.target moved so.agree.source
+      (subst (λ (l : List Document). ArePairs g h s.image u.image l moved so.agree.source)
+      (take_all (length moved) so.agree.target (omega (arith, so.all))) so.agree.pairs)
+
+  -- with the document in this slot, which has the stamp, there is a pair more
+  pairs_with : (m : ℕ) → IsStampOf h v.image m ing.stamp
+      → ArePairs g h t.image v.image (so.agree.target ++ document_in m ing.id ing.body ∷ [])
+      (moved ++ record { old = n; new = m } ∷ []) so.agree.source
+  pairs_with m stamped = pairs_push g h t.image v.image so.agree.target moved so.agree.source d
+      (document_in m ing.id ing.body) (record { old = n; new = m }) old_pairs at.1
+      (record {
+        id = is_that.0;
+        body = is_that.1;
+        stamp = ing.stamp;
+        there = subst (λ (k : ℕ). IsStampOf g t.image k ing.stamp) old_is
+            (subst (λ (k : Layout). IsStampOf k t.image n ing.stamp) one (ing.stamped tells_t));
+        here = stamped;
+      })
+      old_is refl
+
+  -- a crash leaves the documents that there were, or this one as well
+  pub first_of_ingest : StaysFirst t.cells t.image u v
+  first_of_ingest since image le left = ⊎_elim inl
+      (λ (b : Between u.sure v.image image). ⊎_elim inl
+      (λ (l : IsLeftByIngest ing.id ing.stamp ing.body u image). inr (⊎_elim (as_before b) (with_one b l.sound) l.holds))
+      ((comes_steady ing.id ing.stamp ing.body u v device_u device alone.to_tells alone.to_alone steady ing.ingests.comes).crashes since
+      image le left))
+      ((elapses_of called).adds since image le left)
+    where
+      held : Held u.cells u.image so.agree.target
+      held = of_after u.image (nothing so.settled (λ cell. refl)) so.agree.these
+
+      here : IsVolume u.cells v.image h
+      here = volume_on called.image so.agree.to_volume
+
+      below : {target : List Document} {pairs : List Moved} → Extends image v.image
+          → ArePairs g h t.image v.image target pairs so.agree.source → Held u.cells image target
+          → HoldsFirst t.cells t.image u.cells image
+      below {target} {pairs} extends are is = first_below g h so.agree.source target [] pairs from_volume_t here those_t
+          (subst (λ (l : List Document). ArePairs g h t.image v.image l pairs so.agree.source)
+          (sym (append-nil target)) are)
+          extends is
+
+      as_before : Between u.sure v.image image → HoldsOneOf u.cells u.sure u.image image
+          → HoldsFirst t.cells t.image u.cells image
+      as_before b holds = below b.below old_pairs (⊎_elim
+          (λ (low : (l : List Document) → Held u.cells u.sure l → Held u.cells image l). low so.agree.target
+          (subst (λ (i : Image). Held u.cells i so.agree.target) (sym (same_image so.sure)) held))
+          (λ (high : (l : List Document) → Held u.cells u.image l → Held u.cells image l). high so.agree.target held)
+          holds)
+
+      with_one : Between u.sure v.image image → IsBlankOrSound u.cells image
+          → HoldsOneMore ing.id ing.stamp ing.body u image → HoldsFirst t.cells t.image u.cells image
+      with_one b whole_image more = ⊎_elim (λ (blank : (cell : ℕ) → image cell ≡ None). none blank)
+          (λ (is : Sound u.cells image).
+          let k = volume_of is.is in
+          let layout : k.0 ≡ h = one_layout {cells = u.cells} {more = u.cells} k.0 h (volume_on b.below k.1) here in
+          below b.below
+          (pairs_with more.slot (stamp_on h more.slot ing.stamp b.below
+          (subst (λ (x : Layout). IsStampOf x image more.slot ing.stamp) layout (more.stamped k.0 k.1))))
+          (more.holds so.agree.target held))
+          whole_image
+
+-- what a crash leaves of copying the document of a place, behind those of the places before it
+pub ingest_first : (source : AuditedVolume) {s t u v : DeviceState} → IsDevice u → IsDevice v → IsOnlyRead s t → Called u v
+    → CanBeRead s source → (place : ℕ) → place < length source.done.items → (n : ℕ)
+    → n ≡ slice_index source.done.items place → {result : Result ℕ Refusal}
+    → IngestsOf source.volume.geometry n t u v result → (moved : List Moved) → length moved ≡ place
+    → WhereCopied source s t u v moved (StaysFirst t.cells t.image u v)
+ingest_first source device_u device read called can place less n at ing moved count alone whole so =
+    first_of_ingest source device_u device alone read called can whole moved so (omega (arith, count, less)) n
+    (at ∙ ap (λ (k : ℕ). slice_index source.done.items k) (sym count)) ing
+
+-- one document more
+module _ (source : AuditedVolume) {s t u v : DeviceState} (device_u : IsDevice u) (device : IsDevice v) (alone : AreAlone s t u v)
+    (read : IsOnlyRead s t) (called : Called u v) (can : CanBeRead s source) (whole : IsWhole s source.done.items) (moved : List Moved)
+    (so : CopiedSoFar s u moved) (less : length moved < length source.done.items) (pair : Moved)
+    (ends : AddEnds source (length moved) s t u v (Ok pair)) where
+  abbrev ing : IngestsOf source.volume.geometry pair.old t u v (Ok pair.new)
+  ing = ends.1
+
+  more : HasOneMore ing.id ing.stamp ing.body pair.new u v
+  more = comes_more ing.id ing.stamp ing.body u v pair.new device_u device alone.to_tells alone.to_alone
+      (steady source device_u device alone read called can whole moved so less pair.old ends.0 ing)
+      (ing.ingests.ends alone.to_tells) ing.ingests.comes
 
   sure_same : v.sure ≡ v.image
   sure_same = same_image more.sure
@@ -173,50 +267,30 @@ module _ (source : AuditedVolume) {s t u v : DeviceState} (device_u : IsDevice u
   abbrev e : Document
   e = document_in pair.new ing.id ing.body
 
-  volume_v : IsVolume v.cells v.image h
-  volume_v = subst (λ (k : ℕ). IsVolume k v.image h) (sym called.cells) (volume_on called.image so.agree.to_volume)
-
-  one_there : ingested.layout ≡ h
-  one_there = one_layout {cells = v.cells} {more = v.cells} ingested.layout h ingested.volume volume_v
-
-  says : SaysSame g h t.image v.image d e
-  says = record {
-    id = is_that.0;
-    body = is_that.1;
-    stamp = ing.stamp;
-    there = subst (λ (n : ℕ). IsStampOf g t.image n ing.stamp) old_is
-        (subst (λ (k : Layout). IsStampOf k t.image pair.old ing.stamp) one (ing.stamped tells_t));
-    here = subst (λ (k : Layout). IsStampOf k v.image pair.new ing.stamp) one_there
-        (subst (λ (i : Image). IsStampOf ingested.layout i pair.new ing.stamp) sure_same ingested.stamped);
-  }
-
-  old_pairs : ArePairs g h s.image u.image so.agree.target moved so.agree.source
-  old_pairs = subst (λ (l : List Document). ArePairs g h s.image u.image l moved so.agree.source)
-      (take_all (length moved) so.agree.target (omega (arith, so.all))) so.agree.pairs
-
-  pairs : ArePairs g h t.image v.image (so.agree.target ++ e ∷ []) (moved ++ pair ∷ []) so.agree.source
-  pairs = pairs_push g h t.image v.image so.agree.target moved so.agree.source d e pair
-      (pairs_on g h read.called.image called.image so.agree.target moved so.agree.source old_pairs)
-      at.1 says old_is refl
-
   long : length (so.agree.target ++ e ∷ []) ≡ length (moved ++ pair ∷ [])
-  long = length_push so.agree.target e ∙ ap (λ (n : ℕ). n + 1) so.all ∙ sym (length_push moved pair)
+  long = length_push so.agree.target e ∙ ap (λ (k : ℕ). k + 1) so.all ∙ sym (length_push moved pair)
+
+  pairs : ArePairs so.agree.from_layout so.agree.to_layout t.image v.image (so.agree.target ++ e ∷ [])
+      (moved ++ pair ∷ []) so.agree.source
+  pairs = pairs_with source device_u device alone read called can whole moved so less pair.old ends.0 ing pair.new
+      (subst (λ (i : Image). IsStampOf so.agree.to_layout i pair.new ing.stamp) sure_same
+      (more.stamped so.agree.to_layout (subst (λ (i : Image). IsVolume v.cells i so.agree.to_layout) (sym sure_same)
+      (volume_v source device_u device alone read called can whole moved so less pair.old ends.0 ing))))
 
   abbrev agree : AgreeSoFar t v (moved ++ pair ∷ [])
   agree = record {
-    from_layout = g;
-    to_layout = h;
-    from_volume = subst (λ (k : ℕ). IsVolume k t.image g) (sym read.called.cells)
-        (volume_on read.called.image so.agree.from_volume);
-    to_volume = volume_v;
+    from_layout = so.agree.from_layout;
+    to_layout = so.agree.to_layout;
+    from_volume = from_volume_t source device_u device alone read called can whole moved so less pair.old ends.0 ing;
+    to_volume = volume_v source device_u device alone read called can whole moved so less pair.old ends.0 ing;
     source = so.agree.source;
     target = so.agree.target ++ e ∷ [];
-    those = subst (λ (k : ℕ). AreDocuments k t.image so.agree.source) (sym read.called.cells)
-        (subst (λ (i : Image). AreDocuments s.cells i so.agree.source) (sym same) so.agree.those);
+    those = those_t source device_u device alone read called can whole moved so less pair.old ends.0 ing;
     these = subst (λ (i : Image). AreDocuments v.cells i (so.agree.target ++ e ∷ [])) sure_same
         (more.documents so.agree.target (of_after u.image (nothing so.settled (λ cell. refl)) so.agree.these));
     some = omega (arith, long);
-    pairs = subst (λ (l : List Document). ArePairs g h t.image v.image l (moved ++ pair ∷ []) so.agree.source)
+    pairs = subst
+        (λ (l : List Document). ArePairs so.agree.from_layout so.agree.to_layout t.image v.image l (moved ++ pair ∷ []) so.agree.source)
         (sym (take_all (length (moved ++ pair ∷ [])) (so.agree.target ++ e ∷ []) (omega (arith, long)))) pairs;
   }
 
@@ -229,6 +303,7 @@ pub record RestSoFar (source : AuditedVolume) (from now to there : DeviceState) 
   pub from_read : IsOnlyRead from now
   pub to_called : Called to there
   pub to_sound : IsSoundThroughout to there
+  pub to_first : WhereCopied source from now to there moved (StaysFirst now.cells now.image to there)
   pub count : length moved_now ≡ place
   pub goes : GoesOn source from now to there moved moved_now
 
@@ -238,6 +313,7 @@ rest_none source from to moved place count = record {
   from_read = read_none from;
   to_called = called_self to;
   to_sound = sound_self to;
+  to_first = λ alone whole so since image le left. inl left;
   count = count;
   goes = λ alone whole so. so;
 }
@@ -264,6 +340,19 @@ alone_second p q r s alone = record {
 
 module _ {source : AuditedVolume} {from now new to there then : DeviceState} {moved moved_now : List Moved} {place : ℕ}
     (can : CanBeRead from source) (so_far : RestSoFar source from now to there moved moved_now place) where
+  -- what a crash has left so far, and what it leaves of the next document
+  pub rest_first : IsDevice now → (result : Result Moved CopyRefusal) → AddsNext source place now new there then result
+      → WhereCopied source from new to then moved (StaysFirst new.cells new.image to then)
+  rest_first device_now result adds alone whole so =
+      let before = alone_first so_far.from_read.called adds.from_read.called so_far.to_called adds.to_called alone in
+      let behind = alone_second so_far.from_read.called adds.from_read.called so_far.to_called adds.to_called alone in
+      first_then so_far.to_called
+      (subst (λ (k : ℕ). StaysFirst k new.image to there) (sym adds.from_read.called.cells)
+      (subst (λ (i : Image). StaysFirst now.cells i to there) (sym (same_image (adds.from_read.only behind.from_alone)))
+      (so_far.to_first before whole so)))
+      (adds.to_first moved_now so_far.count behind (whole_on device_now so_far.from_read before.from_alone whole)
+      (so_far.goes before whole so))
+
   pub rest_more : IsDevice now → IsDevice there → IsDevice then → place < length source.done.items → (pair : Moved)
       → AddsNext source place now new there then (Ok pair)
       → RestSoFar source from new to then moved (moved_now ++ pair ∷ []) (place + 1)
@@ -271,6 +360,7 @@ module _ {source : AuditedVolume} {from now new to there then : DeviceState} {mo
     from_read = read_then so_far.from_read adds.from_read;
     to_called = called_then so_far.to_called adds.to_called;
     to_sound = sound_then so_far.to_called adds.to_called so_far.to_sound adds.to_sound;
+    to_first = rest_first device_now (Ok pair) adds;
     count = length_push moved_now pair ∙ ap (λ (n : ℕ). n + 1) so_far.count;
     goes = λ alone whole so.
         let before = alone_first so_far.from_read.called adds.from_read.called so_far.to_called adds.to_called alone in

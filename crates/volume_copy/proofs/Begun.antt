@@ -33,11 +33,11 @@ use Rattle.volume_copy.specs.Comparing.{CompareEnds, ComparesAll}
 use Rattle.volume_copy.specs.Copies.{AreAlone, IsOfVersion, IsOtherVolume, RefusesTo, by_volume}
 use Rattle.volume_copy.specs.Reading.{IsOnlyRead}
 use Rattle.volume_copy.specs.Refusing.{refusal_to}
-use Rattle.volume_copy.specs.Staying.{IsHeldThroughout, IsSoundThroughout}
+use Rattle.volume_copy.specs.Staying.{IsHeldThroughout}
 use Rattle.volume_copy.specs.declared.audited.AuditedVolume.{AuditedVolume}
 use Rattle.volume_copy.specs.declared.moved.Moved.{Moved}
 use Rattle.volume_copy.proofs.AddedOn.{alone_second, read_none}
-use Rattle.volume_copy.proofs.Stayed.{format_sound, read_sound, sound_of, sound_then}
+use Rattle.volume_copy.proofs.Stayed.{format_held, held_then, read_held}
 use Rattle.volume_copy.proofs.WholeVolumes.{reading_later}
 
 -- a read, as what only looks
@@ -144,15 +144,15 @@ layout_for slots lists version s = record { slots = slots; lists = lists; cells 
 -- cell 0 was blank, and the target was formatted
 pub begins_formatted : (slots lists version : ℕ) {source : AuditedVolume} {from to mid new : DeviceState} (moved : Vec Moved)
     → moved.items ≡ [] → CanBeRead from source → version ≡ source.volume.geometry.version → IsDevice mid → IsDevice new
-    → Called to mid → IsSoundThroughout to mid
+    → IsDevice to → Called to mid → IsHeldThroughout to mid
     → Formats (record { slots = slots; lists = lists; cells = mid.cells; version = version }) mid new (Ok tt)
     → Begins slots lists source from from to new (Ok moved)
-begins_formatted slots lists version {source} {from} {to} {mid} {new} moved none can version_is device device_new called sound formats =
+begins_formatted slots lists version {source} {from} {to} {mid} {new} moved none can version_is device device_new device_to called held formats =
     record {
       from_read = read_none from;
       to_called = called_then called formats.called;
-      to_sound = sound_then called formats.called sound
-          (format_sound (layout_for slots lists version mid) (Ok tt) refl device formats);
+      to_held = held_then device_to device called formats.called held
+          (format_held (layout_for slots lists version mid) (Ok tt) refl device formats);
       ends = λ alone whole.
           let tells = subst IsTrue (sym called.tells) alone.to_tells in
           let still = still_second called.foreign_writes formats.called.foreign_writes alone.to_alone in (
@@ -177,8 +177,8 @@ module _ (slots lists version : ℕ) {source target : AuditedVolume} {from from'
     (cell : List ℕ) (can : CanBeRead from source) (version_is : version ≡ source.volume.geometry.version)
     (called : Called to mid) (stands : IsTrue to.tells → mid.image 0 ≡ Some cell)
     (stated : StatesNone slots lists version mid.cells cell) (audit : HasAudited mid audited target)
-    (sound : IsSoundThroughout to mid) (held : IsHeldThroughout mid audited) (device_audited : IsDevice audited)
-    (device_new : IsDevice new) where
+    (held_first : IsHeldThroughout to mid) (held : IsHeldThroughout mid audited) (device_to : IsDevice to)
+    (device_mid : IsDevice mid) (device_audited : IsDevice audited) (device_new : IsDevice new) where
   module _ (read : IsOnlyRead from from') (to_read : IsOnlyRead audited new) where
     behind : Called mid new
     behind = called_then audit.called to_read.called
@@ -217,9 +217,9 @@ module _ (slots lists version : ℕ) {source target : AuditedVolume} {from from'
   begins_compared result compares = record {
     from_read = compares.from_read;
     to_called = called_then called (called_then audit.called compares.to_read.called);
-    to_sound = sound_then called (called_then audit.called compares.to_read.called) sound
-        (sound_then audit.called compares.to_read.called (sound_of held)
-        (read_sound device_audited device_new compares.to_read));
+    to_held = held_then device_to device_mid called (called_then audit.called compares.to_read.called) held_first
+        (held_then device_mid device_audited audit.called compares.to_read.called held
+        (read_held device_audited device_new compares.to_read));
     ends = go result compares.ends;
   }
     where

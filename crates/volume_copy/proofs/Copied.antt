@@ -1,5 +1,5 @@
 -- A volume was copied, or it was not.
-use Rattle.std.proofs.Common.{◌≡◌, ◌≤◌, ◌∙◌, ℕ, List, Ok, Err, sym, ap, subst, arith, length}
+use Rattle.std.proofs.Common.{◌≡◌, ◌≤◌, ◌∙◌, ℕ, List, Result, Ok, Err, inl, refl, sym, ap, subst, arith, length}
 use Rattle.std.specs.Prelude.{IsTrue}
 use Rattle.std.specs.Global.{Vec}
 use Rattle.std.proofs.lemmas.List.{take_all}
@@ -15,19 +15,22 @@ use Rattle.stored_documents.proofs.Extending.{stands_on, volume_on}
 use Rattle.index_paths.specs.Keeping.{IsKept, Kept}
 use Rattle.index_paths.proofs.KeepingLaws.{documents}
 use Rattle.tamper_rules.specs.Settling.{Settled}
-use Rattle.tamper_rules.proofs.DocumentLists.{only_one}
+use Rattle.tamper_rules.proofs.DocumentLists.{documents_exist, only_one}
 use Rattle.tamper_rules.proofs.GivenUp.{one_layout}
 use Rattle.tamper_rules.proofs.Images.{same_image}
 use Rattle.tamper_rules.proofs.Keeps.{keeps_all}
 use Rattle.worm_device.specs.Calls.{Called}
+use Rattle.worm_device.specs.Counts.{IsStill}
 use Rattle.worm_device.specs.State.{DeviceState, IsDevice}
-use Rattle.worm_device.proofs.Counting.{still_first}
+use Rattle.worm_device.proofs.Counting.{still_first, still_second}
 use Rattle.worm_device.proofs.Elapsing.{called_self, called_then}
 use Rattle.ingest_engine.specs.Ingesting.{document_in}
+use Rattle.settling_laws.specs.Steadiness.{IsSteady}
 use Rattle.volume_copy.specs.Adding.{AddsRest, CopiedSoFar, RestFails}
 use Rattle.volume_copy.specs.Auditing.{HasAudited, IsWhole, Refuses, by_reading}
 use Rattle.volume_copy.specs.Beginning.{BeginEnds, Begins}
-use Rattle.volume_copy.specs.Copies.{AreAlone, Copies, CopiesWhole, CopyEnds, HasCopied, HasNumbers, IsKeptThere, KeepsAll, by_ingest}
+use Rattle.volume_copy.specs.Copies.{AreAlone, Copies, CopiesWhole, CopyEnds, HasCopied, HasNumbers, IsFirstThroughout, IsKeptThere, KeepsAll, by_ingest}
+use Rattle.volume_copy.specs.First.{HoldsFirst, StaysFirst}
 use Rattle.volume_copy.specs.Pairs.{ArePairs}
 use Rattle.volume_copy.specs.Refusing.{refusal_from}
 use Rattle.volume_copy.specs.Staying.{IsHeldThroughout}
@@ -35,18 +38,20 @@ use Rattle.volume_copy.specs.declared.audited.AuditedVolume.{AuditedVolume}
 use Rattle.volume_copy.specs.declared.moved.Moved.{Moved}
 use Rattle.volume_copy.proofs.AddedOn.{alone_first, alone_second, can_on, read_then, whole_on}
 use Rattle.volume_copy.proofs.Begun.{can_audited}
+use Rattle.volume_copy.proofs.First.{first_of_held, first_since, first_then}
 use Rattle.volume_copy.proofs.PairLists.{HasPair, pairs_have, pairs_long, slots_length}
-use Rattle.volume_copy.proofs.Stayed.{held_then, read_held, sound_self, sound_then}
+use Rattle.volume_copy.proofs.Stayed.{held_then, read_held, sound_of, sound_self, sound_then}
 use Rattle.volume_copy.proofs.WholeVolumes.{reading_later, stands_among}
 
 -- the source was not audited
-pub not_audited : (slots lists : ℕ) (from from' to : DeviceState) (refusal : Refusal) → Called from from'
+pub not_audited : (slots lists : ℕ) (from from' to : DeviceState) (refusal : Refusal) → Called from from' → IsDevice to
     → IsHeldThroughout from from' → Refuses from from' refusal → Copies slots lists from from' to to (Err (refusal_from refusal))
-not_audited slots lists from from' to refusal called held refuses = record {
+not_audited slots lists from from' to refusal called device held refuses = record {
   from_called = called;
   to_called = called_self to;
   from_held = held;
   to_sound = sound_self to;
+  to_first = λ alone steady holds. first_since device steady holds (λ since image le left. inl left);
   ends = go refusal refuses;
 }
   where
@@ -138,16 +143,41 @@ whole_audited audit called alone = audit.whole alone.from_tells
     (still_first audit.called.foreign_writes called.foreign_writes alone.from_alone)
 
 module _ {slots lists : ℕ} {source : AuditedVolume} {from audited from1 to to1 : DeviceState}
-    (audit : HasAudited from audited source) (held : IsHeldThroughout from audited) (device : IsDevice audited)
-    (device1 : IsDevice from1) where
+    (audit : HasAudited from audited source) (held : IsHeldThroughout from audited) (device_from : IsDevice from)
+    (device : IsDevice audited) (device1 : IsDevice from1) (device_to : IsDevice to) where
+  -- the source, once the target has begun
+  module _ {x : DeviceState} {result : Result (Vec Moved) CopyRefusal} (begins : Begins slots lists source audited from1 to to1 result)
+      (alone : AreAlone from from1 to x) (steady : IsSteady to) (to_alone : IsStill to.foreign_writes to1.foreign_writes) where
+    whole1 : IsWhole from1 source.done.items
+    whole1 = whole_on device1 begins.from_read
+        (still_second audit.called.foreign_writes begins.from_read.called.foreign_writes alone.from_alone)
+        (whole_audited audit begins.from_read.called alone)
+
+    -- what a crash leaves of the beginning
+    first_begun : {more : ℕ} {from : Image} → from1.cells ≡ more → from1.image ≡ from
+        → HoldsFirst more from to.cells to.image → StaysFirst more from to to1
+    first_begun same_cells same holds =
+        let those = documents_exist from1.cells from1.image whole1.settled in
+        let v = whole1.settled in
+        first_of_held device_to begins.to_called steady
+        (begins.to_held (record { tells = alone.to_tells; steady = steady; alone = to_alone }))
+        v.layout those.0
+        (subst (λ (k : ℕ). IsVolume k _ v.layout) same_cells (subst (λ (i : Image). IsVolume from1.cells i v.layout) same v.volume))
+        (subst (λ (k : ℕ). AreDocuments k _ those.0) same_cells
+        (subst (λ (i : Image). AreDocuments from1.cells i those.0) same those.1))
+        holds
+
   -- the copy did not begin
   pub not_begun : (refusal : CopyRefusal) → Begins slots lists source audited from1 to to1 (Err refusal)
       → Copies slots lists from from1 to to1 (Err refusal)
   not_begun refusal begins = record {
     from_called = called_then audit.called begins.from_read.called;
     to_called = begins.to_called;
-    from_held = held_then audit.called begins.from_read.called held (read_held device device1 begins.from_read);
-    to_sound = begins.to_sound;
+    from_held = held_then device_from device audit.called begins.from_read.called held
+        (read_held device device1 begins.from_read);
+    to_sound = sound_of begins.to_held;
+    to_first = λ alone steady holds. first_since device_to steady holds
+        (first_begun begins alone steady alone.to_alone refl refl holds);
     ends = go refusal begins.ends;
   }
     where
@@ -172,6 +202,21 @@ module _ {slots lists : ℕ} {source : AuditedVolume} {from audited from1 to to1
 
   module _ {from2 to2 : DeviceState} (device2 : IsDevice from2) (moved : Vec Moved) (begins : Begins slots lists source audited from1 to to1 (Ok moved))
     where
+      -- what a crash leaves of the whole
+      first_rested : {new : List Moved} {result : Result Unit CopyRefusal}
+          → AddsRest source from1 from2 to1 to2 moved.items new result → IsFirstThroughout from from2 to to2
+      first_rested rest alone steady holds =
+          let before = called_then audit.called begins.from_read.called in
+          let first = alone_first before rest.from_read.called begins.to_called rest.to_called alone in
+          let second = alone_second before rest.from_read.called begins.to_called rest.to_called alone in
+          let behind = alone_second audit.called begins.from_read.called (called_self to) begins.to_called first in
+          let began = begins.ends behind (whole_audited audit begins.from_read.called first) in
+          let same = sym (same_image (rest.from_read.only second.from_alone)) in
+          first_since device_to steady holds
+          (first_then begins.to_called
+          (first_begun begins first steady first.to_alone (sym rest.from_read.called.cells) same holds)
+          (rest.to_first second (whole1 begins first steady first.to_alone) began.0))
+
       -- the documents that have no pair were not copied
       pub not_rested : (new : List Moved) (refusal : CopyRefusal)
           → AddsRest source from1 from2 to1 to2 moved.items new (Err refusal)
@@ -179,9 +224,11 @@ module _ {slots lists : ℕ} {source : AuditedVolume} {from audited from1 to to1
       not_rested new refusal rest = record {
         from_called = called_then (called_then audit.called begins.from_read.called) rest.from_read.called;
         to_called = called_then begins.to_called rest.to_called;
-        from_held = held_then audit.called (called_then begins.from_read.called rest.from_read.called) held
+        from_held = held_then device_from device audit.called
+            (called_then begins.from_read.called rest.from_read.called) held
             (read_held device device2 (read_then begins.from_read rest.from_read));
-        to_sound = sound_then begins.to_called rest.to_called begins.to_sound rest.to_sound;
+        to_sound = sound_then begins.to_called rest.to_called (sound_of begins.to_held) rest.to_sound;
+        to_first = first_rested rest;
         ends = go refusal rest.ends;
       }
         where
@@ -213,9 +260,11 @@ module _ {slots lists : ℕ} {source : AuditedVolume} {from audited from1 to to1
       rested new rest = record {
         from_called = called_then (called_then audit.called begins.from_read.called) rest.from_read.called;
         to_called = called_then begins.to_called rest.to_called;
-        from_held = held_then audit.called (called_then begins.from_read.called rest.from_read.called) held
+        from_held = held_then device_from device audit.called
+            (called_then begins.from_read.called rest.from_read.called) held
             (read_held device device2 (read_then begins.from_read rest.from_read));
-        to_sound = sound_then begins.to_called rest.to_called begins.to_sound rest.to_sound;
+        to_sound = sound_then begins.to_called rest.to_called (sound_of begins.to_held) rest.to_sound;
+        to_first = first_rested rest;
         ends = λ alone.
             let first = alone_first (called_then audit.called begins.from_read.called) rest.from_read.called begins.to_called rest.to_called alone in
             let second = alone_second (called_then audit.called begins.from_read.called) rest.from_read.called begins.to_called rest.to_called alone in

@@ -2,6 +2,7 @@ pub mod AddedOn
 pub mod Begun
 pub mod Compared
 pub mod Copied
+pub mod First
 mod OnePairs
 pub mod PairLists
 pub mod Slots

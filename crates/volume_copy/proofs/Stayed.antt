@@ -2,6 +2,7 @@
 use Rattle.std.proofs.Common.{◌≡◌, ℕ, List, Result, inl, inr, ⊎_elim, sym, subst, arith, Option}
 use Rattle.std.specs.Prelude.{IsTrue}
 use Rattle.cell_types.specs.declared.refusal.Refusal.{Refusal}
+use Rattle.cell_types.specs.Image.{Image}
 use Rattle.tamper_rules.specs.Settling.{IsBlankOrSound}
 use Rattle.worm_device.specs.Calls.{Called}
 use Rattle.worm_device.specs.State.{DeviceState, IsDevice, LeftSince}
@@ -13,6 +14,7 @@ use Rattle.crash_laws.specs.Steadiness.{IsLeftByIngest}
 use Rattle.crash_laws.proofs.Steady.{comes_steady}
 use Rattle.command_laws.specs.Begins.{BeginsSteady}
 use Rattle.command_laws.specs.Telling.{LeavesHeld}
+use Rattle.command_laws.proofs.LeavesThen.{leaves_then}
 use Rattle.command_laws.proofs.LookedFirst.{looked_leaves}
 use Rattle.cell_types.specs.Layout.{Layout}
 use Rattle.recovery_engine.specs.Settling.{Settles}
@@ -24,18 +26,15 @@ use Rattle.volume_audit.proofs.Comes.{settles_first}
 use Rattle.command_laws.proofs.Formatting.{format_leaves}
 use Rattle.command_laws.proofs.Queries.{query_leaves, settling_leaves}
 use Rattle.volume_copy.specs.Reading.{IsOnlyRead}
-use Rattle.volume_copy.specs.Staying.{IsSoundThroughout, IsHeldThroughout, StaysSound, StaysHolding}
+use Rattle.volume_copy.specs.Staying.{IsHeldThroughout, IsSoundThroughout, StaysSound}
 
--- what leaves the documents that were held leaves what is whole
-pub holding_of : {old new : DeviceState} → LeavesHeld old new → StaysHolding old new
-holding_of {old} {new} leaves = record {
-  sound = record {
-    crashes = λ since image le left. ⊎_elim inl
-        (λ (l : IsLeftWhole old image). inr l.sound)
-        (leaves.stays.crashes since image le left);
-    steady = leaves.stays.steady;
-  };
-  keeps = leaves.keeps;
+-- what leaves the documents that were held leaves what is sound
+sound_from : {old new : DeviceState} → LeavesHeld old new → StaysSound old new
+sound_from {old} {new} leaves = record {
+  crashes = λ since image le left. ⊎_elim inl
+      (λ (l : IsLeftWhole old image). inr l.sound)
+      (leaves.stays.crashes since image le left);
+  steady = leaves.stays.steady;
 }
 
 -- nothing was done
@@ -45,10 +44,7 @@ sound_self s = λ begins. record { crashes = λ since image le left. inl left; s
 -- the device was only read
 pub read_held : {old new : DeviceState} → IsDevice old → IsDevice new → IsOnlyRead old new → IsHeldThroughout old new
 read_held {old} {new} device device_new read = λ begins.
-    holding_of (looked_leaves old new new device read.called (called_self new) read.only begins device_new)
-
-pub read_sound : {old new : DeviceState} → IsDevice old → IsDevice new → IsOnlyRead old new → IsSoundThroughout old new
-read_sound device device_new read = λ begins. (read_held device device_new read begins).sound
+    looked_leaves old new new device read.called (called_self new) read.only begins device_new
 
 -- one row of calls after another
 begins_first : {a b c : DeviceState} → Called a b → Called b c → BeginsSteady a c → BeginsSteady a b
@@ -79,35 +75,32 @@ sound_then p q first second = λ begins.
     let one = first (begins_first p q begins) in
     both p one (second (begins_second p q begins one.steady))
 
-pub held_then : {a b c : DeviceState} → Called a b → Called b c → IsHeldThroughout a b → IsHeldThroughout b c → IsHeldThroughout a c
-held_then p q first second = λ begins.
+pub held_then : {a b c : DeviceState} → IsDevice a → IsDevice b → Called a b → Called b c → IsHeldThroughout a b
+    → IsHeldThroughout b c → IsHeldThroughout a c
+held_then device device_b p q first second = λ begins.
     let one = first (begins_first p q begins) in
-    let two = second (begins_second p q begins one.sound.steady) in
-    record {
-      sound = both p one.sound two.sound;
-      keeps = λ documents held. two.keeps documents (one.keeps documents held);
-    }
+    leaves_then device p begins.steady device_b one (second (begins_second p q begins one.stays.steady))
 
 pub sound_of : {a b : DeviceState} → IsHeldThroughout a b → IsSoundThroughout a b
-sound_of whole = λ begins. (whole begins).sound
+sound_of whole = λ begins. sound_from (whole begins)
 
 -- an audit, whatever it answers
 pub audit_held : {old new : DeviceState} (result : Result AuditReport Refusal) → IsDevice old → IsDevice new
     → Audits old new result → IsHeldThroughout old new
 audit_held {old} {new} result device device_new audits = λ begins.
-    holding_of (query_leaves old new device device_new begins (settles_first audits.comes))
+    query_leaves old new device device_new begins (settles_first audits.comes)
 
 -- settling
 pub settle_held : {old new : DeviceState} (result : Result Ready Refusal) → IsDevice old → IsDevice new
     → Settles old new result → IsHeldThroughout old new
 settle_held {old} {new} result device device_new settles = λ begins.
-    holding_of (settling_leaves old new device device_new begins result settles)
+    settling_leaves old new device device_new begins result settles
 
 -- formatting
-pub format_sound : (g : Layout) {old new : DeviceState} (result : Result Unit Refusal) → g.cells ≡ old.cells
-    → IsDevice old → Formats g old new result → IsSoundThroughout old new
-format_sound g {old} {new} result size device formats = λ begins.
-    (holding_of (format_leaves g old new size device begins formats.called formats.only result formats.ends)).sound
+pub format_held : (g : Layout) {old new : DeviceState} (result : Result Unit Refusal) → g.cells ≡ old.cells
+    → IsDevice old → Formats g old new result → IsHeldThroughout old new
+format_held g {old} {new} result size device formats = λ begins.
+    format_leaves g old new size device begins formats.called formats.only result formats.ends
 
 -- an ingest, whatever it answers
 pub ingest_sound : {id : List ℕ} {stamp : Option ℕ} {body : List ℕ} {old new : DeviceState} (result : Result ℕ Refusal)
@@ -117,7 +110,7 @@ ingest_sound {id} {stamp} {body} {old} {new} result device device_new ingests = 
     in
     record {
       crashes = λ since image le left. ⊎_elim inl
-          (λ (l : IsLeftByIngest id body old image). inr l.sound)
+          (λ (l : IsLeftByIngest id stamp body old image). inr l.sound)
           (stays.crashes since image le left);
       steady = stays.steady;
     }

@@ -12,6 +12,7 @@ use Rattle.worm_device.specs.State.{DeviceState}
 use Rattle.document_store.specs.Standing.{HoldsDocument}
 use Rattle.ingest_engine.specs.Ingesting.{Ingests}
 use Rattle.volume_copy.specs.Copies.{AreAlone}
+use Rattle.volume_copy.specs.First.{StaysFirst}
 use Rattle.cell_types.specs.Image.{IsUnchanged}
 use Rattle.tamper_rules.specs.Settling.{Settled}
 use Rattle.volume_copy.specs.Auditing.{IsWhole}
@@ -57,13 +58,6 @@ AddEnds source place from from' to to' (Ok pair) =
 AddEnds source place from from' to to' (Err refusal) =
     AddFails source.volume.geometry (slice_index source.done.items place) from from' to to' refusal
 
-pub record AddsNext (source : AuditedVolume) (place : ℕ) (from from' to to' : DeviceState) (result : Result Moved CopyRefusal)
-    : Type 0 where
-  pub from_read : IsOnlyRead from from'
-  pub to_called : Called to to'
-  pub to_sound : IsSoundThroughout to to'
-  pub ends : AddEnds source place from from' to to' result
-
 -- Nobody else writing, each document of the target has its pair among the first ones of the source; the target is settled,
 -- and all of it is sure.
 pub record CopiedSoFar (from to : DeviceState) (moved : List Moved) : Type 0 where
@@ -71,6 +65,21 @@ pub record CopiedSoFar (from to : DeviceState) (moved : List Moved) : Type 0 whe
   pub all : length agree.target ≡ length moved
   pub settled : Settled to.cells to.image
   pub sure : IsUnchanged to.image to.sure
+
+-- where nobody else writes, the source is whole, and so much was copied
+abbrev pub WhereCopied
+    : AuditedVolume → DeviceState → DeviceState → DeviceState → DeviceState → List Moved → Type 0 → Type 0
+WhereCopied source from from' to to' moved P =
+    AreAlone from from' to to' → IsWhole from source.done.items → CopiedSoFar from to moved → P
+
+pub record AddsNext (source : AuditedVolume) (place : ℕ) (from from' to to' : DeviceState) (result : Result Moved CopyRefusal)
+    : Type 0 where
+  pub from_read : IsOnlyRead from from'
+  pub to_called : Called to to'
+  pub to_sound : IsSoundThroughout to to'
+  pub to_first : (moved : List Moved) → length moved ≡ place
+      → WhereCopied source from from' to to' moved (StaysFirst from'.cells from'.image to to')
+  pub ends : AddEnds source place from from' to to' result
 
 -- an ingest of a document of the source was refused
 pub record IngestRefused (g : Layout) (from old new : DeviceState) (refusal : Refusal) : Type 0 where
@@ -91,7 +100,7 @@ RestFails g from from' to to' refusal = ⊥
 -- what was copied so far, and then all, under the premises that nobody else writes and that the source is whole
 abbrev pub GoesOn : AuditedVolume → DeviceState → DeviceState → DeviceState → DeviceState → List Moved → List Moved → Type 0
 GoesOn source from from' to to' moved moved' =
-    AreAlone from from' to to' → IsWhole from source.done.items → CopiedSoFar from to moved → CopiedSoFar from' to' moved'
+    WhereCopied source from from' to to' moved (CopiedSoFar from' to' moved')
 
 -- how it may end, and why
 abbrev pub RestEnds
@@ -107,4 +116,5 @@ pub record AddsRest (source : AuditedVolume) (from from' to to' : DeviceState) (
   pub from_read : IsOnlyRead from from'
   pub to_called : Called to to'
   pub to_sound : IsSoundThroughout to to'
+  pub to_first : WhereCopied source from from' to to' moved (StaysFirst from'.cells from'.image to to')
   pub ends : RestEnds source from from' to to' moved moved' result

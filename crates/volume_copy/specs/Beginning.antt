@@ -13,7 +13,7 @@ use Rattle.volume_copy.specs.Adding.{CopiedSoFar}
 use Rattle.volume_copy.specs.Auditing.{IsWhole}
 use Rattle.volume_copy.specs.Copies.{AreAlone, HasNumbers, HoldOthers, IsFirstPast, IsFirstToDiffer, IsOtherVolume, RefusesTo}
 use Rattle.volume_copy.specs.Reading.{IsOnlyRead, ReadingFails}
-use Rattle.volume_copy.specs.Staying.{IsSoundThroughout}
+use Rattle.volume_copy.specs.Staying.{IsHeldThroughout}
 use Rattle.volume_copy.specs.declared.audited.AuditedVolume.{AuditedVolume}
 use Rattle.volume_copy.specs.declared.moved.Moved.{Moved}
 
@@ -64,7 +64,7 @@ pub record Begins (slots lists : ℕ) (source : AuditedVolume) (from from' to to
     (result : Result (Vec Moved) CopyRefusal) : Type 0 where
   pub from_read : IsOnlyRead from from'
   pub to_called : Called to to'
-  pub to_sound : IsSoundThroughout to to'
+  pub to_held : IsHeldThroughout to to'
   pub ends : BeginEnds slots lists source from from' to to' result
 
 -- whether a cell states another volume

@@ -2,7 +2,7 @@
 -- target.
 use Rattle.std.specs.Prelude.{◌≡◌, ℕ, List, [], ◌∷◌, length, slice_get, Contains, Option, Some, Result, Ok, Err, IsTrue, ⊤}
 use Rattle.std.specs.Global.{Vec}
-use Rattle.cell_types.specs.Image.{IsUnchanged}
+use Rattle.cell_types.specs.Image.{Image, IsUnchanged}
 use Rattle.cell_types.specs.Layout.{Layout}
 use Rattle.cell_types.specs.Records.{IsRecordCell}
 use Rattle.cell_types.specs.declared.refusal.CopyRefusal.{CopyRefusal}
@@ -16,11 +16,13 @@ use Rattle.index_paths.specs.Keeping.{Kept}
 use Rattle.tamper_rules.specs.Settling.{Settled}
 use Rattle.worm_device.specs.Calls.{Called}
 use Rattle.worm_device.specs.Counts.{IsStill, Rose}
-use Rattle.worm_device.specs.State.{DeviceState}
+use Rattle.worm_device.specs.State.{DeviceState, LeftSince}
 use Rattle.document_store.specs.Standing.{HoldsDocument}
 use Rattle.ingest_engine.specs.Formats.{Formats}
 use Rattle.ingest_engine.specs.Ingesting.{Ingests, document_in}
+use Rattle.settling_laws.specs.Steadiness.{IsSteady}
 use Rattle.volume_copy.specs.Auditing.{Refuses}
+use Rattle.volume_copy.specs.First.{HoldsFirst}
 use Rattle.volume_copy.specs.Pairs.{AgreeSoFar, ArePairs, SaysSame}
 use Rattle.volume_copy.specs.Staying.{IsHeldThroughout, IsSoundThroughout}
 use Rattle.volume_copy.specs.declared.moved.Moved.{Moved}
@@ -163,12 +165,21 @@ CopyEnds slots lists from from' to to' (Err (Longer new)) = AreAlone from from' 
 CopyEnds slots lists from from' to to' (Err NoMemory) = ⊤
 CopyEnds slots lists from from' to to' (Err refusal) = ⊥
 
+-- Whatever a crash could leave of the target, at any moment of the copy, holds the first documents of the source, where
+-- nobody else writes, and the target was steady and held such ones at entry.
+abbrev pub IsFirstThroughout : DeviceState → DeviceState → DeviceState → DeviceState → Type 0
+IsFirstThroughout from from' to to' =
+    AreAlone from from' to to' → IsSteady to → HoldsFirst from'.cells from'.image to.cells to.image
+    → (image : Image) → LeftSince to' to.moment image → HoldsFirst from'.cells from'.image to.cells image
+
 -- What it means that a volume is copied, or why it is not. Where nobody else writes, what a crash leaves of the source or of
--- the target, from a steady device on, is blank or sound at each moment, and the source holds the documents that it held.
+-- the target, from a steady device on, is blank or sound at each moment; the source holds the documents that it held; and
+-- the target holds the first ones of the source, so that a copy that was stopped is run again.
 pub record Copies (slots lists : ℕ) (from from' to to' : DeviceState) (result : Result (Vec Moved) CopyRefusal) : Type 0
   where
     pub from_called : Called from from'
     pub to_called : Called to to'
     pub from_held : IsHeldThroughout from from'
     pub to_sound : IsSoundThroughout to to'
+    pub to_first : IsFirstThroughout from from' to to'
     pub ends : CopyEnds slots lists from from' to to' result

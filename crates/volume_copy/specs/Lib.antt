@@ -3,6 +3,7 @@ pub mod Auditing
 pub mod Beginning
 pub mod Comparing
 pub mod Copies
+pub mod First
 pub mod Laws
 pub mod Pairs
 pub mod Reading

@@ -1,11 +1,11 @@
 -- What a crash leaves of a copy on either device, from a steady one on, where nobody else writes.
-use Rattle.std.specs.Prelude.{◌≤◌, ◌⊎◌, ℕ, List}
+use Rattle.std.specs.Prelude.{◌≤◌, ◌⊎◌, ℕ}
 use Rattle.cell_types.specs.Image.{Image}
-use Rattle.stored_documents.specs.Documents.{Document}
-use Rattle.tamper_rules.specs.Settling.{Held, IsBlankOrSound}
+use Rattle.tamper_rules.specs.Settling.{IsBlankOrSound}
 use Rattle.worm_device.specs.State.{DeviceState, LeftSince}
 use Rattle.settling_laws.specs.Steadiness.{IsSteady}
 use Rattle.command_laws.specs.Begins.{BeginsSteady}
+use Rattle.command_laws.specs.Telling.{LeavesHeld}
 
 -- Whatever a crash could leave from old on, and could not before, has no written cell or is sound; and the device is steady
 -- behind it.
@@ -18,10 +18,6 @@ pub record StaysSound (old new : DeviceState) : Type 0 where
 abbrev pub IsSoundThroughout : DeviceState → DeviceState → Type 0
 IsSoundThroughout old new = BeginsSteady old new → StaysSound old new
 
--- and behind it the device holds the documents that it held
-pub record StaysHolding (old new : DeviceState) : Type 0 where
-  pub sound : StaysSound old new
-  pub keeps : (documents : List Document) → Held old.cells old.image documents → Held new.cells new.image documents
-
+-- Calls that add no document, from a steady device on, leave the documents that it held, and so does a crash in them.
 abbrev pub IsHeldThroughout : DeviceState → DeviceState → Type 0
-IsHeldThroughout old new = BeginsSteady old new → StaysHolding old new
+IsHeldThroughout old new = BeginsSteady old new → LeavesHeld old new

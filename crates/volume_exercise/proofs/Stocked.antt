@@ -142,11 +142,11 @@ module _ (id body : List ℕ) (old new : DeviceState) (n : ℕ) (device : IsDevi
               );
         }))
 
-  module _ (begins : BeginsSteady old new) (more : HasOneMore id body n old new) (documents : List Document)
+  module _ (begins : BeginsSteady old new) (more : HasOneMore id None body n old new) (documents : List Document)
       (held : Held old.cells old.image documents) (g : Layout) (volume : IsVolume old.cells old.image g) where
     -- it was put: else just the documents that stood would stand
     not_so : Held new.cells new.image documents → ⊥
-    not_so now = not_held old new device device_new begins id body n more documents held now
+    not_so now = not_held old new device device_new begins id None body n more documents held now
 
     pub one_further : ComesTo id None body old new → IsOneFurther g id body old.image new.image
     one_further (ingesting.nothing same) = absurd (not_so (held_unmoved same documents held))

@@ -3,7 +3,7 @@ use Rattle.std.proofs.Common.{sym, ◌∙◌, ◌≡◌}
 use Rattle.std.specs.Prelude.{slice_index}
 use Rattle.std.proofs.lemmas.Grind.{get_or_default_zero}
 use Rattle.worm_device.proofs.Elapsing.{called_self}
-use Rattle.volume_copy.proofs.AddedOn.{ingests_of, source_fails, target_fails}
+use Rattle.volume_copy.proofs.AddedOn.{ingest_first, ingests_of, source_fails, target_fails}
 use Rattle.volume_copy.proofs.Stayed.{ingest_sound, sound_self}
 use Rattle.volume_copy.proofs.adding.copy_next.Goals as goal
 
@@ -26,6 +26,7 @@ returns-in-Err g c =
       from_read = c.in-Err.ensures.read;
       to_called = called_self _;
       to_sound = sound_self _;
+      to_first = λ moved count alone whole so since image le left. inl left;
       ends = rw c.from_source.ensures (source_fails c.args.source.now.volume.geometry _ _ _ _ c.in-Err.refusal
           (c.in-Err.ensures.ends c.requires.source.is_volume));
     }
@@ -34,30 +35,35 @@ returns-in-Err g c =
 pub returns-in-Ok-ingest : goal.returns-in-Ok-ingest
 returns-in-Ok-ingest g c =
     let at : c.index-old.result.now ≡ slice_index c.args.source.now.done.items c.args.place = c.index-old.ensures ∙ get_or_default_zero c.args.source.now.done.items c.args.place _ c.requires.inside in
+    let ingests = ingests_of c.args.source.now.volume.geometry c.index-old.result.now c.in-Ok.document _ _ _
+    c.as_slice-identifier.ensures.value c.bytes-body.ensures c.in-Ok.ensures.read.called c.in-Ok.ensures.ends.2
+    c.in-Ok-ingest.ensures in
     record {
       from_read = c.in-Ok.ensures.read;
       to_called = c.in-Ok-ingest.ensures.called;
       to_sound = ingest_sound _ (g.met.E.Device.proper c.args.to.now) (g.met.E.Device.proper c.ingest.new.device)
           c.in-Ok-ingest.ensures;
-      ends = (
-        at,
-        ingests_of c.args.source.now.volume.geometry c.index-old.result.now c.in-Ok.document _ _ _
-            c.as_slice-identifier.ensures.value c.bytes-body.ensures c.in-Ok.ensures.read.called c.in-Ok.ensures.ends.2
-            c.in-Ok-ingest.ensures,
-      );
+      to_first = ingest_first c.args.source.now (g.met.E.Device.proper c.args.to.now)
+          (g.met.E.Device.proper c.ingest.new.device) c.in-Ok.ensures.read c.in-Ok-ingest.ensures.called c.requires.source
+          c.args.place c.requires.inside c.index-old.result.now at ingests;
+      ends = (at, ingests);
     }
 
 -- or it was not
 pub returns : goal.returns
 returns g c =
     let at : c.index-old.result.now ≡ slice_index c.args.source.now.done.items c.args.place = c.index-old.ensures ∙ get_or_default_zero c.args.source.now.done.items c.args.place _ c.requires.inside in
+    let ingests = ingests_of c.args.source.now.volume.geometry c.index-old.result.now c.in-Ok.document _ _ _
+    c.as_slice-identifier.ensures.value c.bytes-body.ensures c.in-Ok.ensures.read.called c.in-Ok.ensures.ends.2
+    c.in-Err-ingest.ensures in
     record {
       from_read = c.in-Ok.ensures.read;
       to_called = c.in-Err-ingest.ensures.called;
       to_sound = ingest_sound _ (g.met.E.Device.proper c.args.to.now) (g.met.E.Device.proper c.ingest.new.device)
           c.in-Err-ingest.ensures;
+      to_first = ingest_first c.args.source.now (g.met.E.Device.proper c.args.to.now)
+          (g.met.E.Device.proper c.ingest.new.device) c.in-Ok.ensures.read c.in-Err-ingest.ensures.called
+          c.requires.source c.args.place c.requires.inside c.index-old.result.now at ingests;
       ends = rw c.to_target.ensures (target_fails c.args.source.now.volume.geometry _ _ _ _ _ c.in-Err-ingest.refusal
-          (rw (sym at) (ingests_of c.args.source.now.volume.geometry c.index-old.result.now c.in-Ok.document _ _ _
-          c.as_slice-identifier.ensures.value c.bytes-body.ensures c.in-Ok.ensures.read.called c.in-Ok.ensures.ends.2
-          c.in-Err-ingest.ensures)));
+          (rw (sym at) ingests));
     }

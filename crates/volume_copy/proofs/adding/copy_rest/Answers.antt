@@ -1,7 +1,7 @@
 -- Document after document.
-use Rattle.std.proofs.Common.{arith, rules}
+use Rattle.std.proofs.Common.{Ok, Err, arith, rules}
 use Rattle.worm_device.proofs.Elapsing.{called_then}
-use Rattle.volume_copy.proofs.AddedOn.{can_on, read_then, rest_fails, rest_more}
+use Rattle.volume_copy.proofs.AddedOn.{can_on, read_then, rest_fails, rest_first, rest_more}
 use Rattle.volume_copy.proofs.Stayed.{sound_then}
 use Rattle.volume_copy.proofs.adding.copy_rest.Goals as goal
 
@@ -16,6 +16,8 @@ returns-in-Err g c =
       to_called = called_then c.loop-place.invariant.to_called c.in-Err.ensures.to_called;
       to_sound = sound_then c.loop-place.invariant.to_called c.in-Err.ensures.to_called
           c.loop-place.invariant.to_sound c.in-Err.ensures.to_sound;
+      to_first = rest_first c.requires.source c.loop-place.invariant (g.met.D.Device.proper c.loop-place.from)
+          (Err c.in-Err.refusal) c.in-Err.ensures;
       ends = rest_fails c.requires.source c.loop-place.invariant c.in-Err.refusal c.in-Err.ensures;
     }
 
@@ -27,6 +29,8 @@ returns-in_default g c =
       to_called = called_then c.loop-place.invariant.to_called c.in-Ok.ensures.to_called;
       to_sound = sound_then c.loop-place.invariant.to_called c.in-Ok.ensures.to_called
           c.loop-place.invariant.to_sound c.in-Ok.ensures.to_sound;
+      to_first = rest_first c.requires.source c.loop-place.invariant (g.met.D.Device.proper c.loop-place.from)
+          (Ok c.in-Ok.pair) c.in-Ok.ensures;
       ends = tt;
     }
 

@@ -39,7 +39,8 @@ returns-in_err-_report-clause-held g c =
 
 pub returns-in_err-ready-clause-held : goal.returns-in_err-ready-clause-held
 returns-in_err-ready-clause-held g c =
-    held_then c.audit.ensures.called c.settle.ensures.called
+    held_then (g.met.D.Device.proper c.args.device.now) (g.met.D.Device.proper c.audit.new.device) c.audit.ensures.called
+    c.settle.ensures.called
     (audit_held c.audit.result (g.met.D.Device.proper c.args.device.now) (g.met.D.Device.proper c.audit.new.device)
     c.audit.ensures)
     (settle_held c.settle.result (g.met.D.Device.proper c.audit.new.device) (g.met.D.Device.proper c.settle.new.device)
@@ -47,8 +48,10 @@ returns-in_err-ready-clause-held g c =
 
 pub returns-in_err-done-clause-held : goal.returns-in_err-done-clause-held
 returns-in_err-done-clause-held g c =
-    held_then (called_then c.audit.ensures.called c.settle.ensures.called) c.done_slots.ensures.read.called
-    (held_then c.audit.ensures.called c.settle.ensures.called
+    held_then (g.met.D.Device.proper c.args.device.now) (g.met.D.Device.proper c.settle.new.device)
+    (called_then c.audit.ensures.called c.settle.ensures.called) c.done_slots.ensures.read.called
+    (held_then (g.met.D.Device.proper c.args.device.now) (g.met.D.Device.proper c.audit.new.device) c.audit.ensures.called
+    c.settle.ensures.called
     (audit_held c.audit.result (g.met.D.Device.proper c.args.device.now) (g.met.D.Device.proper c.audit.new.device)
     c.audit.ensures)
     (settle_held c.settle.result (g.met.D.Device.proper c.audit.new.device) (g.met.D.Device.proper c.settle.new.device)
@@ -58,8 +61,10 @@ returns-in_err-done-clause-held g c =
 
 pub returns-clause-held : goal.returns-clause-held
 returns-clause-held g c =
-    held_then (called_then c.audit.ensures.called c.settle.ensures.called) c.done_slots.ensures.read.called
-    (held_then c.audit.ensures.called c.settle.ensures.called
+    held_then (g.met.D.Device.proper c.args.device.now) (g.met.D.Device.proper c.settle.new.device)
+    (called_then c.audit.ensures.called c.settle.ensures.called) c.done_slots.ensures.read.called
+    (held_then (g.met.D.Device.proper c.args.device.now) (g.met.D.Device.proper c.audit.new.device) c.audit.ensures.called
+    c.settle.ensures.called
     (audit_held c.audit.result (g.met.D.Device.proper c.args.device.now) (g.met.D.Device.proper c.audit.new.device)
     c.audit.ensures)
     (settle_held c.settle.result (g.met.D.Device.proper c.audit.new.device) (g.met.D.Device.proper c.settle.new.device)

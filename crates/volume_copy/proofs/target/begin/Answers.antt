@@ -6,7 +6,7 @@ use Rattle.volume_copy.specs.Beginning.{StatesNone, StatesOther}
 use Rattle.volume_copy.specs.Copies.{by_format, by_look, by_volume}
 use Rattle.volume_copy.proofs.AddedOn.{read_none}
 use Rattle.volume_copy.proofs.Begun.{begin_refuses, begins_compared, begins_formatted, can_audited, is_another, of_version, read_once}
-use Rattle.volume_copy.proofs.Stayed.{format_sound, read_sound, sound_of, sound_then}
+use Rattle.volume_copy.proofs.Stayed.{format_held, held_then, read_held}
 use Rattle.volume_copy.proofs.WholeVolumes.{refuses_called}
 use Rattle.volume_copy.proofs.target.begin.Goals as goal
 
@@ -15,7 +15,7 @@ pub returns-in_default : goal.returns-in_default
 returns-in_default g c = record {
   from_read = read_none _;
   to_called = c.read.ensures.called;
-  to_sound = read_sound (g.met.E.Device.proper c.args.to.now) (g.met.E.Device.proper c.read.new.self)
+  to_held = read_held (g.met.E.Device.proper c.args.to.now) (g.met.E.Device.proper c.read.new.self)
       (read_once c.read.ensures);
   ends = by_look refl c.in_default.ensures.cause;
 }
@@ -25,8 +25,8 @@ pub returns-in-Ok-format_volume : goal.returns-in-Ok-format_volume
 returns-in-Ok-format_volume g c =
     begins_formatted c.args.slots c.args.lists c.version-version.result c.new.result c.new.ensures.items
     c.requires.source c.version-version.ensures.version (g.met.E.Device.proper c.read.new.self)
-    (g.met.E.Device.proper c.format_volume.new.device) c.read.ensures.called
-    (read_sound (g.met.E.Device.proper c.args.to.now) (g.met.E.Device.proper c.read.new.self) (read_once c.read.ensures))
+    (g.met.E.Device.proper c.format_volume.new.device) (g.met.E.Device.proper c.args.to.now) c.read.ensures.called
+    (read_held (g.met.E.Device.proper c.args.to.now) (g.met.E.Device.proper c.read.new.self) (read_once c.read.ensures))
     c.in-Ok-format_volume.ensures
 
 -- it was not
@@ -34,9 +34,10 @@ pub returns-in-Err : goal.returns-in-Err
 returns-in-Err g c = record {
   from_read = read_none _;
   to_called = called_then c.read.ensures.called c.in-Err.ensures.called;
-  to_sound = sound_then c.read.ensures.called c.in-Err.ensures.called
-      (read_sound (g.met.E.Device.proper c.args.to.now) (g.met.E.Device.proper c.read.new.self) (read_once c.read.ensures))
-      (format_sound _ _ refl (g.met.E.Device.proper c.read.new.self) c.in-Err.ensures);
+  to_held = held_then (g.met.E.Device.proper c.args.to.now) (g.met.E.Device.proper c.read.new.self)
+      c.read.ensures.called c.in-Err.ensures.called
+      (read_held (g.met.E.Device.proper c.args.to.now) (g.met.E.Device.proper c.read.new.self) (read_once c.read.ensures))
+      (format_held _ _ refl (g.met.E.Device.proper c.read.new.self) c.in-Err.ensures);
   ends = rw c.to_target.ensures (begin_refuses c.args.slots c.args.lists c.args.source.now _ _ _ _ c.in-Err.refusal
       (by_format _ c.version-version.result c.read.ensures.called
       (of_version c.version-version.result c.requires.source c.version-version.ensures.version) c.in-Err.ensures));
@@ -47,7 +48,7 @@ pub returns-then-states_other : goal.returns-then-states_other
 returns-then-states_other g c = record {
   from_read = read_none _;
   to_called = c.read.ensures.called;
-  to_sound = read_sound (g.met.E.Device.proper c.args.to.now) (g.met.E.Device.proper c.read.new.self)
+  to_held = read_held (g.met.E.Device.proper c.args.to.now) (g.met.E.Device.proper c.read.new.self)
       (read_once c.read.ensures);
   ends = rw c.is_other.ensures (is_another
       (λ tells. sym (c.in-Ok.ensures.answer (subst IsTrue c.read.ensures.called.tells tells)) ∙ c.in-Some.is)
@@ -69,18 +70,20 @@ returns-in-Ok-audit_volume g c =
     (subst (λ (n : ℕ). StatesNone c.args.slots c.args.lists c.version-version.result n c.in-Some.cell)
     c.cells.ensures.cells c.if-states_other.ensures)
     c.in-Ok-audit_volume.ensures.ends
-    (read_sound (g.met.E.Device.proper c.args.to.now) (g.met.E.Device.proper c.read.new.self) (read_once c.read.ensures))
-    c.audit_volume.ensures.held (g.met.E.Device.proper c.audit_volume.new.device)
-    (g.met.E.Device.proper c.compare.new.to) c.compare.result c.compare.ensures
+    (read_held (g.met.E.Device.proper c.args.to.now) (g.met.E.Device.proper c.read.new.self) (read_once c.read.ensures))
+    c.audit_volume.ensures.held (g.met.E.Device.proper c.args.to.now) (g.met.E.Device.proper c.read.new.self)
+    (g.met.E.Device.proper c.audit_volume.new.device) (g.met.E.Device.proper c.compare.new.to) c.compare.result
+    c.compare.ensures
 
 -- it was not audited
 pub returns-in-Err-audit_volume : goal.returns-in-Err-audit_volume
 returns-in-Err-audit_volume g c = record {
   from_read = read_none _;
   to_called = called_then c.read.ensures.called (refuses_called c.in-Err-audit_volume.ensures.ends);
-  to_sound = sound_then c.read.ensures.called (refuses_called c.in-Err-audit_volume.ensures.ends)
-      (read_sound (g.met.E.Device.proper c.args.to.now) (g.met.E.Device.proper c.read.new.self) (read_once c.read.ensures))
-      (sound_of c.audit_volume.ensures.held);
+  to_held = held_then (g.met.E.Device.proper c.args.to.now) (g.met.E.Device.proper c.read.new.self)
+      c.read.ensures.called (refuses_called c.in-Err-audit_volume.ensures.ends)
+      (read_held (g.met.E.Device.proper c.args.to.now) (g.met.E.Device.proper c.read.new.self) (read_once c.read.ensures))
+      c.audit_volume.ensures.held;
   ends = rw c.to_target-in-Err-audit_volume.ensures (begin_refuses c.args.slots c.args.lists c.args.source.now _ _ _ _
       c.in-Err-audit_volume.refusal (by_volume _ c.read.ensures.called c.in-Err-audit_volume.ensures.ends));
 }

@@ -1,0 +1,24 @@
+-- What it means that a crash leaves of the target the first documents of the source.
+use Rattle.std.specs.Prelude.{◌≡◌, ◌≤◌, ◌⊎◌, ℕ, List, None}
+use Rattle.cell_types.specs.Image.{Image}
+use Rattle.cell_types.specs.Layout.{Layout}
+use Rattle.stored_documents.specs.Documents.{AreDocuments, Document}
+use Rattle.stored_documents.specs.Volumes.{IsVolume}
+use Rattle.tamper_rules.specs.Settling.{Held}
+use Rattle.worm_device.specs.State.{DeviceState, LeftSince}
+use Rattle.volume_copy.specs.Pairs.{ArePairs}
+use Rattle.volume_copy.specs.declared.moved.Moved.{Moved}
+
+-- The image has no written cell; or it is one of a volume, and the documents that it holds say the same as the first ones
+-- of the source, in order. The source has so many cells, and this image.
+pub data HoldsFirst (more : ℕ) (from : Image) (cells : ℕ) (image : Image) : Type 0 where
+  none : ((cell : ℕ) → image cell ≡ None) → HoldsFirst more from cells image
+  first : (g h : Layout) (source target : List Document) (moved : List Moved) → IsVolume more from g
+      → IsVolume cells image h → AreDocuments more from source → Held cells image target
+      → ArePairs g h from image target moved source → HoldsFirst more from cells image
+
+-- so it is of whatever a crash could leave from old on, and could not before
+abbrev pub StaysFirst : ℕ → Image → DeviceState → DeviceState → Type 0
+StaysFirst more from old new =
+    (since : ℕ) (image : Image) → since ≤ old.moment → LeftSince new since image
+    → LeftSince old since image ⊎ HoldsFirst more from old.cells image
