@@ -26,15 +26,16 @@ use Rattle.worm_device.proofs.Elapsing.{called_self, called_then, elapses_of}
 use Rattle.worm_device.proofs.Images.{extends_self, unchanged_then}
 use Rattle.document_store.specs.Standing.{HoldsDocument}
 use Rattle.document_store.proofs.Holding.{held_stands}
-use Rattle.ingest_engine.specs.Ingesting.{Ingests, document_in}
+use Rattle.ingest_engine.specs.Ingesting.{IngestEnds, Ingests, document_in}
 use Rattle.settling_laws.specs.Steadiness.{HoldsOneOf, IsSteady}
 use Rattle.settling_laws.proofs.LeftWhole.{sure_steady}
 use Rattle.crash_laws.specs.Steadiness.{HasOneMore, HoldsOneMore, IsLeftByIngest}
 use Rattle.crash_laws.proofs.AddsOne.{comes_more}
 use Rattle.crash_laws.proofs.Steady.{comes_steady}
-use Rattle.volume_copy.specs.Adding.{AddEnds, AddFails, AddsNext, CanBeRead, CopiedSoFar, GoesOn, IngestsOf, RestFails, WhereCopied}
+use Rattle.volume_copy.specs.Adding.{AddEnds, AddFails, AddsNext, CanBeRead, Completes, CopiedSoFar, GoesOn, IngestsOf, RestFails, WhereCopied}
 use Rattle.volume_copy.specs.Auditing.{IsWhole}
-use Rattle.volume_copy.specs.Copies.{AreAlone}
+use Rattle.volume_copy.specs.Alone.{AreAlone}
+use Rattle.volume_copy.specs.Completing.{AreOfOneVersion, IsForRoom}
 use Rattle.volume_copy.specs.First.{HoldsFirst, StaysFirst, none}
 use Rattle.volume_copy.specs.Pairs.{AgreeSoFar, ArePairs, SaysSame}
 use Rattle.volume_copy.specs.Reading.{HoldsCopy, IsOnlyRead, ReadingFails}
@@ -44,8 +45,10 @@ use Rattle.volume_copy.specs.declared.audited.AuditedVolume.{AuditedVolume}
 use Rattle.volume_copy.specs.declared.moved.Moved.{Moved}
 use Rattle.volume_copy.specs.declared.stored.StoredCopy.{StoredCopy}
 use Rattle.volume_copy.proofs.First.{first_below, first_then}
+use Rattle.volume_copy.proofs.ForRoom.{for_room}
 use Rattle.volume_copy.proofs.PairLists.{by_place, pairs_on, pairs_push, place_in}
 use Rattle.volume_copy.proofs.Stayed.{sound_self, sound_then}
+use Rattle.volume_copy.proofs.Unhindered.{reads_settled}
 use Rattle.volume_copy.proofs.WholeVolumes.{reading_later}
 
 -- nothing was read
@@ -238,6 +241,21 @@ module _ (source : AuditedVolume) {s t u v : DeviceState} (device_u : IsDevice u
           (more.holds so.agree.target held))
           whole_image
 
+  -- and it is refused for want of memory or of room alone
+  pub ingest_for_room : AreOfOneVersion s u → IsStill u.faults v.faults → (refusal : Refusal) → result ≡ Err refusal
+      → IsForRoom (refusal_to refusal)
+  ingest_for_room version unfailed refusal is =
+      for_room g h so.agree.from_volume so.agree.to_volume
+      (version g h so.agree.from_volume so.agree.to_volume) whole.settled so.agree.source so.agree.those so.settled
+      so.agree.target so.agree.these moved
+      (subst (λ (l : List Document). ArePairs g h s.image u.image l moved so.agree.source)
+      (take_all (length moved) so.agree.target (omega (arith, so.all))) so.agree.pairs)
+      d at.1 steady alone.to_tells device_u device called alone.to_alone unfailed is_that.0
+      (subst (λ (k : ℕ). IsStampOf g s.image k ing.stamp) old_is
+      (subst (λ (k : Layout). IsStampOf k s.image n ing.stamp) one
+      (subst (λ (i : Image). IsStampOf source.volume.geometry i n ing.stamp) same (ing.stamped tells_t))))
+      refusal (subst (λ (r : Result ℕ Refusal). IngestEnds ing.id ing.stamp ing.body u v r) is ing.ingests.ends)
+
 -- what a crash leaves of copying the document of a place, behind those of the places before it
 pub ingest_first : (source : AuditedVolume) {s t u v : DeviceState} → IsDevice u → IsDevice v → IsOnlyRead s t → Called u v
     → CanBeRead s source → (place : ℕ) → place < length source.done.items → (n : ℕ)
@@ -247,6 +265,25 @@ pub ingest_first : (source : AuditedVolume) {s t u v : DeviceState} → IsDevice
 ingest_first source device_u device read called can place less n at ing moved count alone whole so =
     first_of_ingest source device_u device alone read called can whole moved so (omega (arith, count, less)) n
     (at ∙ ap (λ (k : ℕ). slice_index source.done.items k) (sym count)) ing
+
+-- why that is refused, where nothing hinders
+pub ingest_complete : (source : AuditedVolume) {s t u v : DeviceState} → IsDevice u → IsDevice v → IsOnlyRead s t → Called u v
+    → CanBeRead s source → (place : ℕ) → place < length source.done.items → (n : ℕ)
+    → n ≡ slice_index source.done.items place → (refusal : Refusal)
+    → IngestsOf source.volume.geometry n t u v (Err refusal) → (moved : List Moved) → length moved ≡ place
+    → Completes source s t u v moved {Moved} (Err (refusal_to refusal))
+ingest_complete source device_u device read called can place less n at refusal ing moved count alone whole so unfailed version =
+    ingest_for_room source device_u device alone read called can whole moved so (omega (arith, count, less)) n
+    (at ∙ ap (λ (k : ℕ). slice_index source.done.items k) (sym count)) ing version unfailed.to_unfailed refusal refl
+
+-- why reading the source is, where nothing hinders
+pub source_complete : (source : AuditedVolume) {s t u : DeviceState} → IsOnlyRead s t → (refusal : Refusal)
+    → ReadingFails s t refusal → (moved : List Moved) → Completes source s t u u moved {Moved} (Err (refusal_from refusal))
+source_complete source {s} {t} read refusal fails moved alone whole so unfailed version =
+    let settled : Settled t.cells t.image = subst (λ (k : ℕ). Settled k t.image) (sym read.called.cells)
+    (subst (λ (i : Image). Settled s.cells i) (sym (same_image (read.only alone.from_alone))) whole.settled) in
+    subst (λ (r : Refusal). IsForRoom (refusal_from r))
+    (sym (reads_settled alone.from_tells alone.from_alone unfailed.from_unfailed settled refusal fails)) tt
 
 -- one document more
 module _ (source : AuditedVolume) {s t u v : DeviceState} (device_u : IsDevice u) (device : IsDevice v) (alone : AreAlone s t u v)
@@ -352,6 +389,32 @@ module _ {source : AuditedVolume} {from now new to there then : DeviceState} {mo
       (so_far.to_first before whole so)))
       (adds.to_first moved_now so_far.count behind (whole_on device_now so_far.from_read before.from_alone whole)
       (so_far.goes before whole so))
+
+  -- nothing else hinders the next document
+  version_now : CopiedSoFar from to moved → AreOfOneVersion from to → AreOfOneVersion now there
+  version_now so version g h from_volume to_volume =
+      let one : g ≡ so.agree.from_layout = one_layout {cells = now.cells} {more = now.cells} g so.agree.from_layout from_volume
+      (subst (λ (k : ℕ). IsVolume k now.image so.agree.from_layout) (sym so_far.from_read.called.cells)
+      (volume_on so_far.from_read.called.image so.agree.from_volume)) in
+      let two : h ≡ so.agree.to_layout = one_layout {cells = there.cells} {more = there.cells} h so.agree.to_layout to_volume
+      (subst (λ (k : ℕ). IsVolume k there.image so.agree.to_layout) (sym so_far.to_called.cells)
+      (volume_on so_far.to_called.image so.agree.to_volume)) in
+      ap (λ (k : Layout). k.version) two
+      ∙ version so.agree.from_layout so.agree.to_layout so.agree.from_volume so.agree.to_volume
+      ∙ sym (ap (λ (k : Layout). k.version) one)
+
+  pub rest_complete : IsDevice now → (refusal : CopyRefusal) → AddsNext source place now new there then (Err refusal)
+      → Completes source from new to then moved {Unit} (Err refusal)
+  rest_complete device_now refusal adds alone whole so unfailed version =
+      let before = alone_first so_far.from_read.called adds.from_read.called so_far.to_called adds.to_called alone in
+      let behind = alone_second so_far.from_read.called adds.from_read.called so_far.to_called adds.to_called alone in
+      adds.complete moved_now so_far.count behind (whole_on device_now so_far.from_read before.from_alone whole)
+      (so_far.goes before whole so)
+      (record {
+        from_unfailed = still_second so_far.from_read.called.faults adds.from_read.called.faults unfailed.from_unfailed;
+        to_unfailed = still_second so_far.to_called.faults adds.to_called.faults unfailed.to_unfailed;
+      })
+      (version_now so version)
 
   pub rest_more : IsDevice now → IsDevice there → IsDevice then → place < length source.done.items → (pair : Moved)
       → AddsNext source place now new there then (Ok pair)

@@ -15,29 +15,38 @@ use Rattle.stored_documents.proofs.Extending.{volume_on}
 use Rattle.stored_documents.proofs.Holding.{some_is}
 use Rattle.tamper_rules.proofs.DocumentLists.{documents_exist}
 use Rattle.tamper_rules.proofs.GivenUp.{one_layout}
-use Rattle.tamper_rules.proofs.Images.{look, same_both}
+use Rattle.tamper_rules.specs.Settling.{Settled}
+use Rattle.tamper_rules.proofs.Images.{look, same_both, same_image}
 use Rattle.worm_device.specs.Calls.{Called, Reads}
 use Rattle.worm_device.specs.declared.device.Failed.{Failed}
 use Rattle.worm_device.specs.Counts.{IsStill}
 use Rattle.worm_device.specs.State.{DeviceState, IsDevice}
-use Rattle.worm_device.proofs.Counting.{still_first, still_second}
+use Rattle.worm_device.proofs.Counting.{rose_or_still, still_first, still_second}
 use Rattle.worm_device.proofs.Elapsing.{called_self, called_then}
-use Rattle.ingest_engine.specs.Formats.{Formats, volume_cell}
+use Rattle.worm_device.proofs.Images.{extends_self}
+use Rattle.ingest_engine.specs.Formats.{FormatEnds, Formats, volume_cell}
 use Rattle.settling_laws.specs.Steadiness.{IsSteady}
-use Rattle.command_laws.specs.Telling.{IsFormatted}
+use Rattle.command_laws.specs.Begins.{BeginsSteady}
+use Rattle.command_laws.specs.Telling.{IsFormatted, LeavesHeld}
 use Rattle.command_laws.proofs.Formatting.{format_makes}
 use Rattle.volume_copy.specs.Adding.{CanBeRead, CopiedSoFar}
-use Rattle.volume_copy.specs.Auditing.{HasAudited, IsWhole, by_reading}
-use Rattle.volume_copy.specs.Beginning.{BeginEnds, Begins, HaveNumbers, StatesNone, StatesOther}
+use Rattle.volume_copy.specs.Auditing.{AuditsSteady, HasAudited, IsWhole, by_reading}
+use Rattle.volume_copy.specs.Beginning.{BeginEnds, Begins, HaveNumbers, IsFree, StatesNone, StatesOther}
 use Rattle.volume_copy.specs.Comparing.{CompareEnds, ComparesAll}
-use Rattle.volume_copy.specs.Copies.{AreAlone, IsOfVersion, IsOtherVolume, RefusesTo, by_volume}
+use Rattle.volume_copy.specs.Alone.{AreAlone}
+use Rattle.volume_copy.specs.Copies.{IsOfVersion, IsOtherVolume, RefusesTo, by_volume}
+use Rattle.volume_copy.specs.Completing.{EndsUnhindered, IsForRoom}
+use Rattle.volume_copy.specs.First as firsts
+use Rattle.volume_copy.specs.First.{HoldsFirst}
 use Rattle.volume_copy.specs.Reading.{IsOnlyRead}
 use Rattle.volume_copy.specs.Refusing.{refusal_to}
 use Rattle.volume_copy.specs.Staying.{IsHeldThroughout}
 use Rattle.volume_copy.specs.declared.audited.AuditedVolume.{AuditedVolume}
 use Rattle.volume_copy.specs.declared.moved.Moved.{Moved}
 use Rattle.volume_copy.proofs.AddedOn.{alone_second, read_none}
+use Rattle.volume_copy.proofs.First.{first_of_held, first_since}
 use Rattle.volume_copy.proofs.Stayed.{format_held, held_then, read_held}
+use Rattle.volume_copy.proofs.Unhindered.{none_differs, none_past, reads_settled}
 use Rattle.volume_copy.proofs.WholeVolumes.{reading_later}
 
 -- a read, as what only looks
@@ -153,6 +162,7 @@ begins_formatted slots lists version {source} {from} {to} {mid} {new} moved none
       to_called = called_then called formats.called;
       to_held = held_then device_to device called formats.called held
           (format_held (layout_for slots lists version mid) (Ok tt) refl device formats);
+      complete = λ free. tt;
       ends = λ alone whole.
           let tells = subst IsTrue (sym called.tells) alone.to_tells in
           let still = still_second called.foreign_writes formats.called.foreign_writes alone.to_alone in (
@@ -171,6 +181,59 @@ begins_formatted slots lists version {source} {from} {to} {mid} {new} moved none
                 },
           );
     }
+
+-- a target that cell 0 says to be blank is blank, where nothing hinders, and formatting it is refused for want of room alone
+pub format_free : (g : Layout) {source : AuditedVolume} {from to mid new : DeviceState} → IsOnlyRead to mid → mid.image 0 ≡ None
+    → (refusal : Refusal) → Formats g mid new (Err refusal) → IsFree source from from to new → IsForRoom (refusal_to refusal)
+format_free g {source} {from} {to} {mid} {new} read first_blank refusal formats free = by refusal formats.ends
+  where
+    still_mid : IsStill mid.foreign_writes new.foreign_writes
+    still_mid = still_second read.called.foreign_writes formats.called.foreign_writes free.alone.to_alone
+
+    same : mid.image ≡ to.image
+    same = same_image (read.only (still_first read.called.foreign_writes formats.called.foreign_writes free.alone.to_alone))
+
+    blank : (cell : ℕ) → mid.image cell ≡ None
+    blank = all free.first
+      where
+        all : HoldsFirst from.cells from.image to.cells to.image → (cell : ℕ) → mid.image cell ≡ None
+        all (firsts.none is) cell = ap (λ (i : Image). i cell) same ∙ is cell
+        all (firsts.first f h those target moved there here are held pairs) cell =
+            absurd (none-some _ (sym first_blank ∙ ap (λ (i : Image). i 0) same ∙ here.volume.stands))
+
+    by : (r : Refusal) → FormatEnds g mid new (Err r) → IsForRoom (refusal_to r)
+    by refusals.TooSmall ends = tt
+    by refusals.DeviceFault ends = absurd (rose_or_still _ _ ends.1
+        (still_second read.called.faults formats.called.faults free.unfailed.to_unfailed))
+    by (refusals.NotBlank at) ends = absurd
+        (let least = ends.1 (subst IsTrue (sym read.called.tells) free.alone.to_tells) in
+        none-some _ (sym (blank at) ∙ least.stood still_mid))
+    by r ends = absurd ends
+
+-- one whose cell 0 is written is a steady volume then, and auditing it is refused for want of memory alone
+pub audit_free : {source : AuditedVolume} {from to mid new : DeviceState} → IsDevice to → IsDevice mid → IsOnlyRead to mid
+    → Called mid new → (cell : List ℕ) → (IsTrue to.tells → mid.image 0 ≡ Some cell) → (refusal : Refusal)
+    → AuditsSteady mid new (Err refusal) → IsFree source from from to new → IsForRoom (refusal_to refusal)
+audit_free {source} {from} {to} {mid} {new} device device_mid read called cell stands refusal audits free = by free.first
+  where
+    still_to : IsStill to.foreign_writes mid.foreign_writes
+    still_to = still_first read.called.foreign_writes called.foreign_writes free.alone.to_alone
+
+    begins_mid : BeginsSteady to mid
+    begins_mid = record { tells = free.alone.to_tells; steady = free.steady; alone = still_to }
+
+    by : HoldsFirst from.cells from.image to.cells to.image → IsForRoom (refusal_to refusal)
+    by (firsts.none blank) = absurd (none-some _ (sym (blank 0)
+        ∙ sym (ap (λ (i : Image). i 0) (same_image (read.only still_to))) ∙ stands free.alone.to_tells))
+    by (firsts.first f h those target moved there here are held pairs) =
+        subst (λ (r : Refusal). IsForRoom (refusal_to r))
+        (sym (audits h (record {
+          tells = subst IsTrue (sym read.called.tells) free.alone.to_tells;
+          volume = subst (λ (k : ℕ). IsVolume k mid.image h) (sym read.called.cells) (volume_on read.called.image here);
+          is = (read_held device device_mid read begins_mid).stays.steady;
+          alone = still_second read.called.foreign_writes called.foreign_writes free.alone.to_alone;
+          no_fault = still_second read.called.faults called.faults free.unfailed.to_unfailed;
+        }) refusal refl)) tt
 
 -- a target that holds a volume of these numbers
 module _ (slots lists version : ℕ) {source target : AuditedVolume} {from from' to mid audited new : DeviceState}
@@ -212,17 +275,76 @@ module _ (slots lists version : ℕ) {source target : AuditedVolume} {from from'
           (still_second called.foreign_writes audit.called.foreign_writes
           (still_first before.foreign_writes to_read.called.foreign_writes alone.to_alone))
 
+  module _ (read : IsOnlyRead from from') (to_read : IsOnlyRead audited new) (free : IsFree source from from' to new) where
+    source_settled : Settled from'.cells from'.image
+    source_settled = subst (λ (k : ℕ). Settled k from'.image) (sym read.called.cells)
+        (subst (λ (i : Image). Settled from.cells i) (sym (same_image (read.only free.alone.from_alone))) free.whole.settled)
+
+    target_settled : Settled new.cells new.image
+    target_settled = subst (λ (k : ℕ). Settled k new.image) (sym to_read.called.cells)
+        (subst (λ (i : Image). Settled audited.cells i)
+        (sym (same_image (to_read.only (alone_behind read to_read free.alone).to_alone)))
+        (whole_target read to_read free.alone).settled)
+
+    begins_so : BeginsSteady to new
+    begins_so = record { tells = free.alone.to_tells; steady = free.steady; alone = free.alone.to_alone }
+
+    leaves_so : IsHeldThroughout to new → LeavesHeld to new
+    leaves_so held_all = held_all begins_so
+
+    -- the target holds the first documents of the source still
+    first_still : IsHeldThroughout to new → HoldsFirst from'.cells from'.image new.cells new.image
+    first_still held_all =
+        let those = documents_exist from.cells from.image free.whole.settled in
+        let v = free.whole.settled in
+        let all = called_then (before read to_read) to_read.called in
+        let there : HoldsFirst from.cells from.image to.cells new.image =
+        first_since device_to free.steady free.first
+        (first_of_held device_to all free.steady (leaves_so held_all) v.layout those.0 v.volume those.1 free.first)
+        new.image (inl (record { above = device_new.sure; below = extends_self new.image })) in
+        subst (λ (k : ℕ). HoldsFirst k from'.image new.cells new.image) (sym read.called.cells)
+        (subst (λ (i : Image). HoldsFirst from.cells i new.cells new.image)
+        (sym (same_image (read.only free.alone.from_alone)))
+        (subst (λ (k : ℕ). HoldsFirst from.cells from.image k new.image) (sym all.cells) there))
+
+    compared_free : IsHeldThroughout to new → (r : Result (Vec Moved) CopyRefusal)
+        → CompareEnds source target from from' audited new r → EndsUnhindered r
+    compared_free held_all (Ok moved) ends = tt
+    compared_free held_all (Err (copies.Differs old fresh)) ends =
+        none_differs old fresh target_settled (first_still held_all)
+        (ends.1 (alone_behind read to_read free.alone) free.whole (whole_target read to_read free.alone))
+    compared_free held_all (Err (copies.Longer fresh)) ends =
+        none_past fresh target_settled (first_still held_all)
+        (ends (alone_behind read to_read free.alone) free.whole (whole_target read to_read free.alone))
+    compared_free held_all (Err copies.NoMemory) ends = tt
+    compared_free held_all (Err (copies.From refusals.NoMemory)) ends = absurd ends
+    compared_free held_all (Err (copies.From refusal)) ends = absurd
+        (subst (λ (r : Refusal). CompareEnds source target from from' audited new (Err (copies.From r)))
+        (reads_settled free.alone.from_tells free.alone.from_alone free.unfailed.from_unfailed source_settled refusal
+        ends) ends)
+    compared_free held_all (Err (copies.To refusals.NoMemory)) ends = absurd ends
+    compared_free held_all (Err (copies.To refusal)) ends = absurd
+        (subst (λ (r : Refusal). CompareEnds source target from from' audited new (Err (copies.To r)))
+        (reads_settled (alone_behind read to_read free.alone).to_tells (alone_behind read to_read free.alone).to_alone
+        (still_second (before read to_read).faults to_read.called.faults free.unfailed.to_unfailed) target_settled refusal
+        ends) ends)
+    compared_free held_all (Err refusal) ends = absurd ends
+
   pub begins_compared : (result : Result (Vec Moved) CopyRefusal)
       → ComparesAll source target from from' audited new result → Begins slots lists source from from' to new result
   begins_compared result compares = record {
     from_read = compares.from_read;
     to_called = called_then called (called_then audit.called compares.to_read.called);
-    to_held = held_then device_to device_mid called (called_then audit.called compares.to_read.called) held_first
-        (held_then device_mid device_audited audit.called compares.to_read.called held
-        (read_held device_audited device_new compares.to_read));
+    to_held = held_all;
+    complete = λ free. compared_free compares.from_read compares.to_read free held_all result compares.ends;
     ends = go result compares.ends;
   }
     where
+      held_all : IsHeldThroughout to new
+      held_all = held_then device_to device_mid called (called_then audit.called compares.to_read.called) held_first
+          (held_then device_mid device_audited audit.called compares.to_read.called held
+          (read_held device_audited device_new compares.to_read))
+
       go : (r : Result (Vec Moved) CopyRefusal) → CompareEnds source target from from' audited new r
           → BeginEnds slots lists source from from' to new r
       go (Ok moved) ends = λ alone whole. (

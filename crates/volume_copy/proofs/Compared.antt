@@ -27,7 +27,8 @@ use Rattle.document_store.proofs.Holding.{held_stands}
 use Rattle.volume_copy.specs.Adding.{CanBeRead, CopiedSoFar}
 use Rattle.volume_copy.specs.Auditing.{IsWhole}
 use Rattle.volume_copy.specs.Comparing.{CompareEnds, ComparesAll, ComparesNext, FindsOther, FindsSame, IsSameCopy, NextEnds, ReadsBoth, WhereWhole}
-use Rattle.volume_copy.specs.Copies.{AreAlone, HoldOthers, IsFirstPast, IsFirstToDiffer}
+use Rattle.volume_copy.specs.Alone.{AreAlone}
+use Rattle.volume_copy.specs.Copies.{HoldOthers, IsFirstPast, IsFirstToDiffer}
 use Rattle.volume_copy.specs.Pairs.{AgreeSoFar, ArePairs, SaysSame}
 use Rattle.volume_copy.specs.Reading.{HoldsCopy, IsOnlyRead, ReadingFails}
 use Rattle.volume_copy.specs.Refusing.{refusal_from, refusal_to}

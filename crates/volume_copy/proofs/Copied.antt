@@ -15,6 +15,7 @@ use Rattle.stored_documents.proofs.Extending.{stands_on, volume_on}
 use Rattle.index_paths.specs.Keeping.{IsKept, Kept}
 use Rattle.index_paths.proofs.KeepingLaws.{documents}
 use Rattle.tamper_rules.specs.Settling.{Settled}
+use Rattle.tamper_rules.proofs.Between.{volume_of}
 use Rattle.tamper_rules.proofs.DocumentLists.{documents_exist, only_one}
 use Rattle.tamper_rules.proofs.GivenUp.{one_layout}
 use Rattle.tamper_rules.proofs.Images.{same_image}
@@ -27,9 +28,11 @@ use Rattle.worm_device.proofs.Elapsing.{called_self, called_then}
 use Rattle.ingest_engine.specs.Ingesting.{document_in}
 use Rattle.settling_laws.specs.Steadiness.{IsSteady}
 use Rattle.volume_copy.specs.Adding.{AddsRest, CopiedSoFar, RestFails}
-use Rattle.volume_copy.specs.Auditing.{HasAudited, IsWhole, Refuses, by_reading}
+use Rattle.volume_copy.specs.Auditing.{AuditsSteady, HasAudited, IsWhole, Refuses, by_reading}
 use Rattle.volume_copy.specs.Beginning.{BeginEnds, Begins}
-use Rattle.volume_copy.specs.Copies.{AreAlone, Copies, CopiesWhole, CopyEnds, HasCopied, HasNumbers, IsFirstThroughout, IsKeptThere, KeepsAll, by_ingest}
+use Rattle.volume_copy.specs.Alone.{AreAlone}
+use Rattle.volume_copy.specs.Copies.{Copies, CopiesWhole, CopyEnds, HasCopied, HasNumbers, IsFirstThroughout, IsKeptThere, KeepsAll, by_ingest}
+use Rattle.volume_copy.specs.Completing.{IsForRoom, IsUnhindered}
 use Rattle.volume_copy.specs.First.{HoldsFirst, StaysFirst}
 use Rattle.volume_copy.specs.Pairs.{ArePairs}
 use Rattle.volume_copy.specs.Refusing.{refusal_from}
@@ -45,16 +48,29 @@ use Rattle.volume_copy.proofs.WholeVolumes.{reading_later, stands_among}
 
 -- the source was not audited
 pub not_audited : (slots lists : ℕ) (from from' to : DeviceState) (refusal : Refusal) → Called from from' → IsDevice to
-    → IsHeldThroughout from from' → Refuses from from' refusal → Copies slots lists from from' to to (Err (refusal_from refusal))
-not_audited slots lists from from' to refusal called device held refuses = record {
+    → IsHeldThroughout from from' → AuditsSteady from from' (Err refusal) → Refuses from from' refusal
+    → Copies slots lists from from' to to (Err (refusal_from refusal))
+not_audited slots lists from from' to refusal called device held audits refuses = record {
   from_called = called;
   to_called = called_self to;
   from_held = held;
   to_sound = sound_self to;
   to_first = λ alone steady holds. first_since device steady holds (λ since image le left. inl left);
+  complete = λ free. subst (λ (r : Refusal). IsForRoom (refusal_from r)) (sym (audited free)) tt;
   ends = go refusal refuses;
 }
   where
+    audited : IsUnhindered from from' to to → refusal ≡ refusals.NoMemory
+    audited free =
+        let v = volume_of free.from_sound.is in
+        audits v.0 (record {
+          tells = free.alone.from_tells;
+          volume = v.1;
+          is = free.from_steady;
+          alone = free.alone.from_alone;
+          no_fault = free.unfailed.from_unfailed;
+        }) refusal refl
+
     go : (r : Refusal) → Refuses from from' r → CopyEnds slots lists from from' to to (Err (refusal_from r))
     go refusals.NoMemory x = tt
     go r x = x
@@ -178,6 +194,19 @@ module _ {slots lists : ℕ} {source : AuditedVolume} {from audited from1 to to1
     to_sound = sound_of begins.to_held;
     to_first = λ alone steady holds. first_since device_to steady holds
         (first_begun begins alone steady alone.to_alone refl refl holds);
+    complete = λ free. begins.complete (record {
+      alone = behind free.alone;
+      unfailed = record {
+        from_unfailed = still_second audit.called.faults begins.from_read.called.faults free.unfailed.from_unfailed;
+        to_unfailed = free.unfailed.to_unfailed;
+      };
+      whole = whole_audited audit begins.from_read.called free.alone;
+      steady = free.to_steady;
+      first =
+          subst (λ (k : ℕ). HoldsFirst k audited.image to.cells to.image) begins.from_read.called.cells
+          (subst (λ (i : Image). HoldsFirst from1.cells i to.cells to.image)
+          (same_image (begins.from_read.only (behind free.alone).from_alone)) free.to_first);
+    });
     ends = go refusal begins.ends;
   }
     where
@@ -229,6 +258,18 @@ module _ {slots lists : ℕ} {source : AuditedVolume} {from audited from1 to to1
             (read_held device device2 (read_then begins.from_read rest.from_read));
         to_sound = sound_then begins.to_called rest.to_called (sound_of begins.to_held) rest.to_sound;
         to_first = first_rested rest;
+        complete = λ free.
+            let before = called_then audit.called begins.from_read.called in
+            let first = alone_first before rest.from_read.called begins.to_called rest.to_called free.alone in
+            let second = alone_second before rest.from_read.called begins.to_called rest.to_called free.alone in
+            let behind = alone_second audit.called begins.from_read.called (called_self to) begins.to_called first in
+            let began = begins.ends behind (whole_audited audit begins.from_read.called first) in
+            rest.complete second (whole1 begins first free.to_steady first.to_alone) began.0
+            (record {
+              from_unfailed = still_second before.faults rest.from_read.called.faults free.unfailed.from_unfailed;
+              to_unfailed = still_second begins.to_called.faults rest.to_called.faults free.unfailed.to_unfailed;
+            })
+            (λ g h from_volume to_volume. (began.1 g h from_volume to_volume).version_is);
         ends = go refusal rest.ends;
       }
         where
@@ -265,6 +306,7 @@ module _ {slots lists : ℕ} {source : AuditedVolume} {from audited from1 to to1
             (read_held device device2 (read_then begins.from_read rest.from_read));
         to_sound = sound_then begins.to_called rest.to_called (sound_of begins.to_held) rest.to_sound;
         to_first = first_rested rest;
+        complete = λ free. tt;
         ends = λ alone.
             let first = alone_first (called_then audit.called begins.from_read.called) rest.from_read.called begins.to_called rest.to_called alone in
             let second = alone_second (called_then audit.called begins.from_read.called) rest.from_read.called begins.to_called rest.to_called alone in

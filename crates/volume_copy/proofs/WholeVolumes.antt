@@ -178,61 +178,61 @@ module _ {old a b new : DeviceState} {report : AuditReport} (r : Ready) (audits 
       (reading_later up_to_b read.called refusal (ends (λ tells.
       volume_b (subst IsTrue up_to_b.tells tells))))
 
+  module _ (tells : IsTrue old.tells) (still : IsStill old.foreign_writes new.foreign_writes) where
+    still_a : IsStill old.foreign_writes a.foreign_writes
+    still_a = still_first audits.called.foreign_writes
+        (called_then settles.called read.called).foreign_writes still
+
+    still_b : IsStill a.foreign_writes b.foreign_writes
+    still_b = still_second audits.called.foreign_writes settles.called.foreign_writes
+        (still_first up_to_b.foreign_writes read.called.foreign_writes still)
+
+    sound : IsSound a.cells a.image report
+    sound = audit_sound audits tells still_a
+
+    settled_a : Settled a.cells a.image
+    settled_a = record { layout = sound.layout; volume = sound.volume; settled = sound.settled }
+
+    ends : EndsAs a b a.image r.step
+    ends = settling_ends a b r a.image device_b.sure (tells_a tells) settles still_b
+        (nothing settled_a (λ cell. refl)) settled_a
+
+    same_new : new.image ≡ b.image
+    same_new = same_image (read.only (still_second up_to_b.foreign_writes read.called.foreign_writes still))
+
+    image_a : new.image ≡ a.image
+    image_a = same_new ∙ ends.image
+
+    sure_new : new.sure ≡ new.image
+    sure_new = same_both
+        (subst (λ (i : Image). Extends i new.sure) (ends.sure ∙ sym image_a) read.called.sure) device.sure
+        ∙ refl
+
+    pub settled_new : Settled new.cells new.image
+    settled_new = subst (λ (k : ℕ). Settled k new.image)
+        (sym ((called_then settles.called read.called).cells))
+        (subst (λ (i : Image). Settled a.cells i) (sym image_a) settled_a)
+
+    horizon : IsHorizon r.volume.geometry new.image new.image r.horizon
+    horizon = subst (λ (i : Image). IsHorizon r.volume.geometry i new.image r.horizon) (sym image_a)
+        (subst (λ (i : Image). IsHorizon r.volume.geometry a.image i r.horizon) (sym same_new)
+        (settles.ends.1 (tells_a tells)).horizon)
+
   module _ (slots : Vec ℕ) (walk : WalkEnds r.volume.geometry r.horizon b new (Ok slots)) where
     among : (place : ℕ) → place < length slots.items → Contains slots.items (slice_index slots.items place)
     among place less = Contains-get_or slots.items place 0 less
 
-    module _ (tells : IsTrue old.tells) (still : IsStill old.foreign_writes new.foreign_writes) where
-      still_a : IsStill old.foreign_writes a.foreign_writes
-      still_a = still_first audits.called.foreign_writes
-          (called_then settles.called read.called).foreign_writes still
-
-      still_b : IsStill a.foreign_writes b.foreign_writes
-      still_b = still_second audits.called.foreign_writes settles.called.foreign_writes
-          (still_first up_to_b.foreign_writes read.called.foreign_writes still)
-
-      sound : IsSound a.cells a.image report
-      sound = audit_sound audits tells still_a
-
-      settled_a : Settled a.cells a.image
-      settled_a = record { layout = sound.layout; volume = sound.volume; settled = sound.settled }
-
-      ends : EndsAs a b a.image r.step
-      ends = settling_ends a b r a.image device_b.sure (tells_a tells) settles still_b
-          (nothing settled_a (λ cell. refl)) settled_a
-
-      same_new : new.image ≡ b.image
-      same_new = same_image (read.only (still_second up_to_b.foreign_writes read.called.foreign_writes still))
-
-      image_a : new.image ≡ a.image
-      image_a = same_new ∙ ends.image
-
-      sure_new : new.sure ≡ new.image
-      sure_new = same_both
-          (subst (λ (i : Image). Extends i new.sure) (ends.sure ∙ sym image_a) read.called.sure) device.sure
-          ∙ refl
-
-      settled_new : Settled new.cells new.image
-      settled_new = subst (λ (k : ℕ). Settled k new.image)
-          (sym ((called_then settles.called read.called).cells))
-          (subst (λ (i : Image). Settled a.cells i) (sym image_a) settled_a)
-
-      horizon : IsHorizon r.volume.geometry new.image new.image r.horizon
-      horizon = subst (λ (i : Image). IsHorizon r.volume.geometry i new.image r.horizon) (sym image_a)
-          (subst (λ (i : Image). IsHorizon r.volume.geometry a.image i r.horizon) (sym same_new)
-          (settles.ends.1 (tells_a tells)).horizon)
-
-      done_new : AreDoneBelow r.volume.geometry new.image new.image r.horizon slots.items
-      done_new = subst (λ (i : Image). AreDoneBelow r.volume.geometry i new.image r.horizon slots.items) (sym same_new)
-          (walk.1 (tells_b tells))
-
-      whole : IsWhole new slots.items
-      whole = record {
-        settled = settled_new;
-        sure = λ cell. ap (λ (i : Image). i cell) sure_new;
-        slots = λ documents are. same_slots new.cells new.image r.volume.geometry (volume_new tells) settled_new r.horizon
-            horizon slots.items walk.0 done_new documents are;
-      }
+    whole : IsTrue old.tells → IsStill old.foreign_writes new.foreign_writes → IsWhole new slots.items
+    whole tells still =
+        let done_new : AreDoneBelow r.volume.geometry new.image new.image r.horizon slots.items =
+        subst (λ (i : Image). AreDoneBelow r.volume.geometry i new.image r.horizon slots.items) (sym (same_new tells still))
+        (walk.1 (tells_b tells)) in
+        record {
+          settled = settled_new tells still;
+          sure = λ cell. ap (λ (i : Image). i cell) (sure_new tells still);
+          slots = λ documents are. same_slots new.cells new.image r.volume.geometry (volume_new tells)
+              (settled_new tells still) r.horizon (horizon tells still) slots.items walk.0 done_new documents are;
+        }
 
     pub has_audited : HasAudited old new (record { volume = r.volume; done = slots })
     has_audited = record {

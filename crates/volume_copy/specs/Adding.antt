@@ -11,7 +11,8 @@ use Rattle.worm_device.specs.Calls.{Called}
 use Rattle.worm_device.specs.State.{DeviceState}
 use Rattle.document_store.specs.Standing.{HoldsDocument}
 use Rattle.ingest_engine.specs.Ingesting.{Ingests}
-use Rattle.volume_copy.specs.Copies.{AreAlone}
+use Rattle.volume_copy.specs.Alone.{AreAlone, AreUnfailed}
+use Rattle.volume_copy.specs.Completing.{AreOfOneVersion, EndsUnhindered}
 use Rattle.volume_copy.specs.First.{StaysFirst}
 use Rattle.cell_types.specs.Image.{IsUnchanged}
 use Rattle.tamper_rules.specs.Settling.{Settled}
@@ -72,6 +73,14 @@ abbrev pub WhereCopied
 WhereCopied source from from' to to' moved P =
     AreAlone from from' to to' → IsWhole from source.done.items → CopiedSoFar from to moved → P
 
+-- then, where no call fails and both volumes have one version, nothing else hinders
+abbrev pub Completes
+    : AuditedVolume → DeviceState → DeviceState → DeviceState → DeviceState → List Moved → {X : Type 0} → Result X CopyRefusal
+    → Type 0
+Completes source from from' to to' moved result =
+    WhereCopied source from from' to to' moved
+    (AreUnfailed from from' to to' → AreOfOneVersion from to → EndsUnhindered result)
+
 pub record AddsNext (source : AuditedVolume) (place : ℕ) (from from' to to' : DeviceState) (result : Result Moved CopyRefusal)
     : Type 0 where
   pub from_read : IsOnlyRead from from'
@@ -79,6 +88,7 @@ pub record AddsNext (source : AuditedVolume) (place : ℕ) (from from' to to' : 
   pub to_sound : IsSoundThroughout to to'
   pub to_first : (moved : List Moved) → length moved ≡ place
       → WhereCopied source from from' to to' moved (StaysFirst from'.cells from'.image to to')
+  pub complete : (moved : List Moved) → length moved ≡ place → Completes source from from' to to' moved result
   pub ends : AddEnds source place from from' to to' result
 
 -- an ingest of a document of the source was refused
@@ -117,4 +127,5 @@ pub record AddsRest (source : AuditedVolume) (from from' to to' : DeviceState) (
   pub to_called : Called to to'
   pub to_sound : IsSoundThroughout to to'
   pub to_first : WhereCopied source from from' to to' moved (StaysFirst from'.cells from'.image to to')
+  pub complete : Completes source from from' to to' moved result
   pub ends : RestEnds source from from' to to' moved moved' result

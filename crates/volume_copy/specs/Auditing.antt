@@ -1,8 +1,9 @@
 -- What it means that a volume is audited before it is copied, and what is known of it then.
 use Rattle.std.specs.Prelude.{◌≡◌, ◌<◌, ℕ, List, length, slice_index, Result, Ok, Err, IsTrue}
 use Rattle.cell_types.specs.Image.{IsUnchanged}
-use Rattle.cell_types.specs.Layout.{IsLayout}
+use Rattle.cell_types.specs.Layout.{IsLayout, Layout}
 use Rattle.cell_types.specs.declared.refusal.Refusal.{Refusal}
+use Rattle.cell_types.specs.declared.refusal.Refusal.TheVariants.{NoMemory}
 use Rattle.stored_documents.specs.Documents.{AreDocuments, Document}
 use Rattle.stored_documents.specs.Slots.{IsDoneSlot}
 use Rattle.stored_documents.specs.Volumes.{IsVolume}
@@ -11,6 +12,7 @@ use Rattle.worm_device.specs.Calls.{Called}
 use Rattle.worm_device.specs.Counts.{IsStill}
 use Rattle.worm_device.specs.State.{DeviceState}
 use Rattle.recovery_engine.specs.Settling.{Settles}
+use Rattle.command_laws.specs.WholeLogs.{HasSteadyVolume}
 use Rattle.volume_audit.specs.Audits.{Audits}
 use Rattle.volume_audit.specs.declared.report.AuditReport.{AuditReport}
 use Rattle.volume_copy.specs.Pairs.{slots_of}
@@ -42,6 +44,11 @@ pub record HasAudited (old new : DeviceState) (volume : AuditedVolume) : Type 0 
   pub done : IsTrue old.tells → (place : ℕ) → place < length volume.done.items
       → IsDoneSlot volume.volume.geometry new.image (slice_index volume.done.items place)
   pub whole : IsTrue old.tells → IsStill old.foreign_writes new.foreign_writes → IsWhole new volume.done.items
+
+-- An audit of a steady volume, with nobody else writing and no call that fails, is refused for want of memory alone.
+abbrev pub AuditsSteady : DeviceState → DeviceState → Result AuditedVolume Refusal → Type 0
+AuditsSteady old new result =
+    (g : Layout) → HasSteadyVolume g old new → (refusal : Refusal) → result ≡ Err refusal → refusal ≡ NoMemory
 
 -- how auditing a volume that is to be copied may end, and why
 abbrev pub SourceEnds : DeviceState → DeviceState → Result AuditedVolume Refusal → Type 0

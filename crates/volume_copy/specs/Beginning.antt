@@ -11,7 +11,11 @@ use Rattle.worm_device.specs.Calls.{Called}
 use Rattle.worm_device.specs.State.{DeviceState}
 use Rattle.volume_copy.specs.Adding.{CopiedSoFar}
 use Rattle.volume_copy.specs.Auditing.{IsWhole}
-use Rattle.volume_copy.specs.Copies.{AreAlone, HasNumbers, HoldOthers, IsFirstPast, IsFirstToDiffer, IsOtherVolume, RefusesTo}
+use Rattle.settling_laws.specs.Steadiness.{IsSteady}
+use Rattle.volume_copy.specs.Alone.{AreAlone, AreUnfailed}
+use Rattle.volume_copy.specs.Completing.{EndsUnhindered}
+use Rattle.volume_copy.specs.First.{HoldsFirst}
+use Rattle.volume_copy.specs.Copies.{HasNumbers, HoldOthers, IsFirstPast, IsFirstToDiffer, IsOtherVolume, RefusesTo}
 use Rattle.volume_copy.specs.Reading.{IsOnlyRead, ReadingFails}
 use Rattle.volume_copy.specs.Staying.{IsHeldThroughout}
 use Rattle.volume_copy.specs.declared.audited.AuditedVolume.{AuditedVolume}
@@ -60,11 +64,21 @@ BeginEnds slots lists source from from' to to' (Err (To refusals.NoMemory)) = �
 BeginEnds slots lists source from from' to to' (Err (To refusal)) = RefusesTo slots lists from' to to' refusal
 BeginEnds slots lists source from from' to to' (Err refusal) = ⊥
 
+-- Nothing hinders it: nobody else writes, no call fails, the source is whole, and the target is steady and has no written
+-- cell or holds the first documents of the source.
+pub record IsFree (source : AuditedVolume) (from from' to to' : DeviceState) : Type 0 where
+  pub alone : AreAlone from from' to to'
+  pub unfailed : AreUnfailed from from' to to'
+  pub whole : IsWhole from source.done.items
+  pub steady : IsSteady to
+  pub first : HoldsFirst from.cells from.image to.cells to.image
+
 pub record Begins (slots lists : ℕ) (source : AuditedVolume) (from from' to to' : DeviceState)
     (result : Result (Vec Moved) CopyRefusal) : Type 0 where
   pub from_read : IsOnlyRead from from'
   pub to_called : Called to to'
   pub to_held : IsHeldThroughout to to'
+  pub complete : IsFree source from from' to to' → EndsUnhindered result
   pub ends : BeginEnds slots lists source from from' to to' result
 
 -- whether a cell states another volume

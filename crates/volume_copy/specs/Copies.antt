@@ -22,17 +22,11 @@ use Rattle.ingest_engine.specs.Formats.{Formats}
 use Rattle.ingest_engine.specs.Ingesting.{Ingests, document_in}
 use Rattle.settling_laws.specs.Steadiness.{IsSteady}
 use Rattle.volume_copy.specs.Auditing.{Refuses}
+use Rattle.volume_copy.specs.Completing.{EndsUnhindered, IsUnhindered}
 use Rattle.volume_copy.specs.First.{HoldsFirst}
 use Rattle.volume_copy.specs.Pairs.{AgreeSoFar, ArePairs, SaysSame}
 use Rattle.volume_copy.specs.Staying.{IsHeldThroughout, IsSoundThroughout}
 use Rattle.volume_copy.specs.declared.moved.Moved.{Moved}
-
--- both devices tell what stands in their cells, and nobody else writes on either
-pub record AreAlone (from from' to to' : DeviceState) : Type 0 where
-  pub from_tells : IsTrue from.tells
-  pub to_tells : IsTrue to.tells
-  pub from_alone : IsStill from.foreign_writes from'.foreign_writes
-  pub to_alone : IsStill to.foreign_writes to'.foreign_writes
 
 -- a volume of the target has so many slots and lists, and the version of this one of the source
 pub record HasNumbers (slots lists : ℕ) (g h : Layout) : Type 0 where
@@ -174,7 +168,8 @@ IsFirstThroughout from from' to to' =
 
 -- What it means that a volume is copied, or why it is not. Where nobody else writes, what a crash leaves of the source or of
 -- the target, from a steady device on, is blank or sound at each moment; the source holds the documents that it held; and
--- the target holds the first ones of the source, so that a copy that was stopped is run again.
+-- the target holds the first ones of the source, so that a copy that was stopped is run again. One that nothing hinders is done, or refused
+-- for want of memory or of room.
 pub record Copies (slots lists : ℕ) (from from' to to' : DeviceState) (result : Result (Vec Moved) CopyRefusal) : Type 0
   where
     pub from_called : Called from from'
@@ -182,4 +177,5 @@ pub record Copies (slots lists : ℕ) (from from' to to' : DeviceState) (result 
     pub from_held : IsHeldThroughout from from'
     pub to_sound : IsSoundThroughout to to'
     pub to_first : IsFirstThroughout from from' to to'
+    pub complete : IsUnhindered from from' to to' → EndsUnhindered result
     pub ends : CopyEnds slots lists from from' to to' result

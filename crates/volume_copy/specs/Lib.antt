@@ -1,7 +1,9 @@
 pub mod Adding
+pub mod Alone
 pub mod Auditing
 pub mod Beginning
 pub mod Comparing
+pub mod Completing
 pub mod Copies
 pub mod First
 pub mod Laws

@@ -1,5 +1,5 @@
 //! A volume that was audited, and the slots of its documents.
-ghost use Rattle.volume_copy.specs.Auditing.{SourceEnds};
+ghost use Rattle.volume_copy.specs.Auditing.{AuditsSteady, SourceEnds};
 ghost use Rattle.volume_copy.specs.Staying.{IsHeldThroughout};
 
 use crate::walking::done_slots;
@@ -21,6 +21,7 @@ pub struct AuditedVolume {
 /// log is asked for again, behind it.
 pub fn audit_volume<D: Device>(alloc: Global, device: &mut D) -> Result<AuditedVolume, Refusal>
     ensures held { IsHeldThroughout (D.state device.old) (D.state device.new) }
+    ensures steady { AuditsSteady (D.state device.old) (D.state device.new) result }
     ensures ends { SourceEnds (D.state device.old) (D.state device.new) result }
 {
     let _report = audit(alloc, device)?;

@@ -1,9 +1,9 @@
 -- The document was read, and ingested.
-use Rattle.std.proofs.Common.{sym, ◌∙◌, ◌≡◌}
+use Rattle.std.proofs.Common.{inl, sym, ◌∙◌, ◌≡◌}
 use Rattle.std.specs.Prelude.{slice_index}
 use Rattle.std.proofs.lemmas.Grind.{get_or_default_zero}
 use Rattle.worm_device.proofs.Elapsing.{called_self}
-use Rattle.volume_copy.proofs.AddedOn.{ingest_first, ingests_of, source_fails, target_fails}
+use Rattle.volume_copy.proofs.AddedOn.{ingest_complete, ingest_first, ingests_of, source_complete, source_fails, target_fails}
 use Rattle.volume_copy.proofs.Stayed.{ingest_sound, sound_self}
 use Rattle.volume_copy.proofs.adding.copy_next.Goals as goal
 
@@ -27,6 +27,8 @@ returns-in-Err g c =
       to_called = called_self _;
       to_sound = sound_self _;
       to_first = λ moved count alone whole so since image le left. inl left;
+      complete = rw c.from_source.ensures (λ moved count. source_complete c.args.source.now c.in-Err.ensures.read
+          c.in-Err.refusal (c.in-Err.ensures.ends c.requires.source.is_volume) moved);
       ends = rw c.from_source.ensures (source_fails c.args.source.now.volume.geometry _ _ _ _ c.in-Err.refusal
           (c.in-Err.ensures.ends c.requires.source.is_volume));
     }
@@ -46,6 +48,7 @@ returns-in-Ok-ingest g c =
       to_first = ingest_first c.args.source.now (g.met.E.Device.proper c.args.to.now)
           (g.met.E.Device.proper c.ingest.new.device) c.in-Ok.ensures.read c.in-Ok-ingest.ensures.called c.requires.source
           c.args.place c.requires.inside c.index-old.result.now at ingests;
+      complete = λ moved count alone whole so unfailed version. tt;
       ends = (at, ingests);
     }
 
@@ -64,6 +67,9 @@ returns g c =
       to_first = ingest_first c.args.source.now (g.met.E.Device.proper c.args.to.now)
           (g.met.E.Device.proper c.ingest.new.device) c.in-Ok.ensures.read c.in-Err-ingest.ensures.called
           c.requires.source c.args.place c.requires.inside c.index-old.result.now at ingests;
+      complete = rw c.to_target.ensures (ingest_complete c.args.source.now (g.met.E.Device.proper c.args.to.now)
+          (g.met.E.Device.proper c.ingest.new.device) c.in-Ok.ensures.read c.in-Err-ingest.ensures.called
+          c.requires.source c.args.place c.requires.inside c.index-old.result.now at c.in-Err-ingest.refusal ingests);
       ends = rw c.to_target.ensures (target_fails c.args.source.now.volume.geometry _ _ _ _ _ c.in-Err-ingest.refusal
           (rw (sym at) ingests));
     }

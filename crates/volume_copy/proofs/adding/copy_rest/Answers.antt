@@ -1,7 +1,7 @@
 -- Document after document.
 use Rattle.std.proofs.Common.{Ok, Err, arith, rules}
 use Rattle.worm_device.proofs.Elapsing.{called_then}
-use Rattle.volume_copy.proofs.AddedOn.{can_on, read_then, rest_fails, rest_first, rest_more}
+use Rattle.volume_copy.proofs.AddedOn.{can_on, read_then, rest_complete, rest_fails, rest_first, rest_more}
 use Rattle.volume_copy.proofs.Stayed.{sound_then}
 use Rattle.volume_copy.proofs.adding.copy_rest.Goals as goal
 
@@ -18,6 +18,8 @@ returns-in-Err g c =
           c.loop-place.invariant.to_sound c.in-Err.ensures.to_sound;
       to_first = rest_first c.requires.source c.loop-place.invariant (g.met.D.Device.proper c.loop-place.from)
           (Err c.in-Err.refusal) c.in-Err.ensures;
+      complete = rest_complete c.requires.source c.loop-place.invariant (g.met.D.Device.proper c.loop-place.from)
+          c.in-Err.refusal c.in-Err.ensures;
       ends = rest_fails c.requires.source c.loop-place.invariant c.in-Err.refusal c.in-Err.ensures;
     }
 
@@ -31,6 +33,7 @@ returns-in_default g c =
           c.loop-place.invariant.to_sound c.in-Ok.ensures.to_sound;
       to_first = rest_first c.requires.source c.loop-place.invariant (g.met.D.Device.proper c.loop-place.from)
           (Ok c.in-Ok.pair) c.in-Ok.ensures;
+      complete = λ alone whole so unfailed version. tt;
       ends = tt;
     }
 

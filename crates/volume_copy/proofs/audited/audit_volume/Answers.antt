@@ -1,7 +1,10 @@
 -- Who refuses, and what is known where none does.
+use Rattle.std.proofs.Common.{subst}
+use Rattle.std.specs.Prelude.{IsTrue}
 use Rattle.cell_types.proofs.Passed.{handed}
 use Rattle.volume_copy.specs.Auditing.{by_audit, by_settling}
-use Rattle.volume_copy.proofs.WholeVolumes.{has_audited, walk_refuses}
+use Rattle.volume_copy.proofs.Unhindered.{audit_steady, read_steady, settle_steady}
+use Rattle.volume_copy.proofs.WholeVolumes.{has_audited, settled_new, volume_b, walk_refuses}
 use Rattle.worm_device.proofs.Elapsing.{called_then}
 use Rattle.volume_copy.proofs.Stayed.{audit_held, held_then, read_held, settle_held}
 use Rattle.volume_copy.proofs.audited.audit_volume.Goals as goal
@@ -30,6 +33,38 @@ returns-clause-ends g c =
     has_audited c.in_ok-ready.ready c.in_ok-_report.ensures c.in_ok-ready.ensures c.done_slots.ensures.read
     (g.met.D.Device.proper c.settle.new.device) (g.met.D.Device.proper c.done_slots.new.device) c.in_ok-done.done
     c.in_ok-done.ensures.ends
+
+-- where nothing hinders
+pub returns-in_err-_report-clause-steady : goal.returns-in_err-_report-clause-steady
+returns-in_err-_report-clause-steady g c =
+    let refusal = c.in_err-_report.field-0.0 in
+    rw (handed c.from_residual.result refusal c.from_residual.ensures.1)
+    (audit_steady (g.met.D.Device.proper c.args.device.now) (g.met.D.Device.proper c.audit.new.device) refusal
+    c.in_err-_report.ensures)
+
+pub returns-in_err-ready-clause-steady : goal.returns-in_err-ready-clause-steady
+returns-in_err-ready-clause-steady g c =
+    let refusal = c.in_err-ready.field-0.0 in
+    rw (handed c.from_residual-in_err-ready.result refusal c.from_residual-in_err-ready.ensures.1)
+    (settle_steady (g.met.D.Device.proper c.args.device.now) (g.met.D.Device.proper c.audit.new.device)
+    (g.met.D.Device.proper c.settle.new.device) c.in_ok-_report.ensures c.settle.ensures.called refusal
+    c.in_err-ready.ensures)
+
+pub returns-in_err-done-clause-steady : goal.returns-in_err-done-clause-steady
+returns-in_err-done-clause-steady g c =
+    let refusal = c.in_err-done.field-0.0 in
+    rw (handed c.from_residual-in_err-done.result refusal c.from_residual-in_err-done.ensures.1)
+    (read_steady (called_then c.audit.ensures.called c.settle.ensures.called) c.done_slots.ensures.read.called
+    (settled_new c.in_ok-ready.ready c.in_ok-_report.ensures c.in_ok-ready.ensures c.done_slots.ensures.read
+    (g.met.D.Device.proper c.settle.new.device) (g.met.D.Device.proper c.done_slots.new.device))
+    refusal
+    (λ tells. c.in_err-done.ensures.ends (λ also. volume_b c.in_ok-ready.ready c.in_ok-_report.ensures
+    c.in_ok-ready.ensures c.done_slots.ensures.read (g.met.D.Device.proper c.settle.new.device)
+    (g.met.D.Device.proper c.done_slots.new.device)
+    (subst IsTrue (called_then c.audit.ensures.called c.settle.ensures.called).tells also))))
+
+pub returns-clause-steady : goal.returns-clause-steady
+returns-clause-steady g c = λ layout log refusal same. absurd cc
 
 -- what a crash leaves of each
 pub returns-in_err-_report-clause-held : goal.returns-in_err-_report-clause-held

@@ -9,7 +9,7 @@ use Rattle.volume_copy.proofs.copying.copy.Goals as goal
 pub returns-in-Err : goal.returns-in-Err
 returns-in-Err g c = rw c.from_source.ensures (not_audited c.args.slots c.args.lists _ _ _ c.in-Err.refusal
     (refuses_called c.in-Err.ensures.ends) (g.met.E.Device.proper c.args.to.now) c.audit_volume.ensures.held
-    c.in-Err.ensures.ends)
+    c.in-Err.ensures.steady c.in-Err.ensures.ends)
 
 pub begin-requires-clause-source : goal.begin-requires-clause-source
 begin-requires-clause-source g c = can_audited c.in-Ok.ensures.ends

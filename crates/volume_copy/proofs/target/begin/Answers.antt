@@ -1,11 +1,12 @@
 -- The target was formatted, or compared, or it refuses.
 use Rattle.std.proofs.Common.{refl, ℕ, ◌∙◌, subst, sym}
 use Rattle.std.specs.Prelude.{IsTrue}
+use Rattle.worm_device.proofs.Counting.{rose_or_still}
 use Rattle.worm_device.proofs.Elapsing.{called_then}
 use Rattle.volume_copy.specs.Beginning.{StatesNone, StatesOther}
 use Rattle.volume_copy.specs.Copies.{by_format, by_look, by_volume}
 use Rattle.volume_copy.proofs.AddedOn.{read_none}
-use Rattle.volume_copy.proofs.Begun.{begin_refuses, begins_compared, begins_formatted, can_audited, is_another, of_version, read_once}
+use Rattle.volume_copy.proofs.Begun.{audit_free, begin_refuses, begins_compared, begins_formatted, can_audited, format_free, is_another, of_version, read_once}
 use Rattle.volume_copy.proofs.Stayed.{format_held, held_then, read_held}
 use Rattle.volume_copy.proofs.WholeVolumes.{refuses_called}
 use Rattle.volume_copy.proofs.target.begin.Goals as goal
@@ -17,6 +18,7 @@ returns-in_default g c = record {
   to_called = c.read.ensures.called;
   to_held = read_held (g.met.E.Device.proper c.args.to.now) (g.met.E.Device.proper c.read.new.self)
       (read_once c.read.ensures);
+  complete = λ free. absurd (rose_or_still _ _ c.in_default.ensures.cause free.unfailed.to_unfailed);
   ends = by_look refl c.in_default.ensures.cause;
 }
 
@@ -38,6 +40,8 @@ returns-in-Err g c = record {
       c.read.ensures.called c.in-Err.ensures.called
       (read_held (g.met.E.Device.proper c.args.to.now) (g.met.E.Device.proper c.read.new.self) (read_once c.read.ensures))
       (format_held _ _ refl (g.met.E.Device.proper c.read.new.self) c.in-Err.ensures);
+  complete = rw c.to_target.ensures (λ free. format_free _ (read_once c.read.ensures)
+      (sym (c.in-Ok.ensures.answer free.alone.to_tells) ∙ c.in_default-cell.is) c.in-Err.refusal c.in-Err.ensures free);
   ends = rw c.to_target.ensures (begin_refuses c.args.slots c.args.lists c.args.source.now _ _ _ _ c.in-Err.refusal
       (by_format _ c.version-version.result c.read.ensures.called
       (of_version c.version-version.result c.requires.source c.version-version.ensures.version) c.in-Err.ensures));
@@ -50,6 +54,7 @@ returns-then-states_other g c = record {
   to_called = c.read.ensures.called;
   to_held = read_held (g.met.E.Device.proper c.args.to.now) (g.met.E.Device.proper c.read.new.self)
       (read_once c.read.ensures);
+  complete = rw c.is_other.ensures (λ free. tt);
   ends = rw c.is_other.ensures (is_another
       (λ tells. sym (c.in-Ok.ensures.answer (subst IsTrue c.read.ensures.called.tells tells)) ∙ c.in-Some.is)
       (subst (λ (n : ℕ). StatesOther c.args.slots c.args.lists c.version-version.result n c.in-Some.cell)
@@ -84,6 +89,11 @@ returns-in-Err-audit_volume g c = record {
       c.read.ensures.called (refuses_called c.in-Err-audit_volume.ensures.ends)
       (read_held (g.met.E.Device.proper c.args.to.now) (g.met.E.Device.proper c.read.new.self) (read_once c.read.ensures))
       c.audit_volume.ensures.held;
+  complete = rw c.to_target-in-Err-audit_volume.ensures (audit_free (g.met.E.Device.proper c.args.to.now)
+      (g.met.E.Device.proper c.read.new.self) (read_once c.read.ensures)
+      (refuses_called c.in-Err-audit_volume.ensures.ends) c.in-Some.cell
+      (λ tells. sym (c.in-Ok.ensures.answer tells) ∙ c.in-Some.is) c.in-Err-audit_volume.refusal
+      c.in-Err-audit_volume.ensures.steady);
   ends = rw c.to_target-in-Err-audit_volume.ensures (begin_refuses c.args.slots c.args.lists c.args.source.now _ _ _ _
       c.in-Err-audit_volume.refusal (by_volume _ c.read.ensures.called c.in-Err-audit_volume.ensures.ends));
 }
