@@ -4,6 +4,7 @@ pub mod FullFronts
 pub mod GivenUp
 pub mod GivenUpRules
 pub mod GoingOn
+mod HeldFirst
 pub mod HeldGrows
 pub mod Images
 pub mod Keeps

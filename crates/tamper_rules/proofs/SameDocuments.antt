@@ -2,7 +2,7 @@
 use Rattle.std.proofs.Common.{◌≡◌, ◌<◌, ◌≤◌, ◌+◌, ◌*◌, ◌⊎◌, ⊎_elim, inl, inr, ℕ, suc, zero, List, Some, None, refl, sym, ◌∙◌, subst, ap, arith, length, slice_index, take, drop}
 use Rattle.std.proofs.lemmas.Option.{none-some}
 use Rattle.cell_types.specs.Image.{Image, Extends}
-use Rattle.cell_types.specs.Layout.{Layout, reserve_at, outcome_at, lists_at}
+use Rattle.cell_types.specs.Layout.{Layout, reserve_at, outcome_at, done_at, spare_at, lists_at}
 use Rattle.cell_types.specs.Records.{IsRecordCell, record_bytes}
 use Rattle.cell_types.specs.declared.record_cell.RecordCell.{RecordCell}
 use Rattle.cell_types.specs.declared.record_cell.RecordCell.TheVariants.{Volume, Reserve, Commit, Abandon, Done, Posting, Jump, Bucket, Child, Stamp}
@@ -56,23 +56,38 @@ content_stood {cells} {image} (completed g n start reserved bytes journal v h c 
     (λ (row : DoneRow n cell (content_at stored k)). no_content stored k row.is refl) rows))
     (w.only cell (content_at stored k) is)
 
--- so did a reserve cell
-reserve_stood : {cells : ℕ} {image after : Image} → After cells image after
+-- so did a cell of the log that is no outcome cell and no done cell
+log_stood : {cells : ℕ} {image after : Image} → After cells image after → (cell : ℕ) (value : List ℕ) (g : Layout)
+    → cell < lists_at g → ((n : ℕ) → cell ≡ outcome_at n → ⊥) → ((n : ℕ) → cell ≡ done_at n → ⊥) → IsVolume cells image g
+    → after cell ≡ Some value → image cell ≡ Some value
+log_stood (nothing s same) cell value g low no_outcome no_done v is = sym (same cell) ∙ is
+log_stood (abandoned k n start reserved v h r w) cell value g low no_outcome no_done vol is = ⊎_elim (λ was. was)
+    (λ (row : AbandonRow n cell value). absurd (no_outcome n row.at))
+    (w.only cell value is)
+log_stood {cells} {image} (completed k n start reserved bytes journal v h c ready w) cell value g low no_outcome no_done vol is =
+    ⊎_elim (λ was. was)
+    (λ rows. absurd (⊎_elim
+    (λ (row : JournalRow image start reserved journal cell value).
+    let same : k ≡ g = one_layout k g v vol in
+    let far : lists_at k ≤ cell = target_behind_log ready.in_order row.copies in
+    let near : cell < lists_at k = subst (λ (j : Layout). cell < lists_at j) (sym same) low in
+    omega (arith, far, near))
+    (λ (row : DoneRow n cell value). no_done n row.at) rows))
+    (w.only cell value is)
+
+-- as a reserve cell
+pub reserve_stood : {cells : ℕ} {image after : Image} → After cells image after
     → (m : ℕ) (value : List ℕ) (g : Layout) → m < g.slots → IsVolume cells image g
     → after (reserve_at m) ≡ Some value → image (reserve_at m) ≡ Some value
-reserve_stood (nothing s same) m value g inside v is = sym (same (reserve_at m)) ∙ is
-reserve_stood (abandoned k n start reserved v h r w) m value g inside vol is = ⊎_elim (λ was. was)
-    (λ (row : AbandonRow n (reserve_at m) value). absurd (omega (arith, row.at)))
-    (w.only (reserve_at m) value is)
-reserve_stood {cells} {image} (completed k n start reserved bytes journal v h c ready w) m value g inside vol is = ⊎_elim (λ was. was)
-    (λ rows. absurd (⊎_elim
-    (λ (row : JournalRow image start reserved journal (reserve_at m) value).
-    let same : k ≡ g = one_layout k g v vol in
-    let far : lists_at k ≤ reserve_at m = target_behind_log ready.in_order row.copies in
-    let low : reserve_at m < lists_at k = subst (λ (j : Layout). reserve_at m < lists_at j) (sym same) (let z : reserve_at m < lists_at g = omega arith in z) in
-    omega arith)
-    (λ (row : DoneRow n (reserve_at m) value). omega (arith, row.at)) rows))
-    (w.only (reserve_at m) value is)
+reserve_stood x m value g inside v =
+    log_stood x (reserve_at m) value g (omega (arith, inside)) (λ n at. omega (arith, at)) (λ n at. omega (arith, at)) v
+
+-- and a spare cell, with a stamp
+pub spare_stood : {cells : ℕ} {image after : Image} → After cells image after
+    → (m : ℕ) (value : List ℕ) (g : Layout) → m < g.slots → IsVolume cells image g
+    → after (spare_at m) ≡ Some value → image (spare_at m) ≡ Some value
+spare_stood x m value g inside v =
+    log_stood x (spare_at m) value g (omega (arith, inside)) (λ n at. omega (arith, at)) (λ n at. omega (arith, at)) v
 
 module _ {g : Layout} {lower upper a b : Image} (v : IsVolume g.cells lower g) (e : Extends lower upper)
     (x : After g.cells lower a) (y : After g.cells upper b) (sb : IsSettled g b) where
@@ -116,23 +131,20 @@ module _ {g : Layout} {lower upper a b : Image} (v : IsVolume g.cells lower g) (
       record { stands = z; taken = taken_below g b sb d.slot (stands_inside vb z) (written z.done.commits.reserves) }
 
 module _ {g : Layout} {lower upper a b : Image} (v : IsVolume g.cells lower g) (e : Extends lower upper)
-    (x : After g.cells lower a) (y : After g.cells upper b) (sa : IsSettled g a) (sb : IsSettled g b)
-    (same : (m bytes journal : ℕ) → m < g.slots → Holds upper (outcome_at m) (Commit bytes journal) → IsWritten lower (outcome_at m)) where
+    (x : After g.cells lower a) (y : After g.cells upper b) (sa : IsSettled g a) (sb : IsSettled g b) where
   early : IsVolume g.cells a g
   early = volume_on (after_keeps x) v
 
   late : IsVolume g.cells upper g
   late = volume_on e v
 
-  rises : (d : Document) → IsDocument g.cells a d.slot d.id d.body → IsDocument g.cells b d.slot d.id d.body
-  rises = document_up v e x y sb
-
-  document_down : (d : Document) → IsDocument g.cells b d.slot d.id d.body → IsDocument g.cells a d.slot d.id d.body
-  document_down d t =
+  -- what settling makes of an earlier image has the document too, where its outcome cell stood there
+  pub document_down_at : (d : Document) → IsWritten lower (outcome_at d.slot) → IsDocument g.cells b d.slot d.id d.body
+      → IsDocument g.cells a d.slot d.id d.body
+  document_down_at d w t =
       let inside : d.slot < g.slots = stands_inside (volume_on (after_keeps y) late) t.stands in
       let c : Holds upper (outcome_at d.slot) (Commit (length (stored_bytes d.id d.body)) t.stands.journal) =
       commit_stood y d.slot (length (stored_bytes d.id d.body)) t.stands.journal g inside late t.stands.done.commits.outcome in
-      let w = same d.slot (length (stored_bytes d.id d.body)) t.stands.journal inside c in
       let low : Holds a (outcome_at d.slot) (Commit (length (stored_bytes d.id d.body)) t.stands.journal) = record {
         cell = w.found;
         stands = (after_keeps x).keeps _ _ w.stands;
@@ -144,6 +156,22 @@ module _ {g : Layout} {lower upper a b : Image} (v : IsVolume g.cells lower g) (
       let one = one_document g.cells b d.slot z.0 z.1 d.id d.body (stands_up v e x y sb z.2) t.stands in
       let mine : Stands g.cells a d.slot d.id d.body = subst (λ (i : List ℕ). Stands g.cells a d.slot i d.body) one.0 (subst (λ (k : List ℕ). Stands g.cells a d.slot z.0 k) one.1 z.2) in
       record { stands = mine; taken = taken_below g a sa d.slot inside (written mine.done.commits.reserves) }
+
+module _ {g : Layout} {lower upper a b : Image} (v : IsVolume g.cells lower g) (e : Extends lower upper)
+    (x : After g.cells lower a) (y : After g.cells upper b) (sa : IsSettled g a) (sb : IsSettled g b)
+    (same : (m bytes journal : ℕ) → m < g.slots → Holds upper (outcome_at m) (Commit bytes journal) → IsWritten lower (outcome_at m)) where
+  rises : (d : Document) → IsDocument g.cells a d.slot d.id d.body → IsDocument g.cells b d.slot d.id d.body
+  rises = document_up v e x y sb
+
+  document_down : (d : Document) → IsDocument g.cells b d.slot d.id d.body → IsDocument g.cells a d.slot d.id d.body
+  document_down d t =
+      let upper_volume : IsVolume g.cells upper g = volume_on e v in
+      let inside : d.slot < g.slots = stands_inside (volume_on (after_keeps y) upper_volume) t.stands in
+      let bytes = length (stored_bytes d.id d.body) in
+      document_down_at v e x y sa sb d
+      (same d.slot bytes t.stands.journal inside
+      (commit_stood y d.slot bytes t.stands.journal g inside upper_volume t.stands.done.commits.outcome))
+      t
 
   pub documents_up : (ds : List Document) → AreDocuments g.cells a ds → AreDocuments g.cells b ds
   documents_up ds are = record { rise = are.rise; each = λ d. (λ t. (are.each d).0 (document_down d t), λ c. rises d ((are.each d).1 c)) }

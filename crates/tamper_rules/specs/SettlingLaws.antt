@@ -1,5 +1,5 @@
 -- Laws of settled and of sound volumes.
-use Rattle.std.specs.Prelude.{◌≡◌, ◌≤◌, ◌⊎◌, ℕ, List, [], Some, None, Contains}
+use Rattle.std.specs.Prelude.{◌≡◌, ◌≤◌, ◌⊎◌, ◌++◌, ℕ, List, [], Some, None}
 use Rattle.cell_types.specs.Image.{Image, Extends}
 use Rattle.cell_types.specs.Layout.{Layout, IsLayout, done_at}
 use Rattle.stored_documents.specs.Documents.{Document, AreDocuments}
@@ -59,11 +59,11 @@ abbrev pub HeldIsOne : Type 0
 HeldIsOne = (cells : ℕ) (image : Image) (one other : List Document) → Held cells image one → Held cells image other
     → one ≡ other
 
--- of two images that are blank or sound, the later one holds each document that the earlier one holds
+-- of two images that are blank or sound, the documents that the earlier one holds are the first ones of the later
 abbrev pub HeldGrows : Type 0
 HeldGrows =
     (cells : ℕ) (lower upper : Image) (ds es : List Document) → IsBlankOrSound cells lower → IsBlankOrSound cells upper
-    → Extends lower upper → Held cells lower ds → Held cells upper es → (d : Document) → Contains ds d → Contains es d
+    → Extends lower upper → Held cells lower ds → Held cells upper es → (more : List Document) × (es ≡ ds ++ more)
 
 -- Where each image from low up to high is blank or sound, as those that a crash may leave are in a steady state, it
 -- holds the documents of low or those of high.

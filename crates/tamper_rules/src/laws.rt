@@ -42,7 +42,7 @@ pub fn held_is_one()
     ensures { HeldIsOne }
 {}
 
-/// Of two images that are blank or sound, the later one holds each document that the earlier one holds.
+/// Of two images that are blank or sound, the documents that the earlier one holds are the first ones of the later.
 pub fn held_grows()
     ensures { HeldGrows }
 {}
