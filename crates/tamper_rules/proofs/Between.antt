@@ -25,6 +25,12 @@ after_keeps (nothing s same) = record { keeps = λ cell value is. same cell ∙ 
 after_keeps (abandoned g n start reserved v h r w) = w.keeps
 after_keeps (completed g n start reserved bytes journal v h c ready w) = w.keeps
 
+-- what it makes something of is a volume
+pub volume_of : {cells : ℕ} {image after : Image} → After cells image after → (g : Layout) × IsVolume cells image g
+volume_of (nothing s same) = (s.layout, s.volume)
+volume_of (abandoned g n start reserved v h r w) = (g, v)
+volume_of (completed g n start reserved bytes journal v h c ready w) = (g, v)
+
 -- and a commit cell stood before
 pub commit_stood : {cells : ℕ} {image after : Image} → After cells image after → (m bytes journal : ℕ)
     → (g : Layout) → m < g.slots → IsVolume cells image g

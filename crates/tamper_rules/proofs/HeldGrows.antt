@@ -8,15 +8,10 @@ use Rattle.cell_types.specs.Layout.{Layout}
 use Rattle.stored_documents.specs.Documents.{Document}
 use Rattle.stored_documents.specs.Volumes.{IsVolume}
 use Rattle.stored_documents.proofs.Extending.{volume_on}
-use Rattle.tamper_rules.specs.Settling.{IsBlankOrSound, After, nothing, abandoned, completed, Sound, Held, none, of_after}
+use Rattle.tamper_rules.specs.Settling.{IsBlankOrSound, Sound, Held, none, of_after}
+use Rattle.tamper_rules.proofs.Between.{volume_of}
 use Rattle.tamper_rules.proofs.HeldFirst.{first_of_both}
 use Rattle.tamper_rules.proofs.SameDocuments.{held_of, settled_for}
-
--- what settling makes something of is a volume
-volume_of : {cells : ℕ} {image after : Image} → After cells image after → (g : Layout) × IsVolume cells image g
-volume_of (nothing s same) = (s.layout, s.volume)
-volume_of (abandoned g n start reserved v h r w) = (g, v)
-volume_of (completed g n start reserved bytes journal v h c ready w) = (g, v)
 
 pub held_first : (cells : ℕ) (lower upper : Image) (ds es : List Document) → IsBlankOrSound cells lower
     → IsBlankOrSound cells upper → Extends lower upper → Held cells lower ds → Held cells upper es

@@ -2,7 +2,7 @@
 use Rattle.std.proofs.Common.{◌≡◌, ◌<◌, ◌≤◌, ◌+◌, ◌*◌, ◌⊎◌, ⊎_elim, inl, inr, ℕ, suc, zero, List, Some, None, refl, sym, ◌∙◌, subst, ap, arith, length, slice_index, take, drop}
 use Rattle.std.proofs.lemmas.Option.{none-some}
 use Rattle.cell_types.specs.Image.{Image, Extends}
-use Rattle.cell_types.specs.Layout.{Layout, reserve_at, outcome_at, lists_at}
+use Rattle.cell_types.specs.Layout.{Layout, reserve_at, outcome_at, done_at, spare_at, lists_at}
 use Rattle.cell_types.specs.Records.{IsRecordCell, record_bytes}
 use Rattle.cell_types.specs.declared.record_cell.RecordCell.{RecordCell}
 use Rattle.cell_types.specs.declared.record_cell.RecordCell.TheVariants.{Volume, Reserve, Commit, Abandon, Done, Posting, Jump, Bucket, Child, Stamp}
@@ -56,23 +56,38 @@ content_stood {cells} {image} (completed g n start reserved bytes journal v h c 
     (λ (row : DoneRow n cell (content_at stored k)). no_content stored k row.is refl) rows))
     (w.only cell (content_at stored k) is)
 
--- so did a reserve cell
+-- so did a cell of the log that is no outcome cell and no done cell
+log_stood : {cells : ℕ} {image after : Image} → After cells image after → (cell : ℕ) (value : List ℕ) (g : Layout)
+    → cell < lists_at g → ((n : ℕ) → cell ≡ outcome_at n → ⊥) → ((n : ℕ) → cell ≡ done_at n → ⊥) → IsVolume cells image g
+    → after cell ≡ Some value → image cell ≡ Some value
+log_stood (nothing s same) cell value g low no_outcome no_done v is = sym (same cell) ∙ is
+log_stood (abandoned k n start reserved v h r w) cell value g low no_outcome no_done vol is = ⊎_elim (λ was. was)
+    (λ (row : AbandonRow n cell value). absurd (no_outcome n row.at))
+    (w.only cell value is)
+log_stood {cells} {image} (completed k n start reserved bytes journal v h c ready w) cell value g low no_outcome no_done vol is =
+    ⊎_elim (λ was. was)
+    (λ rows. absurd (⊎_elim
+    (λ (row : JournalRow image start reserved journal cell value).
+    let same : k ≡ g = one_layout k g v vol in
+    let far : lists_at k ≤ cell = target_behind_log ready.in_order row.copies in
+    let near : cell < lists_at k = subst (λ (j : Layout). cell < lists_at j) (sym same) low in
+    omega (arith, far, near))
+    (λ (row : DoneRow n cell value). no_done n row.at) rows))
+    (w.only cell value is)
+
+-- as a reserve cell
 pub reserve_stood : {cells : ℕ} {image after : Image} → After cells image after
     → (m : ℕ) (value : List ℕ) (g : Layout) → m < g.slots → IsVolume cells image g
     → after (reserve_at m) ≡ Some value → image (reserve_at m) ≡ Some value
-reserve_stood (nothing s same) m value g inside v is = sym (same (reserve_at m)) ∙ is
-reserve_stood (abandoned k n start reserved v h r w) m value g inside vol is = ⊎_elim (λ was. was)
-    (λ (row : AbandonRow n (reserve_at m) value). absurd (omega (arith, row.at)))
-    (w.only (reserve_at m) value is)
-reserve_stood {cells} {image} (completed k n start reserved bytes journal v h c ready w) m value g inside vol is = ⊎_elim (λ was. was)
-    (λ rows. absurd (⊎_elim
-    (λ (row : JournalRow image start reserved journal (reserve_at m) value).
-    let same : k ≡ g = one_layout k g v vol in
-    let far : lists_at k ≤ reserve_at m = target_behind_log ready.in_order row.copies in
-    let low : reserve_at m < lists_at k = subst (λ (j : Layout). reserve_at m < lists_at j) (sym same) (let z : reserve_at m < lists_at g = omega arith in z) in
-    omega arith)
-    (λ (row : DoneRow n (reserve_at m) value). omega (arith, row.at)) rows))
-    (w.only (reserve_at m) value is)
+reserve_stood x m value g inside v =
+    log_stood x (reserve_at m) value g (omega (arith, inside)) (λ n at. omega (arith, at)) (λ n at. omega (arith, at)) v
+
+-- and a spare cell, with a stamp
+pub spare_stood : {cells : ℕ} {image after : Image} → After cells image after
+    → (m : ℕ) (value : List ℕ) (g : Layout) → m < g.slots → IsVolume cells image g
+    → after (spare_at m) ≡ Some value → image (spare_at m) ≡ Some value
+spare_stood x m value g inside v =
+    log_stood x (spare_at m) value g (omega (arith, inside)) (λ n at. omega (arith, at)) (λ n at. omega (arith, at)) v
 
 module _ {g : Layout} {lower upper a b : Image} (v : IsVolume g.cells lower g) (e : Extends lower upper)
     (x : After g.cells lower a) (y : After g.cells upper b) (sb : IsSettled g b) where

@@ -9,19 +9,14 @@ use Rattle.stored_documents.specs.Volumes.{IsVolume}
 use Rattle.stored_documents.proofs.Extending.{blank_before}
 use Rattle.stored_documents.proofs.Holding.{some_is}
 use Rattle.stored_documents.proofs.Lists.{lists_one}
-use Rattle.tamper_rules.specs.Settling.{After, nothing, abandoned, completed, Sound, IsBlankOrSound, Held, none, of_after}
+use Rattle.tamper_rules.specs.Settling.{After, Sound, IsBlankOrSound, Held, none, of_after}
+use Rattle.tamper_rules.proofs.Between.{volume_of}
 use Rattle.tamper_rules.proofs.Images.{look, same_image}
 use Rattle.tamper_rules.proofs.OneAfter.{one_after}
 use Rattle.tamper_rules.proofs.SameDocuments.{holds_two}
 use Rattle.tamper_rules.proofs.Writing.{put_cell, put_there, put_other, same_or_not}
 
--- what settling makes something of is a volume
-volume_of : {cells : ℕ} {image after : Image} → After cells image after → (g : Layout) × IsVolume cells image g
-volume_of (nothing s same) = (s.layout, s.volume)
-volume_of (abandoned g n start reserved v h r w) = (g, v)
-volume_of (completed g n start reserved bytes journal v h c ready w) = (g, v)
-
--- and so it is not blank
+-- what settling makes something of is not blank
 not_blank : {cells : ℕ} {image after : Image} → After cells image after → image 0 ≡ None → ⊥
 not_blank a blank = let v = volume_of a in none-some _ (sym blank ∙ (v.1).volume.stands)
 
