@@ -178,6 +178,7 @@ module _ (g : Layout) (edge : ℕ) (old mid new : ViewState) (first level : Leve
       refl,
       λ answered. ⊎_elim (λ less. less)
           (λ again. absurd (false_never (subst IsTrue look.ends.0.1 again))) (walk.still answered),
+      look.ends.0.2,
     ),
     look.ends.1 ∙ walk.faults,
     λ tells. (

@@ -3,6 +3,7 @@ use Rattle.std.specs.Prelude.{◌≡◌, ◌≢◌, ◌<◌, ◌≤◌, ◌+◌,
 use Rattle.cell_types.specs.Image.{Image}
 use Rattle.cell_types.specs.Layout.{Layout, pool_at}
 use Rattle.cell_types.specs.Records.{IsRecordCell}
+use Rattle.cell_types.specs.declared.geometry.TheConstants.{MAX_SLOTS}
 use Rattle.cell_types.specs.declared.record_cell.RecordCell.TheVariants.{Bucket, Child}
 use Rattle.cell_types.specs.declared.refusal.Fault.{Fault}
 use Rattle.cell_types.specs.declared.refusal.Fault.TheVariants.{Tampered, Failed}
@@ -25,7 +26,7 @@ BucketEnds at old new (Ok None) =
     (new.base.faults ≡ old.base.faults) × (IsTrue old.base.tells → new.image at ≡ None)
 BucketEnds at old new (Ok (Some held)) =
     (new.base.faults ≡ old.base.faults)
-    × (IsTrue old.base.tells → Holds new.image at (Bucket held.slot held.fingerprint))
+    × (IsTrue old.base.tells → Holds new.image at (Bucket held.slot held.fingerprint)) × (held.slot < MAX_SLOTS)
 BucketEnds at old new (Err Failed) = Rose old.base.faults new.base.faults
 BucketEnds at old new (Err (Tampered e)) =
     (e.rule ≡ FAKE_BUCKET) × (e.cell ≡ at) × (new.base.faults ≡ old.base.faults)
@@ -75,7 +76,8 @@ IsBlankAt g image level (Some child) = HasNoneLeft g image level × (image (chil
 
 -- what a look at the level's two cells finds, over every view
 abbrev pub IsHere : Layout → ℕ → Level → Here → Type 0
-IsHere g edge level (Fits slot bucket) = (bucket ≡ bucket_at g level) × (level.answered ≡ false)
+IsHere g edge level (Fits slot bucket) =
+    (bucket ≡ bucket_at g level) × (level.answered ≡ false) × (slot < MAX_SLOTS)
 IsHere g edge level (Ends place) = IsOpenOf g level place
 IsHere g edge level Last = level.number ≡ 63
 IsHere g edge level (Leads child) = (level.number < 63) × IsGoodChild (pool_at g) edge (child_at g level) child

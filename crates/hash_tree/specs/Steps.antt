@@ -3,6 +3,7 @@ use Rattle.std.specs.Prelude.{◌≡◌, ◌≢◌, ◌<◌, ◌≤◌, ◌+◌,
 use Rattle.cell_types.specs.Image.{Image}
 use Rattle.cell_types.specs.Layout.{Layout, pool_at}
 use Rattle.cell_types.specs.Records.{IsRecordCell}
+use Rattle.cell_types.specs.declared.geometry.TheConstants.{MAX_SLOTS}
 use Rattle.cell_types.specs.declared.record_cell.RecordCell.TheVariants.{Bucket, Child}
 use Rattle.cell_types.specs.declared.refusal.Evidence.{Evidence}
 use Rattle.cell_types.specs.declared.refusal.Fault.{Fault}
@@ -132,11 +133,12 @@ abbrev pub PassesAbove : Layout → ℕ → Image → Level → Level → Option
 PassesAbove g edge image first last None = ⊤
 PassesAbove g edge image first last (Some child) = PassesBucket g edge image first last
 
--- What a step says over every view: a candidate's bucket and an open place are of the last level's node, and after a
--- candidate the next one is further down.
+-- What a step says over every view: a candidate's bucket and an open place are of the last level's node, after a
+-- candidate the next one is further down, and a candidate's slot is one that a volume may have.
 abbrev pub IsOfLevel : Layout → Level → Level → PathStep → Type 0
 IsOfLevel g first last (Candidate slot bucket) =
     (bucket ≡ bucket_at g last) × (last.answered ≡ true) × (IsTrue first.answered → first.number < last.number)
+    × (slot < MAX_SLOTS)
 IsOfLevel g first last (End place) = IsOpenOf g last place
 IsOfLevel g first last PathFull = last.number ≡ 63
 

@@ -3,7 +3,6 @@ use Rattle.std.specs.Prelude.{◌≡◌, ◌≤◌, ◌<◌, ◌⊎◌, ℕ, Boo
 use Rattle.cell_types.specs.Image.{Image}
 use Rattle.cell_types.specs.Layout.{Layout}
 use Rattle.cell_types.specs.Records.{record_bytes}
-use Rattle.cell_types.specs.declared.geometry.TheConstants.{MAX_SLOTS}
 use Rattle.cell_types.specs.declared.record_cell.RecordCell.TheVariants.{Bucket}
 use Rattle.cell_types.specs.declared.refusal.Evidence.{Evidence}
 use Rattle.cell_types.specs.declared.refusal.Fault.{Fault}
@@ -22,10 +21,9 @@ use Rattle.identifier_lookup.specs.declared.candidates.Named.{Named}
 abbrev pub HoldsNamed : Image → Named → Type 0
 HoldsNamed image named = Holds image named.bucket (Bucket named.slot (fingerprint_of named.digest))
 
--- these are the bucket's bytes, where a bucket can name the slot
+-- these are the bucket's bytes
 abbrev pub IsNamedCell : Named → List ℕ → Type 0
-IsNamedCell named found =
-    named.slot < MAX_SLOTS → found ≡ record_bytes (Bucket named.slot (fingerprint_of named.digest)) named.bucket
+IsNamedCell named found = found ≡ record_bytes (Bucket named.slot (fingerprint_of named.digest)) named.bucket
 
 -- The bucket stands and is no true one: the slot that it names is at or past the horizon, or was not done.
 pub record IsFake (g : Layout) (horizon : ℕ) (named : Named) (before after : Image) (e : Evidence) : Type 0 where

@@ -1,9 +1,10 @@
 //! A bucket that may be that of an identifier.
-ghost use Rattle.std.specs.Prelude.{◌≡◌, ◌≤◌, IsTrue};
+ghost use Rattle.std.specs.Prelude.{◌≡◌, ◌<◌, ◌≤◌, IsTrue};
+ghost use Rattle.cell_types.specs.declared.geometry.TheConstants.{MAX_SLOTS};
 ghost use Rattle.tamper_rules.specs.declared.numbers.TheConstants.{FAKE_BUCKET};
 ghost use Rattle.identifier_lookup.specs.Candidates.{Compares, HoldsNamed, IsNamedCell};
 
-use cell_types::{Evidence, Fault, MAX_SLOTS, RecordCell, Volume, encode};
+use cell_types::{Evidence, Fault, RecordCell, Volume, encode};
 use document_store::{part_has_identifier, slot_part};
 use tamper_rules::FAKE_BUCKET;
 use worm_device::View;
@@ -28,6 +29,7 @@ pub fn has_identifier<V: View>(
 ) -> Result<bool, Fault>
     requires size { volume.now.geometry.cells ≤ (V.seen view.old).cells }
     requires horizon { horizon ≤ volume.now.geometry.slots }
+    requires slot { named.now.slot < MAX_SLOTS }
     requires bucket { IsTrue (V.seen view.old).base.tells → HoldsNamed (V.seen view.old).image named.now }
     ensures { Compares volume.now.geometry horizon named.now id.now (V.seen view.old) (V.seen view.new) result }
 {
@@ -43,6 +45,7 @@ pub fn has_identifier<V: View>(
 
 /// The bucket, as evidence that it is no true one.
 fn fake_bucket(named: &Named) -> Evidence
+    requires { named.now.slot < MAX_SLOTS }
     ensures rule { result.rule ≡ FAKE_BUCKET }
     ensures cell { result.cell ≡ named.now.bucket }
     ensures found { IsNamedCell named.now result.found }
@@ -51,11 +54,13 @@ fn fake_bucket(named: &Named) -> Evidence
     let fingerprint = [
         digest[0], digest[1], digest[2], digest[3], digest[4], digest[5], digest[6],
     ];
-    // Over a view that tells what it shows the slot is one that a bucket can name.
-    let slot = named.slot.min(MAX_SLOTS - 1);
+    let bucket = RecordCell::Bucket {
+        slot: named.slot,
+        fingerprint,
+    };
     Evidence {
         rule: FAKE_BUCKET,
         cell: named.bucket,
-        found: encode(RecordCell::Bucket { slot, fingerprint }, named.bucket),
+        found: encode(bucket, named.bucket),
     }
 }

@@ -139,8 +139,9 @@ pub record HasLaterStamp (stamp : Option ℕ) (given last : ℕ) (old new : Devi
   pub settled : HasSlot stamp old new ready
   pub early : IsTooEarly ready stamp given last settled.settled.settled new
 
--- The volume was settled and had a free slot, the stamp is past the others, and slot n has a document with this identifier: the path leads to it, past
--- none with the identifier. It is the only slot of such a document to which the index led before.
+-- The volume was settled and had a free slot, the stamp is past the others, and slot n has a document with this
+-- identifier: the path leads to it, past none with the identifier. It is the only slot of such a document to which the
+-- index led before.
 pub record IsTaken (id : List ℕ) (stamp : Option ℕ) (n : ℕ) (old new : DeviceState) : Type 0 where
   pub ready : Ready
   pub settled : HasSlot stamp old new ready
@@ -149,8 +150,8 @@ pub record IsTaken (id : List ℕ) (stamp : Option ℕ) (n : ℕ) (old new : Dev
   pub first : IsTrue old.tells → IsFirstOnPath ready.volume.geometry new.cells new.image id n
   pub alone : IsTrue old.tells → (m : ℕ) → HasTrail ready.volume.geometry old.cells old.image id m → m ≡ n
 
--- The volume was settled and had a free slot, the stamp is past the others, and all 64 buckets of the identifier's path are written and passed. No
--- document with the identifier had an index that led to it.
+-- The volume was settled and had a free slot, the stamp is past the others, and all 64 buckets of the identifier's path
+-- are written and passed. No document with the identifier had an index that led to it.
 pub record HasFullPath (id : List ℕ) (stamp : Option ℕ) (old new : DeviceState) : Type 0 where
   pub ready : Ready
   pub settled : HasSlot stamp old new ready
@@ -194,8 +195,9 @@ abbrev pub IsLogRule : ℕ → Type 0
 IsLogRule number = IsSettlingRule number ⊎ (number ≡ STRAY_CELL)
 
 -- Evidence in the way of the plan, found once the volume was settled and had a free slot, and the document's index was
--- planned, and there was room for both; it is a cell of that slot, or of those that it is to reserve: where nobody else wrote, the volume was only looked at since, so nothing of the
--- document was put, and the rule was broken there before the command.
+-- planned, and there was room for both; it is a cell of that slot, or of those that it is to reserve: where nobody else
+-- wrote, the volume was only looked at since, so nothing of the document was put, and the rule was broken there before
+-- the command.
 pub record IsInTheWay (id : List ℕ) (stamp : Option ℕ) (body : List ℕ) (old new : DeviceState) (e : Evidence) : Type 0
   where
     pub found : IsFound IsLogRule old new e

@@ -93,9 +93,10 @@ abbrev pub IsGrowthRule : ℕ → Type 0
 IsGrowthRule number =
     (number ≡ BLOCK_OUT_OF_ORDER) ⊎ (number ≡ FAKE_POSTING) ⊎ (number ≡ LOST_POINTER) ⊎ (number ≡ LOST_CHILD)
 
--- The licence of evidence. No list gets too many tags of the body, and the evidence stands on the device. Where the child cell that led to the level is one of a node, it is
--- at a place of its rule; and where besides nobody else wrote in the call, cell 0 states this volume, the slot and the edge
--- are a horizon and an edge of the image, and the stamp is past those of the done slots, the rule is broken there.
+-- The licence of evidence. No list gets too many tags of the body, and the evidence stands on the device. Where the child
+-- cell that led to the level is one of a node, it is at a place of its rule; and where besides nobody else wrote in the
+-- call, cell 0 states this volume, the slot and the edge are a horizon and an edge of the image, and the stamp is past
+-- those of the done slots, the rule is broken there.
 pub record NamesCell (g : Layout) (n edge : ℕ) (level : Level) (stamp : Option ℕ) (body : List ℕ)
     (old new : DeviceState) (e : Evidence) : Type 0 where
   pub postings : HasPostings g body

@@ -56,9 +56,10 @@ IsPlanRule number =
     ⊎ (number ≡ STRAY_CELL)
 
 -- Evidence that was found while a plan was put into slot n, from entry on, seen from before the volume was settled: it
--- names one of these rules at a cell of the slot or of its reservation, and may be named; and where nobody else wrote, and the journal asked for cells that were blank at entry,
--- its rule was broken at entry, and before settling, too, and nothing of the plan is put. (Cells that were blank before
--- settling would not do: it may have carried another journal out into them.)
+-- names one of these rules at a cell of the slot or of its reservation, and may be named; and where nobody else wrote,
+-- and the journal asked for cells that were blank at entry, its rule was broken at entry, and before settling, too, and
+-- nothing of the plan is put. (Cells that were blank before settling would not do: it may have carried another journal
+-- out into them.)
 pub record IsFoundByPlan (n : ℕ) (p : Plan) (old entry new : DeviceState) (e : Evidence) : Type 0 where
   pub rule : IsPlanRule e.rule
   pub own : IsOfSlot n (reserved_by p) e.cell

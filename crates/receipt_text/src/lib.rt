@@ -10,9 +10,10 @@
 //!     580 1d016168656c6c6f20776f726c640000     its stored bytes
 //!     end 8
 //!
-//! A receipt has one text, and a text spells one receipt at most (`texts_are_one`): numbers have no leading zeros,
-//! digits are lower-case, addresses rise, and nothing stands behind the last newline. A text that spells none has **one first bad line**: a receipt begins with the lines before it, and none with
-//! these and it. An address that the device does not have breaks the form, too.
+//! A receipt has one text, and a text spells one receipt at most (`texts_are_one`): numbers have no leading zeros, digits
+//! are lower-case, addresses rise, and nothing stands behind the last newline. A text that spells none has **one first
+//! bad line**: a receipt begins with the lines before it, and none with these and it. An address that the device does not
+//! have breaks the form, too.
 //!
 //! The reader cuts off a line at its newline, parses it loosely, prints again what it parsed and compares. So a plus, a
 //! leading zero and a capital digit are refused without a rule of their own.

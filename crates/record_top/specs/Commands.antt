@@ -106,8 +106,8 @@ IsUnhindered (ToMakeReceipt id) old new = (g : Layout) × IsReadyForReceipt id g
 IsUnhindered (ToFindBetween from to) old new = (g : Layout) × IsReadyBetween g old new
 
 -- What is answered where nothing hinders this: it is done; or, where memory is taken, none was to be had; or, where a
--- document is looked up or a receipt of it is asked for, none has the identifier; or the receipt would have too many cells. An
--- exercise may end, besides, as the path of one of its identifiers is full.
+-- document is looked up or a receipt of it is asked for, none has the identifier; or the receipt would have too many
+-- cells. An exercise may end, besides, as the path of one of its identifiers is full.
 abbrev pub IsAnswered : Request → Result Unit Refusal → Type 0
 IsAnswered (ToFormat slots lists version) result = IsOkAlone result
 IsAnswered (ToIngest id stamp) result = IsOkOrNoMemory result

@@ -17,24 +17,25 @@
 //! in memory of its own, searches, reads and audits it, and puts out what came of it. A `receipt` settles the volume first,
 //! and a `check` writes nothing at all; what the one has put out the other accepts from then on (`receipts_are_ready`).
 //!
-//! On a volume of stamped documents, as `format 8 2 3` makes it, an `ingest` is given the seconds of its stamp, which are past
-//! those of each document before, as in `ingest a 1000`; elsewhere it is given none. There a `between 0 1000` searches the
-//! documents whose stamps lie in that span of time: `0 a 1000 11` and `1 found`.
+//! On a volume of stamped documents, as `format 8 2 3` makes it, an `ingest` is given the seconds of its stamp, which are
+//! past those of each document before, as in `ingest a 1000`; elsewhere it is given none. There a `between 0 1000`
+//! searches the documents whose stamps lie in that span of time: `0 a 1000 11` and `1 found`.
 //!
-//! A `find`, a `between` and a `receipt` make their text before the first byte goes out, and a `lookup` checks the document whole before
-//! that. What is taken from the source is at most as long as a body may be, and in a `check` as the text of a receipt.
-//! Whatever keeps a command from being done is a refusal that names its cause. And where nobody else writes, whatever a
-//! crash leaves of any of these, at any moment, from a blank device on, is blank or sound: settling makes a settled
-//! volume of it, with the documents that were sure before the command or those that stood then, or of an `ingest` these
-//! and the new one.
+//! A `find`, a `between` and a `receipt` make their text before the first byte goes out, and a `lookup` checks the
+//! document whole before that. What is taken from the source is at most as long as a body may be, and in a `check` as the
+//! text of a receipt. Whatever keeps a command from being done is a refusal that names its cause. And where nobody else
+//! writes, whatever a crash leaves of any of these, at any moment, from a blank device on, is blank or sound: settling
+//! makes a settled volume of it, with the documents that were sure before the command or those that stood then, or of an
+//! `ingest` these and the new one.
 //!
 //! A further command is one case in each relation of specs/Commands.antt and of specs/Steadiness.antt, a file of its
 //! own there and here, and one arm in `command.rt`.
 //!
-//! Stands on `ingest_engine` and `recovery_engine`, which write, on `record_query` and `time_index`, which search and look
-//! up, on `volume_audit`, on `hostile_replay` and `volume_exercise`, on `receipt_text`, `receipt_maker` and `receipt_check`, on
-//! `command_laws`, and on `host_ports`. Begin with `command.rt`; specs/Commands.antt says which commands there are, and leads
-//! to what each does; specs/Steadiness.antt says what a crash leaves of it, and which documents stand behind it.
+//! Stands on `ingest_engine` and `recovery_engine`, which write, on `record_query` and `time_index`, which search and
+//! look up, on `volume_audit`, on `hostile_replay` and `volume_exercise`, on `receipt_text`, `receipt_maker` and
+//! `receipt_check`, on `command_laws`, and on `host_ports`. Begin with `command.rt`; specs/Commands.antt says which
+//! commands there are, and leads to what each does; specs/Steadiness.antt says what a crash leaves of it, and which
+//! documents stand behind it.
 #![tactic(auto)]
 
 mod audit;

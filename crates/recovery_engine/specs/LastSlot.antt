@@ -45,8 +45,8 @@ pub record IsReserveCell (n : ℕ) (cells : Reservation) (e : Evidence) : Type 0
 abbrev pub IsSlotRule : ℕ → Type 0
 IsSlotRule number = (number ≡ RESERVE_CELL) ⊎ (number ≡ OUTCOME_CELL) ⊎ (number ≡ DONE_CELL)
 
--- The evidence stands, in the place of its rule, which is one of these. Where nobody else wrote, as these values of the count of foreign
--- writes say, and cell 0 states this layout, its rule is broken there.
+-- The evidence stands, in the place of its rule, which is one of these. Where nobody else wrote, as these values of the
+-- count of foreign writes say, and cell 0 states this layout, its rule is broken there.
 pub record IsNamed (g : Layout) (cells from to : ℕ) (image : Image) (e : Evidence) : Type 0 where
   pub rule : IsSlotRule e.rule
   pub stands : image e.cell ≡ Some e.found

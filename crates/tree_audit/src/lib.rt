@@ -28,8 +28,8 @@
 //! of its document, and a bucket costs no reading of a body. Rule 12 needs rules 1 and 5: the targets of a journal rise,
 //! so that the copy of a child cell is found by bisection.
 //!
-//! Stands on `log_audit`, `journal_audit` and `list_audit`, on `document_store` for identifiers, on `hash_tree` for half bytes, and on
-//! `sha2`. Begin with `nodes.rt`, then `buckets.rt`.
+//! Stands on `log_audit`, `journal_audit` and `list_audit`, on `document_store` for identifiers, on `hash_tree` for half
+//! bytes, and on `sha2`. Begin with `nodes.rt`, then `buckets.rt`.
 #![tactic(auto)]
 
 mod around;

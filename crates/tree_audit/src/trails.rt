@@ -23,8 +23,8 @@ use log_audit::Log;
 use sha2::{Digest, Sha256};
 use tamper_rules::MISSING_PATH;
 
-/// The first done cell at which rule 14 is broken, where rule 4 is kept. Only hash trails are looked for: of two documents with one
-/// identifier one alone has such a trail.
+/// The first done cell at which rule 14 is broken, where rule 4 is kept. Only hash trails are looked for: of two
+/// documents with one identifier one alone has such a trail.
 pub fn first_broken_path(kept: &KeptCells, geometry: &Geometry, log: &Log) -> Option<Evidence>
     requires volume { IsVolume geometry.now.cells (image_of kept.now) geometry.now }
     requires count { count_of kept.now ≡ geometry.now.cells }
