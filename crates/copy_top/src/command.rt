@@ -8,9 +8,10 @@ use crate::text::text_of;
 use crate::words::{Numbers, numbers_of};
 use cell_types::CopyRefusal;
 use host_ports::Sink;
+use progress::{Meter, Silent};
 use record_top::put_text;
 use std::alloc::Global;
-use volume_copy::copy;
+use volume_copy::copy_metered;
 use worm_device::Device;
 
 /// Copies a volume to another device, where the words are `copy` and the numbers of slots and lists that the target has or
@@ -40,24 +41,46 @@ pub fn run_two<D: Device, E: Device, K: Sink>(
         → DoesCopy slots lists (D.state from.old) (D.state from.new) (E.state to.old) (E.state to.new)
         (K.state sink.old) (K.state sink.new) result }
 {
+    run_two_metered(alloc, words, from, to, sink, &mut Silent)
+}
+
+/// The same, and shows how many documents are copied, of how many.
+pub(crate) fn run_two_metered<D: Device, E: Device, K: Sink, M: Meter>(
+    alloc: Global,
+    words: &[String],
+    from: &mut D,
+    to: &mut E,
+    sink: &mut K,
+    meter: &mut M,
+) -> Result<(), CopyRefusal>
+    ensures from_called { Called (D.state from.old) (D.state from.new) }
+    ensures to_called { Called (E.state to.old) (E.state to.new) }
+    ensures usage { (result ≡ Err CopyRefusal.Usage) ↔ AsksNoCopy (map string_bytes words.now) }
+    ensures unused { result ≡ Err CopyRefusal.Usage → (D.state from.new ≡ D.state from.old)
+        × (E.state to.new ≡ E.state to.old) × (K.state sink.new ≡ K.state sink.old) }
+    ensures does { (slots lists : ℕ) → AsksToCopy (map string_bytes words.now) slots lists
+        → DoesCopy slots lists (D.state from.old) (D.state from.new) (E.state to.old) (E.state to.new)
+        (K.state sink.old) (K.state sink.new) result }
+{
     let Some(numbers) = numbers_of(words) else {
         return Err(CopyRefusal::Usage);
     };
-    copy_volume(alloc, numbers, from, to, sink)
+    copy_volume(alloc, numbers, from, to, sink, meter)
 }
 
 /// Copies a volume to one of these numbers, and tells of it.
-fn copy_volume<D: Device, E: Device, K: Sink>(
+fn copy_volume<D: Device, E: Device, K: Sink, M: Meter>(
     alloc: Global,
     numbers: Numbers,
     from: &mut D,
     to: &mut E,
     sink: &mut K,
+    meter: &mut M,
 ) -> Result<(), CopyRefusal>
     ensures { DoesCopy numbers.slots numbers.lists (D.state from.old) (D.state from.new) (E.state to.old)
         (E.state to.new) (K.state sink.old) (K.state sink.new) result }
 {
-    let moves = match copy(alloc, from, to, numbers.slots, numbers.lists) {
+    let moves = match copy_metered(alloc, from, to, numbers.slots, numbers.lists, meter) {
         Ok(moves) => moves,
         Err(refusal) => return Err(refusal),
     };

@@ -10,12 +10,18 @@
 //! text is made before its first byte goes out, so want of memory comes with nothing put out. The documents are in the
 //! target by then, at a fault of the sink as well.
 //!
-//! Stands on `volume_copy`, which copies and says when each refusal comes, and on `record_top`, whose numbers and texts
-//! these are. Begin with `command.rt`; specs/Copying.antt says what the command does.
+//! Over two files, `run_two_over_files` says besides that what a crash leaves of a file is what it leaves of the device that
+//! shows the file.
+//!
+//! Stands on `volume_copy`, which copies and says when each refusal comes, on `record_top`, whose numbers and texts these
+//! are, on `host_files`, and on `progress`, which shows how many documents are copied. Begin with `command.rt`;
+//! specs/Copying.antt says what the command does.
 #![tactic(auto)]
 
 mod command;
+mod over_files;
 mod text;
 mod words;
 
 pub use command::run_two;
+pub use over_files::run_two_over_files;

@@ -8,11 +8,12 @@ use crate::refused::{from_source, to_target};
 use crate::stored::read_stored;
 use cell_types::CopyRefusal;
 use ingest_engine::ingest;
+use progress::Meter;
 use std::alloc::Global;
 use worm_device::Device;
 
 /// Copies the document of this place among those of the source, from 0: reads it, and ingests it with its stamp.
-pub fn copy_next<D: Device, E: Device>(
+pub(crate) fn copy_next<D: Device, E: Device>(
     alloc: Global,
     from: &mut D,
     source: &AuditedVolume,
@@ -35,13 +36,14 @@ pub fn copy_next<D: Device, E: Device>(
     }
 }
 
-/// Copies each document of the source that has no pair yet.
-pub(crate) fn copy_rest<D: Device, E: Device>(
+/// Copies each document of the source that has no pair yet, and shows how many of all have one.
+pub(crate) fn copy_rest<D: Device, E: Device, M: Meter>(
     alloc: Global,
     from: &mut D,
     source: &AuditedVolume,
     to: &mut E,
     moved: &mut Vec<Moved>,
+    meter: &mut M,
 ) -> Result<(), CopyRefusal>
     requires source { CanBeRead (D.state from.old) source.now }
     ensures { AddsRest source.now (D.state from.old) (D.state from.new) (E.state to.old) (E.state to.new) moved.old.items
@@ -56,6 +58,7 @@ pub(crate) fn copy_rest<D: Device, E: Device>(
         let Ok(()) = moved.push(pair) else {
             return Err(CopyRefusal::NoMemory);
         };
+        meter.show(moved.len() as u64, source.done.len() as u64);
     }
     Ok(())
 }

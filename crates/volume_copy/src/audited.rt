@@ -11,7 +11,7 @@ use worm_device::Device;
 
 /// A volume that was audited.
 #[derive(Drop)]
-pub struct AuditedVolume {
+pub(crate) struct AuditedVolume {
     pub volume: Volume,
     /// The slots of its documents, by rising number.
     pub done: Vec<u32>,
@@ -19,7 +19,7 @@ pub struct AuditedVolume {
 
 /// Audits the volume, and goes along its slots. An audit says how many documents there are, and not where: so the end of the
 /// log is asked for again, behind it.
-pub fn audit_volume<D: Device>(alloc: Global, device: &mut D) -> Result<AuditedVolume, Refusal>
+pub(crate) fn audit_volume<D: Device>(alloc: Global, device: &mut D) -> Result<AuditedVolume, Refusal>
     ensures held { IsHeldThroughout (D.state device.old) (D.state device.new) }
     ensures steady { AuditsSteady (D.state device.old) (D.state device.new) result }
     ensures ends { SourceEnds (D.state device.old) (D.state device.new) result }

@@ -7,6 +7,7 @@ use crate::moved::Moved;
 use crate::refused::from_source;
 use crate::target::begin;
 use cell_types::CopyRefusal;
+use progress::{Meter, Silent};
 use std::alloc::Global;
 use worm_device::Device;
 
@@ -29,6 +30,20 @@ pub fn copy<D: Device, E: Device>(
 ) -> Result<Vec<Moved>, CopyRefusal>
     ensures { Copies slots lists (D.state from.old) (D.state from.new) (E.state to.old) (E.state to.new) result }
 {
+    copy_metered(alloc, from, to, slots, lists, &mut Silent)
+}
+
+/// The same, and shows how many documents are copied, of how many.
+pub fn copy_metered<D: Device, E: Device, M: Meter>(
+    alloc: Global,
+    from: &mut D,
+    to: &mut E,
+    slots: u32,
+    lists: u16,
+    meter: &mut M,
+) -> Result<Vec<Moved>, CopyRefusal>
+    ensures { Copies slots lists (D.state from.old) (D.state from.new) (E.state to.old) (E.state to.new) result }
+{
     let source = match audit_volume(alloc, from) {
         Ok(source) => source,
         Err(refusal) => return Err(from_source(refusal)),
@@ -37,7 +52,7 @@ pub fn copy<D: Device, E: Device>(
         Ok(moved) => moved,
         Err(refusal) => return Err(refusal),
     };
-    match copy_rest(alloc, from, &source, to, &mut moved) {
+    match copy_rest(alloc, from, &source, to, &mut moved, meter) {
         Ok(()) => Ok(moved),
         Err(refusal) => Err(refusal),
     }

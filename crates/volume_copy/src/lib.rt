@@ -19,12 +19,13 @@
 //! **What is promised**: whatever somebody else writes, a refusal names its cause on the device that it comes from. Where
 //! nobody else writes, a copy that ends well leaves a settled target, all of it sure, with just the documents of the source
 //! in order; and each document that was kept in the source at the beginning is kept there (`HasCopied`). Whatever a crash
-//! leaves of either device is blank or sound, at each moment and at every answer (`IsSoundThroughout`). **Not claimed**:
-//! that a target with fewer lists or cells has room, nor when a copy has to be done; nor which documents a crash leaves in
-//! the target.
+//! leaves of either device is blank or sound, at each moment and at every answer (`IsSoundThroughout`), and what it leaves
+//! of the target holds the first documents of the source (`IsFirstThroughout`). Where no call fails besides, a copy is
+//! done, or refused because the target is another volume, or lacks the room, or for want of memory (`IsUnhindered`). **Not
+//! claimed**: that a target with fewer lists or cells has room.
 //!
-//! Stands on `volume_audit`, `document_store` (reading) and `ingest_engine` (writing). Begin with `copying.rt`;
-//! `specs/Copies.antt` says how a copy may end, and why. `copy_next` copies one document, for who tells of each.
+//! Stands on `volume_audit`, `document_store` (reading) and `ingest_engine` (writing), and on `progress`: `copy_metered`
+//! shows how many documents are copied. Begin with `copying.rt`; `specs/Copies.antt` says how a copy may end, and why.
 #![tactic(auto)]
 
 mod adding;
@@ -38,9 +39,6 @@ mod stored;
 mod target;
 mod walking;
 
-pub use adding::copy_next;
-pub use audited::{AuditedVolume, audit_volume};
-pub use copying::copy;
+pub use copying::{copy, copy_metered};
 pub use laws::pairs_are_one;
 pub use moved::Moved;
-pub use stored::{StoredCopy, read_stored};

@@ -3,7 +3,7 @@ use Rattle.volume_copy.proofs.AddedOn.{can_on}
 use Rattle.volume_copy.proofs.Begun.{can_audited}
 use Rattle.volume_copy.proofs.Copied.{not_audited, not_begun, not_rested, rested}
 use Rattle.volume_copy.proofs.WholeVolumes.{refuses_called}
-use Rattle.volume_copy.proofs.copying.copy.Goals as goal
+use Rattle.volume_copy.proofs.copying.copy_metered.Goals as goal
 
 -- the source was not audited
 pub returns-in-Err : goal.returns-in-Err

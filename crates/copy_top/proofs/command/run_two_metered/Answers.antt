@@ -1,6 +1,6 @@
 -- The numbers that were read are those that the words ask for.
 use Rattle.copy_top.proofs.Asked.{does_asked}
-use Rattle.copy_top.proofs.command.run_two.Goals as goal
+use Rattle.copy_top.proofs.command.run_two_metered.Goals as goal
 
 -- the words ask for no copy
 pub returns-in_default-clause-does : goal.returns-in_default-clause-does
