@@ -22,6 +22,9 @@
 //!
 //! A `copy` has the path of a second file behind it, the target, which is another one than IMAGE.
 //!
+//! While `format`, `audit` and `copy` read a file from end to end, a line on standard error says how many of its bytes
+//! are read, where that is a terminal.
+//!
 //! One program at a time works on a file: the second waits, from its first look at the file on, until the first has
 //! ended. Where standard input, output or error is closed, the file does not take its place.
 //!
@@ -29,17 +32,22 @@
 //! words that are no command, 5 a file that cannot be opened, and every other is that of `run`'s refusal.
 #![tactic(auto)]
 
+mod terminal;
+
 use cell_types::{CopyRefusal, Refusal};
 use copy_top::run_two;
 use file_top::run_over_file;
 use host_files::{FileDevice, Hold, OsFile, Pages};
 use host_ports::{StdSink, StdSource};
+use progress::MeteredFile;
 use record_top::run;
 use std::alloc::Global;
+use std::io::Stderr;
 use std::os::unix::fs::{FileExt, MetadataExt};
 use std::process::ExitCode;
 use std::rt::{Env, Files};
 use std::{env, io};
+use terminal::Terminal;
 use thiserror::Error;
 use worm_device::Device;
 use worm_memory::MemoryDevice;
@@ -90,7 +98,7 @@ impl Fault {
 }
 
 fn main(rt: HostRuntime) -> ExitCode {
-    match carry_out(&rt) {
+    match carry_out(&rt, rt.stderr()) {
         Ok(()) => ExitCode::SUCCESS,
         Err(fault) => {
             // Where the line cannot be shown, the status still tells.
@@ -100,9 +108,11 @@ fn main(rt: HostRuntime) -> ExitCode {
     }
 }
 
-/// Opens the device that the first word names, and carries out the command that the others ask for.
+/// Opens the device that the first word names, and carries out the command that the others ask for. How far it is goes
+/// to standard error.
 fn carry_out(
     rt: &(impl Env + Files<File: FileExt + Hold> + Input + Print + AllocGlobal),
+    standard_error: Stderr,
 ) -> Result<(), Fault> {
     let mut words = words(rt)?;
     if words.is_empty() {
@@ -110,7 +120,7 @@ fn carry_out(
     }
     let image = words.remove(0);
     if words.first().is_some_and(|word| word.as_str() == "copy") {
-        return copy(rt, image.as_str(), words);
+        return copy(rt, standard_error, image.as_str(), words);
     }
     let alloc = rt.alloc();
     let mut source = StdSource::new(rt.reader());
@@ -120,14 +130,27 @@ fn carry_out(
         run(alloc, &words, &mut device, &mut source, &mut sink)?;
         return Ok(());
     }
-    let mut device = open(rt, image.as_str())?;
+    let meter = if reads_all(&words) {
+        Terminal::new(standard_error)
+    } else {
+        Terminal::off()
+    };
+    let mut device = open(rt, image.as_str(), meter)?;
     run_over_file(alloc, &words, &mut device, &mut source, &mut sink)?;
     Ok(())
+}
+
+/// Whether the command looks at each cell once, in rising order: how far its reads have come says how far it is.
+fn reads_all(words: &[String]) -> bool {
+    words
+        .first()
+        .is_some_and(|word| matches!(word.as_str(), "format" | "audit"))
 }
 
 /// Copies the volume in one file to another, the target, whose path stands behind the first word.
 fn copy(
     rt: &(impl Files<File: FileExt + Hold> + Print + AllocGlobal),
+    standard_error: Stderr,
     image: &str,
     mut words: Vec<String>,
 ) -> Result<(), Fault> {
@@ -142,8 +165,9 @@ fn copy(
     if is_one_file(rt, image, target.as_str()) {
         return Err(Fault::SameFile);
     }
-    let mut from = open(rt, image)?;
-    let mut to = open(rt, target.as_str())?;
+    // Each is read from end to end first: audited, or the target formatted.
+    let mut from = open(rt, image, Terminal::new(standard_error))?;
+    let mut to = open(rt, target.as_str(), Terminal::new(standard_error))?;
     let mut sink = StdSink::new(io::writer(rt));
     run_two(rt.alloc(), &words, &mut from, &mut to, &mut sink)?;
     Ok(())
@@ -157,16 +181,19 @@ fn is_one_file(rt: &impl Files, one: &str, other: &str) -> bool {
     one.dev() == other.dev() && one.ino() == other.ino()
 }
 
-/// Opens a file that exists as a device. A word with a hyphen in front is meant as an option, and the program has none.
+/// Opens a file that exists as a device, whose reads are told to this meter. A word with a hyphen in front is meant as
+/// an option, and the program has none.
 fn open<R: Files<File: FileExt + Hold> + AllocGlobal>(
     rt: &R,
     path: &str,
-) -> Result<FileDevice<OsFile<R::File>>, Fault> {
+    meter: Terminal,
+) -> Result<FileDevice<MeteredFile<OsFile<R::File>, Terminal>>, Fault> {
     if path.starts_with('-') {
         return Err(Fault::Usage);
     }
     let pages = Pages::new(rt.alloc()).map_err(|_| Refusal::NoMemory)?;
-    FileDevice::open(rt, path, pages).map_err(|_| Fault::Image)
+    let file = OsFile::open(rt, path).map_err(|_| Fault::Image)?;
+    FileDevice::over(MeteredFile::new(file, meter), pages).map_err(|_| Fault::Image)
 }
 
 /// The words behind the program's name. Words that are no UTF-8 are no command.
