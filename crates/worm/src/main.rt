@@ -23,7 +23,7 @@
 //! A `copy` has the path of a second file behind it, the target, which is another one than IMAGE.
 //!
 //! While `format`, `audit` and `copy` read a file from end to end, a line on standard error says how many of its bytes
-//! are read, where that is a terminal.
+//! are read, where that is a terminal; and then, of a `copy`, how many documents are copied.
 //!
 //! One program at a time works on a file: the second waits, from its first look at the file on, until the first has
 //! ended. Where standard input, output or error is closed, the file does not take its place.
@@ -35,7 +35,7 @@
 mod terminal;
 
 use cell_types::{CopyRefusal, Refusal};
-use copy_top::run_two;
+use copy_top::run_two_over_files;
 use file_top::run_over_file;
 use host_files::{FileDevice, Hold, OsFile, Pages};
 use host_ports::{StdSink, StdSource};
@@ -51,6 +51,9 @@ use terminal::Terminal;
 use thiserror::Error;
 use worm_device::Device;
 use worm_memory::MemoryDevice;
+
+/// What the line on a terminal counts while a file is read.
+const BYTES: &str = "bytes read";
 
 /// Why a command was not done.
 #[derive(Clone, Copy, Debug, Error)]
@@ -131,7 +134,7 @@ fn carry_out(
         return Ok(());
     }
     let meter = if reads_all(&words) {
-        Terminal::new(standard_error)
+        Terminal::new(standard_error, BYTES)
     } else {
         Terminal::off()
     };
@@ -166,10 +169,11 @@ fn copy(
         return Err(Fault::SameFile);
     }
     // Each is read from end to end first: audited, or the target formatted.
-    let mut from = open(rt, image, Terminal::new(standard_error))?;
-    let mut to = open(rt, target.as_str(), Terminal::new(standard_error))?;
+    let mut from = open(rt, image, Terminal::new(standard_error, BYTES))?;
+    let mut to = open(rt, target.as_str(), Terminal::new(standard_error, BYTES))?;
     let mut sink = StdSink::new(io::writer(rt));
-    run_two(rt.alloc(), &words, &mut from, &mut to, &mut sink)?;
+    let mut meter = Terminal::new(standard_error, "documents copied");
+    run_two_over_files(rt.alloc(), &words, &mut from, &mut to, &mut sink, &mut meter)?;
     Ok(())
 }
 
