@@ -11,7 +11,7 @@ use Rattle.settling_laws.specs.Steadiness.{HoldsOneOf, IsLeftWhole, IsSteady}
 use Rattle.settling_laws.proofs.LeftWhole.{whole_from}
 use Rattle.command_laws.specs.Telling.{LeavesHeld}
 
-module _ {a b c : DeviceState} (device : IsDevice a) (called : Called a b) (steady : IsSteady a) (device_b : IsDevice b)
+module _ {a b : DeviceState} (device : IsDevice a) (called : Called a b) (steady : IsSteady a) (device_b : IsDevice b)
     (first : LeavesHeld a b) where
   -- what is sure between the two holds the documents of one of two that stood before the first
   sure_between : HoldsOneOf a.cells a.sure a.image b.sure
@@ -43,7 +43,7 @@ module _ {a b c : DeviceState} (device : IsDevice a) (called : Called a b) (stea
         left.holds;
   }
 
-  pub leaves_then : LeavesHeld b c → LeavesHeld a c
+  pub leaves_then : {c : DeviceState} → LeavesHeld b c → LeavesHeld a c
   leaves_then second = record {
     stays = record {
       crashes = λ since image le left. ⊎_elim
