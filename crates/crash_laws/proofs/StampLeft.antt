@@ -47,12 +47,15 @@ module _ {g : Layout} {old after : Image} {p : Plan} (w : IsWellPlanned g old af
   given : (value : List ℕ) → image (outcome_at p.slot) ≡ Some value → (stamp : Option ℕ) → p.stamp ≡ stamp
       → IsStampOf g after p.slot stamp → IsStampOf g image p.slot stamp
   given value is None same s = s
-  given value is (Some seconds) same s = (s.0, record {
-    cell = s.1.cell;
-    stands = l.before Storing (stored value is) (spare_at p.slot) s.1.cell
-        (inr (record { seconds = seconds; given = same; row = record { at = refl; is = s.1.is } }));
-    is = s.1.is;
-  })
+  given value is (Some seconds) same s = (
+    s.0,
+    record {
+      cell = s.1.cell;
+      stands = l.before Storing (stored value is) (spare_at p.slot) s.1.cell
+          (inr (record { seconds = seconds; given = same; row = record { at = refl; is = s.1.is } }));
+      is = s.1.is;
+    },
+  )
 
   pub stamp_left : (value : List ℕ) → image (outcome_at p.slot) ≡ Some value → IsStampOf g image p.slot p.stamp
   stamp_left value is = given value is p.stamp refl w.filled.stamp

@@ -37,7 +37,7 @@ use Rattle.volume_copy.specs.Auditing.{IsWhole}
 use Rattle.volume_copy.specs.Alone.{AreAlone}
 use Rattle.volume_copy.specs.Completing.{AreOfOneVersion, IsForRoom}
 use Rattle.volume_copy.specs.First.{HoldsFirst, StaysFirst, none}
-use Rattle.volume_copy.specs.Pairs.{AgreeSoFar, ArePairs, SaysSame}
+use Rattle.volume_copy.specs.Pairs.{AgreeSoFar, ArePairs}
 use Rattle.volume_copy.specs.Reading.{HoldsCopy, IsOnlyRead, ReadingFails}
 use Rattle.volume_copy.specs.Refusing.{refusal_from, refusal_to}
 use Rattle.volume_copy.specs.Staying.{IsSoundThroughout}
@@ -213,17 +213,17 @@ module _ (source : AuditedVolume) {s t u v : DeviceState} (device_u : IsDevice u
       here : IsVolume u.cells v.image h
       here = volume_on called.image so.agree.to_volume
 
-      below : {target : List Document} {pairs : List Moved} → Extends image v.image
+      below : {target : List Document} (pairs : List Moved) → Extends image v.image
           → ArePairs g h t.image v.image target pairs so.agree.source → Held u.cells image target
           → HoldsFirst t.cells t.image u.cells image
-      below {target} {pairs} extends are is = first_below g h so.agree.source target [] pairs from_volume_t here those_t
+      below {target} pairs extends are is = first_below g h so.agree.source target [] pairs from_volume_t here those_t
           (subst (λ (l : List Document). ArePairs g h t.image v.image l pairs so.agree.source)
           (sym (append-nil target)) are)
           extends is
 
       as_before : Between u.sure v.image image → HoldsOneOf u.cells u.sure u.image image
           → HoldsFirst t.cells t.image u.cells image
-      as_before b holds = below b.below old_pairs (⊎_elim
+      as_before b holds = below moved b.below old_pairs (⊎_elim
           (λ (low : (l : List Document) → Held u.cells u.sure l → Held u.cells image l). low so.agree.target
           (subst (λ (i : Image). Held u.cells i so.agree.target) (sym (same_image so.sure)) held))
           (λ (high : (l : List Document) → Held u.cells u.image l → Held u.cells image l). high so.agree.target held)
@@ -235,7 +235,7 @@ module _ (source : AuditedVolume) {s t u v : DeviceState} (device_u : IsDevice u
           (λ (is : Sound u.cells image).
           let k = volume_of is.is in
           let layout : k.0 ≡ h = one_layout {cells = u.cells} {more = u.cells} k.0 h (volume_on b.below k.1) here in
-          below b.below
+          below (moved ++ record { old = n; new = more.slot } ∷ []) b.below
           (pairs_with more.slot (stamp_on h more.slot ing.stamp b.below
           (subst (λ (x : Layout). IsStampOf x image more.slot ing.stamp) layout (more.stamped k.0 k.1))))
           (more.holds so.agree.target held))
@@ -250,7 +250,7 @@ module _ (source : AuditedVolume) {s t u v : DeviceState} (device_u : IsDevice u
       so.agree.target so.agree.these moved
       (subst (λ (l : List Document). ArePairs g h s.image u.image l moved so.agree.source)
       (take_all (length moved) so.agree.target (omega (arith, so.all))) so.agree.pairs)
-      d at.1 steady alone.to_tells device_u device called alone.to_alone unfailed is_that.0
+      d at.1 steady alone.to_tells device_u device called alone.to_alone unfailed ing.stamp ing.body is_that.0
       (subst (λ (k : ℕ). IsStampOf g s.image k ing.stamp) old_is
       (subst (λ (k : Layout). IsStampOf k s.image n ing.stamp) one
       (subst (λ (i : Image). IsStampOf source.volume.geometry i n ing.stamp) same (ing.stamped tells_t))))
@@ -271,19 +271,19 @@ pub ingest_complete : (source : AuditedVolume) {s t u v : DeviceState} → IsDev
     → CanBeRead s source → (place : ℕ) → place < length source.done.items → (n : ℕ)
     → n ≡ slice_index source.done.items place → (refusal : Refusal)
     → IngestsOf source.volume.geometry n t u v (Err refusal) → (moved : List Moved) → length moved ≡ place
-    → Completes source s t u v moved {Moved} (Err (refusal_to refusal))
+    → Completes source s t u v moved {X = Moved} (Err (refusal_to refusal))
 ingest_complete source device_u device read called can place less n at refusal ing moved count alone whole so unfailed version =
     ingest_for_room source device_u device alone read called can whole moved so (omega (arith, count, less)) n
     (at ∙ ap (λ (k : ℕ). slice_index source.done.items k) (sym count)) ing version unfailed.to_unfailed refusal refl
 
 -- why reading the source is, where nothing hinders
 pub source_complete : (source : AuditedVolume) {s t u : DeviceState} → IsOnlyRead s t → (refusal : Refusal)
-    → ReadingFails s t refusal → (moved : List Moved) → Completes source s t u u moved {Moved} (Err (refusal_from refusal))
+    → ReadingFails s t refusal → (moved : List Moved) → Completes source s t u u moved {X = Moved} (Err (refusal_from refusal))
 source_complete source {s} {t} read refusal fails moved alone whole so unfailed version =
     let settled : Settled t.cells t.image = subst (λ (k : ℕ). Settled k t.image) (sym read.called.cells)
     (subst (λ (i : Image). Settled s.cells i) (sym (same_image (read.only alone.from_alone))) whole.settled) in
     subst (λ (r : Refusal). IsForRoom (refusal_from r))
-    (sym (reads_settled alone.from_tells alone.from_alone unfailed.from_unfailed settled refusal fails)) tt
+    (sym (reads_settled s t alone.from_tells alone.from_alone unfailed.from_unfailed settled refusal fails)) tt
 
 -- one document more
 module _ (source : AuditedVolume) {s t u v : DeviceState} (device_u : IsDevice u) (device : IsDevice v) (alone : AreAlone s t u v)
@@ -375,22 +375,9 @@ alone_second p q r s alone = record {
   to_alone = still_second r.foreign_writes s.foreign_writes alone.to_alone;
 }
 
-module _ {source : AuditedVolume} {from now new to there then : DeviceState} {moved moved_now : List Moved} {place : ℕ}
-    (can : CanBeRead from source) (so_far : RestSoFar source from now to there moved moved_now place) where
-  -- what a crash has left so far, and what it leaves of the next document
-  pub rest_first : IsDevice now → (result : Result Moved CopyRefusal) → AddsNext source place now new there then result
-      → WhereCopied source from new to then moved (StaysFirst new.cells new.image to then)
-  rest_first device_now result adds alone whole so =
-      let before = alone_first so_far.from_read.called adds.from_read.called so_far.to_called adds.to_called alone in
-      let behind = alone_second so_far.from_read.called adds.from_read.called so_far.to_called adds.to_called alone in
-      first_then so_far.to_called
-      (subst (λ (k : ℕ). StaysFirst k new.image to there) (sym adds.from_read.called.cells)
-      (subst (λ (i : Image). StaysFirst now.cells i to there) (sym (same_image (adds.from_read.only behind.from_alone)))
-      (so_far.to_first before whole so)))
-      (adds.to_first moved_now so_far.count behind (whole_on device_now so_far.from_read before.from_alone whole)
-      (so_far.goes before whole so))
-
-  -- nothing else hinders the next document
+-- the volumes have one version still
+module _ {source : AuditedVolume} {from now to there : DeviceState} {moved moved_now : List Moved} {place : ℕ}
+    (so_far : RestSoFar source from now to there moved moved_now place) where
   version_now : CopiedSoFar from to moved → AreOfOneVersion from to → AreOfOneVersion now there
   version_now so version g h from_volume to_volume =
       let one : g ≡ so.agree.from_layout = one_layout {cells = now.cells} {more = now.cells} g so.agree.from_layout from_volume
@@ -403,8 +390,24 @@ module _ {source : AuditedVolume} {from now new to there then : DeviceState} {mo
       ∙ version so.agree.from_layout so.agree.to_layout so.agree.from_volume so.agree.to_volume
       ∙ sym (ap (λ (k : Layout). k.version) one)
 
+module _ {source : AuditedVolume} {from now new to there then : DeviceState} {moved moved_now : List Moved} {place : ℕ}
+    (can : CanBeRead from source) (so_far : RestSoFar source from now to there moved moved_now place) where
+  -- what a crash has left so far, and what it leaves of the next document
+  pub rest_first : IsDevice now → (result : Result Moved CopyRefusal) → AddsNext source place now new there then result
+      → WhereCopied source from new to then moved (StaysFirst new.cells new.image to then)
+  rest_first device_now result adds alone whole so =
+      let before = alone_first so_far.from_read.called adds.from_read.called so_far.to_called adds.to_called alone in
+      let behind = alone_second so_far.from_read.called adds.from_read.called so_far.to_called adds.to_called alone in
+      first_then then so_far.to_called
+      (subst (λ (k : ℕ). StaysFirst k new.image to there) (sym adds.from_read.called.cells)
+      (subst (λ (i : Image). StaysFirst now.cells i to there) (sym (same_image (adds.from_read.only behind.from_alone)))
+      (so_far.to_first before whole so)))
+      (adds.to_first moved_now so_far.count behind (whole_on device_now so_far.from_read before.from_alone whole)
+      (so_far.goes before whole so))
+
+  -- nothing else hinders the next document
   pub rest_complete : IsDevice now → (refusal : CopyRefusal) → AddsNext source place now new there then (Err refusal)
-      → Completes source from new to then moved {Unit} (Err refusal)
+      → Completes source from new to then moved {X = Unit} (Err refusal)
   rest_complete device_now refusal adds alone whole so unfailed version =
       let before = alone_first so_far.from_read.called adds.from_read.called so_far.to_called adds.to_called alone in
       let behind = alone_second so_far.from_read.called adds.from_read.called so_far.to_called adds.to_called alone in
@@ -414,7 +417,7 @@ module _ {source : AuditedVolume} {from now new to there then : DeviceState} {mo
         from_unfailed = still_second so_far.from_read.called.faults adds.from_read.called.faults unfailed.from_unfailed;
         to_unfailed = still_second so_far.to_called.faults adds.to_called.faults unfailed.to_unfailed;
       })
-      (version_now so version)
+      (version_now so_far so version)
 
   pub rest_more : IsDevice now → IsDevice there → IsDevice then → place < length source.done.items → (pair : Moved)
       → AddsNext source place now new there then (Ok pair)

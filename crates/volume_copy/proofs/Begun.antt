@@ -299,7 +299,7 @@ module _ (slots lists version : ℕ) {source target : AuditedVolume} {from from'
         let v = free.whole.settled in
         let all = called_then (before read to_read) to_read.called in
         let there : HoldsFirst from.cells from.image to.cells new.image =
-        first_since device_to free.steady free.first
+        first_since new device_to free.steady free.first
         (first_of_held device_to all free.steady (leaves_so held_all) v.layout those.0 v.volume those.1 free.first)
         new.image (inl (record { above = device_new.sure; below = extends_self new.image })) in
         subst (λ (k : ℕ). HoldsFirst k from'.image new.cells new.image) (sym read.called.cells)
@@ -320,12 +320,12 @@ module _ (slots lists version : ℕ) {source target : AuditedVolume} {from from'
     compared_free held_all (Err (copies.From refusals.NoMemory)) ends = absurd ends
     compared_free held_all (Err (copies.From refusal)) ends = absurd
         (subst (λ (r : Refusal). CompareEnds source target from from' audited new (Err (copies.From r)))
-        (reads_settled free.alone.from_tells free.alone.from_alone free.unfailed.from_unfailed source_settled refusal
+        (reads_settled from from' free.alone.from_tells free.alone.from_alone free.unfailed.from_unfailed source_settled refusal
         ends) ends)
     compared_free held_all (Err (copies.To refusals.NoMemory)) ends = absurd ends
     compared_free held_all (Err (copies.To refusal)) ends = absurd
         (subst (λ (r : Refusal). CompareEnds source target from from' audited new (Err (copies.To r)))
-        (reads_settled (alone_behind read to_read free.alone).to_tells (alone_behind read to_read free.alone).to_alone
+        (reads_settled audited new (alone_behind read to_read free.alone).to_tells (alone_behind read to_read free.alone).to_alone
         (still_second (before read to_read).faults to_read.called.faults free.unfailed.to_unfailed) target_settled refusal
         ends) ends)
     compared_free held_all (Err refusal) ends = absurd ends

@@ -55,7 +55,7 @@ not_audited slots lists from from' to refusal called device held audits refuses 
   to_called = called_self to;
   from_held = held;
   to_sound = sound_self to;
-  to_first = λ alone steady holds. first_since device steady holds (λ since image le left. inl left);
+  to_first = λ alone steady holds. first_since to device steady holds (λ since image le left. inl left);
   complete = λ free. subst (λ (r : Refusal). IsForRoom (refusal_from r)) (sym (audited free)) tt;
   ends = go refusal refuses;
 }
@@ -170,16 +170,16 @@ module _ {slots lists : ℕ} {source : AuditedVolume} {from audited from1 to to1
         (whole_audited audit begins.from_read.called alone)
 
     -- what a crash leaves of the beginning
-    first_begun : {more : ℕ} {from : Image} → from1.cells ≡ more → from1.image ≡ from
-        → HoldsFirst more from to.cells to.image → StaysFirst more from to to1
-    first_begun same_cells same holds =
+    first_begun : {more : ℕ} {from_image : Image} → from1.cells ≡ more → from1.image ≡ from_image
+        → HoldsFirst more from_image to.cells to.image → StaysFirst more from_image to to1
+    first_begun {more} {from_image} same_cells same holds =
         let those = documents_exist from1.cells from1.image whole1.settled in
         let v = whole1.settled in
         first_of_held device_to begins.to_called steady
         (begins.to_held (record { tells = alone.to_tells; steady = steady; alone = to_alone }))
         v.layout those.0
-        (subst (λ (k : ℕ). IsVolume k _ v.layout) same_cells (subst (λ (i : Image). IsVolume from1.cells i v.layout) same v.volume))
-        (subst (λ (k : ℕ). AreDocuments k _ those.0) same_cells
+        (subst (λ (k : ℕ). IsVolume k from_image v.layout) same_cells (subst (λ (i : Image). IsVolume from1.cells i v.layout) same v.volume))
+        (subst (λ (k : ℕ). AreDocuments k from_image those.0) same_cells
         (subst (λ (i : Image). AreDocuments from1.cells i those.0) same those.1))
         holds
 
@@ -192,7 +192,7 @@ module _ {slots lists : ℕ} {source : AuditedVolume} {from audited from1 to to1
     from_held = held_then device_from device audit.called begins.from_read.called held
         (read_held device device1 begins.from_read);
     to_sound = sound_of begins.to_held;
-    to_first = λ alone steady holds. first_since device_to steady holds
+    to_first = λ alone steady holds. first_since to1 device_to steady holds
         (first_begun begins alone steady alone.to_alone refl refl holds);
     complete = λ free. begins.complete (record {
       alone = behind free.alone;
@@ -241,8 +241,8 @@ module _ {slots lists : ℕ} {source : AuditedVolume} {from audited from1 to to1
           let behind = alone_second audit.called begins.from_read.called (called_self to) begins.to_called first in
           let began = begins.ends behind (whole_audited audit begins.from_read.called first) in
           let same = sym (same_image (rest.from_read.only second.from_alone)) in
-          first_since device_to steady holds
-          (first_then begins.to_called
+          first_since to2 device_to steady holds
+          (first_then to2 begins.to_called
           (first_begun begins first steady first.to_alone (sym rest.from_read.called.cells) same holds)
           (rest.to_first second (whole1 begins first steady first.to_alone) began.0))
 

@@ -1,7 +1,6 @@
 -- What a crash leaves of the target holds the first documents of the source.
-use Rattle.std.proofs.Common.{◌≡◌, ◌≤◌, ◌<◌, ◌+◌, ◌⊎◌, ◌∙◌, ℕ, suc, List, [], ◌∷◌, ◌++◌, Option, Some, None, inl, inr, ⊎_elim, refl, sym, subst, arith, length, append-nil}
+use Rattle.std.proofs.Common.{◌≡◌, ◌≤◌, ◌<◌, ℕ, suc, List, [], ◌∷◌, ◌++◌, Option, Some, None, inl, inr, ⊎_elim, refl, sym, subst, arith, append-nil}
 use Rattle.std.specs.Prelude.{Contains}
-use Rattle.std.proofs.lemmas.Option.{none-some}
 use Rattle.cell_types.specs.Image.{Between, Extends, Image}
 use Rattle.cell_types.specs.Layout.{Layout}
 use Rattle.cell_types.specs.declared.geometry.TheConstants.{STAMPED_VERSION}
@@ -115,9 +114,7 @@ held_exist {cells} {image} whole = ⊎_elim
     let those = documents_exist cells s.after s.settled in (those.0, of_after s.after s.is those.1))
     whole
 
-module _ {old : DeviceState} (device : IsDevice old) (steady : IsSteady old) {more : ℕ} {from image top : Image}
-    (grows : Extends old.image top) (below : Extends image top)
-    (holds : HoldsOneOf old.cells old.sure old.image image) where
+module _ {old : DeviceState} (device : IsDevice old) (steady : IsSteady old) where
   sound_image : IsBlankOrSound old.cells old.image
   sound_image = steady.each old.image (record { above = device.sure; below = extends_self old.image })
 
@@ -125,10 +122,12 @@ module _ {old : DeviceState} (device : IsDevice old) (steady : IsSteady old) {mo
   sound_sure = steady.each old.sure (record { above = extends_self old.sure; below = device.sure })
 
   -- what holds the documents of one of two holds the first ones of the source, as the greater does
-  one_of_first : (g h : Layout) (source target : List Document) (moved : List Moved) → IsVolume more from g
-      → IsVolume old.cells old.image h → AreDocuments more from source → Held old.cells old.image target
-      → ArePairs g h from old.image target moved source → HoldsFirst more from old.cells image
-  one_of_first g h source target moved there here those held are =
+  one_of_first : {more : ℕ} {from image top : Image} → Extends old.image top → Extends image top
+      → HoldsOneOf old.cells old.sure old.image image → (g h : Layout) (source target : List Document) (moved : List Moved)
+      → IsVolume more from g → IsVolume old.cells old.image h → AreDocuments more from source
+      → Held old.cells old.image target → ArePairs g h from old.image target moved source
+      → HoldsFirst more from old.cells image
+  one_of_first {more} {from} {image} {top} grows below holds g h source target moved there here those held are =
       let paired : ArePairs g h from top target moved source =
       pairs_on g h (extends_self from) grows target moved source are in
       ⊎_elim
@@ -144,8 +143,9 @@ module _ {old : DeviceState} (device : IsDevice old) (steady : IsSteady old) {mo
       holds
 
   -- and none, where nothing stood
-  one_of_none : ((cell : ℕ) → old.image cell ≡ None) → Held old.cells image []
-  one_of_none blank = ⊎_elim
+  one_of_none : {image : Image} → HoldsOneOf old.cells old.sure old.image image → ((cell : ℕ) → old.image cell ≡ None)
+      → Held old.cells image []
+  one_of_none {image} holds blank = ⊎_elim
       (λ (low : (l : List Document) → Held old.cells old.sure l → Held old.cells image l).
       low [] (none (λ cell. blank_before device.sure (blank cell)) refl))
       (λ (high : (l : List Document) → Held old.cells old.image l → Held old.cells image l). high [] (none blank refl))
@@ -174,24 +174,24 @@ first_of_held {old} {new} device called steady leaves {more} {from} g source the
     by : Between old.sure new.image image → HoldsOneOf old.cells old.sure old.image image
         → HoldsFirst more from old.cells old.image → HoldsFirst more from old.cells image
     by b one (firsts.none blank) =
-        first_of_none g source there those (one_of_none device steady called.image b.below one blank)
+        first_of_none g source there those (one_of_none device steady one blank)
     by b one (first f h others target moved from_volume to_volume are held pairs) =
         one_of_first device steady called.image b.below one f h others target moved from_volume to_volume are held pairs
 
 -- one row of calls after another
-pub first_then : {a b c : DeviceState} {more : ℕ} {from : Image} → Called a b → StaysFirst more from a b
+pub first_then : {a b : DeviceState} (c : DeviceState) {more : ℕ} {from : Image} → Called a b → StaysFirst more from a b
     → StaysFirst more from b c → StaysFirst more from a c
-first_then {a} {b} {c} {more} {from} called one two since image le left = ⊎_elim
+first_then {a} {b} c {more} {from} called one two since image le left = ⊎_elim
     (λ (before : LeftSince b since image). one since image le before)
     (λ (holds : HoldsFirst more from b.cells image).
     inr (subst (λ (k : ℕ). HoldsFirst more from k image) called.cells holds))
     (two since image (omega (arith, le, (elapses_of called).later)) left)
 
 -- so it is of all that a crash could leave since
-pub first_since : {old new : DeviceState} {more : ℕ} {from : Image} → IsDevice old → IsSteady old
+pub first_since : {old : DeviceState} (new : DeviceState) {more : ℕ} {from : Image} → IsDevice old → IsSteady old
     → HoldsFirst more from old.cells old.image → StaysFirst more from old new → (image : Image)
     → LeftSince new old.moment image → HoldsFirst more from old.cells image
-first_since {old} {new} {more} {from} device steady holds stays image left = ⊎_elim
+first_since {old} new {more} {from} device steady holds stays image left = ⊎_elim
     (λ (before : LeftSince old old.moment image). ⊎_elim
     (λ (b : Between old.sure old.image image). first_at_entry device steady holds image b)
     (λ (m : (m : ℕ) × (old.moment ≤ m) × (m < old.moment) × Between (old.past m).sure (old.past m).image image).

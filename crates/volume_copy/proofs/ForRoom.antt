@@ -1,6 +1,6 @@
 -- An ingest of the next document of a whole source, into a settled target with the documents before it, is refused for want
 -- of memory or of room alone.
-use Rattle.std.proofs.Common.{◌≡◌, ◌≤◌, ◌<◌, ◌+◌, ◌∙◌, ℕ, zero, suc, List, [], ◌∷◌, Option, Some, None, Err, inr, refl, sym, ap, subst, arith, length}
+use Rattle.std.proofs.Common.{◌≡◌, ◌≤◌, ◌<◌, ◌+◌, ◌∙◌, ℕ, zero, suc, List, [], ◌∷◌, Option, Some, None, Err, refl, sym, ap, subst, arith, length}
 use Rattle.std.specs.Prelude.{Contains, IsTrue, slice_get}
 use Rattle.cell_types.specs.Image.{Image}
 use Rattle.cell_types.specs.Layout.{Layout, done_at, spare_at}
@@ -8,8 +8,8 @@ use Rattle.cell_types.specs.declared.geometry.TheConstants.{STAMPED_VERSION}
 use Rattle.cell_types.specs.declared.refusal.Refusal.{Refusal}
 use Rattle.cell_types.specs.declared.refusal.Refusal.TheVariants as refusals
 use Rattle.stored_documents.specs.Documents.{AreDocuments, Document, IsDocument, Rise, Stands}
-use Rattle.stored_documents.specs.Slots.{HasStamp, IsDoneSlot, IsStampOf}
-use Rattle.stored_documents.specs.Volumes.{IsVolume, IsWritten}
+use Rattle.stored_documents.specs.Slots.{IsDoneSlot, IsStampOf}
+use Rattle.stored_documents.specs.Volumes.{IsVolume}
 use Rattle.stored_documents.proofs.Extending.{volume_on}
 use Rattle.stored_documents.proofs.Stamps as stamps
 use Rattle.tamper_rules.specs.Rules as rules
@@ -126,7 +126,7 @@ module _ {more : ℕ} {from : Image} {u v : DeviceState} (g h : Layout) (from_vo
     (at : slice_get source (length moved) ≡ Some d) (steady : IsSteady u) (tells : IsTrue u.tells) (device : IsDevice u)
     (device_new : IsDevice v) (called : Called u v) (alone : IsStill u.foreign_writes v.foreign_writes)
     (unfailed : IsStill u.faults v.faults) where
-  sound : Sound u.cells u.image
+  abbrev sound : Sound u.cells u.image
   sound = record { after = u.image; is = nothing settled (λ cell. refl); settled = settled }
 
   -- once it is settled and looked at the target is as it was
@@ -217,24 +217,24 @@ module _ {more : ℕ} {from : Image} {u v : DeviceState} (g h : Layout) (from_vo
   volume_behind : IsVolume v.cells v.image h
   volume_behind = subst (λ (k : ℕ). IsVolume k v.image h) (sym called.cells) (volume_on called.image to_volume)
 
-  pub for_room : {id : List ℕ} {stamp : Option ℕ} {body : List ℕ} → id ≡ d.id → IsStampOf g from d.slot stamp
+  pub for_room : {id : List ℕ} (stamp : Option ℕ) (body : List ℕ) → id ≡ d.id → IsStampOf g from d.slot stamp
       → (refusal : Refusal) → IngestEnds id stamp body u v (Err refusal) → IsForRoom (refusal_to refusal)
-  for_room id_is stamped refusals.NoMemory ends = tt
-  for_room id_is stamped refusals.SlotsFull ends = tt
-  for_room id_is stamped refusals.PathFull ends = tt
-  for_room id_is stamped (refusals.TooManyTerms list count) ends = tt
-  for_room id_is stamped (refusals.Full need free) ends = tt
-  for_room id_is stamped refusals.DeviceFault ends = absurd (rose_or_still _ _ ends unfailed)
-  for_room id_is stamped (refusals.Tampered e) ends =
+  for_room stamp body id_is stamped refusals.NoMemory ends = tt
+  for_room stamp body id_is stamped refusals.SlotsFull ends = tt
+  for_room stamp body id_is stamped refusals.PathFull ends = tt
+  for_room stamp body id_is stamped (refusals.TooManyTerms list count) ends = tt
+  for_room stamp body id_is stamped (refusals.Full need free) ends = tt
+  for_room stamp body id_is stamped refusals.DeviceFault ends = absurd (rose_or_still _ _ ends unfailed)
+  for_room stamp body id_is stamped (refusals.Tampered e) ends =
       absurd (none_named u v e device device_new tells alone steady (ends tells))
-  for_room id_is stamped refusals.StampNeeded ends = absurd (not_unfit refusals.StampNeeded stamped ends)
-  for_room id_is stamped refusals.StampUnused ends = absurd (not_unfit refusals.StampUnused stamped ends)
-  for_room id_is stamped (refusals.StampTooEarly given last) ends = absurd (not_early given last stamped ends)
-  for_room id_is stamped (refusals.Duplicate n) ends = absurd (not_taken id_is n ends)
-  for_room id_is stamped refusals.NotFormatted ends = absurd (no_blank_cell to_volume (ends tells))
-  for_room id_is stamped (refusals.NotAVolume found) ends =
+  for_room stamp body id_is stamped refusals.StampNeeded ends = absurd (not_unfit refusals.StampNeeded stamped ends)
+  for_room stamp body id_is stamped refusals.StampUnused ends = absurd (not_unfit refusals.StampUnused stamped ends)
+  for_room stamp body id_is stamped (refusals.StampTooEarly given last) ends = absurd (not_early given last stamped ends)
+  for_room stamp body id_is stamped (refusals.Duplicate n) ends = absurd (not_taken id_is n ends)
+  for_room stamp body id_is stamped refusals.NotFormatted ends = absurd (no_blank_cell to_volume (ends tells))
+  for_room stamp body id_is stamped (refusals.NotAVolume found) ends =
       let is = ends tells in absurd (no_other_cell volume_behind found is.0 is.1)
-  for_room id_is stamped (refusals.WrongSize stated real) ends =
+  for_room stamp body id_is stamped (refusals.WrongSize stated real) ends =
       let is = ends.2 tells in
       absurd (ends.1 (no_other_size volume_behind is.0 stated is.1 is.2 ∙ sym ends.0))
-  for_room id_is stamped refusal ends = absurd ends
+  for_room stamp body id_is stamped refusal ends = absurd ends

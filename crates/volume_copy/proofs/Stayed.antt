@@ -2,7 +2,6 @@
 use Rattle.std.proofs.Common.{◌≡◌, ℕ, List, Result, inl, inr, ⊎_elim, sym, subst, arith, Option}
 use Rattle.std.specs.Prelude.{IsTrue}
 use Rattle.cell_types.specs.declared.refusal.Refusal.{Refusal}
-use Rattle.cell_types.specs.Image.{Image}
 use Rattle.tamper_rules.specs.Settling.{IsBlankOrSound}
 use Rattle.worm_device.specs.Calls.{Called}
 use Rattle.worm_device.specs.State.{DeviceState, IsDevice, LeftSince}

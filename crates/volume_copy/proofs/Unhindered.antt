@@ -1,13 +1,13 @@
 -- Where nobody else writes and no call fails, auditing a steady volume and reading a settled one is ended by want of memory
 -- alone, and no document of a target that holds the first ones of the source differs.
-use Rattle.std.proofs.Common.{◌≡◌, ◌<◌, ◌∙◌, ℕ, zero, suc, List, [], ◌∷◌, Some, None, Ok, Err, refl, sym, subst, arith, length}
+use Rattle.std.proofs.Common.{◌≡◌, ◌∙◌, ℕ, zero, suc, List, [], ◌∷◌, Some, None, Result, Ok, Err, refl, sym, subst, arith, length}
 use Rattle.std.specs.Prelude.{IsTrue, slice_get}
 use Rattle.std.proofs.lemmas.Option.{none-some, slice_get_within}
 use Rattle.cell_types.specs.Image.{Image}
 use Rattle.cell_types.specs.Layout.{Layout}
 use Rattle.cell_types.specs.declared.refusal.Refusal.{Refusal}
 use Rattle.cell_types.specs.declared.refusal.Refusal.TheVariants.{DeviceFault, NoMemory, Tampered}
-use Rattle.stored_documents.specs.Documents.{AreDocuments, Document}
+use Rattle.stored_documents.specs.Documents.{Document}
 use Rattle.stored_documents.specs.Volumes.{IsVolume}
 use Rattle.stored_documents.proofs.Extending.{volume_on}
 use Rattle.stored_documents.proofs.Lists.{lists_one}
@@ -31,31 +31,33 @@ use Rattle.volume_copy.specs.First as firsts
 use Rattle.volume_copy.specs.First.{HoldsFirst, first}
 use Rattle.volume_copy.specs.Pairs.{AgreeSoFar, ArePairs, SaysSame}
 use Rattle.volume_copy.specs.Reading.{ReadingFails}
+use Rattle.volume_copy.specs.declared.audited.AuditedVolume.{AuditedVolume}
 use Rattle.volume_copy.specs.declared.moved.Moved.{Moved}
 use Rattle.volume_copy.proofs.PairLists.{pairs_long}
 use Rattle.volume_copy.proofs.Stayed.{audit_held}
 
 -- reading what is settled
-pub reads_settled : {old new : DeviceState} → IsTrue old.tells → IsStill old.foreign_writes new.foreign_writes
+pub reads_settled : (old new : DeviceState) → IsTrue old.tells → IsStill old.foreign_writes new.foreign_writes
     → IsStill old.faults new.faults → Settled new.cells new.image → (refusal : Refusal) → ReadingFails old new refusal
     → refusal ≡ NoMemory
-reads_settled tells still unfailed settled NoMemory fails = refl
-reads_settled tells still unfailed settled DeviceFault fails = absurd (rose_or_still _ _ fails unfailed)
-reads_settled {old} {new} tells still unfailed settled (Tampered e) fails =
+reads_settled old new tells still unfailed settled NoMemory fails = refl
+reads_settled old new tells still unfailed settled DeviceFault fails = absurd (rose_or_still _ _ fails unfailed)
+reads_settled old new tells still unfailed settled (Tampered e) fails =
     absurd (unbroken new.cells new.image e.rule e.cell settled ((fails tells).broken still))
-reads_settled tells still unfailed settled refusal fails = absurd fails
+reads_settled old new tells still unfailed settled refusal fails = absurd fails
 
-no_memory : {refusal other : Refusal} → refusal ≡ NoMemory → Err refusal ≡ Err other → other ≡ NoMemory
-no_memory {refusal} {other} none same = subst (λ (r : Refusal). r ≡ NoMemory) (it same) none
+no_memory : {refusal other : Refusal} (result : Result AuditedVolume Refusal) → result ≡ Err refusal
+    → refusal ≡ NoMemory → result ≡ Err other → other ≡ NoMemory
+no_memory {refusal} {other} result one none same = subst (λ (r : Refusal). r ≡ NoMemory) (it result one same) none
   where
-    it : Err refusal ≡ Err other → refusal ≡ other
-    it e = cc
+    it : (r : Result AuditedVolume Refusal) → r ≡ Err refusal → r ≡ Err other → refusal ≡ other
+    it r p q = cc
 
 -- an audit
 pub audit_steady : {old new : DeviceState} → IsDevice old → IsDevice new → (refusal : Refusal)
     → Audits old new (Err refusal) → AuditsSteady old new (Err refusal)
 audit_steady device device_new refusal audits g log other same =
-    no_memory (audits_whole log device device_new audits.called refusal audits.comes) same
+    no_memory (Err refusal) refl (audits_whole log device device_new audits.called refusal audits.comes) same
 
 module _ {old a new : DeviceState} (device : IsDevice old) (device_a : IsDevice a) (device_new : IsDevice new)
     {report : AuditReport} (audits : Audits old a (Ok report)) (called : Called a new) where
@@ -84,10 +86,10 @@ module _ {old a new : DeviceState} (device : IsDevice old) (device_a : IsDevice 
 pub read_steady : {old b new : DeviceState} → Called old b → Called b new
     → (IsTrue old.tells → IsStill old.foreign_writes new.foreign_writes → Settled new.cells new.image)
     → (refusal : Refusal) → ((IsTrue b.tells) → ReadingFails b new refusal) → AuditsSteady old new (Err refusal)
-read_steady called read settled refusal fails g log other same =
+read_steady {old} {b} {new} called read settled refusal fails g log other same =
     let tells = subst IsTrue (sym called.tells) log.tells in
-    no_memory
-    (reads_settled tells (still_second called.foreign_writes read.foreign_writes log.alone)
+    no_memory (Err refusal) refl
+    (reads_settled b new tells (still_second called.foreign_writes read.foreign_writes log.alone)
     (still_second called.faults read.faults log.no_fault) (settled log.tells log.alone) refusal (fails tells))
     same
 

@@ -15,13 +15,14 @@ use Rattle.stored_documents.specs.Volumes.{IsVolume, volume_record}
 use Rattle.index_paths.specs.Keeping.{Kept}
 use Rattle.tamper_rules.specs.Settling.{Settled}
 use Rattle.worm_device.specs.Calls.{Called}
-use Rattle.worm_device.specs.Counts.{IsStill, Rose}
+use Rattle.worm_device.specs.Counts.{Rose}
 use Rattle.worm_device.specs.State.{DeviceState, LeftSince}
 use Rattle.document_store.specs.Standing.{HoldsDocument}
 use Rattle.ingest_engine.specs.Formats.{Formats}
 use Rattle.ingest_engine.specs.Ingesting.{Ingests, document_in}
 use Rattle.settling_laws.specs.Steadiness.{IsSteady}
 use Rattle.volume_copy.specs.Auditing.{Refuses}
+use Rattle.volume_copy.specs.Alone.{AreAlone}
 use Rattle.volume_copy.specs.Completing.{EndsUnhindered, IsUnhindered}
 use Rattle.volume_copy.specs.First.{HoldsFirst}
 use Rattle.volume_copy.specs.Pairs.{AgreeSoFar, ArePairs, SaysSame}

@@ -19,7 +19,10 @@ pub(crate) struct AuditedVolume {
 
 /// Audits the volume, and goes along its slots. An audit says how many documents there are, and not where: so the end of the
 /// log is asked for again, behind it.
-pub(crate) fn audit_volume<D: Device>(alloc: Global, device: &mut D) -> Result<AuditedVolume, Refusal>
+pub(crate) fn audit_volume<D: Device>(
+    alloc: Global,
+    device: &mut D,
+) -> Result<AuditedVolume, Refusal>
     ensures held { IsHeldThroughout (D.state device.old) (D.state device.new) }
     ensures steady { AuditsSteady (D.state device.old) (D.state device.new) result }
     ensures ends { SourceEnds (D.state device.old) (D.state device.new) result }

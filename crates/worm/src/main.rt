@@ -173,7 +173,14 @@ fn copy(
     let mut to = open(rt, target.as_str(), Terminal::new(standard_error, BYTES))?;
     let mut sink = StdSink::new(io::writer(rt));
     let mut meter = Terminal::new(standard_error, "documents copied");
-    run_two_over_files(rt.alloc(), &words, &mut from, &mut to, &mut sink, &mut meter)?;
+    run_two_over_files(
+        rt.alloc(),
+        &words,
+        &mut from,
+        &mut to,
+        &mut sink,
+        &mut meter,
+    )?;
     Ok(())
 }
 

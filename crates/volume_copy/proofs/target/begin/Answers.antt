@@ -41,7 +41,7 @@ returns-in-Err g c = record {
       (read_held (g.met.E.Device.proper c.args.to.now) (g.met.E.Device.proper c.read.new.self) (read_once c.read.ensures))
       (format_held _ _ refl (g.met.E.Device.proper c.read.new.self) c.in-Err.ensures);
   complete = rw c.to_target.ensures (λ free. format_free _ (read_once c.read.ensures)
-      (sym (c.in-Ok.ensures.answer free.alone.to_tells) ∙ c.in_default-cell.is) c.in-Err.refusal c.in-Err.ensures free);
+      (sym (c.in-Ok.ensures.answer free.alone.to_tells) ∙ c.in_default-found.is) c.in-Err.refusal c.in-Err.ensures free);
   ends = rw c.to_target.ensures (begin_refuses c.args.slots c.args.lists c.args.source.now _ _ _ _ c.in-Err.refusal
       (by_format _ c.version-version.result c.read.ensures.called
       (of_version c.version-version.result c.requires.source c.version-version.ensures.version) c.in-Err.ensures));
