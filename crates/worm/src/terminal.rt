@@ -57,7 +57,11 @@ impl Meter for Terminal {
 
 impl Drop for Terminal {
     fn drop(self) {
-        let Terminal { shown_on, part, .. } = self;
+        let Terminal {
+            shown_on,
+            what: _,
+            part,
+        } = self;
         if let Some(shown_on) = shown_on {
             clear(shown_on, part);
         }
