@@ -2,12 +2,15 @@
 //!
 //! `images` has whole volumes, which are audited through a device: sound ones, and for each of the fifteen rules two in
 //! which it is the first that is broken, at cells of two slots, blocks or nodes. `parts` has what the parts of an audit
-//! answer that no such volume shows. What is expected was written by hand, from the rules.
+//! answer that no such volume shows, and `meters` what an audit shows of how far it is. What is expected was written by
+//! hand, from the rules.
 #![tactic(auto)]
 
 #[cfg(test)]
 mod cells;
 #[cfg(test)]
 mod images;
+#[cfg(test)]
+mod meters;
 #[cfg(test)]
 mod parts;

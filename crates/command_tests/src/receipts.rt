@@ -4,7 +4,8 @@ use std::alloc::Global;
 use std::test::Fail;
 use stored_documents::MAX_BODY_BYTES;
 use test_volumes::{
-    begin, formatted, outcome_of, run, sink, small_volume, source_of, volume_with_a, words_of,
+    begin, expect_refusal, expect_refusals, expect_text, formatted, outcome_of, run, sink,
+    small_volume, source_of, volume_with_a, words_of,
 };
 use worm_memory::MemoryDevice;
 
@@ -59,10 +60,7 @@ fn a_receipt_is_put_out(rt: HostRuntime) -> Result<(), Fail> {
         ("receipt|b", "", SECOND_RECEIPT),
         ("check", SECOND_RECEIPT, "kept 1 b 0\n"),
     ] {
-        begin(&mut device)?;
-        let (outcome, put) = outcome_of(alloc, words, &mut device, body.as_bytes())?;
-        assert_eq!(rt; outcome, Ok(()), "{words}");
-        assert_eq!(rt; put.as_slice(), want.as_bytes(), "{words}");
+        expect_text(alloc, &mut device, words, body.as_bytes(), want)?;
     }
     Ok(())
 }
@@ -70,25 +68,16 @@ fn a_receipt_is_put_out(rt: HostRuntime) -> Result<(), Fail> {
 #[test]
 fn there_is_no_receipt_of_a_document_that_is_absent(rt: HostRuntime) -> Result<(), Fail> {
     let alloc = rt.alloc();
-    let mut with_a = volume_with_a(alloc)?;
+    let mut device = volume_with_a(alloc)?;
+    expect_refusal(alloc, &mut device, "receipt|b", b"", Refusal::Absent)?;
     let mut blank = MemoryDevice::new(alloc, 1_000)?;
-    for (words, on_volume, on_blank) in [
-        ("receipt|b", Refusal::Absent, Refusal::NotFormatted),
-        (
-            "receipt|a b",
-            Refusal::BadIdentifier,
-            Refusal::BadIdentifier,
-        ),
-        ("receipt|-a", Refusal::Usage, Refusal::Usage),
-    ] {
-        let (outcome, put) = outcome_of(alloc, words, &mut with_a, b"")?;
-        assert_eq!(rt; outcome, Err(on_volume), "{words}");
-        assert_eq!(rt; put.len(), 0);
-        let (outcome, put) = outcome_of(alloc, words, &mut blank, b"")?;
-        assert_eq!(rt; outcome, Err(on_blank), "{words}");
-        assert_eq!(rt; put.len(), 0);
-    }
-    Ok(())
+    expect_refusal(alloc, &mut blank, "receipt|b", b"", Refusal::NotFormatted)?;
+    let on_any = [
+        ("receipt|a b", Refusal::BadIdentifier),
+        ("receipt|-a", Refusal::Usage),
+    ];
+    expect_refusals(alloc, &mut device, &on_any)?;
+    expect_refusals(alloc, &mut blank, &on_any)
 }
 
 #[test]
@@ -97,20 +86,27 @@ fn a_receipt_is_checked(rt: HostRuntime) -> Result<(), Fail> {
     let mut device = volume_with_a(alloc)?;
     assert_eq!(rt; check(alloc, RECEIPT, &mut device)?, None);
 
-    // It holds on: other documents come, and a slot is given up.
-    for (words, body) in [("ingest|b", "hello again"), ("recover", "")] {
-        begin(&mut device)?;
-        let (outcome, _) = outcome_of(alloc, words, &mut device, body.as_bytes())?;
-        assert_eq!(rt; outcome, Ok(()));
-        assert_eq!(rt; check(alloc, RECEIPT, &mut device)?, None);
-    }
+    // It holds on: other documents come.
+    expect_text(
+        alloc,
+        &mut device,
+        "ingest|b",
+        b"hello again",
+        "acknowledged 1\n",
+    )?;
+    assert_eq!(rt; check(alloc, RECEIPT, &mut device)?, None);
     Ok(())
+}
+
+/// Why a check on the volume with `a` refuses this text, if it does.
+fn refused(alloc: Global, text: &str) -> Result<Option<Refusal>, Fail> {
+    let mut device = volume_with_a(alloc)?;
+    check(alloc, text, &mut device)
 }
 
 #[test]
 fn a_receipt_is_refused_for_its_first_fault(rt: HostRuntime) -> Result<(), Fail> {
     let alloc = rt.alloc();
-    let without_36 = "36 0600000000012cf24dba5fb000000024\n";
     for (old, new, want) in [
         ("00000024\n", "00000025\n", Refusal::CellDiffers(36)),
         ("end 8", "end 9", Refusal::BadReceipt(10)),
@@ -120,24 +116,29 @@ fn a_receipt_is_refused_for_its_first_fault(rt: HostRuntime) -> Result<(), Fail>
         ("580 1d", "1000 1d", Refusal::BadReceipt(9)),
     ] {
         let text = RECEIPT.replace(alloc, old, new)?;
-        let mut device = volume_with_a(alloc)?;
-        let refused = check(alloc, text.as_str(), &mut device)?;
-        assert_eq!(rt; refused, Some(want), "{old} {new}");
+        assert_eq!(rt; refused(alloc, text.as_str())?, Some(want), "{old} {new}");
     }
+    Ok(())
+}
 
-    // A line that is left out, with the number of the others; then with a cell that differs; then with a line that is none.
+/// A line is left out, with the number of the others; then a cell differs, too; then there is a line that is none.
+#[test]
+fn a_line_that_is_none_comes_before_a_cell_that_differs(rt: HostRuntime) -> Result<(), Fail> {
+    let alloc = rt.alloc();
+    let without_36 = "36 0600000000012cf24dba5fb000000024\n";
     let text = RECEIPT.replace(alloc, without_36, "")?;
     let text = text.replace(alloc, "end 8", "end 7")?;
-    let differs = text.replace(alloc, "00000025\n", "00000026\n")?;
-    let broken = differs.replace(alloc, "560 ", "0560 ")?;
-    for (text, want) in [
-        (text, Refusal::NotShown(0)),
-        (differs, Refusal::CellDiffers(37)),
-        (broken, Refusal::BadReceipt(7)),
-    ] {
-        let mut device = volume_with_a(alloc)?;
-        assert_eq!(rt; check(alloc, text.as_str(), &mut device)?, Some(want));
-    }
+    assert_eq!(rt; refused(alloc, text.as_str())?, Some(Refusal::NotShown(0)));
+    let text = text.replace(alloc, "00000025\n", "00000026\n")?;
+    assert_eq!(rt;
+        refused(alloc, text.as_str())?,
+        Some(Refusal::CellDiffers(37))
+    );
+    let text = text.replace(alloc, "560 ", "0560 ")?;
+    assert_eq!(rt;
+        refused(alloc, text.as_str())?,
+        Some(Refusal::BadReceipt(7))
+    );
     Ok(())
 }
 
@@ -167,15 +168,8 @@ fn a_check_takes_more_than_a_body_may_have(rt: HostRuntime) -> Result<(), Fail> 
     let alloc = rt.alloc();
     let mut device = volume_with_a(alloc)?;
     let long = vec![in alloc; b'\n'; MAX_BODY_BYTES + 1]?;
-    for (words, want) in [
-        ("check", Refusal::BadReceipt(1)),
-        ("replay", Refusal::TooLong),
-    ] {
-        let (outcome, put) = outcome_of(alloc, words, &mut device, &long)?;
-        assert_eq!(rt; outcome, Err(want), "{words}");
-        assert_eq!(rt; put.len(), 0);
-    }
-    Ok(())
+    expect_refusal(alloc, &mut device, "check", &long, Refusal::BadReceipt(1))?;
+    expect_refusal(alloc, &mut device, "replay", &long, Refusal::TooLong)
 }
 
 #[test]

@@ -6,7 +6,8 @@ use cell_types::{Cell, Refusal};
 use std::alloc::Global;
 use std::test::Fail;
 use test_volumes::{
-    begin, digits_at, formatted, holds_alone, outcome_of, small_volume, write_foreign,
+    begin, digits_at, expect_refusal, expect_text, expect_texts, formatted, holds_alone,
+    outcome_of, small_volume, volume_with_a, write_foreign,
 };
 use worm_memory::{Change, Crash, MemoryDevice, Moment};
 
@@ -104,16 +105,19 @@ fn a_document_is_stored_with_its_index(rt: HostRuntime) -> Result<(), Fail> {
         ("ingest|a", "hello world", "acknowledged 0\n", FIRST),
         ("ingest|b", "", "acknowledged 1\n", SECOND),
     ] {
-        begin(&mut device)?;
         let before = device.changes().len();
-        let (outcome, put) = outcome_of(alloc, words, &mut device, body.as_bytes())?;
-        assert_eq!(rt; outcome, Ok(()), "{words}");
-        assert_eq!(rt; put.as_slice(), text.as_bytes());
+        expect_text(alloc, &mut device, words, body.as_bytes(), text)?;
         // All is sure at entry, so settling's sync is no change.
         assert!(rt; has_phases(&device, before, &phases)?, "{words}");
     }
+    Ok(())
+}
 
-    // Neither of these has a second step behind that sync.
+/// Neither of these has a second step behind settling's sync.
+#[test]
+fn nothing_is_written_where_nothing_is_to_be_done(rt: HostRuntime) -> Result<(), Fail> {
+    let alloc = rt.alloc();
+    let mut device = volume_with_a(alloc)?;
     let before = device.changes().len();
     for (words, want, text) in [
         ("ingest|a", Err(Refusal::Duplicate(0)), ""),
@@ -133,11 +137,14 @@ fn a_document_is_stored_with_its_index(rt: HostRuntime) -> Result<(), Fail> {
 fn a_bucket_that_is_taken_gets_a_node_below(rt: HostRuntime) -> Result<(), Fail> {
     let alloc = rt.alloc();
     let mut device = small_volume(alloc)?;
-    for words in ["ingest|b", "ingest|e"] {
-        begin(&mut device)?;
-        let (outcome, _) = outcome_of(alloc, words, &mut device, b"")?;
-        assert_eq!(rt; outcome, Ok(()), "{words}");
-    }
+    expect_texts(
+        alloc,
+        &mut device,
+        &[
+            ("ingest|b", "acknowledged 0\n"),
+            ("ingest|e", "acknowledged 1\n"),
+        ],
+    )?;
     assert!(rt; holds_alone(&mut device, &WITH_NODE));
     Ok(())
 }
@@ -151,9 +158,8 @@ fn a_full_block_leads_on_by_a_pointer(rt: HostRuntime) -> Result<(), Fail> {
     let mut device = formatted(alloc, 10_000, "format|200|1")?;
     for i in 0..129 {
         let words = format!(in alloc; "ingest|d{i:03}")?;
-        begin(&mut device)?;
-        let (outcome, _) = outcome_of(alloc, words.as_str(), &mut device, b"hello")?;
-        assert_eq!(rt; outcome, Ok(()), "{i}");
+        let text = format!(in alloc; "acknowledged {i}\n")?;
+        expect_text(alloc, &mut device, words.as_str(), b"hello", text.as_str())?;
     }
     for (at, digits) in [
         (516, 0x02_00000a47_00000125_000000_00000204),
@@ -213,14 +219,9 @@ fn a_crash_leaves_a_document_whole_or_gives_its_slot_up(rt: HostRuntime) -> Resu
         assert_eq!(rt; put.len(), 0);
         begin(&mut device)?;
         assert_eq!(rt; device.crash(keep)?, crash, "{step}");
-        begin(&mut device)?;
-        let (outcome, put) = outcome_of(alloc, words, &mut device, b"")?;
-        assert_eq!(rt; outcome, Ok(()), "{step}");
-        assert_eq!(rt; put.as_slice(), text.as_bytes(), "{step}");
+        expect_text(alloc, &mut device, words, b"", text)?;
         assert_eq!(rt; digits_at(&mut device, 5), outcome_cell, "{step}");
-        begin(&mut device)?;
-        let (_, put) = outcome_of(alloc, "find|hello", &mut device, b"")?;
-        assert_eq!(rt; put.as_slice(), found.as_bytes(), "{step}");
+        expect_text(alloc, &mut device, "find|hello", b"", found)?;
     }
     Ok(())
 }
@@ -277,11 +278,7 @@ fn a_path_is_full(rt: HostRuntime) -> Result<(), Fail> {
             }
         }
     }
-    begin(&mut device)?;
-    let (outcome, put) = outcome_of(alloc, "ingest|a", &mut device, b"")?;
-    assert_eq!(rt; outcome, Err(Refusal::PathFull));
-    assert_eq!(rt; put.len(), 0);
-    Ok(())
+    expect_refusal(alloc, &mut device, "ingest|a", b"", Refusal::PathFull)
 }
 
 #[test]
@@ -293,13 +290,9 @@ fn a_document_has_256_words_in_a_list_at_most(rt: HostRuntime) -> Result<(), Fai
         let word = format!(in alloc; "w{i} ")?;
         body.push_str(word.as_str())?;
     }
-    begin(&mut device)?;
-    let (outcome, put) = outcome_of(alloc, "ingest|a", &mut device, body.as_bytes())?;
     let refusal = Refusal::TooManyTerms {
         list: 0,
         count: 257,
     };
-    assert_eq!(rt; outcome, Err(refusal));
-    assert_eq!(rt; put.len(), 0);
-    Ok(())
+    expect_refusal(alloc, &mut device, "ingest|a", body.as_bytes(), refusal)
 }

@@ -1,7 +1,7 @@
 //! What `replay` and `exercise` print, and that they leave the device alone.
 use cell_types::Refusal;
 use std::test::Fail;
-use test_volumes::{Outcome, outcome_of, volume_with_a};
+use test_volumes::{expect, expect_text, volume_with_a};
 
 /// An ingest that is cut short, a crash, and a recovery.
 const SCRIPT: &[u8] = b"{\"cells\": 1000, \"events\": [
@@ -27,12 +27,9 @@ fn a_script_is_replayed_elsewhere(rt: HostRuntime) -> Result<(), Fail> {
             "",
         ),
     ] {
-        let want: Outcome = want;
         let mut device = volume_with_a(alloc)?;
         let changes = device.changes().len();
-        let (outcome, put) = outcome_of(alloc, "replay", &mut device, text)?;
-        assert_eq!(rt; outcome, want);
-        assert!(rt; put.as_slice() == lines.as_bytes());
+        expect(alloc, &mut device, "replay", text, want, lines)?;
         assert_eq!(rt; device.changes().len(), changes);
     }
     Ok(())
@@ -43,11 +40,9 @@ fn an_exercise_tells_of_its_documents(rt: HostRuntime) -> Result<(), Fail> {
     let alloc = rt.alloc();
     let mut device = volume_with_a(alloc)?;
     let changes = device.changes().len();
-    let (outcome, put) = outcome_of(alloc, "exercise|1", &mut device, b"")?;
-    assert_eq!(rt; outcome, Ok(()));
     // Its document has 19 words, of which one pair follows one another: `w0` and `w1`.
     let lines = "documents 1\nacknowledged 1\nsingle 19\npairs 1\nlooked up 1\nsound\n";
-    assert!(rt; put.as_slice() == lines.as_bytes());
+    expect_text(alloc, &mut device, "exercise|1", b"", lines)?;
     assert_eq!(rt; device.changes().len(), changes);
     Ok(())
 }

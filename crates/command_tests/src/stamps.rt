@@ -7,7 +7,10 @@ use crate::rows::has_phases;
 use cell_types::Refusal;
 use std::alloc::Global;
 use std::test::Fail;
-use test_volumes::{Outcome, begin, digits_at, formatted, holds_alone, outcome_of};
+use test_volumes::{
+    begin, digits_at, expect_refusal, expect_refusals, expect_text, expect_texts, formatted,
+    holds_alone, outcome_of,
+};
 use worm_memory::{Crash, MemoryDevice, Moment};
 
 /// What goes onto the new volume with the document `a`, whose body is empty and whose stamp is 1,000, phase by phase: the
@@ -45,28 +48,16 @@ fn stamped_volume(alloc: Global) -> Result<MemoryDevice, Fail> {
     formatted(alloc, 1_200, "format|8|2|3")
 }
 
-/// How this ends, of an empty body, and what it puts out.
-fn ends(alloc: Global, words: &str, device: &mut MemoryDevice) -> Result<(Outcome, Vec<u8>), Fail> {
-    begin(device)?;
-    outcome_of(alloc, words, device, b"")
-}
-
 #[test]
 fn a_stamped_document_is_stored_with_its_stamp(rt: HostRuntime) -> Result<(), Fail> {
     let alloc = rt.alloc();
     let mut device = stamped_volume(alloc)?;
     assert!(rt; holds_alone(&mut device, &[(0, VOLUME)]));
     let before = device.changes().len();
-    let (outcome, put) = ends(alloc, "ingest|a|1000", &mut device)?;
-    assert_eq!(rt; outcome, Ok(()));
-    assert_eq!(rt; put.as_slice(), b"acknowledged 0\n".as_slice());
+    expect_text(alloc, &mut device, "ingest|a|1000", b"", "acknowledged 0\n")?;
     assert!(rt; has_phases(&device, before, &PHASES)?);
-
-    let (outcome, put) = ends(alloc, "audit", &mut device)?;
-    assert_eq!(rt; outcome, Ok(()));
-    let sound = b"sound: 1 done, 0 abandoned, 10 written cells\n".as_slice();
-    assert_eq!(rt; put.as_slice(), sound);
-    Ok(())
+    let sound = "sound: 1 done, 0 abandoned, 10 written cells\n";
+    expect_text(alloc, &mut device, "audit", b"", sound)
 }
 
 /// The last is the sync behind the done cell.
@@ -83,36 +74,30 @@ fn a_stamped_ingest_takes_fifteen_steps(rt: HostRuntime) -> Result<(), Fail> {
     Ok(())
 }
 
+/// The refusal of a stamp that is not past the last one.
+fn early(given: u32, last: u32) -> Refusal {
+    Refusal::StampTooEarly { given, last }
+}
+
 #[test]
 fn stamps_rise(rt: HostRuntime) -> Result<(), Fail> {
     let alloc = rt.alloc();
     let mut device = stamped_volume(alloc)?;
-    for (words, want, text) in [
-        ("ingest|a|1000", Ok(()), "acknowledged 0\n"),
-        (
-            "ingest|b|1000",
-            Err(Refusal::StampTooEarly {
-                given: 1_000,
-                last: 1_000,
-            }),
-            "",
-        ),
-        ("ingest|b", Err(Refusal::StampNeeded), ""),
-        ("ingest|b|4294967295", Ok(()), "acknowledged 1\n"),
-        (
-            "ingest|c|5",
-            Err(Refusal::StampTooEarly {
-                given: 5,
-                last: 4_294_967_295,
-            }),
-            "",
-        ),
-    ] {
-        let (outcome, put) = ends(alloc, words, &mut device)?;
-        assert_eq!(rt; outcome, want, "{words}");
-        assert_eq!(rt; put.as_slice(), text.as_bytes(), "{words}");
-    }
-    Ok(())
+    expect_texts(alloc, &mut device, &[("ingest|a|1000", "acknowledged 0\n")])?;
+    expect_refusals(
+        alloc,
+        &mut device,
+        &[
+            ("ingest|b|1000", early(1_000, 1_000)),
+            ("ingest|b", Refusal::StampNeeded),
+        ],
+    )?;
+    expect_texts(
+        alloc,
+        &mut device,
+        &[("ingest|b|4294967295", "acknowledged 1\n")],
+    )?;
+    expect_refusals(alloc, &mut device, &[("ingest|c|5", early(5, u32::MAX))])
 }
 
 /// Its digits may begin with zeros, as those of other numbers, and the first stamp may be 0.
@@ -126,8 +111,7 @@ fn a_stamp_has_32_bits(rt: HostRuntime) -> Result<(), Fail> {
         ("ingest|a|4294967295", 0x0a_ffffffff_00000000000000_00000007),
     ] {
         let mut device = stamped_volume(alloc)?;
-        let (outcome, _) = ends(alloc, words, &mut device)?;
-        assert_eq!(rt; outcome, Ok(()), "{words}");
+        expect_text(alloc, &mut device, words, b"", "acknowledged 0\n")?;
         assert_eq!(rt; digits_at(&mut device, 7), digits, "{words}");
     }
     Ok(())
@@ -139,10 +123,8 @@ fn other_volumes_take_no_stamps(rt: HostRuntime) -> Result<(), Fail> {
     for words in ["format|8|2", "format|8|2|2"] {
         let mut device = formatted(alloc, 1_000, words)?;
         let before = device.changes().len();
-        let (outcome, put) = ends(alloc, "ingest|c|5", &mut device)?;
-        assert_eq!(rt; outcome, Err(Refusal::StampUnused), "{words}");
-        assert_eq!(rt; put.len(), 0);
-        assert_eq!(rt; device.changes().len(), before);
+        expect_refusal(alloc, &mut device, "ingest|c|5", b"", Refusal::StampUnused)?;
+        assert_eq!(rt; device.changes().len(), before, "{words}");
     }
     Ok(())
 }
@@ -159,19 +141,16 @@ fn a_slot_whose_stamp_alone_was_kept_is_given_up(rt: HostRuntime) -> Result<(), 
     assert_eq!(rt; put.len(), 0);
     begin(&mut device)?;
     assert_eq!(rt; device.crash(&[7])?, Crash { kept: 1, unsure: 1 });
-    for (words, text) in [
-        ("recover", "slot 0 abandoned\n"),
-        ("audit", "sound: 0 done, 1 abandoned, 4 written cells\n"),
-    ] {
-        let (outcome, put) = ends(alloc, words, &mut device)?;
-        assert_eq!(rt; outcome, Ok(()), "{words}");
-        assert_eq!(rt; put.as_slice(), text.as_bytes(), "{words}");
-    }
+    expect_texts(
+        alloc,
+        &mut device,
+        &[
+            ("recover", "slot 0 abandoned\n"),
+            ("audit", "sound: 0 done, 1 abandoned, 4 written cells\n"),
+        ],
+    )?;
     assert!(rt; holds_alone(&mut device, &GIVEN_UP));
 
     // A stamp of a slot that was given up is no bar to the next document.
-    let (outcome, put) = ends(alloc, "ingest|a|1000", &mut device)?;
-    assert_eq!(rt; outcome, Ok(()));
-    assert_eq!(rt; put.as_slice(), b"acknowledged 1\n".as_slice());
-    Ok(())
+    expect_texts(alloc, &mut device, &[("ingest|a|1000", "acknowledged 1\n")])
 }

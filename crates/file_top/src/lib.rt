@@ -33,16 +33,18 @@ mod tests;
 use cell_types::Refusal;
 use host_files::{FileDevice, HostFile, crashes_are_seen};
 use host_ports::{Sink, Source};
-use record_top::{Outcome, run};
+use progress::Meter;
+use record_top::{Outcome, run_metered};
 use std::alloc::Global;
 
-/// Carries out the command that the words ask for over a file, as `run` does over a device.
-pub fn run_over_file<F: HostFile, S: Source, K: Sink>(
+/// Carries out the command that the words ask for over a file, as `run` does over a device, and shows how far a long one is.
+pub fn run_over_file<F: HostFile, S: Source, K: Sink, M: Meter>(
     alloc: Global,
     words: &[String],
     device: &mut FileDevice<F>,
     source: &mut S,
     sink: &mut K,
+    meter: &mut M,
 ) -> Outcome
     // All that `run` says, over the device that shows the file.
     ensures called { Called (state_over device.old) (state_over device.new) }
@@ -73,7 +75,7 @@ pub fn run_over_file<F: HostFile, S: Source, K: Sink>(
     // What a crash leaves of the file, at any moment of the command, is a crash of the device, of which `run` speaks.
     ensures crashes { CrashesAreSeen (state_over device.new) (file_below device.new).told }
 {
-    let outcome = run(alloc, words, device, source, sink);
+    let outcome = run_metered(alloc, words, device, source, sink, meter);
     crashes_are_seen(device);
     outcome
 }

@@ -3,6 +3,7 @@ use crate::run_over_file;
 use cell_types::{Cell, Evidence, Refusal};
 use host_files::{FileDevice, Leaving, MemoryFile, Pages};
 use host_ports::{MemorySink, MemorySource};
+use progress::Silent;
 use record_top::Outcome;
 use std::alloc::Global;
 use std::test::Fail;
@@ -148,7 +149,7 @@ fn carry_out(
     let mut source = MemorySource::new(bytes);
     let mut sink = MemorySink::new(alloc);
     sink.reserve(64)?;
-    let outcome = run_over_file(alloc, &all, device, &mut source, &mut sink);
+    let outcome = run_over_file(alloc, &all, device, &mut source, &mut sink, &mut Silent);
     Ok((outcome, sink.bytes() == text))
 }
 

@@ -17,21 +17,24 @@ use index_paths::ENTRY_PLACES;
 use kept_cells::KeptCells;
 use list_audit::{ListBlock, posting_at};
 use log_audit::{Log, lower_of};
+use progress::Meter;
 use std::alloc::Global;
 use tamper_rules::FAKE_POSTING;
 
 /// The least cell of a block at which rule 9 is broken, of these blocks of all lists, where rule 4 is kept. It takes 16
-/// bytes a posting, and what one document's words and postings take while they are made.
+/// bytes a posting, and what one document's words and postings take while they are made. The meter is shown how many of
+/// the slots' checks are made, of which this is the first one of each.
 ///
 /// # Errors
 ///
 /// `NoMemory`.
-pub fn first_broken_posting(
+pub fn first_broken_posting<M: Meter>(
     alloc: Global,
     kept: &KeptCells,
     geometry: &Geometry,
     log: &Log,
     blocks: &[ListBlock],
+    meter: &mut M,
 ) -> Result<Option<Evidence>, NoMemory>
     requires volume { IsVolume geometry.now.cells (image_of kept.now) geometry.now }
     requires log { IsLog geometry.now (image_of kept.now) log.now }
@@ -39,7 +42,7 @@ pub fn first_broken_posting(
     requires blocks { AreListBlocks geometry.now (image_of kept.now) blocks.now }
     ensures { IfOk result (λ found. Finds geometry.now (image_of kept.now) Postings found) }
 {
-    let table = table_of(alloc, kept, geometry, log)?;
+    let table = table_of(alloc, kept, geometry, log, meter)?;
     Ok(first_fake(kept, geometry, log, blocks, &table))
 }
 

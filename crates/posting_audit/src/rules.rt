@@ -16,30 +16,39 @@ use cell_types::{Evidence, Geometry, NoMemory};
 use kept_cells::KeptCells;
 use list_audit::HeldPosting;
 use log_audit::{Log, StoredSlot, stored_slot};
+use progress::{Meter, Work};
 use std::alloc::Global;
 use tamper_rules::MISSING_TRAIL;
 use term_tags::ListedPosting;
 
-/// The first done cell at which rule 13 is broken, where the rules of lower numbers are kept.
+/// The first done cell at which rule 13 is broken, where the rules of lower numbers are kept. The meter is shown how many
+/// of the slots' checks are made, of which this is the second one of each.
 ///
 /// # Errors
 ///
 /// `NoMemory`.
-pub fn first_broken_trail(
+pub fn first_broken_trail<M: Meter>(
     alloc: Global,
     kept: &KeptCells,
     geometry: &Geometry,
     log: &Log,
+    meter: &mut M,
 ) -> Result<Option<Evidence>, NoMemory>
     requires volume { IsVolume geometry.now.cells (image_of kept.now) geometry.now }
     requires log { IsLog geometry.now (image_of kept.now) log.now }
     requires met { AreMetBelow geometry.now (image_of kept.now) 13 }
     ensures { IfOk result (λ found. Finds geometry.now (image_of kept.now) Trails found) }
 {
+    let slots = log.slots.len() as u64;
     for slot in 0..geometry.slots() {
         let Some(stored) = stored_slot(kept, geometry, log, slot) else {
             continue;
         };
+        meter.show(
+            Work::Checking,
+            slots.saturating_add(u64::from(slot)),
+            slots.saturating_mul(2),
+        );
         if keeps_trail_rule(alloc, kept, geometry, &stored)? {
             continue;
         }

@@ -13,6 +13,7 @@ use cell_types::{Geometry, NoMemory, RecordCell, address_of, decode};
 use kept_cells::KeptCells;
 use list_audit::HeldPosting;
 use log_audit::{Log, StoredSlot, stored_slot};
+use progress::{Meter, Work};
 use std::alloc::Global;
 use term_tags::ListedPosting;
 
@@ -89,12 +90,13 @@ impl PostingTable {
     }
 }
 
-/// The postings that the documents of a volume are to have, where rule 4 is kept.
-pub(crate) fn table_of(
+/// The postings that the documents of a volume are to have, where rule 4 is kept. That is the first check of each slot.
+pub(crate) fn table_of<M: Meter>(
     alloc: Global,
     kept: &KeptCells,
     geometry: &Geometry,
     log: &Log,
+    meter: &mut M,
 ) -> Result<PostingTable, NoMemory>
     requires log { IsLog geometry.now (image_of kept.now) log.now }
     requires documents { IsMetAll geometry.now (image_of kept.now) Documents }
@@ -103,10 +105,12 @@ pub(crate) fn table_of(
     ensures order { IfOk result (λ table. AreOrderedRows table.rows.items) }
 {
     let mut table = PostingTable::with_room(alloc, kept, geometry, log)?;
+    let checks = (log.slots.len() as u64).saturating_mul(2);
     for slot in 0..geometry.slots() {
         let Some(stored) = stored_slot(kept, geometry, log, slot) else {
             continue;
         };
+        meter.show(Work::Checking, u64::from(slot), checks);
         let found = postings_of(alloc, kept, geometry, &stored)?;
         let Some(rows) = found else {
             continue;

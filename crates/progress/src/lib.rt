@@ -27,5 +27,5 @@ mod metered_file;
 #[cfg(test)]
 mod tests;
 
-pub use meter::{Meter, Silent};
+pub use meter::{Meter, Silent, Work};
 pub use metered_file::MeteredFile;

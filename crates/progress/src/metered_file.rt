@@ -2,7 +2,7 @@
 ghost use Rattle.std.specs.Prelude.{◌≡◌};
 ghost use Rattle.progress.specs.Metered.{file_in};
 
-use crate::Meter;
+use crate::{Meter, Work};
 use host_files::HostFile;
 use worm_device::Failed;
 
@@ -48,7 +48,7 @@ impl<F: HostFile, M: Meter> HostFile for MeteredFile<F, M> {
             return Ok(());
         }
         self.read_to = end;
-        self.meter.show(end, places);
+        self.meter.show(Work::Reading, end, places);
         Ok(())
     }
 

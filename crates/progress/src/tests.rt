@@ -1,5 +1,5 @@
 //! What a meter is shown of a file in memory.
-use crate::{Meter, MeteredFile, Silent};
+use crate::{Meter, MeteredFile, Silent, Work};
 use cell_types::Cell;
 use host_files::{FileDevice, HostFile, Leaving, MemoryFile, Pages};
 use std::alloc::Global;
@@ -13,7 +13,7 @@ const SIZE: usize = 16_007;
 /// A meter that keeps the first eight things that it is shown.
 #[derive(Drop)]
 struct Recorder {
-    shown: [(u64, u64); 8],
+    shown: [(Work, u64, u64); 8],
     count: usize,
 }
 
@@ -21,16 +21,16 @@ impl Recorder {
     /// Nothing was shown yet.
     fn new() -> Recorder {
         Recorder {
-            shown: [(0, 0); 8],
+            shown: [(Work::Copying, 0, 0); 8],
             count: 0,
         }
     }
 }
 
 impl Meter for Recorder {
-    fn show(&mut self, done: u64, of: u64) {
+    fn show(&mut self, work: Work, done: u64, of: u64) {
         if self.count < 8 {
-            self.shown[self.count] = (done, of);
+            self.shown[self.count] = (work, done, of);
             self.count += 1;
         }
     }
@@ -76,10 +76,10 @@ fn a_device_that_is_read_is_shown_to_its_end(rt: HostRuntime) -> Result<(), Fail
     assert_eq!(rt;
         meter.shown[..4],
         [
-            (4_096, 16_000),
-            (8_192, 16_000),
-            (12_288, 16_000),
-            (16_000, 16_000)
+            (Work::Reading, 4_096, 16_000),
+            (Work::Reading, 8_192, 16_000),
+            (Work::Reading, 12_288, 16_000),
+            (Work::Reading, 16_000, 16_000)
         ][..]
     );
     Ok(())
@@ -111,7 +111,7 @@ fn only_reads_that_come_further_are_shown(rt: HostRuntime) -> Result<(), Fail> {
         assert!(rt; before < 8, "no test shows more");
         let now = meter.shown[before];
         match shown {
-            Some(end) => assert_eq!(rt; now, (end, 16_000), "{size} from {from} on"),
+            Some(end) => assert_eq!(rt; now, (Work::Reading, end, 16_000), "{size} from {from} on"),
             None => assert_eq!(rt; meter.count, before, "{size} from {from} on"),
         }
     }

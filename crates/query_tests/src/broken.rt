@@ -5,7 +5,7 @@
 use cell_types::{Cell, Evidence, Refusal};
 use std::alloc::Global;
 use std::test::Fail;
-use test_volumes::{begin, outcome_of, small_volume, write_foreign};
+use test_volumes::{begin, expect_text, outcome_of, small_volume, write_foreign};
 use worm_memory::MemoryDevice;
 
 /// The number of the rule: the cells of a slot spell a document.
@@ -105,10 +105,8 @@ fn what_is_changed_of_the_cells_below_was_whole(rt: HostRuntime) -> Result<(), F
         592,
         &[Some(content(15, 1)), Some(content(7, b'e'))],
     )?;
-    let (outcome, put) = outcome_of(alloc, "lookup|e", &mut device, b"")?;
-    assert_eq!(rt; outcome, Ok(()));
-    assert_eq!(rt; put.as_slice(), b"eeeeeeeeeeeeeeeeeeee".as_slice());
-    Ok(())
+    let body = "eeeeeeeeeeeeeeeeeeee";
+    expect_text(alloc, &mut device, "lookup|e", b"", body)
 }
 
 #[test]

@@ -4,13 +4,14 @@ use cell_types::{Cell, Evidence, RecordCell, Refusal, encode};
 use std::alloc::Global;
 use std::test::Fail;
 use test_volumes::{
-    begin, digits_at, formatted, outcome_of, small_volume, volume_with_a, write_foreign,
+    begin, digits_at, expect_refusal, expect_text, expect_texts, formatted, outcome_of,
+    small_volume, volume_with_a, write_foreign,
 };
 use worm_device::Device;
 use worm_memory::{MemoryDevice, Moment};
 
 /// What `find hello` puts out on the volume with the document `a`.
-const FOUND_A: &[u8] = b"0 a 11\n1 found\n";
+const FOUND_A: &str = "0 a 11\n1 found\n";
 
 /// A posting of `hello` for slot 5, which is unused, in cell 38.
 const OF_SLOT_5: [u8; 16] = [
@@ -55,16 +56,9 @@ fn a_posting_of_an_unused_slot_is_named(rt: HostRuntime) -> Result<(), Fail> {
     let alloc = rt.alloc();
     let mut device = volume_with_a(alloc)?;
     write_foreign(&mut device, 38, OF_SLOT_5)?;
-    begin(&mut device)?;
-    let (outcome, put) = outcome_of(alloc, "find|hello", &mut device, b"")?;
     let named = Refusal::Tampered(evidence(9, 38, OF_SLOT_5)?);
-    assert_eq!(rt; outcome, Err(named));
-    assert_eq!(rt; put.len(), 0);
-    begin(&mut device)?;
-    let (outcome, put) = outcome_of(alloc, "find|foo", &mut device, b"")?;
-    assert_eq!(rt; outcome, Ok(()));
-    assert_eq!(rt; put.as_slice(), b"0 found\n".as_slice());
-    Ok(())
+    expect_refusal(alloc, &mut device, "find|hello", b"", named)?;
+    expect_text(alloc, &mut device, "find|foo", b"", "0 found\n")
 }
 
 #[test]
@@ -72,17 +66,15 @@ fn a_posting_of_another_document_finds_nothing(rt: HostRuntime) -> Result<(), Fa
     let alloc = rt.alloc();
     let mut device = volume_with_a(alloc)?;
     write_foreign(&mut device, 38, OF_FOO)?;
-    for (words, text) in [
-        ("find|foo", b"0 found\n".as_slice()),
-        ("find|foo|hello", b"0 found\n".as_slice()),
-        ("find|hello", FOUND_A),
-    ] {
-        begin(&mut device)?;
-        let (outcome, put) = outcome_of(alloc, words, &mut device, b"")?;
-        assert_eq!(rt; outcome, Ok(()), "{words}");
-        assert_eq!(rt; put.as_slice(), text, "{words}");
-    }
-    Ok(())
+    expect_texts(
+        alloc,
+        &mut device,
+        &[
+            ("find|foo", "0 found\n"),
+            ("find|foo|hello", "0 found\n"),
+            ("find|hello", FOUND_A),
+        ],
+    )
 }
 
 /// The first six bytes of the SHA-256 of both words are 64071ff0f07b.
@@ -93,23 +85,21 @@ fn two_words_may_have_one_tag(rt: HostRuntime) -> Result<(), Fail> {
     put_by(alloc, &mut device, "ingest|first", b"ezlqmt")?;
     put_by(alloc, &mut device, "ingest|second", b"qoqpzf")?;
     put_by(alloc, &mut device, "ingest|both", b"qoqpzf ezlqmt")?;
-    for (words, text) in [
-        ("find|ezlqmt", "0 first 6\n2 both 13\n2 found\n"),
-        ("find|qoqpzf", "1 second 6\n2 both 13\n2 found\n"),
-        ("find|ezlqmt|qoqpzf", "2 both 13\n1 found\n"),
-    ] {
-        let put = put_by(alloc, &mut device, words, b"")?;
-        assert_eq!(rt; put.as_slice(), text.as_bytes(), "{words}");
-    }
-    Ok(())
+    expect_texts(
+        alloc,
+        &mut device,
+        &[
+            ("find|ezlqmt", "0 first 6\n2 both 13\n2 found\n"),
+            ("find|qoqpzf", "1 second 6\n2 both 13\n2 found\n"),
+            ("find|ezlqmt|qoqpzf", "2 both 13\n1 found\n"),
+        ],
+    )
 }
 
 #[test]
 fn eight_terms_are_found_together(rt: HostRuntime) -> Result<(), Fail> {
     let alloc = rt.alloc();
     let mut device = small_volume(alloc)?;
-    let put = put_by(alloc, &mut device, "find|hello", b"")?;
-    assert_eq!(rt; put.as_slice(), b"0 found\n".as_slice());
     put_by(
         alloc,
         &mut device,
@@ -122,22 +112,22 @@ fn eight_terms_are_found_together(rt: HostRuntime) -> Result<(), Fail> {
         "ingest|seven",
         b"one two three four five six seven",
     )?;
-    for (words, text) in [
-        (
-            "find|eight|seven|six|five|four|three|two|one",
-            "0 all 39\n1 found\n",
-        ),
-        (
-            "find|two|two|two|two|two|two|two|two",
-            "0 all 39\n1 seven 33\n2 found\n",
-        ),
-        ("find|one|seven", "0 all 39\n1 seven 33\n2 found\n"),
-        ("find|one|nine", "0 found\n"),
-    ] {
-        let put = put_by(alloc, &mut device, words, b"")?;
-        assert_eq!(rt; put.as_slice(), text.as_bytes(), "{words}");
-    }
-    Ok(())
+    expect_texts(
+        alloc,
+        &mut device,
+        &[
+            (
+                "find|eight|seven|six|five|four|three|two|one",
+                "0 all 39\n1 found\n",
+            ),
+            (
+                "find|two|two|two|two|two|two|two|two",
+                "0 all 39\n1 seven 33\n2 found\n",
+            ),
+            ("find|one|seven", "0 all 39\n1 seven 33\n2 found\n"),
+            ("find|one|nine", "0 found\n"),
+        ],
+    )
 }
 
 /// The first block is 804 to 1059. Its pointer in cell 962 leads to the block of the 129th posting; that in cell 963
@@ -151,14 +141,9 @@ fn a_pointer_to_no_block_is_named(rt: HostRuntime) -> Result<(), Fail> {
         put_by(alloc, &mut device, words.as_str(), b"hello")?;
     }
     write_foreign(&mut device, 963, TO_NO_BLOCK)?;
-    begin(&mut device)?;
-    let (outcome, put) = outcome_of(alloc, "find|hello", &mut device, b"")?;
     let named = Refusal::Tampered(evidence(10, 963, TO_NO_BLOCK)?);
-    assert_eq!(rt; outcome, Err(named));
-    assert_eq!(rt; put.len(), 0);
-    let put = put_by(alloc, &mut device, "lookup|d005", b"")?;
-    assert_eq!(rt; put.as_slice(), b"hello".as_slice());
-    Ok(())
+    expect_refusal(alloc, &mut device, "find|hello", b"", named)?;
+    expect_text(alloc, &mut device, "lookup|d005", b"", "hello")
 }
 
 /// A foreign write falls right before each call of the device in turn.
@@ -180,7 +165,7 @@ fn somebody_writes_while_a_find_runs(rt: HostRuntime) -> Result<(), Fail> {
                 names = names.saturating_add(1);
             } else {
                 assert_eq!(rt; outcome, Ok(()), "{at} {call}");
-                assert_eq!(rt; put.as_slice(), FOUND_A, "{at} {call}");
+                assert_eq!(rt; put.as_slice(), FOUND_A.as_bytes(), "{at} {call}");
             }
         }
     }
@@ -197,20 +182,17 @@ fn each_call_of_a_find_fails_in_turn(rt: HostRuntime) -> Result<(), Fail> {
         device.fail_at(Moment::Call(call))?;
         let (outcome, put) = outcome_of(alloc, "find|hello", &mut device, b"")?;
         if outcome == Ok(()) {
-            assert_eq!(rt; put.as_slice(), FOUND_A, "{call}");
+            assert_eq!(rt; put.as_slice(), FOUND_A.as_bytes(), "{call}");
         } else {
             assert_eq!(rt; outcome, Err(Refusal::DeviceFault), "{call}");
             assert_eq!(rt; put.len(), 0, "{call}");
             faults = faults.saturating_add(1);
         }
-        for words in ["recover", "find|hello"] {
-            begin(&mut device)?;
-            let (outcome, put) = outcome_of(alloc, words, &mut device, b"")?;
-            assert_eq!(rt; outcome, Ok(()), "{words} {call}");
-            if words == "find|hello" {
-                assert_eq!(rt; put.as_slice(), FOUND_A, "{call}");
-            }
-        }
+        expect_texts(
+            alloc,
+            &mut device,
+            &[("recover", "nothing to settle\n"), ("find|hello", FOUND_A)],
+        )?;
     }
     // The faults are those of the first calls, and a find makes fewer than forty.
     assert!(rt; 0 < faults && faults < 40);

@@ -4,8 +4,8 @@ use host_ports::MemorySink;
 use std::alloc::Global;
 use std::test::Fail;
 use test_volumes::{
-    Outcome, begin, outcome_of, run, sink, small_volume, source_of, volume_with_a, words_of,
-    write_foreign,
+    Outcome, begin, expect_refusal, expect_refusals, expect_text, expect_texts, outcome_of, run,
+    sink, small_volume, source_of, volume_with_a, words_of, write_foreign,
 };
 use worm_device::Device;
 use worm_memory::{MemoryDevice, Moment};
@@ -20,91 +20,86 @@ const VOLUME: [u8; 16] = [1, 1, 0, 0, 0, 8, 0, 2, 0, 0, 3, 0xe8, 0, 0, 0, 0];
 fn a_find_tells_of_each_document_that_matches(rt: HostRuntime) -> Result<(), Fail> {
     let alloc = rt.alloc();
     let mut device = volume_with_a(alloc)?;
-    for (words, text) in [
-        ("find|HELLO", "0 a 11\n1 found\n"),
-        ("find|hello|world", "0 a 11\n1 found\n"),
-        ("find|world|hello", "0 a 11\n1 found\n"),
-        ("find|hello|hello", "0 a 11\n1 found\n"),
-        ("find|hello,", "0 a 11\n1 found\n"),
-        ("find|hello|foo", "0 found\n"),
-        ("find|hell", "0 found\n"),
-        ("find|a|b|c|d|e|f|g|h", "0 found\n"),
-    ] {
-        begin(&mut device)?;
-        let (outcome, put) = outcome_of(alloc, words, &mut device, b"")?;
-        assert_eq!(rt; outcome, Ok(()), "{words}");
-        assert_eq!(rt; put.as_slice(), text.as_bytes(), "{words}");
-    }
+    expect_texts(
+        alloc,
+        &mut device,
+        &[
+            ("find|HELLO", "0 a 11\n1 found\n"),
+            ("find|hello|world", "0 a 11\n1 found\n"),
+            ("find|world|hello", "0 a 11\n1 found\n"),
+            ("find|hello|hello", "0 a 11\n1 found\n"),
+            ("find|hello,", "0 a 11\n1 found\n"),
+            ("find|hello|foo", "0 found\n"),
+            ("find|hell", "0 found\n"),
+            ("find|a|b|c|d|e|f|g|h", "0 found\n"),
+        ],
+    )
+}
 
-    // A second document, and a slot before it that was given up.
-    begin(&mut device)?;
+/// A second document, and a slot before it that was given up.
+#[test]
+fn a_slot_that_was_given_up_is_passed_over(rt: HostRuntime) -> Result<(), Fail> {
+    let alloc = rt.alloc();
+    let mut device = volume_with_a(alloc)?;
     device.stop_after(Moment::Step(3));
     let (outcome, _) = outcome_of(alloc, "ingest|b", &mut device, b"hello")?;
     assert_eq!(rt; outcome, Err(Refusal::DeviceFault));
-    begin(&mut device)?;
-    let (_, put) = outcome_of(alloc, "ingest|c", &mut device, b"Hello again, hello!")?;
-    assert_eq!(rt; put.as_slice(), b"acknowledged 2\n".as_slice());
-    begin(&mut device)?;
-    let (_, put) = outcome_of(alloc, "find|hello", &mut device, b"")?;
-    assert_eq!(rt; put.as_slice(), b"0 a 11\n2 c 19\n2 found\n".as_slice());
-    Ok(())
+    let body = b"Hello again, hello!";
+    expect_text(alloc, &mut device, "ingest|c", body, "acknowledged 2\n")?;
+    let text = "0 a 11\n2 c 19\n2 found\n";
+    expect_text(alloc, &mut device, "find|hello", b"", text)
 }
 
 #[test]
 fn words_past_ascii_are_found_by_their_bytes(rt: HostRuntime) -> Result<(), Fail> {
     let alloc = rt.alloc();
     let mut device = small_volume(alloc)?;
-    begin(&mut device)?;
     let body = "Invoice 4711 paid to M\u{fc}ller GmbH.";
     let words = "ingest|2024-03-07/0001";
-    let (_, put) = outcome_of(alloc, words, &mut device, body.as_bytes())?;
-    assert_eq!(rt; put.as_slice(), b"acknowledged 0\n".as_slice());
-    for (words, text) in [
-        ("find|4711|m\u{fc}ller", "0 2024-03-07/0001 34\n1 found\n"),
-        ("find|M\u{dc}LLER", "0 found\n"),
-        ("lookup|2024-03-07/0001", body),
-    ] {
-        begin(&mut device)?;
-        let (outcome, put) = outcome_of(alloc, words, &mut device, b"")?;
-        assert_eq!(rt; outcome, Ok(()), "{words}");
-        assert_eq!(rt; put.as_slice(), text.as_bytes(), "{words}");
-    }
-    Ok(())
+    expect_text(
+        alloc,
+        &mut device,
+        words,
+        body.as_bytes(),
+        "acknowledged 0\n",
+    )?;
+    expect_texts(
+        alloc,
+        &mut device,
+        &[
+            ("find|4711|m\u{fc}ller", "0 2024-03-07/0001 34\n1 found\n"),
+            ("find|M\u{dc}LLER", "0 found\n"),
+            ("lookup|2024-03-07/0001", body),
+        ],
+    )
 }
 
 #[test]
 fn a_look_up_puts_out_the_body_and_nothing_else(rt: HostRuntime) -> Result<(), Fail> {
     let alloc = rt.alloc();
     let mut device = volume_with_a(alloc)?;
-    let (_, put) = outcome_of(alloc, "ingest|b", &mut device, b"")?;
-    assert_eq!(rt; put.as_slice(), b"acknowledged 1\n".as_slice());
-    for (words, want, text) in [
-        ("lookup|a", Ok(()), "hello world"),
-        ("lookup|b", Ok(()), ""),
-        ("lookup|c", Err(Refusal::Absent), ""),
-        ("lookup|A", Err(Refusal::Absent), ""),
-    ] {
-        begin(&mut device)?;
-        let (outcome, put) = outcome_of(alloc, words, &mut device, b"")?;
-        assert_eq!(rt; outcome, want, "{words}");
-        assert_eq!(rt; put.as_slice(), text.as_bytes(), "{words}");
-    }
-    Ok(())
+    expect_texts(
+        alloc,
+        &mut device,
+        &[
+            ("ingest|b", "acknowledged 1\n"),
+            ("lookup|a", "hello world"),
+            ("lookup|b", ""),
+        ],
+    )?;
+    expect_refusals(
+        alloc,
+        &mut device,
+        &[("lookup|c", Refusal::Absent), ("lookup|A", Refusal::Absent)],
+    )
 }
 
 #[test]
 fn nothing_is_found_on_a_volume_without_documents(rt: HostRuntime) -> Result<(), Fail> {
     let alloc = rt.alloc();
     let mut device = small_volume(alloc)?;
-    begin(&mut device)?;
-    let (outcome, put) = outcome_of(alloc, "lookup|zz", &mut device, b"")?;
-    assert_eq!(rt; outcome, Err(Refusal::Absent));
-    assert_eq!(rt; put.len(), 0);
-    begin(&mut device)?;
-    let (outcome, put) = outcome_of(alloc, "find|hello", &mut device, b"")?;
-    assert_eq!(rt; outcome, Ok(()));
-    assert_eq!(rt; put.as_slice(), b"0 found\n".as_slice());
-    Ok(())
+    expect_refusal(alloc, &mut device, "lookup|zz", b"", Refusal::Absent)?;
+    expect_text(alloc, &mut device, "find|hello", b"", "0 found\n")
 }
 
 #[test]
@@ -112,25 +107,42 @@ fn words_are_refused_before_anything_is_written(rt: HostRuntime) -> Result<(), F
     let alloc = rt.alloc();
     let mut device = volume_with_a(alloc)?;
     let changes = device.changes().len();
-    for (words, want) in [
-        ("find|hello-world", Refusal::BadWord(1)),
-        ("find|hello|--", Refusal::Usage),
-        ("find|hello|.|a b", Refusal::BadWord(2)),
-        ("find|hello|", Refusal::Usage),
-        ("find", Refusal::Usage),
-        ("find|a|b|c|d|e|f|g|h|i", Refusal::Usage),
-        ("Find|a", Refusal::Usage),
-        ("lookup", Refusal::Usage),
-        ("lookup|-a", Refusal::Usage),
-        ("lookup|a|b", Refusal::Usage),
-        ("lookup|a b", Refusal::BadIdentifier),
-    ] {
-        let (outcome, put) = outcome_of(alloc, words, &mut device, b"")?;
-        assert_eq!(rt; outcome, Err(want), "{words}");
-        assert_eq!(rt; put.len(), 0);
-    }
+    expect_refusals(
+        alloc,
+        &mut device,
+        &[
+            ("find|hello-world", Refusal::BadWord(1)),
+            ("find|hello|--", Refusal::Usage),
+            ("find|hello|.|a b", Refusal::BadWord(2)),
+            ("find|hello|", Refusal::Usage),
+            ("find", Refusal::Usage),
+            ("find|a|b|c|d|e|f|g|h|i", Refusal::Usage),
+            ("Find|a", Refusal::Usage),
+            ("lookup", Refusal::Usage),
+            ("lookup|-a", Refusal::Usage),
+            ("lookup|a|b", Refusal::Usage),
+            ("lookup|a b", Refusal::BadIdentifier),
+        ],
+    )?;
     assert_eq!(rt; device.changes().len(), changes);
     Ok(())
+}
+
+/// Each query is refused so.
+fn expect_no_volume(
+    alloc: Global,
+    device: &mut MemoryDevice,
+    refusal: Refusal,
+) -> Result<(), Fail> {
+    expect_refusals(
+        alloc,
+        device,
+        &[
+            ("find|hello", refusal),
+            ("find|a-b", refusal),
+            ("lookup|a", refusal),
+        ],
+    )
 }
 
 #[test]
@@ -142,22 +154,13 @@ fn cell_0_has_to_state_the_device(rt: HostRuntime) -> Result<(), Fail> {
         real: 999,
     };
     // The words of a find are read by the volume's rule, so there has to be one.
-    for words in ["find|hello", "find|a-b", "lookup|a"] {
-        let mut blank = MemoryDevice::new(alloc, 1_000)?;
-        begin(&mut blank)?;
-        let (outcome, _) = outcome_of(alloc, words, &mut blank, b"")?;
-        assert_eq!(rt; outcome, Err(Refusal::NotFormatted), "{words}");
-        for (cells, bytes, want) in [(1_000, [0xff; 16], stray), (999, VOLUME, size)] {
-            let mut device = MemoryDevice::new(alloc, cells)?;
-            begin(&mut device)?;
-            write_foreign(&mut device, 0, bytes)?;
-            begin(&mut device)?;
-            let (outcome, put) = outcome_of(alloc, words, &mut device, b"")?;
-            assert_eq!(rt; outcome, Err(want), "{words}");
-            assert_eq!(rt; put.len(), 0);
-        }
-    }
-    Ok(())
+    let mut blank = MemoryDevice::new(alloc, 1_000)?;
+    expect_no_volume(alloc, &mut blank, Refusal::NotFormatted)?;
+    write_foreign(&mut blank, 0, [0xff; 16])?;
+    expect_no_volume(alloc, &mut blank, stray)?;
+    let mut shorter = MemoryDevice::new(alloc, 999)?;
+    write_foreign(&mut shorter, 0, VOLUME)?;
+    expect_no_volume(alloc, &mut shorter, size)
 }
 
 /// Runs the words over a sink whose call of this number fails.
@@ -202,15 +205,12 @@ fn a_document_is_found_once_its_commit_cell_stands(rt: HostRuntime) -> Result<()
         let (outcome, put) = outcome_of(alloc, "ingest|a", &mut device, b"hello world")?;
         assert_eq!(rt; outcome, Err(Refusal::DeviceFault), "{step}");
         assert_eq!(rt; put.len(), 0);
-        begin(&mut device)?;
-        let (outcome, put) = outcome_of(alloc, "find|hello", &mut device, b"")?;
-        assert_eq!(rt; outcome, Ok(()), "{step}");
         let text = if step < 10 {
             "0 found\n"
         } else {
             "0 a 11\n1 found\n"
         };
-        assert_eq!(rt; put.as_slice(), text.as_bytes(), "{step}");
+        expect_text(alloc, &mut device, "find|hello", b"", text)?;
     }
     Ok(())
 }
@@ -231,8 +231,5 @@ fn an_outcome_that_somebody_else_writes_is_named(rt: HostRuntime) -> Result<(), 
         found: abandon,
     };
     assert_eq!(rt; outcome, Err(Refusal::Tampered(evidence)));
-    begin(&mut device)?;
-    let (_, put) = outcome_of(alloc, "find|hello", &mut device, b"")?;
-    assert_eq!(rt; put.as_slice(), b"0 found\n".as_slice());
-    Ok(())
+    expect_text(alloc, &mut device, "find|hello", b"", "0 found\n")
 }

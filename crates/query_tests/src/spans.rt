@@ -7,8 +7,8 @@ use cell_types::{Cell, Evidence, Refusal};
 use std::alloc::Global;
 use std::test::Fail;
 use test_volumes::{
-    Outcome, begin, formatted, outcome_of, run, sink, source_of, volume_with_a, words_of,
-    write_foreign,
+    begin, expect_refusal, expect_text, expect_texts, formatted, outcome_of, run, sink, source_of,
+    volume_with_a, words_of, write_foreign,
 };
 use worm_memory::{MemoryDevice, Moment};
 
@@ -42,19 +42,10 @@ fn stamped_volume(alloc: Global) -> Result<MemoryDevice, Fail> {
     formatted(alloc, 1_200, "format|8|2|3")
 }
 
-/// How this ends, of an empty body, and what it puts out.
-fn ends(alloc: Global, words: &str, device: &mut MemoryDevice) -> Result<(Outcome, Vec<u8>), Fail> {
-    begin(device)?;
-    outcome_of(alloc, words, device, b"")
-}
-
 /// The volume with `a`, whose stamp is 1,000.
 fn volume_with_stamped_a(alloc: Global) -> Result<MemoryDevice, Fail> {
     let mut device = stamped_volume(alloc)?;
-    let (outcome, _) = ends(alloc, "ingest|a|1000", &mut device)?;
-    if outcome.is_err() {
-        return Err(Fail::from("the document was not ingested"));
-    }
+    expect_text(alloc, &mut device, "ingest|a|1000", b"", "acknowledged 0\n")?;
     Ok(device)
 }
 
@@ -68,27 +59,26 @@ fn named(rule: u8, cell: u32, digits: u128) -> Result<Refusal, Fail> {
 fn both_ends_of_a_span_belong_to_it(rt: HostRuntime) -> Result<(), Fail> {
     let alloc = rt.alloc();
     let mut device = volume_with_stamped_a(alloc)?;
-    for (words, text) in [
-        ("between|0|1000", "0 a 1000 0\n1 found\n"),
-        ("between|1001|4294967295", "0 found\n"),
-        ("between|1000|1000", "0 a 1000 0\n1 found\n"),
-        ("between|0|999", "0 found\n"),
-        ("ingest|b|4294967295", "acknowledged 1\n"),
-        (
-            "between|4294967295|4294967295",
-            "1 b 4294967295 0\n1 found\n",
-        ),
-        (
-            "between|0|4294967295",
-            "0 a 1000 0\n1 b 4294967295 0\n2 found\n",
-        ),
-        ("between|0000000001|4294967294", "0 a 1000 0\n1 found\n"),
-    ] {
-        let (outcome, put) = ends(alloc, words, &mut device)?;
-        assert_eq!(rt; outcome, Ok(()), "{words}");
-        assert_eq!(rt; put.as_slice(), text.as_bytes(), "{words}");
-    }
-    Ok(())
+    expect_texts(
+        alloc,
+        &mut device,
+        &[
+            ("between|0|1000", "0 a 1000 0\n1 found\n"),
+            ("between|1001|4294967295", "0 found\n"),
+            ("between|1000|1000", "0 a 1000 0\n1 found\n"),
+            ("between|0|999", "0 found\n"),
+            ("ingest|b|4294967295", "acknowledged 1\n"),
+            (
+                "between|4294967295|4294967295",
+                "1 b 4294967295 0\n1 found\n",
+            ),
+            (
+                "between|0|4294967295",
+                "0 a 1000 0\n1 b 4294967295 0\n2 found\n",
+            ),
+            ("between|0000000001|4294967294", "0 a 1000 0\n1 found\n"),
+        ],
+    )
 }
 
 #[test]
@@ -97,12 +87,9 @@ fn a_posting_of_no_document_is_named_where_it_is_met(rt: HostRuntime) -> Result<
     for (forged, met) in [(OF_SLOT_5, "between|0|3000"), (OF_SLOT_0, "between|0|1500")] {
         let mut device = volume_with_stamped_a(alloc)?;
         write_foreign(&mut device, 581, forged.to_be_bytes())?;
-        let (outcome, put) = ends(alloc, "between|0|1499", &mut device)?;
-        assert_eq!(rt; outcome, Ok(()));
-        assert_eq!(rt; put.as_slice(), b"0 a 1000 0\n1 found\n".as_slice());
-        let (outcome, put) = ends(alloc, met, &mut device)?;
-        assert_eq!(rt; outcome, Err(named(9, 581, forged)?), "{met}");
-        assert_eq!(rt; put.len(), 0);
+        let text = "0 a 1000 0\n1 found\n";
+        expect_text(alloc, &mut device, "between|0|1499", b"", text)?;
+        expect_refusal(alloc, &mut device, met, b"", named(9, 581, forged)?)?;
     }
     Ok(())
 }
@@ -115,13 +102,10 @@ fn a_stamp_that_falls_is_named(rt: HostRuntime) -> Result<(), Fail> {
     for (at, digits) in FALLING {
         write_foreign(&mut device, at, digits.to_be_bytes())?;
     }
-    let (outcome, put) = ends(alloc, "between|0|1500", &mut device)?;
-    assert_eq!(rt; outcome, Ok(()));
-    assert_eq!(rt; put.as_slice(), b"1 b 1000 0\n1 found\n".as_slice());
-    let (outcome, put) = ends(alloc, "between|0|2000", &mut device)?;
-    assert_eq!(rt; outcome, Err(named(7, 11, STAMP_OF_SLOT_1)?));
-    assert_eq!(rt; put.len(), 0);
-    Ok(())
+    let text = "1 b 1000 0\n1 found\n";
+    expect_text(alloc, &mut device, "between|0|1500", b"", text)?;
+    let refusal = named(7, 11, STAMP_OF_SLOT_1)?;
+    expect_refusal(alloc, &mut device, "between|0|2000", b"", refusal)
 }
 
 #[test]
@@ -129,9 +113,7 @@ fn a_volume_without_stamps_has_no_spans(rt: HostRuntime) -> Result<(), Fail> {
     let alloc = rt.alloc();
     let mut device = volume_with_a(alloc)?;
     let before = device.changes().len();
-    let (outcome, put) = ends(alloc, "between|0|1", &mut device)?;
-    assert_eq!(rt; outcome, Err(Refusal::NoStamps));
-    assert_eq!(rt; put.len(), 0);
+    expect_refusal(alloc, &mut device, "between|0|1", b"", Refusal::NoStamps)?;
     assert_eq!(rt; device.changes().len(), before);
     Ok(())
 }
@@ -142,11 +124,10 @@ fn a_span_begins_and_ends_in_any_block(rt: HostRuntime) -> Result<(), Fail> {
     let alloc = rt.alloc();
     let mut device = formatted(alloc, 16_000, "format|400|1|3")?;
     for i in 0..300u32 {
-        device.reserve(2_000)?;
         let seconds = 1_000 + 7 * i;
         let words = format!(in alloc; "ingest|d{i}|{seconds}")?;
-        let (outcome, _) = ends(alloc, words.as_str(), &mut device)?;
-        assert_eq!(rt; outcome, Ok(()), "{i}");
+        let text = format!(in alloc; "acknowledged {i}\n")?;
+        expect_text(alloc, &mut device, words.as_str(), b"", text.as_str())?;
     }
     for (from, behind) in [(0u32, 41u32), (120, 136), (127, 129), (255, 300), (3, 4)] {
         let first = 994 + 7 * from;
@@ -161,9 +142,7 @@ fn a_span_begins_and_ends_in_any_block(rt: HostRuntime) -> Result<(), Fail> {
         let count = behind - from;
         let line = format!(in alloc; "{count} found\n")?;
         text.push_str(line.as_str())?;
-        let (outcome, put) = ends(alloc, words.as_str(), &mut device)?;
-        assert_eq!(rt; outcome, Ok(()), "{from}");
-        assert_eq!(rt; put.as_slice(), text.as_bytes(), "{from}");
+        expect_text(alloc, &mut device, words.as_str(), b"", text.as_str())?;
     }
     Ok(())
 }

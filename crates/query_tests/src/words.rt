@@ -1,7 +1,7 @@
 //! Words at their edges: which bodies a query finds.
 use std::alloc::Global;
 use std::test::Fail;
-use test_volumes::{begin, outcome_of};
+use test_volumes::{begin, expect_text, expect_texts, formatted, outcome_of};
 use worm_memory::MemoryDevice;
 
 /// The greatest body here: 64 KiB of one word.
@@ -9,12 +9,7 @@ const LONG: usize = 65_536;
 
 /// A volume of 16 slots and one list on 6,000 cells, with these bodies in slots 0, 1, 2 and so on.
 fn volume_of(alloc: Global, bodies: &[&[u8]]) -> Result<MemoryDevice, Fail> {
-    let mut device = MemoryDevice::new(alloc, 6_000)?;
-    begin(&mut device)?;
-    let (_, put) = outcome_of(alloc, "format|16|1", &mut device, b"")?;
-    if put.as_slice() != b"formatted\n".as_slice() {
-        return Err(Fail::from("the volume was not formatted"));
-    }
+    let mut device = formatted(alloc, 6_000, "format|16|1")?;
     let mut slot: u32 = 0;
     for body in bodies {
         device.reserve(6_000)?;
@@ -43,31 +38,29 @@ fn words_end_at_each_byte_that_is_none_of_theirs(rt: HostRuntime) -> Result<(), 
         b"x-ray",
     ];
     let mut device = volume_of(alloc, &bodies)?;
-    for (words, text) in [
-        ("find|x", "1 d1 1\n7 d7 5\n2 found\n"),
-        ("find|a", "2 d2 3\n1 found\n"),
-        ("find|b", "2 d2 3\n1 found\n"),
-        ("find|\u{dc}", "3 d3 2\n1 found\n"),
-        ("find|\u{fc}", "0 found\n"),
-        ("find|nul", "4 d4 8\n1 found\n"),
-        ("find|nul2", "4 d4 8\n1 found\n"),
-        ("find|nul|nul2", "4 d4 8\n1 found\n"),
-        ("find|4711", "5 d5 8\n1 found\n"),
-        ("find|471", "0 found\n"),
-        ("find|7", "0 found\n"),
-        ("find|007|4711", "5 d5 8\n1 found\n"),
-        ("find|ABC", "6 d6 10\n1 found\n"),
-        ("find|abc", "6 d6 10\n1 found\n"),
-        ("find|ab", "0 found\n"),
-        ("find|RAY", "7 d7 5\n1 found\n"),
-        ("find|xray", "0 found\n"),
-    ] {
-        begin(&mut device)?;
-        let (outcome, put) = outcome_of(alloc, words, &mut device, b"")?;
-        assert_eq!(rt; outcome, Ok(()), "{words}");
-        assert_eq!(rt; put.as_slice(), text.as_bytes(), "{words}");
-    }
-    Ok(())
+    expect_texts(
+        alloc,
+        &mut device,
+        &[
+            ("find|x", "1 d1 1\n7 d7 5\n2 found\n"),
+            ("find|a", "2 d2 3\n1 found\n"),
+            ("find|b", "2 d2 3\n1 found\n"),
+            ("find|\u{dc}", "3 d3 2\n1 found\n"),
+            ("find|\u{fc}", "0 found\n"),
+            ("find|nul", "4 d4 8\n1 found\n"),
+            ("find|nul2", "4 d4 8\n1 found\n"),
+            ("find|nul|nul2", "4 d4 8\n1 found\n"),
+            ("find|4711", "5 d5 8\n1 found\n"),
+            ("find|471", "0 found\n"),
+            ("find|7", "0 found\n"),
+            ("find|007|4711", "5 d5 8\n1 found\n"),
+            ("find|ABC", "6 d6 10\n1 found\n"),
+            ("find|abc", "6 d6 10\n1 found\n"),
+            ("find|ab", "0 found\n"),
+            ("find|RAY", "7 d7 5\n1 found\n"),
+            ("find|xray", "0 found\n"),
+        ],
+    )
 }
 
 #[test]
@@ -75,26 +68,24 @@ fn words_of_the_second_version_are_folded(rt: HostRuntime) -> Result<(), Fail> {
     let alloc = rt.alloc();
     let body = "M\u{dc}LLER Stra\u{df}e";
     for (version, found) in [(1, "0 found\n"), (2, "0 a 15\n1 found\n")] {
-        let mut device = MemoryDevice::new(alloc, 1_000)?;
-        begin(&mut device)?;
         let words = format!(in alloc; "format|8|2|{version}")?;
-        let (outcome, _) = outcome_of(alloc, words.as_str(), &mut device, b"")?;
-        assert_eq!(rt; outcome, Ok(()));
-        begin(&mut device)?;
-        let (_, put) = outcome_of(alloc, "ingest|a", &mut device, body.as_bytes())?;
-        assert_eq!(rt; put.as_slice(), b"acknowledged 0\n".as_slice());
-        for words in ["find|m\u{fc}ller", "find|m\u{fc}ller|STRASSE"] {
-            begin(&mut device)?;
-            let (outcome, put) = outcome_of(alloc, words, &mut device, b"")?;
-            assert_eq!(rt; outcome, Ok(()), "{words}");
-            assert_eq!(rt; put.as_slice(), found.as_bytes(), "{words}");
-        }
-        begin(&mut device)?;
-        let (_, put) = outcome_of(alloc, "audit", &mut device, b"")?;
-        assert_eq!(rt;
-            put.as_slice(),
-            b"sound: 1 done, 0 abandoned, 12 written cells\n".as_slice()
-        );
+        let mut device = formatted(alloc, 1_000, words.as_str())?;
+        expect_text(
+            alloc,
+            &mut device,
+            "ingest|a",
+            body.as_bytes(),
+            "acknowledged 0\n",
+        )?;
+        expect_texts(
+            alloc,
+            &mut device,
+            &[
+                ("find|m\u{fc}ller", found),
+                ("find|m\u{fc}ller|STRASSE", found),
+                ("audit", "sound: 1 done, 0 abandoned, 12 written cells\n"),
+            ],
+        )?;
     }
     Ok(())
 }
@@ -113,10 +104,7 @@ fn a_word_may_be_a_whole_body(rt: HostRuntime) -> Result<(), Fail> {
         for _ in 0..count {
             words.push('Q')?;
         }
-        begin(&mut device)?;
-        let (outcome, put) = outcome_of(alloc, words.as_str(), &mut device, b"")?;
-        assert_eq!(rt; outcome, Ok(()), "{count}");
-        assert_eq!(rt; put.as_slice(), text.as_bytes(), "{count}");
+        expect_text(alloc, &mut device, words.as_str(), b"", text)?;
     }
     Ok(())
 }

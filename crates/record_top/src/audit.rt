@@ -7,21 +7,23 @@ use crate::command::Outcome;
 use crate::text::put_text;
 use host_ports::{Sink, Source};
 use itoa::Buffer;
+use progress::Meter;
 use std::alloc::{AllocError, Global};
-use volume_audit::{AuditReport, audit};
+use volume_audit::{AuditReport, audit_metered};
 use worm_device::Device;
 
 /// Audits the volume, and puts out how many slots and cells it has. The text is made before its first byte goes out.
-pub fn audit_volume<D: Device, S: Source, K: Sink>(
+pub fn audit_volume<D: Device, S: Source, K: Sink, M: Meter>(
     alloc: Global,
     device: &mut D,
     source: &mut S,
     sink: &mut K,
+    meter: &mut M,
 ) -> Outcome
     ensures { DoesAudit (ports_of (D.state device.old) (S.state source.old) (K.state sink.old))
         (ports_of (D.state device.new) (S.state source.new) (K.state sink.new)) result }
 {
-    let report = audit(alloc, device)?;
+    let report = audit_metered(alloc, device, meter)?;
     let text = text_of(alloc, &report)?;
     put_text(sink, &text)?;
     Ok(())

@@ -21,6 +21,7 @@ use crate::replay::replay_script;
 use crate::words::{Command, command_of};
 use cell_types::Refusal;
 use host_ports::{Sink, Source};
+use progress::{Meter, Silent};
 use std::alloc::Global;
 use worm_device::Device;
 
@@ -61,19 +62,47 @@ pub fn run<D: Device, S: Source, K: Sink>(
         (ports_of (D.state device.old) (S.state source.old) (K.state sink.old))
         (ports_of (D.state device.new) (S.state source.new) (K.state sink.new)) result }
 {
+    run_metered(alloc, words, device, source, sink, &mut Silent)
+}
+
+/// The same, and shows how far a long command is.
+pub fn run_metered<D: Device, S: Source, K: Sink, M: Meter>(
+    alloc: Global,
+    words: &[String],
+    device: &mut D,
+    source: &mut S,
+    sink: &mut K,
+    meter: &mut M,
+) -> Outcome
+    ensures called { Called (D.state device.old) (D.state device.new) }
+    ensures usage { (result ≡ Err Refusal.Usage) ↔ AsksNothing (map string_bytes words.now) }
+    ensures unused { result ≡ Err Refusal.Usage → (D.state device.new ≡ D.state device.old)
+        × (S.state source.new ≡ S.state source.old) × (K.state sink.new ≡ K.state sink.old) }
+    ensures does { (request : Request) → Asks (map string_bytes words.now) request → Does request
+        (ports_of (D.state device.old) (S.state source.old) (K.state sink.old))
+        (ports_of (D.state device.new) (S.state source.new) (K.state sink.new)) result }
+    ensures complete { (request : Request) → Asks (map string_bytes words.now) request → IsUnhindered request
+        (ports_of (D.state device.old) (S.state source.old) (K.state sink.old))
+        (ports_of (D.state device.new) (S.state source.new) (K.state sink.new)) → IsAnswered request result }
+    ensures steady { (request : Request) → Asks (map string_bytes words.now) request
+        → BeginsSteady (D.state device.old) (D.state device.new) → LeavesWhole request
+        (ports_of (D.state device.old) (S.state source.old) (K.state sink.old))
+        (ports_of (D.state device.new) (S.state source.new) (K.state sink.new)) result }
+{
     let Some(command) = command_of(words) else {
         return Err(Refusal::Usage);
     };
-    carry_out(alloc, command, device, source, sink)
+    carry_out(alloc, command, device, source, sink, meter)
 }
 
 /// Carries out a command.
-fn carry_out<D: Device, S: Source, K: Sink>(
+fn carry_out<D: Device, S: Source, K: Sink, M: Meter>(
     alloc: Global,
     command: Command<'_>,
     device: &mut D,
     source: &mut S,
     sink: &mut K,
+    meter: &mut M,
 ) -> Outcome
     requires { IsAskedFor (request_of command) }
     ensures { Does (request_of command.entry) (ports_of (D.state device.old) (S.state source.old) (K.state sink.old))
@@ -89,7 +118,7 @@ fn carry_out<D: Device, S: Source, K: Sink>(
         Command::Find { words } => find_documents(alloc, words, device, source, sink),
         Command::LookUp { id } => look_up_document(id, device, source, sink),
         Command::Recover => recover_device(device, source, sink),
-        Command::Audit => audit_volume(alloc, device, source, sink),
+        Command::Audit => audit_volume(alloc, device, source, sink, meter),
         Command::Replay => replay_script(alloc, device, source, sink),
         Command::Exercise { documents } => {
             exercise_volume(alloc, documents, device, source, sink)

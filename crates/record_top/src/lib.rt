@@ -55,7 +55,7 @@ mod replay;
 mod text;
 mod words;
 
-pub use command::{Outcome, run};
+pub use command::{Outcome, run, run_metered};
 pub use laws::receipts_are_ready;
 pub use text::{SinkFailed, put_text};
 pub use words::number_up_to;

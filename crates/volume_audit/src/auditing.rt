@@ -6,6 +6,7 @@ use crate::report::AuditReport;
 use cell_types::Refusal;
 use commit_record::volume_of;
 use kept_cells::keep_cells;
+use progress::{Meter, Silent};
 use recovery_engine::settle;
 use std::alloc::Global;
 use worm_device::Device;
@@ -19,8 +20,19 @@ use worm_device::Device;
 pub fn audit<D: Device>(alloc: Global, device: &mut D) -> Result<AuditReport, Refusal>
     ensures { Audits (D.state device.old) (D.state device.new) result }
 {
+    audit_metered(alloc, device, &mut Silent)
+}
+
+/// The same, and shows how many of the checks of slots are made, once all cells are read.
+pub fn audit_metered<D: Device, M: Meter>(
+    alloc: Global,
+    device: &mut D,
+    meter: &mut M,
+) -> Result<AuditReport, Refusal>
+    ensures { Audits (D.state device.old) (D.state device.new) result }
+{
     let _ready = settle(device)?;
     let kept = keep_cells(alloc, device)?;
     let volume = volume_of(kept.at(0), kept.count())?;
-    judge(alloc, &kept, &volume.geometry)
+    judge(alloc, &kept, &volume.geometry, meter)
 }

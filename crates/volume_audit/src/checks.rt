@@ -15,6 +15,7 @@ use list_audit::{ListBlock, first_broken_entry};
 use log_audit::Log;
 use pointer_audit::first_broken_pointer;
 use posting_audit::{first_broken_posting, first_broken_trail};
+use progress::Meter;
 use std::alloc::Global;
 use stray_audit::first_stray;
 use tiling_audit::first_broken_tiling;
@@ -95,12 +96,13 @@ pub(crate) fn check_entries(
 }
 
 /// Rule 9: the postings in blocks are those of documents.
-pub(crate) fn check_postings(
+pub(crate) fn check_postings<M: Meter>(
     alloc: Global,
     kept: &KeptCells,
     geometry: &Geometry,
     log: &Log,
     blocks: &[ListBlock],
+    meter: &mut M,
 ) -> Result<(), Refusal>
     requires volume { IsVolume geometry.now.cells (image_of kept.now) geometry.now }
     requires log { IsLog geometry.now (image_of kept.now) log.now }
@@ -108,7 +110,7 @@ pub(crate) fn check_postings(
     requires met { AreMetBelow geometry.now (image_of kept.now) 9 }
     ensures { Passes geometry.now (image_of kept.now) 10 result }
 {
-    refuse(first_broken_posting(alloc, kept, geometry, log, blocks)?)
+    refuse(first_broken_posting(alloc, kept, geometry, log, blocks, meter)?)
 }
 
 /// Rule 10: pointers lead where they should.
@@ -165,18 +167,19 @@ pub(crate) fn check_children(
 }
 
 /// Rule 13: each posting of a document has a trail.
-pub(crate) fn check_trails(
+pub(crate) fn check_trails<M: Meter>(
     alloc: Global,
     kept: &KeptCells,
     geometry: &Geometry,
     log: &Log,
+    meter: &mut M,
 ) -> Result<(), Refusal>
     requires volume { IsVolume geometry.now.cells (image_of kept.now) geometry.now }
     requires log { IsLog geometry.now (image_of kept.now) log.now }
     requires met { AreMetBelow geometry.now (image_of kept.now) 13 }
     ensures { Passes geometry.now (image_of kept.now) 14 result }
 {
-    refuse(first_broken_trail(alloc, kept, geometry, log)?)
+    refuse(first_broken_trail(alloc, kept, geometry, log, meter)?)
 }
 
 /// Rule 14: each document has its path, and no two have one identifier.

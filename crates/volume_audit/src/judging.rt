@@ -17,14 +17,16 @@ use cell_types::{Geometry, Refusal};
 use kept_cells::KeptCells;
 use list_audit::{ListBlock, blocks_of};
 use log_audit::{Log, check_log};
+use progress::Meter;
 use std::alloc::Global;
 use tree_audit::{LevelNode, nodes_of};
 
 /// The numbers of the volume whose cells are kept, or the least rule that is broken at its least cell.
-pub(crate) fn judge(
+pub(crate) fn judge<M: Meter>(
     alloc: Global,
     kept: &KeptCells,
     geometry: &Geometry,
+    meter: &mut M,
 ) -> Result<AuditReport, Refusal>
     requires volume { IsVolume geometry.now.cells (image_of kept.now) geometry.now }
     requires count { count_of kept.now ≡ geometry.now.cells }
@@ -34,8 +36,8 @@ pub(crate) fn judge(
     check_slots(alloc, kept, geometry, &log)?;
     let blocks = blocks_of(alloc, kept, geometry)?;
     let nodes = nodes_of(alloc, kept, geometry)?;
-    check_index(alloc, kept, geometry, &log, &blocks, &nodes)?;
-    check_reach(alloc, kept, geometry, &log)?;
+    check_index(alloc, kept, geometry, &log, &blocks, &nodes, meter)?;
+    check_reach(alloc, kept, geometry, &log, meter)?;
     Ok(report_of(kept, geometry, &log))
 }
 
@@ -58,13 +60,14 @@ fn check_slots(
 }
 
 /// Rules 8 to 12: what stands in the lists and in the tree.
-fn check_index(
+fn check_index<M: Meter>(
     alloc: Global,
     kept: &KeptCells,
     geometry: &Geometry,
     log: &Log,
     blocks: &[ListBlock],
     nodes: &[LevelNode],
+    meter: &mut M,
 ) -> Result<(), Refusal>
     requires volume { IsVolume geometry.now.cells (image_of kept.now) geometry.now }
     requires log { IsLog geometry.now (image_of kept.now) log.now }
@@ -75,18 +78,19 @@ fn check_index(
     ensures { Passes geometry.now (image_of kept.now) 13 result }
 {
     check_entries(kept, geometry, blocks)?;
-    check_postings(alloc, kept, geometry, log, blocks)?;
+    check_postings(alloc, kept, geometry, log, blocks, meter)?;
     check_pointers(alloc, kept, geometry, log, blocks, nodes)?;
     check_buckets(kept, geometry, log, nodes)?;
     check_children(alloc, kept, geometry, log, blocks, nodes)
 }
 
 /// Rules 13 to 15: that the index leads to each document, and takes no cells besides.
-fn check_reach(
+fn check_reach<M: Meter>(
     alloc: Global,
     kept: &KeptCells,
     geometry: &Geometry,
     log: &Log,
+    meter: &mut M,
 ) -> Result<(), Refusal>
     requires volume { IsVolume geometry.now.cells (image_of kept.now) geometry.now }
     requires log { IsLog geometry.now (image_of kept.now) log.now }
@@ -94,7 +98,7 @@ fn check_reach(
     requires met { AreMetBelow geometry.now (image_of kept.now) 13 }
     ensures { Passes geometry.now (image_of kept.now) 16 result }
 {
-    check_trails(alloc, kept, geometry, log)?;
+    check_trails(alloc, kept, geometry, log, meter)?;
     check_paths(kept, geometry, log)?;
     check_tilings(alloc, kept, geometry, log)
 }

@@ -33,5 +33,5 @@ mod checks;
 mod judging;
 mod report;
 
-pub use auditing::audit;
+pub use auditing::{audit, audit_metered};
 pub use report::AuditReport;

@@ -8,7 +8,7 @@ use crate::refused::{from_source, to_target};
 use crate::stored::read_stored;
 use cell_types::CopyRefusal;
 use ingest_engine::ingest;
-use progress::Meter;
+use progress::{Meter, Work};
 use std::alloc::Global;
 use worm_device::Device;
 
@@ -58,7 +58,7 @@ pub(crate) fn copy_rest<D: Device, E: Device, M: Meter>(
         let Ok(()) = moved.push(pair) else {
             return Err(CopyRefusal::NoMemory);
         };
-        meter.show(moved.len() as u64, source.done.len() as u64);
+        meter.show(Work::Copying, moved.len() as u64, source.done.len() as u64);
     }
     Ok(())
 }

@@ -4,9 +4,10 @@ ghost use Rattle.volume_copy.specs.Staying.{IsHeldThroughout};
 
 use crate::walking::done_slots;
 use cell_types::{Refusal, Volume};
+use progress::Meter;
 use recovery_engine::settle;
 use std::alloc::Global;
-use volume_audit::audit;
+use volume_audit::audit_metered;
 use worm_device::Device;
 
 /// A volume that was audited.
@@ -19,15 +20,16 @@ pub(crate) struct AuditedVolume {
 
 /// Audits the volume, and goes along its slots. An audit says how many documents there are, and not where: so the end of the
 /// log is asked for again, behind it.
-pub(crate) fn audit_volume<D: Device>(
+pub(crate) fn audit_volume<D: Device, M: Meter>(
     alloc: Global,
     device: &mut D,
+    meter: &mut M,
 ) -> Result<AuditedVolume, Refusal>
     ensures held { IsHeldThroughout (D.state device.old) (D.state device.new) }
     ensures steady { AuditsSteady (D.state device.old) (D.state device.new) result }
     ensures ends { SourceEnds (D.state device.old) (D.state device.new) result }
 {
-    let _report = audit(alloc, device)?;
+    let _report = audit_metered(alloc, device, meter)?;
     let ready = settle(device)?;
     let done = done_slots(alloc, device, &ready.volume, ready.horizon)?;
     Ok(AuditedVolume {

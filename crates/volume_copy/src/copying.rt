@@ -33,7 +33,7 @@ pub fn copy<D: Device, E: Device>(
     copy_metered(alloc, from, to, slots, lists, &mut Silent)
 }
 
-/// The same, and shows how many documents are copied, of how many.
+/// The same, and shows how many of the checks of both audits are made, and then how many documents are copied.
 pub fn copy_metered<D: Device, E: Device, M: Meter>(
     alloc: Global,
     from: &mut D,
@@ -44,11 +44,11 @@ pub fn copy_metered<D: Device, E: Device, M: Meter>(
 ) -> Result<Vec<Moved>, CopyRefusal>
     ensures { Copies slots lists (D.state from.old) (D.state from.new) (E.state to.old) (E.state to.new) result }
 {
-    let source = match audit_volume(alloc, from) {
+    let source = match audit_volume(alloc, from, meter) {
         Ok(source) => source,
         Err(refusal) => return Err(from_source(refusal)),
     };
-    let mut moved = match begin(alloc, from, &source, to, slots, lists) {
+    let mut moved = match begin(alloc, from, &source, to, slots, lists, meter) {
         Ok(moved) => moved,
         Err(refusal) => return Err(refusal),
     };

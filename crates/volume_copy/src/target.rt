@@ -10,18 +10,20 @@ use crate::refused::{is_other, to_target};
 use cell_types::{Cell, CopyRefusal, Refusal};
 use commit_record::volume_of;
 use ingest_engine::format_volume;
+use progress::Meter;
 use std::alloc::Global;
 use worm_device::Device;
 
 /// Formats a target whose cell 0 is blank, with these numbers and the source's version, and else compares the volume that is
 /// there with the source. Answers the pairs of the documents that are there.
-pub(crate) fn begin<D: Device, E: Device>(
+pub(crate) fn begin<D: Device, E: Device, M: Meter>(
     alloc: Global,
     from: &mut D,
     source: &AuditedVolume,
     to: &mut E,
     slots: u32,
     lists: u16,
+    meter: &mut M,
 ) -> Result<Vec<Moved>, CopyRefusal>
     requires source { CanBeRead (D.state from.old) source.now }
     requires version { source.now.volume.version ≡ source.now.volume.geometry.version }
@@ -41,7 +43,7 @@ pub(crate) fn begin<D: Device, E: Device>(
     if states_other(cell, to.cells(), slots, lists, version) {
         return Err(is_other(cell));
     }
-    match audit_volume(alloc, to) {
+    match audit_volume(alloc, to, meter) {
         Ok(target) => compare(alloc, from, source, to, &target),
         Err(refusal) => Err(to_target(refusal)),
     }

@@ -23,7 +23,8 @@
 //! A `copy` has the path of a second file behind it, the target, which is another one than IMAGE.
 //!
 //! While `format`, `audit` and `copy` read a file from end to end, a line on standard error says how many of its bytes
-//! are read, where that is a terminal; and then, of a `copy`, how many documents are copied.
+//! are read, where that is a terminal; then, of an `audit` and a `copy`, how many of the checks of slots are made; and of
+//! a `copy` how many documents are copied.
 //!
 //! One program at a time works on a file: the second waits, from its first look at the file on, until the first has
 //! ended. Where standard input, output or error is closed, the file does not take its place.
@@ -51,9 +52,6 @@ use terminal::Terminal;
 use thiserror::Error;
 use worm_device::Device;
 use worm_memory::MemoryDevice;
-
-/// What the line on a terminal counts while a file is read.
-const BYTES: &str = "bytes read";
 
 /// Why a command was not done.
 #[derive(Clone, Copy, Debug, Error)]
@@ -134,12 +132,20 @@ fn carry_out(
         return Ok(());
     }
     let meter = if reads_all(&words) {
-        Terminal::new(standard_error, BYTES)
+        Terminal::new(standard_error)
     } else {
         Terminal::off()
     };
     let mut device = open(rt, image.as_str(), meter)?;
-    run_over_file(alloc, &words, &mut device, &mut source, &mut sink)?;
+    let mut meter = Terminal::new(standard_error);
+    run_over_file(
+        alloc,
+        &words,
+        &mut device,
+        &mut source,
+        &mut sink,
+        &mut meter,
+    )?;
     Ok(())
 }
 
@@ -169,10 +175,10 @@ fn copy(
         return Err(Fault::SameFile);
     }
     // Each is read from end to end first: audited, or the target formatted.
-    let mut from = open(rt, image, Terminal::new(standard_error, BYTES))?;
-    let mut to = open(rt, target.as_str(), Terminal::new(standard_error, BYTES))?;
+    let mut from = open(rt, image, Terminal::new(standard_error))?;
+    let mut to = open(rt, target.as_str(), Terminal::new(standard_error))?;
     let mut sink = StdSink::new(io::writer(rt));
-    let mut meter = Terminal::new(standard_error, "documents copied");
+    let mut meter = Terminal::new(standard_error);
     run_two_over_files(
         rt.alloc(),
         &words,

@@ -1,5 +1,5 @@
 //! How far a command is, as a line on standard error.
-use progress::Meter;
+use progress::{Meter, Work};
 use std::io::{IsTerminal, Stderr};
 
 /// A meter whose line, as `worm: 1048576 of 33554432 bytes read`, is written over in place. It is gone once all is done,
@@ -7,19 +7,16 @@ use std::io::{IsTerminal, Stderr};
 pub struct Terminal {
     /// Where the line goes, if anywhere.
     shown_on: Option<Stderr>,
-    /// What is counted, and how it is done.
-    what: &'static str,
     /// Which of at most a thousand parts the line tells of: 0 where there is no line.
     part: u64,
 }
 
 impl Terminal {
     /// On standard error, where that is a terminal, and else nowhere.
-    pub fn new(standard_error: Stderr, what: &'static str) -> Terminal {
+    pub fn new(standard_error: Stderr) -> Terminal {
         let is_terminal = standard_error.is_terminal();
         Terminal {
             shown_on: is_terminal.then_some(standard_error),
-            what,
             part: 0,
         }
     }
@@ -28,14 +25,13 @@ impl Terminal {
     pub fn off() -> Terminal {
         Terminal {
             shown_on: None,
-            what: "",
             part: 0,
         }
     }
 }
 
 impl Meter for Terminal {
-    fn show(&mut self, done: u64, of: u64) {
+    fn show(&mut self, work: Work, done: u64, of: u64) {
         let Some(shown_on) = self.shown_on else {
             return;
         };
@@ -49,22 +45,27 @@ impl Meter for Terminal {
             return;
         }
         self.part = part;
+        let what = what_is_done(work);
         // Where it cannot be shown, the command goes on all the same.
-        let what = self.what;
-        let _ = eprint!(shown_on; "\rworm: {done} of {of} {what}");
+        let _ = eprint!(shown_on; "\r\x1b[Kworm: {done} of {of} {what}");
     }
 }
 
 impl Drop for Terminal {
     fn drop(self) {
-        let Terminal {
-            shown_on,
-            what: _what,
-            part,
-        } = self;
+        let Terminal { shown_on, part } = self;
         if let Some(shown_on) = shown_on {
             clear(shown_on, part);
         }
+    }
+}
+
+/// What is counted, and how it is done.
+fn what_is_done(work: Work) -> &'static str {
+    match work {
+        Work::Reading => "bytes read",
+        Work::Checking => "checks of slots made",
+        Work::Copying => "documents copied",
     }
 }
 

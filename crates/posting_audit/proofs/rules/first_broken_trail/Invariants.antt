@@ -6,4 +6,4 @@ use Rattle.posting_audit.specs.Keeping.{KeepsTrailRule}
 use Rattle.posting_audit.proofs.rules.first_broken_trail.Given as goal
 
 abbrev pub invariant-loop-slot : goal.invariant-loop-slot
-invariant-loop-slot l = AreFine (image_of l.kept) done_at (KeepsTrailRule l.geometry (image_of l.kept)) l.slot
+invariant-loop-slot g l = AreFine (image_of l.kept) done_at (KeepsTrailRule l.geometry (image_of l.kept)) l.slot

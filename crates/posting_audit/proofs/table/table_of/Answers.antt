@@ -10,19 +10,19 @@ use Rattle.posting_audit.proofs.Trailing.{some_of, none_of}
 use Rattle.posting_audit.proofs.table.table_of.Goals as goal
 
 pub loop-slot-preserved-in_default : goal.loop-slot-preserved-in_default
-loop-slot-preserved-in_default c =
+loop-slot-preserved-in_default _ c =
     let g = c.args.geometry.now in let image = image_of c.args.kept.now in let n = c.loop-slot.slot in
     nothing_more g image n c.loop-slot.table.rows.items c.loop-slot.invariant (not_stored_owes g image n c.in_default.ensures.none)
 
 pub loop-slot-preserved-in_default-found : goal.loop-slot-preserved-in_default-found
-loop-slot-preserved-in_default-found c =
+loop-slot-preserved-in_default-found _ c =
     let g = c.args.geometry.now in let image = image_of c.args.kept.now in let n = c.loop-slot.slot in
     nothing_more g image n c.loop-slot.table.rows.items c.loop-slot.invariant (no_rows_owes g image n
     (subst (HasNoRows g image) c.in-Some.ensures.same
     (none_of (HasNoRows g image c.in-Some.stored.slot) c.in_ok-found.found c.in_ok-found.ensures.none (c.in_default-found).is)))
 
 pub loop-slot-preserved : goal.loop-slot-preserved
-loop-slot-preserved c =
+loop-slot-preserved _ c =
     let g = c.args.geometry.now in let image = image_of c.args.kept.now in let n = c.loop-slot.slot in
     let d = held_by c.in-Some.ensures.some c.requires.documents in
     let rows = some_of (λ rows. AreRowsOf g image c.in-Some.stored.slot rows.items) c.in_ok-found.found c.in-Some-found.rows
@@ -34,10 +34,10 @@ loop-slot-preserved c =
     c.loop-slot.invariant c.in_ok-add_all.ensures
 
 pub loop-slot-init : goal.loop-slot-init
-loop-slot-init c = none_yet c.args.geometry.now (image_of c.args.kept.now) _ c.in_ok-table.ensures
+loop-slot-init _ c = none_yet c.args.geometry.now (image_of c.args.kept.now) _ c.in_ok-table.ensures
 
 pub returns-clause-owed : goal.returns-clause-owed
-returns-clause-owed c =
+returns-clause-owed _ c =
     let g = c.args.geometry.now in let image = image_of c.args.kept.now in
     owed_in_order g image g.slots c.loop-slot.table.rows.items _
     (subst (λ (k : ℕ). AreOwed g image k c.loop-slot.table.rows.items)

@@ -4,4 +4,4 @@ use Rattle.posting_audit.specs.Owing.{AreOwed}
 use Rattle.posting_audit.proofs.table.table_of.Given as goal
 
 abbrev pub invariant-loop-slot : goal.invariant-loop-slot
-invariant-loop-slot l = AreOwed l.geometry (image_of l.kept) l.slot l.table.rows.items
+invariant-loop-slot g l = AreOwed l.geometry (image_of l.kept) l.slot l.table.rows.items

@@ -6,8 +6,8 @@ use Rattle.volume_audit.proofs.Passing.{passes}
 use Rattle.volume_audit.proofs.checks.check_postings.Goals as goal
 
 pub first_broken_posting-requires-clause-documents : goal.first_broken_posting-requires-clause-documents
-first_broken_posting-requires-clause-documents c = c.requires.met Documents (omega arith)
+first_broken_posting-requires-clause-documents g c = c.requires.met Documents (omega arith)
 
 pub returns : goal.returns
-returns c = passes c.args.geometry.now (image_of c.args.kept.now) Postings c.in_ok-first_broken_posting.field-0 c.refuse.result c.requires.met
+returns g c = passes c.args.geometry.now (image_of c.args.kept.now) Postings c.in_ok-first_broken_posting.field-0 c.refuse.result c.requires.met
     c.in_ok-first_broken_posting.ensures c.refuse.ensures

@@ -39,14 +39,14 @@ pub returns-in_err-_report-clause-steady : goal.returns-in_err-_report-clause-st
 returns-in_err-_report-clause-steady g c =
     let refusal = c.in_err-_report.field-0.0 in
     rw (handed c.from_residual.result refusal c.from_residual.ensures.1)
-    (audit_steady (g.met.D.Device.proper c.args.device.now) (g.met.D.Device.proper c.audit.new.device) refusal
+    (audit_steady (g.met.D.Device.proper c.args.device.now) (g.met.D.Device.proper c.audit_metered.new.device) refusal
     c.in_err-_report.ensures)
 
 pub returns-in_err-ready-clause-steady : goal.returns-in_err-ready-clause-steady
 returns-in_err-ready-clause-steady g c =
     let refusal = c.in_err-ready.field-0.0 in
     rw (handed c.from_residual-in_err-ready.result refusal c.from_residual-in_err-ready.ensures.1)
-    (settle_steady (g.met.D.Device.proper c.args.device.now) (g.met.D.Device.proper c.audit.new.device)
+    (settle_steady (g.met.D.Device.proper c.args.device.now) (g.met.D.Device.proper c.audit_metered.new.device)
     (g.met.D.Device.proper c.settle.new.device) c.in_ok-_report.ensures c.settle.ensures.called refusal
     c.in_err-ready.ensures)
 
@@ -54,14 +54,14 @@ pub returns-in_err-done-clause-steady : goal.returns-in_err-done-clause-steady
 returns-in_err-done-clause-steady g c =
     let refusal = c.in_err-done.field-0.0 in
     rw (handed c.from_residual-in_err-done.result refusal c.from_residual-in_err-done.ensures.1)
-    (read_steady (called_then c.audit.ensures.called c.settle.ensures.called) c.done_slots.ensures.read.called
+    (read_steady (called_then c.audit_metered.ensures.called c.settle.ensures.called) c.done_slots.ensures.read.called
     (settled_new c.in_ok-ready.ready c.in_ok-_report.ensures c.in_ok-ready.ensures c.done_slots.ensures.read
     (g.met.D.Device.proper c.settle.new.device) (g.met.D.Device.proper c.done_slots.new.device))
     refusal
     (λ tells. c.in_err-done.ensures.ends (λ also. volume_b c.in_ok-ready.ready c.in_ok-_report.ensures
     c.in_ok-ready.ensures c.done_slots.ensures.read (g.met.D.Device.proper c.settle.new.device)
     (g.met.D.Device.proper c.done_slots.new.device)
-    (subst IsTrue (called_then c.audit.ensures.called c.settle.ensures.called).tells also))))
+    (subst IsTrue (called_then c.audit_metered.ensures.called c.settle.ensures.called).tells also))))
 
 pub returns-clause-steady : goal.returns-clause-steady
 returns-clause-steady g c = λ layout log refusal same. absurd cc
@@ -69,27 +69,27 @@ returns-clause-steady g c = λ layout log refusal same. absurd cc
 -- what a crash leaves of each
 pub returns-in_err-_report-clause-held : goal.returns-in_err-_report-clause-held
 returns-in_err-_report-clause-held g c =
-    audit_held c.audit.result (g.met.D.Device.proper c.args.device.now) (g.met.D.Device.proper c.audit.new.device)
-    c.audit.ensures
+    audit_held c.audit_metered.result (g.met.D.Device.proper c.args.device.now) (g.met.D.Device.proper c.audit_metered.new.device)
+    c.audit_metered.ensures
 
 pub returns-in_err-ready-clause-held : goal.returns-in_err-ready-clause-held
 returns-in_err-ready-clause-held g c =
-    held_then (g.met.D.Device.proper c.args.device.now) (g.met.D.Device.proper c.audit.new.device) c.audit.ensures.called
+    held_then (g.met.D.Device.proper c.args.device.now) (g.met.D.Device.proper c.audit_metered.new.device) c.audit_metered.ensures.called
     c.settle.ensures.called
-    (audit_held c.audit.result (g.met.D.Device.proper c.args.device.now) (g.met.D.Device.proper c.audit.new.device)
-    c.audit.ensures)
-    (settle_held c.settle.result (g.met.D.Device.proper c.audit.new.device) (g.met.D.Device.proper c.settle.new.device)
+    (audit_held c.audit_metered.result (g.met.D.Device.proper c.args.device.now) (g.met.D.Device.proper c.audit_metered.new.device)
+    c.audit_metered.ensures)
+    (settle_held c.settle.result (g.met.D.Device.proper c.audit_metered.new.device) (g.met.D.Device.proper c.settle.new.device)
     c.settle.ensures)
 
 pub returns-in_err-done-clause-held : goal.returns-in_err-done-clause-held
 returns-in_err-done-clause-held g c =
     held_then (g.met.D.Device.proper c.args.device.now) (g.met.D.Device.proper c.settle.new.device)
-    (called_then c.audit.ensures.called c.settle.ensures.called) c.done_slots.ensures.read.called
-    (held_then (g.met.D.Device.proper c.args.device.now) (g.met.D.Device.proper c.audit.new.device) c.audit.ensures.called
+    (called_then c.audit_metered.ensures.called c.settle.ensures.called) c.done_slots.ensures.read.called
+    (held_then (g.met.D.Device.proper c.args.device.now) (g.met.D.Device.proper c.audit_metered.new.device) c.audit_metered.ensures.called
     c.settle.ensures.called
-    (audit_held c.audit.result (g.met.D.Device.proper c.args.device.now) (g.met.D.Device.proper c.audit.new.device)
-    c.audit.ensures)
-    (settle_held c.settle.result (g.met.D.Device.proper c.audit.new.device) (g.met.D.Device.proper c.settle.new.device)
+    (audit_held c.audit_metered.result (g.met.D.Device.proper c.args.device.now) (g.met.D.Device.proper c.audit_metered.new.device)
+    c.audit_metered.ensures)
+    (settle_held c.settle.result (g.met.D.Device.proper c.audit_metered.new.device) (g.met.D.Device.proper c.settle.new.device)
     c.settle.ensures))
     (read_held (g.met.D.Device.proper c.settle.new.device) (g.met.D.Device.proper c.done_slots.new.device)
     c.done_slots.ensures.read)
@@ -97,12 +97,12 @@ returns-in_err-done-clause-held g c =
 pub returns-clause-held : goal.returns-clause-held
 returns-clause-held g c =
     held_then (g.met.D.Device.proper c.args.device.now) (g.met.D.Device.proper c.settle.new.device)
-    (called_then c.audit.ensures.called c.settle.ensures.called) c.done_slots.ensures.read.called
-    (held_then (g.met.D.Device.proper c.args.device.now) (g.met.D.Device.proper c.audit.new.device) c.audit.ensures.called
+    (called_then c.audit_metered.ensures.called c.settle.ensures.called) c.done_slots.ensures.read.called
+    (held_then (g.met.D.Device.proper c.args.device.now) (g.met.D.Device.proper c.audit_metered.new.device) c.audit_metered.ensures.called
     c.settle.ensures.called
-    (audit_held c.audit.result (g.met.D.Device.proper c.args.device.now) (g.met.D.Device.proper c.audit.new.device)
-    c.audit.ensures)
-    (settle_held c.settle.result (g.met.D.Device.proper c.audit.new.device) (g.met.D.Device.proper c.settle.new.device)
+    (audit_held c.audit_metered.result (g.met.D.Device.proper c.args.device.now) (g.met.D.Device.proper c.audit_metered.new.device)
+    c.audit_metered.ensures)
+    (settle_held c.settle.result (g.met.D.Device.proper c.audit_metered.new.device) (g.met.D.Device.proper c.settle.new.device)
     c.settle.ensures))
     (read_held (g.met.D.Device.proper c.settle.new.device) (g.met.D.Device.proper c.done_slots.new.device)
     c.done_slots.ensures.read)

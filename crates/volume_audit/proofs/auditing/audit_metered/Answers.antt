@@ -4,7 +4,7 @@ use Rattle.cell_types.proofs.Passed.{handed}
 use Rattle.commit_record.specs.Opening.{StatedBy, refusal_of}
 use Rattle.kept_cells.specs.Kept.{count_of}
 use Rattle.volume_audit.proofs.Audited.{audits, no_volume, stated_volume, unkept, unsettled}
-use Rattle.volume_audit.proofs.auditing.audit.Goals as goal
+use Rattle.volume_audit.proofs.auditing.audit_metered.Goals as goal
 
 pub returns-in_err-_ready : goal.returns-in_err-_ready
 returns-in_err-_ready g c =

@@ -4,7 +4,7 @@ use Rattle.record_top.specs.Commands.{Does, Request, request_of}
 use Rattle.record_top.specs.Ports.{ports_of}
 use Rattle.record_top.proofs.Asking.{asks_once, called_of, completes}
 use Rattle.record_top.proofs.Steadily.{leaves_whole}
-use Rattle.record_top.proofs.command.run.Goals as goal
+use Rattle.record_top.proofs.command.run_metered.Goals as goal
 
 pub returns-clause-called : goal.returns-clause-called
 returns-clause-called g c = called_of _ _ (request_of c.in-Some.command) c.carry_out.result c.carry_out.ensures
