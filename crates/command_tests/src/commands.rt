@@ -280,11 +280,8 @@ fn expect_no_volume(
 {
     let mut device = blank(alloc, cells, 64)?;
     write_foreign(&mut device, 0, bytes)?;
-    expect_refusals(
-        alloc,
-        &mut device,
-        &[("ingest|a", refusal), ("recover", refusal)],
-    )
+    expect_refusal(alloc, &mut device, "ingest|a", b"", refusal)?;
+    expect_refusal(alloc, &mut device, "recover", b"", refusal)
 }
 
 #[test]
