@@ -73,7 +73,7 @@ fn an_audit_shows_how_many_checks_are_made(rt: HostRuntime) -> Result<(), Fail> 
             (Work::Checking, 2, 6),
             (Work::Checking, 3, 6),
             (Work::Checking, 5, 6),
-            (Work::Copying, 0, 0)
+            (Work::Checking, 6, 6)
         ][..]
     );
     Ok(())

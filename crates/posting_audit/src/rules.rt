@@ -40,15 +40,13 @@ pub fn first_broken_trail<M: Meter>(
     ensures { IfOk result (λ found. Finds geometry.now (image_of kept.now) Trails found) }
 {
     let slots = log.slots.len() as u64;
+    let checks = slots.saturating_mul(2);
     for slot in 0..geometry.slots() {
         let Some(stored) = stored_slot(kept, geometry, log, slot) else {
             continue;
         };
-        meter.show(
-            Work::Checking,
-            slots.saturating_add(u64::from(slot)),
-            slots.saturating_mul(2),
-        );
+        let made = slots.saturating_add(u64::from(slot));
+        meter.show(Work::Checking, made, checks);
         if keeps_trail_rule(alloc, kept, geometry, &stored)? {
             continue;
         }
@@ -62,6 +60,7 @@ pub fn first_broken_trail<M: Meter>(
             found,
         }));
     }
+    meter.show(Work::Checking, checks, checks);
     Ok(None)
 }
 
