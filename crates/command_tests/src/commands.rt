@@ -273,15 +273,15 @@ fn expect_no_volume(
     alloc: Global,
     cells: u32,
     bytes: [u8; 16],
-    refusal: Refusal,
+    refusal: &Refusal,
 ) -> Result<(), Fail>
     requires some { 1 ≤ cells }
     requires most { cells ≤ MAX_CELLS }
 {
     let mut device = blank(alloc, cells, 64)?;
     write_foreign(&mut device, 0, bytes)?;
-    expect_refusal(alloc, &mut device, "ingest|a", b"", refusal)?;
-    expect_refusal(alloc, &mut device, "recover", b"", refusal)
+    expect_refusal(alloc, &mut device, "ingest|a", b"", *refusal)?;
+    expect_refusal(alloc, &mut device, "recover", b"", *refusal)
 }
 
 #[test]
@@ -300,9 +300,9 @@ fn cell_0_has_to_state_the_device(rt: HostRuntime) -> Result<(), Fail> {
         stated: 1_000,
         real: 999,
     };
-    expect_no_volume(alloc, 999, VOLUME, wrong_size)?;
+    expect_no_volume(alloc, 999, VOLUME, &wrong_size)?;
     for bytes in [[0xff; 16], DONE] {
-        expect_no_volume(alloc, 1_000, bytes, Refusal::NotAVolume(cell(bytes)?))?;
+        expect_no_volume(alloc, 1_000, bytes, &Refusal::NotAVolume(cell(bytes)?))?;
     }
     Ok(())
 }
