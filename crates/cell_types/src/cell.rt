@@ -33,6 +33,10 @@ impl Cell {
         ensures blank { IsNone result ↔ (bytes ≡ replicate 16 0) }
         ensures same { IfSome result (λ cell. cell ≡ bytes) }
     {
+        // Nearly every written cell begins with another byte than zero, and the others need no look then.
+        if bytes[0] != 0 {
+            return Some(Cell::of_kind(bytes));
+        }
         if bytes == [0; 16] {
             return None;
         }

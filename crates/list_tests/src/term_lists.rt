@@ -140,6 +140,19 @@ fn the_lists_of_two_words_of_one_document(rt: HostRuntime) -> Result<(), Fail> {
     Ok(())
 }
 
+/// The posting that the join comes to is the word's own.
+#[test]
+fn a_list_that_comes_to_its_own_word_is_not_asked_again(rt: HostRuntime) -> Result<(), Fail> {
+    let alloc = rt.alloc();
+    let mut device = device_with(alloc, &[HELLO_0, WORLD_0])?;
+    let answers = ask(alloc, &mut device, b"hello", 0, 0)?;
+    assert_eq!(rt; answers.common, Ok(Some(0)));
+    // One ask of each kind, and one of the join for a next slot.
+    assert_eq!(rt; answers.next_asks, 2);
+    assert_eq!(rt; answers.has_asks, 1);
+    Ok(())
+}
+
 #[test]
 fn a_word_that_no_posting_has(rt: HostRuntime) -> Result<(), Fail> {
     let alloc = rt.alloc();

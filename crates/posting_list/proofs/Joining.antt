@@ -4,7 +4,8 @@ use Rattle.std.specs.Prelude.{slice_get}
 use Rattle.cell_types.specs.declared.refusal.Fault.{Fault}
 use Rattle.cell_types.specs.declared.refusal.Fault.TheVariants.{Tampered, Failed}
 use Rattle.worm_device.specs.Views.{ViewState, Viewed}
-use Rattle.zigzag_join.specs.Lists.{FaultEnds, HasEnds, Keeps, NextEnds}
+use Rattle.zigzag_join.specs.Lists.{FaultEnds, HasEnds, Keeps, LandEnds}
+use Rattle.zigzag_join.specs.declared.lists.Landing.{Landing}
 use Rattle.jump_index.proofs.Telling.{told, told_before}
 use Rattle.cell_types.specs.Image.{Image}
 use Rattle.tamper_rules.proofs.Images.{same_image}
@@ -91,16 +92,19 @@ module _ (r : Reach) (terms : List SoughtTerm) (loan : ℕ) (s t : ViewState) (n
     owed_here slot o =
         subst (λ (x : SoughtTerm). IsOwed r x s slot) (one_term terms which o.term term o.there there) o.owed
 
-    pub next_ends : (from : ℕ) (result : Result (Option ℕ) Fault) → NextSlot r term from s t result
-        → NextEnds which from (counted_lists r terms loan s n h) (counted_lists r terms loan t i j) result
-    next_ends from (Ok (Some n)) next = (
-      next.ends.0,
-      next.ends.1,
-      λ tells. (term, there, next.ends.5 (told_before next.viewed tells)),
-      λ slot o past. next.ends.4 slot (owed_here slot o) past,
+    pub land_ends : (from : ℕ) (result : Result (Option Landing) Fault) → NextSlot r term from s t result
+        → LandEnds which from (counted_lists r terms loan s n h) (counted_lists r terms loan t i j) result
+    land_ends from (Ok (Some n)) next = (
+      (
+        next.ends.0,
+        next.ends.1,
+        λ tells. (term, there, next.ends.5 (told_before next.viewed tells)),
+        λ slot o past. next.ends.4 slot (owed_here slot o) past,
+      ),
+      λ yes tells. (term, there, next.ends.6 yes (told_before next.viewed tells)),
     )
-    next_ends from (Ok None) next = λ slot o past. next.ends slot (owed_here slot o) past
-    next_ends from (Err fault) next = fault_ends fault next.ends
+    land_ends from (Ok None) next = λ slot o past. next.ends slot (owed_here slot o) past
+    land_ends from (Err fault) next = fault_ends fault next.ends
 
     pub has_ends : (slot : ℕ) (result : Result Bool Fault) → HasSlot r term slot s t result
         → HasEnds which slot (counted_lists r terms loan s n h) (counted_lists r terms loan t i j) result

@@ -1,5 +1,5 @@
 -- Where a search for the next slot lands.
-use Rattle.std.proofs.Common.{◌≡◌, ◌<◌, ◌*◌, ◌/◌, ◌^◌, refl, ℕ, zero, suc, List, [], ◌∷◌, slice_set, false, true, Some, None, Ok, Err, subst, arith}
+use Rattle.std.proofs.Common.{◌≡◌, ◌<◌, ◌*◌, ◌/◌, ◌^◌, refl, ℕ, Bool, IsTrue, zero, suc, List, [], ◌∷◌, slice_set, false, true, Some, None, Ok, Err, subst, arith}
 use Rattle.std.specs.Prelude.{slice_get}
 use Rattle.cell_types.specs.declared.refusal.Fault.{Fault}
 use Rattle.worm_device.specs.Views.{ViewState, Viewed}
@@ -63,9 +63,10 @@ module _ (r : Reach) (term : SoughtTerm) (from : ℕ) (old mid new : ViewState)
   }
 
   module _ (e : Entry) (found : FindsGeq (within r) (head_of r term.list) (256 * from) old mid (Ok (Some e))) where
-    pub next_some : e.key < 2 ^ 32 → LooksLive r (e.key / 256) mid new (Ok true)
-        → NextSlot r term from old new (Ok (Some (e.key / 256)))
-    next_some fits live = record {
+    pub next_some : (vouched : Bool) → (IsTrue vouched → e.tag ≡ term.tag) → e.key < 2 ^ 32
+        → LooksLive r (e.key / 256) mid new (Ok true)
+        → NextSlot r term from old new (Ok (Some (record { slot = e.key / 256; vouched = vouched })))
+    next_some vouched same_tag fits live = record {
       viewed = viewed_then found.viewed live.viewed;
       ends = (
         omega (arith, found.ends.0),
@@ -86,6 +87,19 @@ module _ (r : Reach) (term : SoughtTerm) (from : ℕ) (old mid new : ViewState)
                   (leads_wider r.bounds.pool r.bounds.edge (omega arith) (omega arith) behind.leads);
               in_places = behind.place;
               holds = holds_on live.viewed.image (front_holds behind.in_front);
+              same_slot = refl;
+            },
+        λ yes tells.
+            let behind = (found.ends.2 tells).0 in
+            record {
+              block = e.block;
+              place = e.place;
+              p = posting_of e;
+              leads = leads_on live.viewed.image
+                  (leads_wider r.bounds.pool r.bounds.edge (omega arith) (omega arith) behind.leads);
+              in_places = behind.place;
+              holds = holds_on live.viewed.image (front_holds behind.in_front);
+              same_tag = same_tag yes;
               same_slot = refl;
             },
       );

@@ -20,6 +20,7 @@ use Rattle.posting_list.specs.Naming.{FaultSays}
 use Rattle.posting_list.specs.Owing.{HasPosting, IsOwed, IsVouched}
 use Rattle.posting_list.specs.declared.reach.Reach.{Reach}
 use Rattle.posting_list.specs.declared.sought_term.SoughtTerm.{SoughtTerm}
+use Rattle.zigzag_join.specs.declared.lists.Landing.{Landing}
 
 -- the bounds, as far as the volume's cells go
 abbrev pub within : Reach → Bounds
@@ -58,18 +59,20 @@ IsFalsePosting entry (Tampered e) =
     (e.rule ≡ FAKE_POSTING) × (e.cell ≡ cell_of entry)
     × (e.found ≡ record_bytes (posting_record (posting_of entry)) (cell_of entry))
 
--- The next slot of a term's list at or past one. It lies before the horizon and is done.
-abbrev pub NextSlotEnds : Reach → SoughtTerm → ℕ → ViewState → ViewState → Result (Option ℕ) Fault → Type 0
+-- The next slot of a term's list at or past one. It lies before the horizon and is done; and the list vouches for it where
+-- that is said.
+abbrev pub NextSlotEnds : Reach → SoughtTerm → ℕ → ViewState → ViewState → Result (Option Landing) Fault → Type 0
 NextSlotEnds r term from old new (Ok (Some n)) =
-    (from ≤ n) × (n < MAX_SLOTS) × (n < r.horizon)
-    × (IsTrue old.base.tells → IsDoneSlot r.volume.geometry new.image n)
-    × ((slot : ℕ) → IsOwed r term old slot → from ≤ slot → n ≤ slot)
-    × (IsTrue old.base.tells → HasPosting r term new.image n)
+    (from ≤ n.slot) × (n.slot < MAX_SLOTS) × (n.slot < r.horizon)
+    × (IsTrue old.base.tells → IsDoneSlot r.volume.geometry new.image n.slot)
+    × ((slot : ℕ) → IsOwed r term old slot → from ≤ slot → n.slot ≤ slot)
+    × (IsTrue old.base.tells → HasPosting r term new.image n.slot)
+    × (IsTrue n.vouched → IsTrue old.base.tells → IsVouched r term new.image n.slot)
 NextSlotEnds r term from old new (Ok None) = (slot : ℕ) → IsOwed r term old slot → from ≤ slot → ⊥
 NextSlotEnds r term from old new (Err fault) = FaultSays r old new fault
 
 pub record NextSlot (r : Reach) (term : SoughtTerm) (from : ℕ) (old new : ViewState)
-    (result : Result (Option ℕ) Fault) : Type 0 where
+    (result : Result (Option Landing) Fault) : Type 0 where
   pub viewed : Viewed old new
   pub ends : NextSlotEnds r term from old new result
 

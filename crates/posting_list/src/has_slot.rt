@@ -24,7 +24,7 @@ fn number_of(tag: &[u8; 6]) -> u64
 }
 
 /// Whether two tags are the same.
-fn is_same(a: &[u8; 6], b: &[u8; 6]) -> bool
+pub(crate) fn is_same(a: &[u8; 6], b: &[u8; 6]) -> bool
     ensures { IsTrue result ↔ (a.now ≡ b.now) }
 {
     a[..] == b[..]

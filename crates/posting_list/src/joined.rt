@@ -6,7 +6,7 @@ use crate::{SoughtTerm, TermLists};
 use cell_types::{Fault, MAX_SLOTS, Refusal};
 use std::alloc::Global;
 use worm_device::View;
-use zigzag_join::{Lists, all_common, next_common};
+use zigzag_join::{Landing, Lists, all_common, next_common};
 
 impl<'a, V: View> TermLists<'a, V> {
     ghost use Rattle.std.specs.Prelude.{◌≡◌, ◌≤◌, length};
@@ -86,6 +86,13 @@ impl<'a, V: View> Lists for TermLists<'a, V> {
     }
 
     fn next(&mut self, which: u32, from: u32) -> Result<Option<u32>, Fault> {
+        let Some(landing) = self.land(which, from)? else {
+            return Ok(None);
+        };
+        Ok(Some(landing.slot))
+    }
+
+    fn land(&mut self, which: u32, from: u32) -> Result<Option<Landing>, Fault> {
         self.next_asks = self.next_asks.saturating_add(1);
         if from >= MAX_SLOTS {
             return Ok(None);

@@ -12,7 +12,8 @@
 //!     world: has slot 0          key 0 is there, and tells 0 to 1; of these key 1 has the tag
 //!     hello: has slot 2          key 512 is there, and tells 0 alone; it has another tag: no
 //!
-//! `next` looks at no tag: a list has the postings of many terms. **`has` decides**: it finds the slot's ordinal 0,
+//! `next` goes by no tag: a list has the postings of many terms. It vouches for the slot where the posting that it comes
+//! to has the term's tag, and says so. Where it does not, **`has` decides**: it finds the slot's ordinal 0,
 //! which tells how many there are, and where this one has another tag, it finds the term's among the others by
 //! bisection.
 //!

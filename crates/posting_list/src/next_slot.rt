@@ -5,25 +5,27 @@ ghost use Rattle.posting_list.specs.Keeping.{KeepsFronts};
 ghost use Rattle.posting_list.specs.Searches.{NextSlot};
 ghost use Rattle.posting_list.specs.declared.next_slot.TheConstants.{NEXT_READS};
 
+use crate::has_slot::is_same;
 use crate::live::{false_posting, is_live};
 use crate::search::find_in_list;
 use crate::{Reach, SoughtTerm};
 use cell_types::Fault;
 use jump_block::KeptFronts;
 use worm_device::View;
+use zigzag_join::Landing;
 
 /// How many reads one ask for a next slot may cost: those of a search, 4,096, and four of the slot that it comes to.
 pub const NEXT_READS: u64 = 4_100;
 
 /// The next slot of a term's list at or past one: that of the first posting at or past the slot's first key, whichever
-/// tag it has.
+/// tag it has. The list vouches for it where that is the term's.
 pub(crate) fn next_slot<V: View>(
     view: &mut V,
     fronts: &mut KeptFronts,
     reach: &Reach,
     term: &SoughtTerm,
     from: u32,
-) -> Result<Option<u32>, Fault>
+) -> Result<Option<Landing>, Fault>
     requires size { reach.now.volume.geometry.cells ≡ (V.seen view.old).cells }
     requires list { term.now.list < reach.now.volume.geometry.lists }
     requires from { from < MAX_SLOTS }
@@ -41,5 +43,8 @@ pub(crate) fn next_slot<V: View>(
     if !live {
         return Err(false_posting(&entry));
     }
-    Ok(Some(slot))
+    Ok(Some(Landing {
+        slot,
+        vouched: is_same(&entry.tag, &term.tag),
+    }))
 }

@@ -7,7 +7,7 @@ use Rattle.worm_device.specs.Counts.{IsStill}
 use Rattle.worm_device.proofs.Counting.{still_first, still_second}
 use Rattle.worm_device.proofs.Resting.{viewed_self, viewed_then}
 use Rattle.zigzag_join.specs.Counts.{HaveSlots, JoinCosts}
-use Rattle.zigzag_join.specs.Joins.{AllOwe, HasAgreed, IsTurnAfter}
+use Rattle.zigzag_join.specs.Joins.{AllOwe, AllVouch, HasAgreed, IsTurnAfter}
 use Rattle.zigzag_join.proofs.SlotCounts.{at_least, at_most, passes, times_more, times_on}
 use Rattle.zigzag_join.specs.Lists.{AsksNext, CountsAsks, HasPaid, ListsState, Keeps, NextEnds, paid_reads}
 
@@ -76,6 +76,10 @@ paid_since a b same_next same_has more_next more_has pays reads next has paid co
 -- of so many lists, in turn, the list is one of the last so many before this one
 abbrev pub IsOfLast : ℕ → ℕ → ℕ → ℕ → Type 0
 IsOfLast lists which agreed w = ((w < which) × (which ≤ w + agreed)) ⊎ (which + lists ≤ w + agreed)
+
+-- each of the last so many lists before this one vouches for the slot
+abbrev pub LastVouch : ℕ → ListsState → ℕ → ℕ → ℕ → Type 0
+LastVouch lists s which agreed slot = (w : ℕ) → w < lists → IsOfLast lists which agreed w → s.vouches w slot
 
 -- What a join has asked, as one list q counts it: q was asked k times, each time for a slot of its own that is behind
 -- the ones before, all below `behind`; it is asked again in `due` turns; and at h slots all lists were asked whether
@@ -175,6 +179,39 @@ module _ (lists w v agreed q : ℕ) (after : IsTurnAfter lists w v) (less : q < 
 not_last : (lists w agreed : ℕ) → agreed < lists → IsOfLast lists w agreed w → ⊥
 not_last lists w agreed less last = ⊎_elim (λ (a : (w < w) × (w ≤ w + agreed)). omega (arith, a.0))
     (λ (b : w + lists ≤ w + agreed). omega (arith, b, less)) last
+
+-- where none has come yet each of them vouches
+pub none_vouch : (lists : ℕ) (s : ListsState) (which slot : ℕ) → LastVouch lists s which 0 slot
+none_vouch lists s which slot w less last = absurd (no_last lists which w less last)
+
+-- where one more vouches as it comes, and those that had come to the same slot did
+pub vouch_more : (lists : ℕ) (now new : ListsState) (w v agreed a slot n : ℕ) → IsTurnAfter lists w v
+    → HasAgreed n slot agreed a → Keeps now new → new.vouches w n → (slot < n) ⊎ LastVouch lists now w agreed slot
+    → LastVouch lists new v a n
+vouch_more lists now new w v agreed a slot n after agrees kept own others q less last =
+    ⊎_elim (λ (same : q ≡ w). subst (λ (x : ℕ). new.vouches x n) (sym same) own) other (own_or_other q w)
+  where
+    own_or_other : (q w : ℕ) → (q ≡ w) ⊎ (q ≡ w → ⊥)
+    own_or_other q w = grind arith
+
+    other : (q ≡ w → ⊥) → new.vouches q n
+    other not_own = ⊎_elim
+        (λ (up : (slot < n) × (a ≡ 1)). absurd (last_one lists w v agreed q after less not_own
+        (subst (λ (x : ℕ). IsOfLast lists v x q) up.1 last)))
+        (λ (same : (n ≡ slot) × (a ≡ agreed + 1)). ⊎_elim
+        (λ (up : slot < n). absurd (omega (arith, up, same.0)))
+        (λ (before : LastVouch lists now w agreed slot). kept.vouching q n (subst (now.vouches q) (sym same.0)
+        (before q less (last_less lists w v agreed q after less not_own
+        (subst (λ (x : ℕ). IsOfLast lists v x q) same.1 last)))))
+        others)
+        agrees
+
+-- so where all have come, all vouch
+pub all_vouch : (lists : ℕ) (s : ListsState) (which agreed slot : ℕ) → s.lists ≡ lists → which < lists → agreed ≡ lists
+    → LastVouch lists s which agreed slot → AllVouch s slot
+all_vouch lists s which agreed slot same inside all last q less = last q (omega (arith, less, same)) (⊎_elim
+    (λ (low : q < which). inl (low, omega (arith, all, inside)))
+    (λ (high : which ≤ q). inr (omega (arith, all, high))) (cases_lt q which))
 
 -- one turn more, as list q counts it
 turn_counted : (old now new : ListsState) (from w v agreed a slot n q : ℕ) (slots : List ℕ)

@@ -6,6 +6,7 @@ use Rattle.cell_types.specs.declared.refusal.Fault.{Fault}
 use Rattle.cell_types.specs.declared.refusal.Fault.TheVariants.{Tampered, Failed}
 use Rattle.worm_device.specs.Counts.{Rose, IsStill}
 use Rattle.worm_device.specs.Views.{ViewState, Viewed}
+use Rattle.zigzag_join.specs.declared.lists.Landing.{Landing}
 
 -- The state of some lists.
 pub record ListsState : Type 1 where
@@ -90,6 +91,13 @@ NextEnds which from old new (Ok (Some n)) =
     (from ≤ n) × (n < MAX_SLOTS) × new.lands which n × ((slot : ℕ) → old.owes which slot → from ≤ slot → n ≤ slot)
 NextEnds which from old new (Ok None) = (slot : ℕ) → old.owes which slot → from ≤ slot → ⊥
 NextEnds which from old new (Err fault) = FaultEnds old new fault
+
+-- and where it tells besides that it vouches for the slot
+abbrev pub LandEnds : ℕ → ℕ → ListsState → ListsState → Result (Option Landing) Fault → Type 0
+LandEnds which from old new (Ok (Some landing)) =
+    NextEnds which from old new (Ok (Some landing.slot)) × (IsTrue landing.vouched → new.vouches which landing.slot)
+LandEnds which from old new (Ok None) = NextEnds which from old new (Ok None)
+LandEnds which from old new (Err fault) = FaultEnds old new fault
 
 -- what a list answers that is asked whether it has a slot
 abbrev pub HasEnds : ℕ → ℕ → ListsState → ListsState → Result Bool Fault → Type 0

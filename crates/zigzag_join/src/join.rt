@@ -1,11 +1,11 @@
 //! The zigzag join.
-ghost use Rattle.std.specs.Prelude.{◌≡◌, ◌≤◌, ◌<◌, ◌+◌, ◌^◌};
+ghost use Rattle.std.specs.Prelude.{◌≡◌, ◌≤◌, ◌<◌, ◌+◌, ◌^◌, ◌⊎◌, IsTrue};
 ghost use Rattle.cell_types.specs.declared.geometry.TheConstants.{MAX_SLOTS};
 ghost use Rattle.zigzag_join.specs.Counts.{JoinCosts};
-ghost use Rattle.zigzag_join.specs.Joins.{AllHaveEnds, HasAgreed, IsTurnAfter, JoinEnds};
+ghost use Rattle.zigzag_join.specs.Joins.{AllHaveEnds, AllVouch, HasAgreed, IsTurnAfter, JoinEnds};
 ghost use Rattle.zigzag_join.specs.Lists.{Keeps};
 
-use crate::Lists;
+use crate::{Landing, Lists};
 use cell_types::{Fault, MAX_SLOTS};
 
 /// The next slot at or past one that all lists have, `None` where there is none. It passes no slot that no list may
@@ -20,23 +20,26 @@ pub fn next_common<Q: Lists>(lists: &mut Q, from: u32) -> Result<Option<u32>, Fa
 {
     let count = lists.count();
     let mut which = 0;
-    // So many lists before this one, in turn, have come to the slot.
+    // So many lists before this one, in turn, have come to the slot; and whether each of them vouches for it.
     let mut agreed = 0;
+    let mut vouched = true;
     let mut slot = from;
     while slot < MAX_SLOTS {
-        let Some(next) = lists.next(which, slot)? else {
+        let Some(next) = lists.land(which, slot)? else {
             return Ok(None);
         };
-        agreed = agreed_at(next, slot, agreed);
-        slot = next;
+        agreed = agreed_at(next.slot, slot, agreed);
+        vouched = vouched_at(next, slot, vouched);
+        slot = next.slot;
         which = turn_after(which, count);
         if agreed == count {
-            if all_have(lists, count, slot)? {
+            if all_agree(lists, count, slot, vouched)? {
                 return Ok(Some(slot));
             }
             // Some list need not have the slot, so not all of them do.
             slot += 1;
             agreed = 0;
+            vouched = true;
         }
     }
     Ok(None)
@@ -51,6 +54,14 @@ fn agreed_at(next: u32, slot: u32, agreed: u32) -> u32
     if next > slot { 1 } else { agreed + 1 }
 }
 
+/// Whether each list that has come to the next slot, in turn, vouches for it, this one with them.
+fn vouched_at(next: Landing, slot: u32, vouched: bool) -> bool
+    ensures own { IsTrue result → IsTrue next.vouched }
+    ensures others { IsTrue result → (slot < next.slot) ⊎ IsTrue vouched }
+{
+    next.vouched && (vouched || next.slot > slot)
+}
+
 /// The list that is asked after this one, of so many.
 fn turn_after(which: u32, count: u32) -> u32
     requires { which < count }
@@ -59,7 +70,23 @@ fn turn_after(which: u32, count: u32) -> u32
     if which + 1 == count { 0 } else { which + 1 }
 }
 
-/// Whether all lists have the slot.
+/// Whether all lists have the slot that they have come to. They are not asked where each of them vouches for it.
+fn all_agree<Q: Lists>(lists: &mut Q, count: u32, slot: u32, vouched: bool) -> Result<bool, Fault>
+    requires count { count ≡ (Q.state lists.old).lists }
+    requires slot { slot < MAX_SLOTS }
+    requires vouched { IsTrue vouched → AllVouch (Q.state lists.old) slot }
+    ensures kept { Keeps (Q.state lists.old) (Q.state lists.new) }
+    ensures next_asks { (Q.state lists.new).next_asks ≤ (Q.state lists.old).next_asks }
+    ensures has_asks { (Q.state lists.new).has_asks ≤ (Q.state lists.old).has_asks + count }
+    ensures ends { AllHaveEnds slot (Q.state lists.old) (Q.state lists.new) result }
+{
+    if vouched {
+        return Ok(true);
+    }
+    all_have(lists, count, slot)
+}
+
+/// Whether all lists have the slot, each of which is asked.
 fn all_have<Q: Lists>(lists: &mut Q, count: u32, slot: u32) -> Result<bool, Fault>
     requires count { count ≡ (Q.state lists.old).lists }
     requires slot { slot < MAX_SLOTS }

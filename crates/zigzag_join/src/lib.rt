@@ -11,7 +11,8 @@
 //! A list may hold more than it should: whoever may write blank cells adds postings, and what a list answers then need
 //! not be a slot that all have. So a list does not tell what it has, but which slots it **must not pass**, and for
 //! which it **vouches**. The join passes no slot that no list may pass, and each list vouches for its answer. Where
-//! `next` lands is never taken for such a slot: `has` decides, and where it says no, the join goes on by one.
+//! `next` lands is never taken for such a slot: `has` decides, and where it says no, the join goes on by one. A list may
+//! tell as it lands that it vouches for the slot (`land`); where all of them do, none is asked whether it has it.
 //!
 //! **What it costs.** Take any one list, and say that it has m slots from where the join begins up to the answer, or to
 //! the end where there is none. Then the join asks at most `count * (m + 1)` times for a next slot, and at most
@@ -33,4 +34,4 @@ mod lists;
 
 pub use gather::all_common;
 pub use join::next_common;
-pub use lists::Lists;
+pub use lists::{Landing, Lists};

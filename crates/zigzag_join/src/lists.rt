@@ -1,9 +1,17 @@
 //! Lists of slots that can be asked for the next slot at or past one, and whether they have one.
 ghost use Rattle.std.specs.Prelude.{◌≡◌, ◌<◌, ◌≤◌};
 ghost use Rattle.cell_types.specs.declared.geometry.TheConstants.{MAX_SLOTS};
-ghost use Rattle.zigzag_join.specs.Lists.{ListsState, Keeps, NextEnds, HasEnds, AsksNext, AsksHas};
+ghost use Rattle.zigzag_join.specs.Lists.{ListsState, Keeps, NextEnds, LandEnds, HasEnds, AsksNext, AsksHas};
 
 use cell_types::Fault;
+
+/// A slot that a list has come to.
+#[derive(Clone, Copy, Debug, PartialEq, Eq)]
+pub struct Landing {
+    pub slot: u32,
+    /// Whether the list vouches for the slot. Where it does not say so, it may have it all the same.
+    pub vouched: bool,
+}
 
 /// Some lists of slots. A slot is a number below 16,777,216; the slot behind the last one may be asked for too.
 pub trait Lists {
@@ -23,6 +31,24 @@ pub trait Lists {
         ensures kept { Keeps (state self.old) (state self.new) }
         ensures asks { AsksNext (state self.old) (state self.new) }
         ensures ends { NextEnds which from (state self.old) (state self.new) result };
+
+    /// The same as `next`, which a list may know more of: one that vouches for the slot need not be asked whether it has
+    /// it.
+    fn land(&mut self, which: u32, from: u32) -> Result<Option<Landing>, Fault>
+        requires which { which < (state self.old).lists }
+        requires from { from ≤ MAX_SLOTS }
+        ensures kept { Keeps (state self.old) (state self.new) }
+        ensures asks { AsksNext (state self.old) (state self.new) }
+        ensures ends { LandEnds which from (state self.old) (state self.new) result }
+    {
+        let Some(slot) = self.next(which, from)? else {
+            return Ok(None);
+        };
+        Ok(Some(Landing {
+            slot,
+            vouched: false,
+        }))
+    }
 
     /// Whether a list has the slot. It has each slot that it must not pass, and vouches for each that it has.
     fn has(&mut self, which: u32, slot: u32) -> Result<bool, Fault>

@@ -49,5 +49,5 @@ pub returns-clause-next : goal.returns-clause-next
 returns-clause-next g c =
     next_some c.args.reach.now c.args.term.now c.args.from (g.V.View.seen c.args.view.now)
     (g.V.View.seen c.find_in_list.new.view) (g.V.View.seen c.is_live.new.view) c.requires.list c.in-Some.entry
-    (rw c.in-Some.is at c.in_ok-found.ensures.finds) (search rules)
+    (rw c.in-Some.is at c.in_ok-found.ensures.finds) c.is_same.result c.is_same.ensures.0 (search rules)
     (rw c.if-not-live.false at c.in_ok-live.ensures.live)

@@ -1,9 +1,9 @@
 -- What the search for the next slot says, of the lists.
 use Rattle.std.proofs.Common.{◌%◌, arith, refl, rules}
 use Rattle.worm_device.proofs.Resting.{viewed_self}
-use Rattle.posting_list.proofs.Joining.{keeps_next, next_ends, none_owed}
+use Rattle.posting_list.proofs.Joining.{keeps_next, land_ends, none_owed}
 use Rattle.posting_list.proofs.Landing.{keep_each_on}
-use Rattle.posting_list.proofs.joined.TermListsLists.next.Goals as goal
+use Rattle.posting_list.proofs.joined.TermListsLists.land.Goals as goal
 
 -- the list can't be asked
 pub returns-in_default-clause-ends : goal.returns-in_default-clause-ends
@@ -32,7 +32,7 @@ returns-clause-kept g c =
 
 pub returns-clause-ends : goal.returns-clause-ends
 returns-clause-ends g c =
-    next_ends c.args.self.now.reach c.args.self.now.sought.now.terms.items c.args.self.now.view.ghost_name
+    land_ends c.args.self.now.reach c.args.self.now.sought.now.terms.items c.args.self.now.view.ghost_name
     (g.V.View.seen c.args.self.now.view.now)
     (g.V.View.seen c.next_slot.new.view) 0 0 0 0 c.args.which c.in-Some.term c.in-Some.ensures.there c.args.from
     c.next_slot.result c.next_slot.ensures.next
