@@ -7,7 +7,7 @@ use test_volumes::{
     begin, expect_refusal, expect_refusals, expect_text, formatted, outcome_of, run, sink,
     small_volume, source_of, volume_with_a, words_of,
 };
-use worm_memory::MemoryDevice;
+use worm_memory::{MemoryDevice, Moment};
 
 /// The receipt of the document `a`, whose body is `hello world`, in slot 0.
 const RECEIPT: &str = "receipt 0 a
@@ -86,7 +86,7 @@ fn a_receipt_is_checked(rt: HostRuntime) -> Result<(), Fail> {
     let mut device = volume_with_a(alloc)?;
     assert_eq!(rt; check(alloc, RECEIPT, &mut device)?, None);
 
-    // It holds on: other documents come.
+    // It holds on: another document comes, and the slot of a third is given up.
     expect_text(
         alloc,
         &mut device,
@@ -94,6 +94,12 @@ fn a_receipt_is_checked(rt: HostRuntime) -> Result<(), Fail> {
         b"hello again",
         "acknowledged 1\n",
     )?;
+    assert_eq!(rt; check(alloc, RECEIPT, &mut device)?, None);
+    begin(&mut device)?;
+    device.stop_after(Moment::Step(3));
+    let (outcome, _) = outcome_of(alloc, "ingest|c", &mut device, b"")?;
+    assert_eq!(rt; outcome, Err(Refusal::DeviceFault));
+    expect_text(alloc, &mut device, "recover", b"", "slot 2 abandoned\n")?;
     assert_eq!(rt; check(alloc, RECEIPT, &mut device)?, None);
     Ok(())
 }

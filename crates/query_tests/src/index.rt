@@ -100,6 +100,7 @@ fn two_words_may_have_one_tag(rt: HostRuntime) -> Result<(), Fail> {
 fn eight_terms_are_found_together(rt: HostRuntime) -> Result<(), Fail> {
     let alloc = rt.alloc();
     let mut device = small_volume(alloc)?;
+    expect_text(alloc, &mut device, "find|hello", b"", "0 found\n")?;
     put_by(
         alloc,
         &mut device,

@@ -4,7 +4,7 @@ use Rattle.cell_types.proofs.Passed.{handed}
 use Rattle.zigzag_join.specs.Joins.{AllHaveEnds, IsTurnAfter}
 use Rattle.zigzag_join.specs.Lists.{LandEnds}
 use Rattle.zigzag_join.specs.declared.lists.Landing.{Landing}
-use Rattle.zigzag_join.proofs.Joining.{LastVouch, all_vouch, asked_costs, end_costs, found_costs, none_left, none_vouch, not_all_yet, skip_more, smaller, so_far_none, turn_more, vouch_more}
+use Rattle.zigzag_join.proofs.Joining.{all_vouch, asked_costs, end_costs, found_costs, none_left, none_vouch, not_all_yet, skip_more, smaller, so_far_none, turn_more, vouch_more}
 use Rattle.zigzag_join.proofs.join.next_common.Goals as goal
 
 pub loop-slot-init : goal.loop-slot-init
