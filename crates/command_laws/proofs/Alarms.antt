@@ -8,8 +8,8 @@ use Rattle.worm_device.specs.Counts.{IsStill}
 use Rattle.worm_device.specs.State.{DeviceState, IsDevice}
 use Rattle.commit_record.specs.Licences.{IsLicensed}
 use Rattle.recovery_engine.specs.Settling.{Settles, SettlesFirst, settled, settling}
-use Rattle.settling_laws.specs.Steadiness.{IsSteady}
-use Rattle.settling_laws.proofs.Alarms.{looked_unbroken, settling_named}
+use Rattle.crash_laws.specs.settling_laws.Steadiness.{IsSteady}
+use Rattle.crash_laws.proofs.of_settling_laws.Alarms.{looked_unbroken, settling_named}
 use Rattle.command_laws.proofs.Results.{one_refusal}
 
 module _ (old new : DeviceState) (device : IsDevice old) (tells : IsTrue old.tells)

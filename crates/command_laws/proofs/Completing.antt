@@ -28,19 +28,19 @@ use Rattle.commit_record.specs.Licences.{IsLicensed}
 use Rattle.document_store.proofs.Holding.{held_stands}
 use Rattle.recovery_engine.specs.Settling.{HasSettled, IsSettlingRule, Settles, SettlesFirst}
 use Rattle.recovery_engine.specs.declared.settling.Ready.{Ready}
-use Rattle.settling_laws.proofs.Alarms.{looked_unbroken, settling_named}
-use Rattle.settling_laws.proofs.LookedAt.{looked_ends}
+use Rattle.crash_laws.proofs.of_settling_laws.Alarms.{looked_unbroken, settling_named}
+use Rattle.crash_laws.proofs.of_settling_laws.LookedAt.{looked_ends}
 use Rattle.crash_laws.proofs.WellPlanned as planned
-use Rattle.identifier_lookup.specs.Walks.{IsPassedWhole}
-use Rattle.plan_writer.proofs.PutFrom.{volume_2}
-use Rattle.ingest_engine.specs.Formats.{FormatEnds}
+use Rattle.crash_laws.specs.identifier_lookup.Walks.{IsPassedWhole}
+use Rattle.crash_laws.proofs.of_plan_writer.PutFrom.{volume_2}
+use Rattle.crash_laws.specs.ingest_engine.Formats.{FormatEnds}
 use Rattle.stored_documents.specs.Slots.{IsStampFor}
-use Rattle.jump_insertion.specs.Evidence.{IsPastStamps}
-use Rattle.ingest_plan.specs.Planning.{IsLater}
-use Rattle.ingest_engine.specs.Ingesting.{HasFullPath, HasLaterStamp, HasNoRoom, HasNoSlot, HasSlot, IngestEnds, IsNamed, IsTaken, IsTooMany, StampEnds, TakesNoSuchStamp, by_plan, by_settling, in_index}
-use Rattle.ingest_engine.specs.Stamps.{IsStampBelow}
-use Rattle.ingest_engine.proofs.Named.{is_horizon, slot_still}
-use Rattle.ingest_engine.proofs.CrashedIngests.{ready_layout, settled_unused}
+use Rattle.crash_laws.specs.jump_insertion.Evidence.{IsPastStamps}
+use Rattle.crash_laws.specs.ingest_plan.Planning.{IsLater}
+use Rattle.crash_laws.specs.ingest_engine.Ingesting.{HasFullPath, HasLaterStamp, HasNoRoom, HasNoSlot, HasSlot, IngestEnds, IsNamed, IsTaken, IsTooMany, StampEnds, TakesNoSuchStamp, by_plan, by_settling, in_index}
+use Rattle.crash_laws.specs.ingest_engine.Stamps.{IsStampBelow}
+use Rattle.crash_laws.proofs.of_ingest_engine.Named.{is_horizon, slot_still}
+use Rattle.crash_laws.proofs.of_ingest_engine.CrashedIngests.{ready_layout, settled_unused}
 use Rattle.record_query.specs.Finding.{FindEnds}
 use Rattle.record_query.specs.LookingUp.{LookUpEnds}
 use Rattle.record_query.specs.declared.found.Found.{Found}

@@ -16,9 +16,9 @@ use Rattle.worm_device.specs.Counts.{IsStill}
 use Rattle.worm_device.specs.State.{DeviceState, IsDevice}
 use Rattle.worm_device.proofs.Elapsing.{elapses_of}
 use Rattle.worm_device.proofs.Images.{extends_self, extends_then}
-use Rattle.settling_laws.specs.Steadiness.{IsLeftWhole, IsSteady, StaysSteady}
-use Rattle.settling_laws.proofs.LeftWhole.{held_unmoved, left_between, not_blank, stays_steady}
-use Rattle.ingest_engine.specs.Formats.{FormatEnds, volume_cell}
+use Rattle.crash_laws.specs.settling_laws.Steadiness.{IsLeftWhole, IsSteady, StaysSteady}
+use Rattle.crash_laws.proofs.of_settling_laws.LeftWhole.{held_unmoved, left_between, not_blank, stays_steady}
+use Rattle.crash_laws.specs.ingest_engine.Formats.{FormatEnds, volume_cell}
 use Rattle.command_laws.specs.Begins.{BeginsSteady}
 use Rattle.command_laws.specs.Telling.{IsFormatted, LeavesHeld}
 

@@ -14,8 +14,8 @@ use Rattle.tamper_rules.specs.Settling.{Held, Settled}
 use Rattle.worm_device.specs.State.{DeviceState, IsDevice}
 use Rattle.recovery_engine.specs.Settling.{HasSettled, Settles, SettlesFirst, settled, settling}
 use Rattle.recovery_engine.specs.declared.settling.Ready.{Ready}
-use Rattle.settling_laws.proofs.LeftWhole.{documents_after}
-use Rattle.settling_laws.proofs.LookedAt.{looked_ends, looked_sound}
+use Rattle.crash_laws.proofs.of_settling_laws.LeftWhole.{documents_after}
+use Rattle.crash_laws.proofs.of_settling_laws.LookedAt.{looked_ends, looked_sound}
 use Rattle.record_query.specs.Finding.{Finds}
 use Rattle.record_query.specs.LookingUp.{IsAbsent, NoneHas}
 use Rattle.record_query.specs.declared.found.Match.{Match}

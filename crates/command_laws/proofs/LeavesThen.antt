@@ -7,8 +7,8 @@ use Rattle.worm_device.specs.Calls.{Called}
 use Rattle.worm_device.specs.State.{DeviceState, IsDevice, LeftSince}
 use Rattle.worm_device.proofs.Elapsing.{elapses_of}
 use Rattle.worm_device.proofs.Images.{extends_self}
-use Rattle.settling_laws.specs.Steadiness.{HoldsOneOf, IsLeftWhole, IsSteady}
-use Rattle.settling_laws.proofs.LeftWhole.{whole_from}
+use Rattle.crash_laws.specs.settling_laws.Steadiness.{HoldsOneOf, IsLeftWhole, IsSteady}
+use Rattle.crash_laws.proofs.of_settling_laws.LeftWhole.{whole_from}
 use Rattle.command_laws.specs.Telling.{LeavesHeld}
 
 module _ {a b : DeviceState} (device : IsDevice a) (called : Called a b) (steady : IsSteady a) (device_b : IsDevice b)

@@ -7,3 +7,8 @@ pub mod LookedFirst
 pub mod Queries
 pub mod Results
 pub mod WholeLogs
+pub use Rattle.crash_laws.proofs as of_crash_laws
+pub use Rattle.crash_laws.proofs.of_ingest_engine
+pub use Rattle.crash_laws.proofs.of_plan_writer
+pub use Rattle.crash_laws.proofs.of_settling_laws
+pub use Rattle.volume_audit.proofs as of_volume_audit

@@ -12,7 +12,7 @@ use Rattle.worm_device.specs.Calls.{Called}
 use Rattle.worm_device.specs.Counts.{IsStill}
 use Rattle.worm_device.specs.State.{DeviceState, IsDevice}
 use Rattle.worm_device.proofs.Counting.{still_first, still_second}
-use Rattle.settling_laws.specs.Steadiness.{StaysSteady}
+use Rattle.crash_laws.specs.settling_laws.Steadiness.{StaysSteady}
 use Rattle.command_laws.specs.Begins.{BeginsSteady}
 use Rattle.command_laws.specs.Telling.{LeavesHeld}
 use Rattle.command_laws.specs.WholeLogs.{HasSteadyVolume}

@@ -6,8 +6,8 @@ use Rattle.tamper_rules.specs.Settling.{Held}
 use Rattle.worm_device.specs.State.{DeviceState, IsDevice}
 use Rattle.recovery_engine.specs.Settling.{Settles, SettlesFirst, settled, settling}
 use Rattle.recovery_engine.specs.declared.settling.Ready.{Ready}
-use Rattle.settling_laws.proofs.LeftWhole.{settling_keeps, settling_left, stays_steady}
-use Rattle.settling_laws.proofs.LookedAt.{looking_keeps, looking_steady}
+use Rattle.crash_laws.proofs.of_settling_laws.LeftWhole.{settling_keeps, settling_left, stays_steady}
+use Rattle.crash_laws.proofs.of_settling_laws.LookedAt.{looking_keeps, looking_steady}
 use Rattle.command_laws.specs.Begins.{BeginsSteady}
 use Rattle.command_laws.specs.Telling.{LeavesHeld}
 

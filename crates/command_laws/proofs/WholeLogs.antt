@@ -15,7 +15,7 @@ use Rattle.worm_device.specs.State.{DeviceState}
 use Rattle.worm_device.proofs.Counting.{rose_or_still}
 use Rattle.commit_record.specs.Opening.{IsNoVolumeCell}
 use Rattle.recovery_engine.specs.Settling.{IsFound, IsSettlingRule, SettleEnds}
-use Rattle.settling_laws.specs.Steadiness.{IsSteady}
+use Rattle.crash_laws.specs.settling_laws.Steadiness.{IsSteady}
 use Rattle.command_laws.specs.WholeLogs.{HasSteadyVolume, HasWholeLog, IsUntampered, steady, unbroken}
 
 some_is : (a b : List ℕ) → Some a ≡ Some b → a ≡ b

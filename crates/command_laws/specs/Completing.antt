@@ -7,10 +7,10 @@ use Rattle.stored_documents.specs.Volumes.{IsVolume}
 use Rattle.index_paths.specs.Postings.{HasPostings}
 use Rattle.tamper_rules.specs.Settling.{Sound}
 use Rattle.ingest_laws.specs.Needs.{IsNeed}
-use Rattle.ingest_plan.specs.Planning.{IsLater}
+use Rattle.crash_laws.specs.ingest_plan.Planning.{IsLater}
 use Rattle.worm_device.specs.Counts.{IsStill}
 use Rattle.worm_device.specs.State.{DeviceState}
-use Rattle.identifier_lookup.specs.Walks.{IsPassedWhole}
+use Rattle.crash_laws.specs.identifier_lookup.Walks.{IsPassedWhole}
 
 -- What stands is a sound volume, and a stamp is given exactly where its documents are stamped. In what settling makes of
 -- it the stamp is past those of the done slots, no document has the identifier, and its path is not full. No list gets

@@ -9,7 +9,7 @@ use Rattle.worm_device.specs.State.{DeviceState, IsDevice}
 use Rattle.host_ports.specs.Sinks.{SinkState}
 use Rattle.recovery_engine.specs.Settling.{Settles}
 use Rattle.recovery_engine.specs.declared.settling.Ready.{Ready}
-use Rattle.ingest_engine.specs.Formats.{Formats}
+use Rattle.crash_laws.specs.ingest_engine.Formats.{Formats}
 use Rattle.record_query.specs.Finding.{Searches}
 use Rattle.record_query.specs.LookingUp.{LooksUp}
 use Rattle.record_query.specs.declared.found.Found.{Found}

@@ -3,7 +3,7 @@ use Rattle.std.specs.Prelude.{◌≡◌, ℕ, List, [], length, Contains}
 use Rattle.stored_documents.specs.Documents.{AreDocuments, Document}
 use Rattle.tamper_rules.specs.Settling.{Held, Settled}
 use Rattle.worm_device.specs.State.{DeviceState}
-use Rattle.settling_laws.specs.Steadiness.{StaysSteady}
+use Rattle.crash_laws.specs.settling_laws.Steadiness.{StaysSteady}
 use Rattle.record_query.specs.Finding.{HasMatch, HasTerms, Rises}
 use Rattle.record_query.specs.declared.found.Match.{Match}
 

@@ -5,7 +5,7 @@ use Rattle.stored_documents.specs.Volumes.{IsVolume}
 use Rattle.tamper_rules.specs.Rules.{IsBroken}
 use Rattle.worm_device.specs.Counts.{IsStill}
 use Rattle.worm_device.specs.State.{DeviceState}
-use Rattle.settling_laws.specs.Steadiness.{IsSteady}
+use Rattle.crash_laws.specs.settling_laws.Steadiness.{IsSteady}
 
 -- Nothing can be named as evidence: whatever a crash leaves of the device is blank or sound, as each command leaves it
 -- where nobody else writes; or, whoever has written, none of the rules that are looked at is broken at any cell.

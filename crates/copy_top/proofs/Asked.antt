@@ -3,8 +3,8 @@ use Rattle.std.proofs.Common.{◌≡◌, ℕ, List, Result, sym, subst, ap, ◌�
 use Rattle.cell_types.specs.declared.refusal.CopyRefusal.{CopyRefusal}
 use Rattle.worm_device.specs.State.{DeviceState}
 use Rattle.host_ports.specs.Sinks.{SinkState}
-use Rattle.record_top.specs.Words.{digits_value}
-use Rattle.record_top.proofs.Listed.{second_is, third_is}
+use Rattle.command_line.specs.Words.{digits_value}
+use Rattle.command_line.proofs.Listed.{second_is, third_is}
 use Rattle.copy_top.specs.Copying.{AsksToCopy, DoesCopy}
 
 -- words ask for one number of slots at most, and for one of lists

@@ -9,8 +9,8 @@ use Rattle.worm_device.specs.State.{DeviceState}
 use Rattle.host_ports.specs.Sinks.{SinkState, Gets, PutsPart}
 use Rattle.volume_copy.specs.Copies.{Copies}
 use Rattle.volume_copy.specs.declared.moved.Moved.{Moved}
-use Rattle.record_top.specs.Lines.{lines_of}
-use Rattle.record_top.specs.Words.{IsNumberUpTo}
+use Rattle.command_line.specs.Lines.{lines_of}
+use Rattle.command_line.specs.Words.{IsNumberUpTo}
 
 -- the words are `copy` and these numbers of slots and lists
 pub record AsksToCopy (words : List (List ℕ)) (slots lists : ℕ) : Type 0 where

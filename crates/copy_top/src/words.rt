@@ -4,7 +4,7 @@ ghost use Rattle.std.specs.String.{string_bytes};
 ghost use Rattle.copy_top.specs.Copying.{AsksNoCopy, AsksToCopy};
 
 use cell_types::{MAX_LISTS, MAX_SLOTS};
-use record_top::number_up_to;
+use command_line::number_up_to;
 
 /// How many slots and lists the target has, or is to have, each in its range.
 #[derive(Clone, Copy, Debug, PartialEq, Eq)]

@@ -27,11 +27,11 @@ use Rattle.phase_writer.specs.Putting.{AreStanding, IsInFirst, IsPut, LeavesPhas
 use Rattle.recovery_engine.specs.Ending.{done_put}
 use Rattle.recovery_engine.specs.Settling.{HasSettled}
 use Rattle.recovery_engine.specs.declared.settling.Ready.{Ready}
-use Rattle.plan_writer.specs.Planned.{INGEST_PHASES, PlansDocument, Suits, ingest_phases}
-use Rattle.plan_writer.specs.PuttingPlans.{PutsPlan}
-use Rattle.plan_writer.specs.declared.plan.Plan.{Plan}
-use Rattle.plan_writer.proofs.LogCells.{done_in}
-use Rattle.plan_writer.proofs.PutFrom as from
+use Rattle.ingest_engine.specs.plan_writer.Planned.{INGEST_PHASES, PlansDocument, Suits, ingest_phases}
+use Rattle.ingest_engine.specs.plan_writer.PuttingPlans.{PutsPlan}
+use Rattle.ingest_engine.specs.plan_writer.declared.plan.Plan.{Plan}
+use Rattle.ingest_engine.proofs.of_plan_writer.LogCells.{done_in}
+use Rattle.ingest_engine.proofs.of_plan_writer.PutFrom as from
 use Rattle.ingest_engine.specs.Ingesting as ingesting
 use Rattle.ingest_engine.specs.Ingesting.{ComesTo, IsIngested, IsPlanFor, document_in}
 use Rattle.settling_laws.specs.Steadiness.{IsSteady}

@@ -18,7 +18,7 @@ use Rattle.worm_device.specs.State.{DeviceState, IsDevice}
 use Rattle.worm_device.proofs.Counting.{still_first}
 use Rattle.recovery_engine.specs.Settling.{HasSettled}
 use Rattle.recovery_engine.specs.declared.settling.Ready.{Ready}
-use Rattle.plan_writer.proofs.PutFrom as from
+use Rattle.ingest_engine.proofs.of_plan_writer.PutFrom as from
 use Rattle.ingest_engine.specs.Ingesting as ingesting
 use Rattle.ingest_engine.specs.Ingesting.{ComesTo, IngestEnds, Ingests, put, settled, settling}
 use Rattle.settling_laws.specs.Steadiness.{IsSteady}

@@ -8,3 +8,6 @@ pub mod ReserveCells
 mod StampLeft
 pub mod Steady
 pub mod WellPlanned
+pub use Rattle.ingest_engine.proofs as of_ingest_engine
+pub use Rattle.ingest_engine.proofs.of_plan_writer
+pub use Rattle.settling_laws.proofs as of_settling_laws

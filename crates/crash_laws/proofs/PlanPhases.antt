@@ -22,8 +22,8 @@ use Rattle.phase_writer.specs.declared.put.Put.{Put}
 use Rattle.phase_writer.specs.Putting.{AreStanding, ChangesBy, IsInFirst, IsInRow, IsPut}
 use Rattle.recovery_engine.specs.Ending.{done_put}
 use Rattle.recovery_engine.specs.Entries.{target_of}
-use Rattle.plan_writer.specs.Planned.{IsPooledPut, IsStampPut, PlansDocument, Suits, commit_put, document_from, ingest_phases, journal_from, reserve_put, reserved_by, stamp_put}
-use Rattle.plan_writer.specs.declared.plan.Plan.{Plan}
+use Rattle.ingest_engine.specs.plan_writer.Planned.{IsPooledPut, IsStampPut, PlansDocument, Suits, commit_put, document_from, ingest_phases, journal_from, reserve_put, reserved_by, stamp_put}
+use Rattle.ingest_engine.specs.plan_writer.declared.plan.Plan.{Plan}
 use Rattle.crash_laws.proofs.WellPlanned.{plan_of}
 
 -- a put of this record's cell is a row of it

@@ -21,10 +21,10 @@ use Rattle.worm_device.proofs.Elapsing.{elapses_of}
 use Rattle.phase_writer.specs.Putting.{LeavesPhases}
 use Rattle.recovery_engine.specs.Settling.{HasSettled}
 use Rattle.recovery_engine.specs.declared.settling.Ready.{Ready}
-use Rattle.plan_writer.specs.Planned.{INGEST_PHASES, ingest_phases}
-use Rattle.plan_writer.specs.PuttingPlans.{PutsPlan}
-use Rattle.plan_writer.specs.declared.plan.Plan.{Plan}
-use Rattle.plan_writer.proofs.PutFrom as from
+use Rattle.ingest_engine.specs.plan_writer.Planned.{INGEST_PHASES, ingest_phases}
+use Rattle.ingest_engine.specs.plan_writer.PuttingPlans.{PutsPlan}
+use Rattle.ingest_engine.specs.plan_writer.declared.plan.Plan.{Plan}
+use Rattle.ingest_engine.proofs.of_plan_writer.PutFrom as from
 use Rattle.ingest_engine.specs.Ingesting.{IsPlanFor, document_in}
 use Rattle.settling_laws.specs.Steadiness.{EndsAs, IsLeftWhole, IsSteady}
 use Rattle.settling_laws.proofs.LeftWhole.{documents_after}

@@ -20,10 +20,10 @@ use Rattle.recovery_engine.specs.Journal.{IsEntryPut}
 use Rattle.recovery_engine.specs.Settling.{IsEnding, Settles, settle_plan}
 use Rattle.recovery_engine.specs.declared.settling.Ready.{Ready}
 use Rattle.recovery_engine.proofs.Rising.{entries_from}
-use Rattle.plan_writer.specs.Planned.{IsPooledPut, IsStampPut, Suits, ingest_phases}
-use Rattle.plan_writer.specs.declared.plan.Plan.{Plan}
-use Rattle.plan_writer.proofs.LogCells.{pooled_from, stamp_at}
-use Rattle.plan_writer.proofs.Targets.{asked_from}
+use Rattle.ingest_engine.specs.plan_writer.Planned.{IsPooledPut, IsStampPut, Suits, ingest_phases}
+use Rattle.ingest_engine.specs.plan_writer.declared.plan.Plan.{Plan}
+use Rattle.ingest_engine.proofs.of_plan_writer.LogCells.{pooled_from, stamp_at}
+use Rattle.ingest_engine.proofs.of_plan_writer.Targets.{asked_from}
 use Rattle.settling_laws.proofs.LeftWhole.{ends_none}
 
 at_of : (a b : Put) → a ≡ b → a.at ≡ b.at

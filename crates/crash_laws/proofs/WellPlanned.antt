@@ -26,21 +26,21 @@ use Rattle.worm_device.specs.Views.{seen_directly}
 use Rattle.worm_device.proofs.Counting.{still_second}
 use Rattle.recovery_engine.specs.Settling.{HasSettled}
 use Rattle.recovery_engine.specs.declared.settling.Ready.{Ready}
-use Rattle.hash_tree.specs.Levels.{node_of}
-use Rattle.hash_tree.specs.Steps.{IsOpenAt}
-use Rattle.hash_tree.specs.declared.level.Level.{Level}
-use Rattle.hash_insertion.specs.Readiness.{PassedDown, blank_in}
+use Rattle.plan_laws.specs.hash_tree.Levels.{node_of}
+use Rattle.plan_laws.specs.hash_tree.Steps.{IsOpenAt}
+use Rattle.plan_laws.specs.hash_tree.declared.level.Level.{Level}
+use Rattle.plan_laws.specs.hash_insertion.Readiness.{PassedDown, blank_in}
 use Rattle.plan_laws.specs.Standing.{EndsPath, seconds_of}
-use Rattle.identifier_lookup.specs.Walks.{EndsThere, IsBlankIn, IsPassedAbove, IsPassedUpToPlace, NoneHasTrail}
-use Rattle.ingest_plan.specs.Planning.{IsLater, IsPlanned}
+use Rattle.ingest_engine.specs.identifier_lookup.Walks.{EndsThere, IsBlankIn, IsPassedAbove, IsPassedUpToPlace, NoneHasTrail}
+use Rattle.plan_laws.specs.ingest_plan.Planning.{IsLater, IsPlanned}
 use Rattle.plan_laws.specs.Laws.{TakesSlot}
 use Rattle.plan_laws.proofs.Answered.{answered}
 use Rattle.plan_laws.proofs.Needed.{needed}
 use Rattle.plan_laws.proofs.Well.{well}
-use Rattle.plan_writer.specs.Planned.{PlansDocument, Suits, reserved_by}
-use Rattle.plan_writer.specs.declared.plan.Plan.{Plan}
-use Rattle.plan_writer.proofs.PutFrom.{ends_2, free_2, volume_2}
-use Rattle.ingest_plan.specs.declared.plan.PlannedIndex.{PlannedIndex}
+use Rattle.ingest_engine.specs.plan_writer.Planned.{PlansDocument, Suits, reserved_by}
+use Rattle.ingest_engine.specs.plan_writer.declared.plan.Plan.{Plan}
+use Rattle.ingest_engine.proofs.of_plan_writer.PutFrom.{ends_2, free_2, volume_2}
+use Rattle.plan_laws.specs.ingest_plan.declared.plan.PlannedIndex.{PlannedIndex}
 use Rattle.ingest_engine.specs.Indexing.{HasIndex, HasWalked}
 use Rattle.ingest_engine.specs.Ingesting.{need_with}
 use Rattle.settling_laws.specs.Steadiness.{EndsAs, IsSteady}

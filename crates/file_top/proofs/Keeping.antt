@@ -10,7 +10,7 @@ use Rattle.host_files.specs.Device.{device_at}
 use Rattle.host_files.specs.File.{Told}
 use Rattle.host_ports.specs.Sinks.{SinkState}
 use Rattle.host_ports.specs.Sources.{Gives, SourceState}
-use Rattle.ingest_engine.specs.Ingesting.{IngestEnds, Ingests, IsIngested}
+use Rattle.record_top.specs.ingest_engine.Ingesting.{IngestEnds, Ingests, IsIngested}
 use Rattle.record_top.specs.Ingesting.{DoesIngest, HasStored, acknowledgement, misnamed, untaken, taken}
 use Rattle.record_top.specs.Ports.{Ports, Tells, ports_of}
 use Rattle.record_top.specs.Taking.{refusal_of_body_fault}

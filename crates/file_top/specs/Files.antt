@@ -10,7 +10,7 @@ use Rattle.record_top.specs.Ingesting.{HasStored, acknowledgement}
 use Rattle.stored_documents.specs.Documents.{Document, Stands}
 use Rattle.stored_documents.specs.Slots.{HasStamp}
 use Rattle.index_paths.specs.Keeping.{Kept}
-use Rattle.ingest_engine.specs.Ingesting.{document_in}
+use Rattle.record_top.specs.ingest_engine.Ingesting.{document_in}
 
 -- what the file below tells, the source and the sink that a command is given, as they are at one moment
 pub record FilePorts : Type 0 where

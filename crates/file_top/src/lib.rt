@@ -12,17 +12,18 @@
 //! Besides, each clause of `run` is said again over the device that shows the file, so that the program's own call has
 //! them, too: what each command does and puts out, when it refuses, and what a crash leaves.
 //!
-//! Stands on `record_top` and `host_files`. Begin with `run_over_file`; `specs/Files.antt` says what is kept.
+//! Stands on `host_files` and on `record_top`, which it passes on. Begin with `run_over_file`; `specs/Files.antt` says what is kept.
 #![tactic(auto)]
 
 ghost use Rattle.std.specs.Prelude.{◌≡◌, ◌↔◌, ℕ, List, Option, map};
 ghost use Rattle.std.specs.String.{string_bytes};
+ghost use Rattle.command_line.specs.Asking.{AsksToIngest};
+ghost use Rattle.command_line.specs.Requests.{Asks, AsksNothing, Request};
 ghost use Rattle.file_top.specs.Files.{KeepsAll, KeepsIn, WhereTold, file_ports};
 ghost use Rattle.host_files.specs.Crashes.{CrashesAreSeen};
 ghost use Rattle.host_files.specs.Over.{file_below, state_over};
-ghost use Rattle.command_laws.specs.Begins.{BeginsSteady};
-ghost use Rattle.record_top.specs.Commands.{Asks, AsksNothing, Does, IsAnswered, IsUnhindered, Request};
-ghost use Rattle.record_top.specs.Ingesting.{AsksToIngest};
+ghost use Rattle.record_top.specs.command_laws.Begins.{BeginsSteady};
+ghost use Rattle.record_top.specs.Commands.{Does, IsAnswered, IsUnhindered};
 ghost use Rattle.record_top.specs.Ports.{ports_of};
 ghost use Rattle.record_top.specs.Steadiness.{LeavesWhole};
 ghost use Rattle.worm_device.specs.Calls.{Called};
@@ -34,6 +35,7 @@ use cell_types::Refusal;
 use host_files::{FileDevice, HostFile, crashes_are_seen};
 use host_ports::{Sink, Source};
 use progress::Meter;
+pub use record_top;
 use record_top::{Outcome, run_metered};
 use std::alloc::Global;
 

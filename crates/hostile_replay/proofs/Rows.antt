@@ -5,8 +5,8 @@ use Rattle.worm_device.specs.State.{IsDevice}
 use Rattle.worm_memory.specs.Memory.{Memory, device_of}
 use Rattle.script_events.specs.declared.event.Event.{Event}
 use Rattle.script_events.specs.declared.event.Event.TheVariants as event
-use Rattle.script_replies.specs.declared.reply.Reply.{Reply}
-use Rattle.script_replies.specs.declared.reply.Reply.TheVariants as reply
+use Rattle.replayed_worlds.specs.script_replies.declared.reply.Reply.{Reply}
+use Rattle.replayed_worlds.specs.script_replies.declared.reply.Reply.TheVariants as reply
 use Rattle.replayed_worlds.specs.Turns.{Turns}
 use Rattle.replayed_worlds.specs.Worlds.{AreInTurn, IsWorld, Turn}
 

@@ -3,7 +3,7 @@ ghost use Rattle.std.specs.Prelude.{◌≡◌, ◌≤◌, IfOk};
 ghost use Rattle.worm_device.specs.State.{IsDevice};
 ghost use Rattle.worm_memory.specs.Device.{memory_of};
 ghost use Rattle.script_events.specs.Events.{AreEventsOn, IsEventOn};
-ghost use Rattle.begun_commands.specs.declared.beginning.TheConstants.{MAX_REPLAYED_CELLS};
+ghost use Rattle.replayed_worlds.specs.begun_commands.declared.beginning.TheConstants.{MAX_REPLAYED_CELLS};
 ghost use Rattle.replayed_worlds.specs.Worlds.{IsWorld};
 ghost use Rattle.hostile_replay.specs.Plays.{Plays};
 
@@ -11,8 +11,8 @@ use crate::by_hand::{play_crash, play_foreign};
 use crate::commands::{play_audit, play_format, play_ingest, play_recover};
 use crate::queries::{play_find, play_lookup};
 use cell_types::NoMemory;
+use replayed_worlds::script_replies::Reply;
 use script_events::Event;
-use script_replies::Reply;
 use std::alloc::Global;
 use worm_device::Device;
 use worm_memory::MemoryDevice;

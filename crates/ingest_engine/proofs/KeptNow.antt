@@ -21,7 +21,7 @@ use Rattle.worm_device.proofs.Images.{extends_then}
 use Rattle.hash_tree.specs.Levels.{node_of}
 use Rattle.hash_tree.specs.Steps.{IsOpenAt}
 use Rattle.hash_tree.specs.declared.level.Level.{Level}
-use Rattle.hash_insertion.specs.Readiness.{PassedDown}
+use Rattle.ingest_plan.specs.hash_insertion.Readiness.{PassedDown}
 use Rattle.recovery_engine.specs.declared.settling.Ready.{Ready}
 use Rattle.identifier_lookup.specs.Walks.{EndsThere, IsPassedAbove, IsPassedUpToPlace}
 use Rattle.plan_writer.specs.Planned.{reserved_by}

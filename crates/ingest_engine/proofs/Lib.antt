@@ -10,3 +10,4 @@ pub mod Suited
 pub mod Trails
 pub mod UnusedSlots
 pub mod Walked
+pub use Rattle.plan_writer.proofs as of_plan_writer

@@ -14,7 +14,7 @@ use Rattle.worm_device.specs.Counts.{IsStill}
 use Rattle.worm_device.specs.State.{DeviceState}
 use Rattle.worm_device.proofs.Counting.{still_first, still_second}
 use Rattle.worm_device.proofs.Elapsing.{called_then}
-use Rattle.hash_insertion.specs.Readiness.{blank_in, blank_of}
+use Rattle.ingest_plan.specs.hash_insertion.Readiness.{blank_in, blank_of}
 use Rattle.recovery_engine.specs.Entries.{target_of}
 use Rattle.recovery_engine.specs.Settling.{HasSettled}
 use Rattle.recovery_engine.specs.declared.settling.Ready.{Ready}

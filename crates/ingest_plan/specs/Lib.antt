@@ -7,3 +7,4 @@ pub mod Over
 pub mod Planning
 pub mod Rows
 pub mod Standing
+pub use Rattle.hash_insertion.specs as hash_insertion

@@ -10,7 +10,7 @@ use Rattle.volume_audit.specs.declared.report.AuditReport.{AuditReport}
 use Rattle.volume_audit.proofs.Comes.{refuses}
 use Rattle.record_top.specs.Auditing.{DoesAudit, IsReadyToAudit, report_text}
 use Rattle.record_top.specs.Ports.{Ports, IsOkOrNoMemory, TellsFromMemory}
-use Rattle.command_laws.proofs.Completing.{audits_whole}
+use Rattle.volume_exercise.proofs.of_command_laws.Completing.{audits_whole}
 
 module _ (old new : Ports) where
   told_is_used : (answer : Result AuditReport Refusal) → Audits old.device new.device answer

@@ -11,7 +11,7 @@ use Rattle.worm_device.specs.Counts.{IsStill}
 use Rattle.worm_device.specs.State.{DeviceState, IsDevice}
 use Rattle.worm_device.proofs.Counting.{rose_or_still}
 use Rattle.worm_device.proofs.Elapsing.{called_self}
-use Rattle.command_laws.proofs.Results.{one_refusal}
+use Rattle.volume_exercise.proofs.of_command_laws.Results.{one_refusal}
 use Rattle.receipt_text.specs.Form.{IsReceiptOn, refusal_of_receipt, text_of_receipt}
 use Rattle.receipt_text.specs.Reading.{ReadEnds}
 use Rattle.receipt_text.specs.declared.receipt.Receipt.{Receipt}

@@ -21,9 +21,9 @@ use Rattle.record_top.specs.Recovering.{IsReadyToRecover, recovered}
 use Rattle.record_top.specs.Taking.{BodyFails, refusal_of_body_fault}
 use Rattle.record_top.specs.declared.body.BodyFault.{BodyFault}
 use Rattle.record_top.specs.declared.body.BodyFault.TheVariants as faults
-use Rattle.command_laws.proofs.Alarms.{settling_alarms}
-use Rattle.command_laws.proofs.Completing.{formats_whole, ingests_whole}
-use Rattle.command_laws.proofs.WholeLogs.{settles_whole}
+use Rattle.volume_exercise.proofs.of_command_laws.Alarms.{settling_alarms}
+use Rattle.volume_exercise.proofs.of_command_laws.Completing.{formats_whole, ingests_whole}
+use Rattle.volume_exercise.proofs.of_command_laws.WholeLogs.{settles_whole}
 
 -- a source gives no more than it has
 gives_within : (left : Option (List ℕ)) (body given : List ℕ) (new : Option (List ℕ)) → left ≡ Some body

@@ -14,7 +14,7 @@ use Rattle.record_top.specs.Recovering.{recovered}
 use Rattle.record_top.specs.Taking.{refusal_of_body_fault}
 use Rattle.record_top.specs.declared.body.BodyFault.{BodyFault}
 use Rattle.record_top.specs.declared.body.BodyFault.TheVariants as faults
-use Rattle.command_laws.proofs.Results.{one_refusal}
+use Rattle.volume_exercise.proofs.of_command_laws.Results.{one_refusal}
 
 no_name : Usage ≡ BadIdentifier → ⊥
 no_name e = absurd cc

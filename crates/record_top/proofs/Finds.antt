@@ -24,11 +24,11 @@ use Rattle.record_query.specs.declared.found.Match.{Match}
 use Rattle.record_top.specs.Finding.{AreTermsOf, DoesFind, FindsKept, HasOneTerm, IsFirstBadWord, IsReadyToFind, TermsEnd, found_text, misworded, searched, unread, unruled}
 use Rattle.record_top.specs.Ruling.{AsksRule, RuleEnds}
 use Rattle.record_top.specs.Ports.{Ports, IsOkOrNoMemory, TellsFromMemory}
-use Rattle.command_laws.proofs.Results.{one_refusal, other_refusal}
-use Rattle.command_laws.proofs.Completing.{searches_whole}
-use Rattle.command_laws.proofs.LookedFirst.{steady_mid}
-use Rattle.command_laws.proofs.WholeLogs.{settles_whole, settling_steady}
-use Rattle.command_laws.specs.WholeLogs.{HasSteadyVolume}
+use Rattle.volume_exercise.proofs.of_command_laws.Results.{one_refusal, other_refusal}
+use Rattle.volume_exercise.proofs.of_command_laws.Completing.{searches_whole}
+use Rattle.volume_exercise.proofs.of_command_laws.LookedFirst.{steady_mid}
+use Rattle.volume_exercise.proofs.of_command_laws.WholeLogs.{settles_whole, settling_steady}
+use Rattle.volume_exercise.specs.command_laws.WholeLogs.{HasSteadyVolume}
 
 -- where the terms can't be read, nothing is done
 pub not_searched : (asked : List (List ℕ)) (rule : WordRule) (old new : Ports) (refusal : Refusal)

@@ -12,15 +12,15 @@ use Rattle.record_query.specs.Finding.{Searches}
 use Rattle.record_query.specs.LookingUp.{LookUpEnds, LooksUp}
 use Rattle.record_query.specs.declared.found.Found.{Found}
 use Rattle.record_query.specs.declared.found.Match.{Match}
-use Rattle.command_laws.specs.Begins.{BeginsSteady}
+use Rattle.volume_exercise.specs.command_laws.Begins.{BeginsSteady}
 use Rattle.record_top.specs.Finding.{AreTermsOf, DoesFind, found_text, misworded, searched, unread, unruled}
 use Rattle.record_top.specs.Ruling.{AsksRule, HasRule}
 use Rattle.record_top.specs.LookingUp.{Answers, DoesLookUp, looked, misnamed}
 use Rattle.record_top.specs.Ports.{Ports, TellsFromMemory}
 use Rattle.record_top.specs.Steadiness.{FindsHeld, LooksUpHeld}
-use Rattle.command_laws.proofs.LookedFirst.{begins_mid, held_mid}
-use Rattle.command_laws.proofs.HeldAnswers.{just_these, none_held, stand_now, stands_among}
-use Rattle.command_laws.proofs.Results.{no_answer, one_refusal, other_refusal}
+use Rattle.volume_exercise.proofs.of_command_laws.LookedFirst.{begins_mid, held_mid}
+use Rattle.volume_exercise.proofs.of_command_laws.HeldAnswers.{just_these, none_held, stand_now, stands_among}
+use Rattle.volume_exercise.proofs.of_command_laws.Results.{no_answer, one_refusal, other_refusal}
 
 module _ (old new : Ports) (device : IsDevice old.device) (device_new : IsDevice new.device)
     (begins : BeginsSteady old.device new.device) where

@@ -6,11 +6,8 @@ pub mod Ending
 pub mod Exercises
 pub mod Finds
 pub mod HeldAnswers
-pub mod Lines
-pub mod Listed
 pub mod LookUps
 pub mod OneMore
-pub mod Options
 pub mod Pieces
 pub mod Ready
 pub mod ReceiptSizes

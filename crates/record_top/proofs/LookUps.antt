@@ -12,8 +12,8 @@ use Rattle.record_query.specs.LookingUp.{LookUpEnds, LooksUp}
 use Rattle.record_query.specs.declared.found.Found.{Found}
 use Rattle.record_top.specs.LookingUp.{Answers, DoesLookUp, IsReadyToLookUp, looked, misnamed}
 use Rattle.record_top.specs.Ports.{Ports, IsOkOrAbsent}
-use Rattle.command_laws.proofs.Results.{no_answer, one_refusal, other_refusal}
-use Rattle.command_laws.proofs.Completing.{looks_whole}
+use Rattle.volume_exercise.proofs.of_command_laws.Results.{no_answer, one_refusal, other_refusal}
+use Rattle.volume_exercise.proofs.of_command_laws.Completing.{looks_whole}
 
 module _ (id : List ℕ) (old new : Ports) where
   -- a look-up keeps what every call of the device keeps

@@ -12,17 +12,17 @@ use Rattle.stored_documents.specs.Volumes.{IsVolume}
 use Rattle.tamper_rules.specs.Settling.{Held}
 use Rattle.ingest_laws.specs.Needs.{IsNeed}
 use Rattle.worm_device.specs.State.{DeviceState, IsDevice}
-use Rattle.plan_writer.proofs.PutFrom.{volume_2}
+use Rattle.volume_exercise.proofs.of_plan_writer.PutFrom.{volume_2}
 use Rattle.ingest_engine.specs.Ingesting.{HasNoRoom, IngestEnds, Ingests}
-use Rattle.settling_laws.proofs.LeftWhole.{held_unmoved}
-use Rattle.crash_laws.specs.Steadiness.{HasOneMore}
-use Rattle.crash_laws.proofs.AddsOne.{comes_more}
-use Rattle.crash_laws.proofs.Alarms.{none_named}
-use Rattle.crash_laws.proofs.Kept.{refused_keeps}
-use Rattle.crash_laws.proofs.LeftByIngest.{nothing_done}
-use Rattle.crash_laws.proofs.Steady.{comes_steady}
-use Rattle.crash_laws.proofs.WellPlanned as planned
-use Rattle.command_laws.specs.Begins.{BeginsSteady}
+use Rattle.volume_exercise.proofs.of_settling_laws.LeftWhole.{held_unmoved}
+use Rattle.volume_exercise.specs.crash_laws.Steadiness.{HasOneMore}
+use Rattle.volume_exercise.proofs.of_crash_laws.AddsOne.{comes_more}
+use Rattle.volume_exercise.proofs.of_crash_laws.Alarms.{none_named}
+use Rattle.volume_exercise.proofs.of_crash_laws.Kept.{refused_keeps}
+use Rattle.volume_exercise.proofs.of_crash_laws.LeftByIngest.{nothing_done}
+use Rattle.volume_exercise.proofs.of_crash_laws.Steady.{comes_steady}
+use Rattle.volume_exercise.proofs.of_crash_laws.WellPlanned as planned
+use Rattle.volume_exercise.specs.command_laws.Begins.{BeginsSteady}
 use Rattle.record_top.specs.Ingesting.{DoesIngest, HasRefused, HasStored, acknowledgement, misnamed, untaken, taken}
 use Rattle.record_top.specs.Ports.{Ports, Tells}
 use Rattle.record_top.specs.Steadiness.{AddsOne, IsExactlyTooMany}
@@ -30,7 +30,7 @@ use Rattle.record_top.specs.Taking.{refusal_of_body_fault}
 use Rattle.record_top.specs.declared.body.BodyFault.{BodyFault}
 use Rattle.record_top.specs.declared.body.BodyFault.TheVariants as faults
 use Rattle.record_top.proofs.Pieces.{gives_nothing}
-use Rattle.command_laws.proofs.Results.{other_refusal}
+use Rattle.volume_exercise.proofs.of_command_laws.Results.{other_refusal}
 
 -- the answer that refuses in this way
 abbrev refuses : Refusal → Result Unit Refusal

@@ -8,7 +8,7 @@ use Rattle.receipt_text.specs.Form.{IsReceiptOn, text_of_receipt}
 use Rattle.receipt_text.specs.declared.receipt.Receipt.{Receipt}
 use Rattle.receipt_check.specs.Checks.{ShowsDocument}
 use Rattle.receipt_maker.specs.Making.{MakesReceipt}
-use Rattle.command_laws.proofs.Results.{no_answer}
+use Rattle.volume_exercise.proofs.of_command_laws.Results.{no_answer}
 use Rattle.record_top.specs.Checking.{IsReadyToCheck}
 use Rattle.record_top.specs.Laws.{IsGivenLater, ReceiptsAreReady}
 use Rattle.record_top.specs.Ports.{Ports, PutsOut, TellsFromMemory}

@@ -13,12 +13,12 @@ use Rattle.recovery_engine.specs.Settling.{IsSettlingRule, SettlesFirst}
 use Rattle.receipt_text.specs.Form.{text_of_receipt}
 use Rattle.receipt_text.specs.declared.receipt.Receipt.{Receipt}
 use Rattle.receipt_maker.specs.Making.{MakeEnds, MakesReceipt}
-use Rattle.command_laws.specs.Begins.{BeginsSteady}
-use Rattle.command_laws.specs.WholeLogs.{HasWholeLog}
-use Rattle.command_laws.proofs.Alarms.{query_alarms}
-use Rattle.command_laws.proofs.HeldAnswers.{none_held, stand_now, stands_among}
-use Rattle.command_laws.proofs.Results.{no_answer, other_refusal}
-use Rattle.command_laws.proofs.WholeLogs.{settles_whole, settling_steady}
+use Rattle.volume_exercise.specs.command_laws.Begins.{BeginsSteady}
+use Rattle.volume_exercise.specs.command_laws.WholeLogs.{HasWholeLog}
+use Rattle.volume_exercise.proofs.of_command_laws.Alarms.{query_alarms}
+use Rattle.volume_exercise.proofs.of_command_laws.HeldAnswers.{none_held, stand_now, stands_among}
+use Rattle.volume_exercise.proofs.of_command_laws.Results.{no_answer, other_refusal}
+use Rattle.volume_exercise.proofs.of_command_laws.WholeLogs.{settles_whole, settling_steady}
 use Rattle.record_top.specs.Ports.{Ports, TellsFromMemory}
 use Rattle.record_top.specs.Receipting.{DoesReceipt, IsOkOrNoReceipt, IsReadyForReceipt, made, misnamed}
 use Rattle.record_top.specs.Steadiness.{ShowsHeld}

@@ -9,12 +9,12 @@ use Rattle.worm_device.specs.Calls.{Called}
 use Rattle.worm_device.specs.State.{DeviceState}
 use Rattle.worm_device.proofs.Counting.{rose_or_still}
 use Rattle.worm_device.proofs.Elapsing.{called_self}
-use Rattle.command_laws.proofs.Results.{one_refusal}
+use Rattle.volume_exercise.proofs.of_command_laws.Results.{one_refusal}
 use Rattle.script_events.specs.Scripts.{IsScript, ReadScriptEnds}
 use Rattle.script_events.specs.declared.event.Script.{Script}
 use Rattle.script_events.proofs.OneScript.{texts_are_one_script}
-use Rattle.script_replies.specs.Lines.{replies_text}
-use Rattle.script_replies.specs.declared.reply.Reply.{Reply}
+use Rattle.volume_exercise.specs.script_replies.Lines.{replies_text}
+use Rattle.volume_exercise.specs.script_replies.declared.reply.Reply.{Reply}
 use Rattle.record_top.specs.Ports.{IsOkOrNoMemory, Ports, TellsFromMemory}
 use Rattle.record_top.specs.Replaying.{DoesReplay, IsReadyToReplay, ReplayEnds, replayed, unread, untaken}
 use Rattle.record_top.specs.Taking.{refusal_of_body_fault}

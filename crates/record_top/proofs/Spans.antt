@@ -19,15 +19,15 @@ use Rattle.recovery_engine.specs.Settling.{SettlesFirst}
 use Rattle.time_index.specs.Asking.{AsksStamps, IsWithoutStamps, StampsEnd}
 use Rattle.time_index.specs.Spans.{FindsBetween, FindsSpan, SearchesByTime, SearchesTimes, SpanEnds, searched, unstamped}
 use Rattle.time_index.specs.declared.found.TimeMatch.{TimeMatch}
-use Rattle.command_laws.specs.Begins.{BeginsSteady}
-use Rattle.command_laws.specs.Telling.{LeavesHeld}
-use Rattle.command_laws.specs.WholeLogs.{HasSteadyVolume}
-use Rattle.command_laws.proofs.Alarms.{query_alarms}
-use Rattle.command_laws.proofs.HeldAnswers.{all_kept, stand_now, stands_among}
-use Rattle.command_laws.proofs.LookedFirst.{begins_mid, held_mid, leaves_both, looked_leaves, steady_mid}
-use Rattle.command_laws.proofs.Queries.{query_leaves}
-use Rattle.command_laws.proofs.Results.{no_answer, one_refusal}
-use Rattle.command_laws.proofs.WholeLogs.{settles_whole, settling_steady}
+use Rattle.volume_exercise.specs.command_laws.Begins.{BeginsSteady}
+use Rattle.volume_exercise.specs.command_laws.Telling.{LeavesHeld}
+use Rattle.volume_exercise.specs.command_laws.WholeLogs.{HasSteadyVolume}
+use Rattle.volume_exercise.proofs.of_command_laws.Alarms.{query_alarms}
+use Rattle.volume_exercise.proofs.of_command_laws.HeldAnswers.{all_kept, stand_now, stands_among}
+use Rattle.volume_exercise.proofs.of_command_laws.LookedFirst.{begins_mid, held_mid, leaves_both, looked_leaves, steady_mid}
+use Rattle.volume_exercise.proofs.of_command_laws.Queries.{query_leaves}
+use Rattle.volume_exercise.proofs.of_command_laws.Results.{no_answer, one_refusal}
+use Rattle.volume_exercise.proofs.of_command_laws.WholeLogs.{settles_whole, settling_steady}
 use Rattle.record_top.specs.Ports.{IsOkOrNoMemory, Ports, TellsFromMemory}
 use Rattle.record_top.specs.Spanning.{DoesBetween, IsReadyBetween, between_text}
 use Rattle.record_top.specs.Steadiness.{AreTimeMatchesOf, FindsHeldBetween}

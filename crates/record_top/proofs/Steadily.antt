@@ -10,7 +10,7 @@ use Rattle.worm_device.proofs.Elapsing.{called_self}
 use Rattle.worm_device.specs.State.{IsDevice}
 use Rattle.recovery_engine.specs.Settling.{Settles, SettlesFirst}
 use Rattle.recovery_engine.specs.declared.settling.Ready.{Ready}
-use Rattle.settling_laws.proofs.LeftWhole.{held_unmoved}
+use Rattle.volume_exercise.proofs.of_settling_laws.LeftWhole.{held_unmoved}
 use Rattle.ingest_engine.specs.Formats.{FormatEnds}
 use Rattle.commit_record.specs.Licences.{IsLicensed}
 use Rattle.record_query.specs.Finding.{FindEnds}
@@ -21,9 +21,10 @@ use Rattle.record_query.specs.declared.found.Match.{Match}
 use Rattle.volume_audit.specs.Audits.{SettlesThenAudits}
 use Rattle.volume_audit.specs.declared.report.AuditReport.{AuditReport}
 use Rattle.volume_audit.proofs.Comes.{licensed, settles_first}
+use Rattle.command_line.specs.Requests.{Request, ToAudit, ToCheck, ToExercise, ToFind, ToFindBetween, ToFormat, ToIngest, ToLookUp, ToMakeReceipt, ToRecover, ToReplay}
 use Rattle.record_top.specs.Auditing.{DoesAudit, report_text}
 use Rattle.record_top.specs.Checking.{DoesCheck}
-use Rattle.record_top.specs.Commands.{Does, Request, ToAudit, ToCheck, ToExercise, ToFind, ToFindBetween, ToFormat, ToIngest, ToLookUp, ToMakeReceipt, ToRecover, ToReplay, layout_on}
+use Rattle.record_top.specs.Commands.{Does, layout_on}
 use Rattle.record_top.specs.Exercising.{DoesExercise}
 use Rattle.record_top.proofs.Exercises.{exercise_names_none}
 use Rattle.record_top.specs.Finding.{DoesFind, found_text, misworded, searched, unread, unruled}
@@ -38,18 +39,18 @@ use Rattle.record_top.specs.Ports.{Ports, Tells, TellsFromMemory}
 use Rattle.record_top.specs.Recovering.{DoesRecover, recovered}
 use Rattle.record_top.proofs.Checks.{check_called, check_only, check_refuses}
 use Rattle.record_top.proofs.Receipts.{receipt_held, told_alarm}
-use Rattle.command_laws.proofs.Alarms.{query_alarms, settling_alarms}
+use Rattle.volume_exercise.proofs.of_command_laws.Alarms.{query_alarms, settling_alarms}
 use Rattle.record_top.proofs.HeldAnswers.{find_held, look_up_held}
 use Rattle.record_top.proofs.OneMore.{ingest_adds}
 use Rattle.record_top.proofs.Replays.{replay_keeps, replay_names_none}
 use Rattle.record_top.proofs.Spans.{between_held, between_leaves, between_names_none}
-use Rattle.command_laws.proofs.Results.{no_answer, one_refusal, other_refusal}
-use Rattle.command_laws.specs.Begins.{BeginsSteady}
+use Rattle.volume_exercise.proofs.of_command_laws.Results.{no_answer, one_refusal, other_refusal}
+use Rattle.volume_exercise.specs.command_laws.Begins.{BeginsSteady}
 use Rattle.record_top.specs.Steadiness.{AddsNone, LeavesFormatted, LeavesWhole}
-use Rattle.command_laws.specs.Telling.{IsFormatted, LeavesHeld}
-use Rattle.command_laws.proofs.Formatting.{format_leaves, format_makes, unused_steady}
-use Rattle.command_laws.proofs.LookedFirst.{begins_mid, leaves_both, looked_leaves}
-use Rattle.command_laws.proofs.Queries.{query_leaves, settling_leaves}
+use Rattle.volume_exercise.specs.command_laws.Telling.{IsFormatted, LeavesHeld}
+use Rattle.volume_exercise.proofs.of_command_laws.Formatting.{format_leaves, format_makes, unused_steady}
+use Rattle.volume_exercise.proofs.of_command_laws.LookedFirst.{begins_mid, leaves_both, looked_leaves}
+use Rattle.volume_exercise.proofs.of_command_laws.Queries.{query_leaves, settling_leaves}
 
 -- formatting the device ended so
 format_ends : (g : Layout) (old new : Ports) (result : Result Unit Refusal) → FormatCommandEnds g old new result

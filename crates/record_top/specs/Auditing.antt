@@ -7,11 +7,7 @@ use Rattle.worm_device.specs.Counts.{IsStill}
 use Rattle.volume_audit.specs.Audits.{Audits}
 use Rattle.volume_audit.specs.declared.report.AuditReport.{AuditReport}
 use Rattle.record_top.specs.Ports.{Ports, TellsFromMemory}
-use Rattle.command_laws.specs.WholeLogs.{HasSteadyVolume}
-
--- the word is `audit`
-abbrev pub AsksToAudit : List (List ℕ) → Type 0
-AsksToAudit words = words ≡ codes "audit" ∷ []
+use Rattle.volume_exercise.specs.command_laws.WholeLogs.{HasSteadyVolume}
 
 -- a number, and what is counted
 abbrev pub count_text : ℕ → List ℕ → List ℕ

@@ -13,15 +13,11 @@ use Rattle.receipt_text.specs.declared.receipt.ReceiptFault.{ReceiptFault}
 use Rattle.receipt_check.specs.Checks.{ChecksReceipt, ShowsDocument, refusal_of_check}
 use Rattle.receipt_check.specs.declared.checking.CheckRefusal.{CheckRefusal}
 use Rattle.receipt_check.specs.declared.checking.Checked.{Checked}
-use Rattle.record_top.specs.Finding.{document_line}
+use Rattle.command_line.specs.Lines.{document_line}
 use Rattle.record_top.specs.Ports.{KeepsSink, Ports, TellsFromMemory}
 use Rattle.record_top.specs.Taking.{AreBytesUpTo, BodyFails, refusal_of_body_fault}
 use Rattle.record_top.specs.declared.body.BodyFault.{BodyFault}
 use Rattle.record_top.specs.declared.body.TheConstants.{MAX_RECEIPT_BYTES}
-
--- the word is `check`
-abbrev pub AsksToCheck : List (List ℕ) → Type 0
-AsksToCheck words = words ≡ codes "check" ∷ []
 
 -- the line that tells of the document that a receipt showed: its slot, its identifier, and how many bytes its body has
 abbrev pub kept_line : Receipt → Checked → List ℕ

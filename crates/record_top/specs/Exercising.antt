@@ -6,15 +6,9 @@ use Rattle.worm_device.specs.Counts.{IsStill}
 use Rattle.worm_memory.specs.Memory.{Memory}
 use Rattle.volume_exercise.specs.Exercising.{ExerciseEnds, exercise_device}
 use Rattle.volume_exercise.specs.Refusing.{IsOfExercise}
-use Rattle.volume_exercise.specs.declared.limits.TheConstants.{MAX_DOCUMENTS}
+use Rattle.command_line.specs.declared.words.TheConstants.{MAX_DOCUMENTS}
 use Rattle.record_top.specs.Ports.{Ports}
-use Rattle.record_top.specs.Words.{IsNumberUpTo}
-
--- the words are `exercise` and this number of documents
-pub record AsksToExercise (words : List (List ℕ)) (n : ℕ) : Type 0 where
-  pub first : List ℕ
-  pub asked : words ≡ codes "exercise" ∷ first ∷ []
-  pub documents_word : IsNumberUpTo MAX_DOCUMENTS first n
+use Rattle.command_line.specs.Words.{IsNumberUpTo}
 
 -- The exercise was done on a new device, and what it tells went into the sink; nothing was taken from the source.
 pub record DoesExercise (n : ℕ) (old new : Ports) (result : Result Unit Refusal) : Type 0 where

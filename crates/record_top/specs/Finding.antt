@@ -13,19 +13,12 @@ use Rattle.worm_device.specs.Counts.{IsStill}
 use Rattle.worm_device.specs.State.{DeviceState}
 use Rattle.record_query.specs.Finding.{FindsAllOf, Searches}
 use Rattle.record_query.specs.declared.found.Match.{Match}
-use Rattle.record_top.specs.Lines.{found_lines}
+use Rattle.command_line.specs.Lines.{found_lines}
 use Rattle.record_top.specs.Ports.{Ports, TellsFromMemory}
-use Rattle.command_laws.specs.WholeLogs.{HasSteadyVolume}
+use Rattle.volume_exercise.specs.command_laws.WholeLogs.{HasSteadyVolume}
 use Rattle.record_top.specs.Ruling.{AsksRule}
-use Rattle.record_top.specs.Words.{IsNoOption}
-use Rattle.record_top.specs.declared.words.TheConstants.{MAX_QUERY_WORDS}
-
--- the words are `find` and 1 to 8 others
-pub record AsksToFind (words asked : List (List ℕ)) : Type 0 where
-  pub asked_is : words ≡ codes "find" ∷ asked
-  pub some : 1 ≤ length asked
-  pub most : length asked ≤ MAX_QUERY_WORDS
-  pub each : (word : List ℕ) → Contains asked word → IsNoOption word
+use Rattle.command_line.specs.Words.{IsNoOption}
+use Rattle.command_line.specs.declared.words.TheConstants.{MAX_QUERY_WORDS}
 
 -- by this rule the word holds this term, and no other
 abbrev pub IsOneTerm : WordRule → List ℕ → List ℕ → Type 0
@@ -55,11 +48,6 @@ TermsEnd rule asked (Ok terms) = AreTermsOf rule asked terms.items
 TermsEnd rule asked (Err (BadWord i)) = IsFirstBadWord rule asked i
 TermsEnd rule asked (Err NoMemory) = ⊤
 TermsEnd rule asked (Err refusal) = ⊥
-
--- the line that tells of a document: its slot, its identifier, and how many bytes its body has
-abbrev pub document_line : ℕ → List ℕ → ℕ → List ℕ
-document_line slot identifier bytes =
-    decimal slot ++ (codes " " ++ (identifier ++ (codes " " ++ (decimal bytes ++ codes "\n"))))
 
 -- the line that tells of a match
 abbrev pub match_line : Match → List ℕ

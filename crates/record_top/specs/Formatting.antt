@@ -9,30 +9,7 @@ use Rattle.ingest_engine.specs.Formats.{FormatEnds, volume_cell}
 use Rattle.worm_device.specs.Calls.{Called}
 use Rattle.worm_device.specs.Counts.{IsStill}
 use Rattle.record_top.specs.Ports.{Ports, KeepsSink, PutsOut, PutsOutPart}
-use Rattle.record_top.specs.Words.{IsNumberUpTo}
-
--- the words are `format` and these numbers of slots and lists
-pub record AsksPlainly (words : List (List ℕ)) (slots lists : ℕ) : Type 0 where
-  pub first : List ℕ
-  pub second : List ℕ
-  pub asked : words ≡ codes "format" ∷ first ∷ second ∷ []
-  pub slots_word : IsNumberUpTo MAX_SLOTS first slots
-  pub lists_word : IsNumberUpTo MAX_LISTS second lists
-
--- the words are `format`, these numbers of slots and lists, and this version
-pub record AsksByVersion (words : List (List ℕ)) (slots lists version : ℕ) : Type 0 where
-  pub first : List ℕ
-  pub second : List ℕ
-  pub third : List ℕ
-  pub asked : words ≡ codes "format" ∷ first ∷ second ∷ third ∷ []
-  pub slots_word : IsNumberUpTo MAX_SLOTS first slots
-  pub lists_word : IsNumberUpTo MAX_LISTS second lists
-  pub version_word : IsNumberUpTo NEWEST_VERSION third version
-
--- the words ask for a volume of so many slots and lists, and of this version, which is the first where none is stated
-abbrev pub AsksToFormat : List (List ℕ) → ℕ → ℕ → ℕ → Type 0
-AsksToFormat words slots lists version =
-    (AsksPlainly words slots lists × (version ≡ FIRST_VERSION)) ⊎ AsksByVersion words slots lists version
+use Rattle.command_line.specs.Words.{IsNumberUpTo}
 
 -- the text that tells of a new volume
 abbrev pub formatted : List ℕ

@@ -9,30 +9,13 @@ use Rattle.stored_documents.specs.Documents.{IsBody, IsIdentifier}
 use Rattle.stored_documents.specs.declared.limits.TheConstants.{MAX_BODY_BYTES}
 use Rattle.worm_device.specs.Counts.{IsStill}
 use Rattle.ingest_engine.specs.Ingesting.{Ingests}
-use Rattle.command_laws.specs.Begins.{BeginsSteady}
-use Rattle.command_laws.specs.Completing.{HasPlaceFor}
+use Rattle.volume_exercise.specs.command_laws.Begins.{BeginsSteady}
+use Rattle.volume_exercise.specs.command_laws.Completing.{HasPlaceFor}
+use Rattle.command_line.specs.Lines.{slot_line}
 use Rattle.record_top.specs.Ports.{Ports, KeepsSink, Tells}
-use Rattle.record_top.specs.Recovering.{slot_line}
 use Rattle.record_top.specs.Taking.{BodyFails, refusal_of_body_fault}
-use Rattle.record_top.specs.Words.{AreSeconds, IsNoOption}
+use Rattle.command_line.specs.Words.{AreSeconds, IsNoOption}
 use Rattle.record_top.specs.declared.body.BodyFault.{BodyFault}
-
--- the words are `ingest` and this one
-pub record AsksWithoutStamp (words : List (List ℕ)) (id : List ℕ) : Type 0 where
-  pub asked : words ≡ codes "ingest" ∷ id ∷ []
-  pub word : IsNoOption id
-
--- the words are `ingest`, this one, and these seconds
-pub record AsksWithStamp (words : List (List ℕ)) (id : List ℕ) (seconds : ℕ) : Type 0 where
-  pub last : List ℕ
-  pub asked : words ≡ codes "ingest" ∷ id ∷ last ∷ []
-  pub word : IsNoOption id
-  pub seconds_word : AreSeconds last seconds
-
--- the words ask for a document of this name, and with this stamp, if they state one
-abbrev pub AsksToIngest : List (List ℕ) → List ℕ → Option ℕ → Type 0
-AsksToIngest words id None = AsksWithoutStamp words id
-AsksToIngest words id (Some seconds) = AsksWithStamp words id seconds
 
 -- the text that acknowledges a document in this slot
 abbrev pub acknowledgement : ℕ → List ℕ

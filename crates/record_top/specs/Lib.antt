@@ -6,7 +6,6 @@ pub mod Finding
 pub mod Formatting
 pub mod Ingesting
 pub mod Laws
-pub mod Lines
 pub mod LookingUp
 pub mod Ports
 pub mod Receipting
@@ -16,4 +15,5 @@ pub mod Ruling
 pub mod Spanning
 pub mod Steadiness
 pub mod Taking
-pub mod Words
+pub use Rattle.volume_exercise.specs.command_laws
+pub use Rattle.ingest_engine.specs as ingest_engine

@@ -8,13 +8,8 @@ use Rattle.worm_device.specs.Counts.{IsStill}
 use Rattle.record_query.specs.LookingUp.{LooksUp}
 use Rattle.record_query.specs.declared.found.Found.{Found}
 use Rattle.record_top.specs.Ports.{Ports}
-use Rattle.command_laws.specs.WholeLogs.{HasSteadyVolume}
-use Rattle.record_top.specs.Words.{IsNoOption}
-
--- the words are `lookup` and this one
-pub record AsksToLookUp (words : List (List ℕ)) (id : List ℕ) : Type 0 where
-  pub asked : words ≡ codes "lookup" ∷ id ∷ []
-  pub word : IsNoOption id
+use Rattle.volume_exercise.specs.command_laws.WholeLogs.{HasSteadyVolume}
+use Rattle.command_line.specs.Words.{IsNoOption}
 
 -- the command answers as the engine did, which has put the body out itself
 abbrev pub Answers : Result Found Refusal → Result Unit Refusal → Type 0

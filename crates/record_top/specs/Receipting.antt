@@ -5,17 +5,12 @@ use Rattle.cell_types.specs.declared.refusal.Refusal.{Refusal}
 use Rattle.cell_types.specs.declared.refusal.Refusal.TheVariants.{Absent, BadIdentifier, NoMemory, ReceiptTooLong}
 use Rattle.stored_documents.specs.Documents.{IsIdentifier}
 use Rattle.worm_device.specs.Counts.{IsStill}
-use Rattle.command_laws.specs.WholeLogs.{HasSteadyVolume}
+use Rattle.volume_exercise.specs.command_laws.WholeLogs.{HasSteadyVolume}
 use Rattle.receipt_text.specs.Form.{text_of_receipt}
 use Rattle.receipt_text.specs.declared.receipt.Receipt.{Receipt}
 use Rattle.receipt_maker.specs.Making.{MakesReceipt}
 use Rattle.record_top.specs.Ports.{Ports, TellsFromMemory}
-use Rattle.record_top.specs.Words.{IsNoOption}
-
--- the words are `receipt` and this one
-pub record AsksForReceipt (words : List (List ℕ)) (id : List ℕ) : Type 0 where
-  pub asked : words ≡ codes "receipt" ∷ id ∷ []
-  pub word : IsNoOption id
+use Rattle.command_line.specs.Words.{IsNoOption}
 
 -- What the command does, by how far it comes.
 pub data DoesReceipt (id : List ℕ) (old new : Ports) (result : Result Unit Refusal) : Type 0 where

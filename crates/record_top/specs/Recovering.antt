@@ -9,18 +9,10 @@ use Rattle.worm_device.specs.State.{DeviceState}
 use Rattle.recovery_engine.specs.Settling.{IsSettlingRule, Settles}
 use Rattle.recovery_engine.specs.declared.settling.Ready.{Ready}
 use Rattle.recovery_engine.specs.declared.settling.Step.{Step}
-use Rattle.settling_laws.specs.Steadiness.{EndsAs}
+use Rattle.volume_exercise.specs.settling_laws.Steadiness.{EndsAs}
 use Rattle.recovery_engine.specs.declared.settling.Step.TheVariants.{Nothing, Abandoned, Completed}
 use Rattle.record_top.specs.Ports.{Ports, Tells}
-use Rattle.command_laws.specs.WholeLogs.{HasWholeLog}
-
--- the word is `recover`
-abbrev pub AsksToRecover : List (List ℕ) → Type 0
-AsksToRecover words = words ≡ codes "recover" ∷ []
-
--- the line that tells of a slot
-abbrev pub slot_line : List ℕ → ℕ → List ℕ → List ℕ
-slot_line before slot after = before ++ (decimal slot ++ after)
+use Rattle.volume_exercise.specs.command_laws.WholeLogs.{HasWholeLog}
 
 -- the text that tells of a step
 abbrev pub step_text : Step → List ℕ

@@ -11,16 +11,12 @@ use Rattle.worm_memory.specs.Memory.{Memory}
 use Rattle.worm_memory.specs.Plans.{no_plan}
 use Rattle.script_events.specs.Scripts.{IsScript, ReadScriptEnds}
 use Rattle.script_events.specs.declared.event.Script.{Script}
-use Rattle.script_replies.specs.Lines.{replies_text}
-use Rattle.script_replies.specs.declared.reply.Reply.{Reply}
-use Rattle.replayed_worlds.specs.Worlds.{IsWorld}
+use Rattle.volume_exercise.specs.script_replies.Lines.{replies_text}
+use Rattle.volume_exercise.specs.script_replies.declared.reply.Reply.{Reply}
+use Rattle.volume_exercise.specs.replayed_worlds.Worlds.{IsWorld}
 use Rattle.record_top.specs.Ports.{KeepsSink, Ports, TellsFromMemory}
 use Rattle.record_top.specs.Taking.{BodyFails, refusal_of_body_fault}
 use Rattle.record_top.specs.declared.body.BodyFault.{BodyFault}
-
--- the word is `replay`
-abbrev pub AsksToReplay : List (List ℕ) → Type 0
-AsksToReplay words = words ≡ codes "replay" ∷ []
 
 -- a device of so many cells as it is made: each cell is blank, nothing is planned, and all counts are 0
 abbrev pub new_memory : ℕ → Memory

@@ -6,21 +6,12 @@ use Rattle.cell_types.specs.Layout.{Layout}
 use Rattle.cell_types.specs.declared.geometry.TheConstants.{STAMPED_VERSION}
 use Rattle.cell_types.specs.declared.refusal.Refusal.{Refusal}
 use Rattle.worm_device.specs.Counts.{IsStill}
-use Rattle.command_laws.specs.WholeLogs.{HasSteadyVolume}
+use Rattle.volume_exercise.specs.command_laws.WholeLogs.{HasSteadyVolume}
 use Rattle.time_index.specs.Spans.{FindsBetween}
 use Rattle.time_index.specs.declared.found.TimeMatch.{TimeMatch}
-use Rattle.record_top.specs.Lines.{found_lines}
+use Rattle.command_line.specs.Lines.{found_lines}
 use Rattle.record_top.specs.Ports.{Ports, TellsFromMemory}
-use Rattle.record_top.specs.Words.{AreSeconds}
-
--- the words are `between` and the seconds of two times, of which the first is not past the second
-pub record AsksBetween (words : List (List ℕ)) (from to : ℕ) : Type 0 where
-  pub first : List ℕ
-  pub second : List ℕ
-  pub asked : words ≡ codes "between" ∷ first ∷ second ∷ []
-  pub from_word : AreSeconds first from
-  pub to_word : AreSeconds second to
-  pub order : from ≤ to
+use Rattle.command_line.specs.Words.{AreSeconds}
 
 -- what the line of a document begins with: its slot, and its identifier
 abbrev pub line_start : ℕ → List ℕ → List ℕ

@@ -13,14 +13,14 @@ use Rattle.stored_documents.specs.declared.word_rules.WordRule.{WordRule}
 use Rattle.tamper_rules.specs.Settling.{Held, Sound}
 use Rattle.ingest_laws.specs.Needs.{IsNeed}
 use Rattle.worm_device.specs.State.{DeviceState}
-use Rattle.settling_laws.specs.Steadiness.{StaysSteady}
-use Rattle.crash_laws.specs.Steadiness.{HasOneMore, StaysSteadyBy}
+use Rattle.volume_exercise.specs.settling_laws.Steadiness.{StaysSteady}
+use Rattle.volume_exercise.specs.crash_laws.Steadiness.{HasOneMore, StaysSteadyBy}
 use Rattle.record_query.specs.declared.found.Match.{Match}
 use Rattle.receipt_text.specs.Form.{text_of_receipt}
 use Rattle.receipt_text.specs.declared.receipt.Receipt.{Receipt}
 use Rattle.receipt_check.specs.Checks.{ShowsDocument}
-use Rattle.command_laws.specs.Telling.{AreMatchesOf, IsFormatted}
-use Rattle.record_top.specs.Commands.{Request, ToAudit, ToCheck, ToExercise, ToFind, ToFindBetween, ToFormat, ToIngest, ToLookUp, ToMakeReceipt, ToRecover, ToReplay}
+use Rattle.volume_exercise.specs.command_laws.Telling.{AreMatchesOf, IsFormatted}
+use Rattle.command_line.specs.Requests.{Request, ToAudit, ToCheck, ToExercise, ToFind, ToFindBetween, ToFormat, ToIngest, ToLookUp, ToMakeReceipt, ToRecover, ToReplay}
 use Rattle.record_top.specs.Ingesting.{HasRefused, HasStored, acknowledgement}
 use Rattle.record_top.specs.Finding.{AreTermsOf, find_text}
 use Rattle.record_top.specs.Ports.{Ports, PutsOut, Tells}

@@ -4,7 +4,7 @@ ghost use Rattle.record_top.specs.Auditing.{DoesAudit, count_text, report_text};
 ghost use Rattle.record_top.specs.Ports.{ports_of};
 
 use crate::command::Outcome;
-use crate::text::put_text;
+use command_line::put_text;
 use host_ports::{Sink, Source};
 use itoa::Buffer;
 use progress::Meter;

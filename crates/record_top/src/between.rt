@@ -4,7 +4,7 @@ ghost use Rattle.record_top.specs.Ports.{ports_of};
 ghost use Rattle.record_top.specs.Spanning.{DoesBetween, line_start, span_text, stamped_line};
 
 use crate::command::Outcome;
-use crate::text::{push_count_line, put_text};
+use command_line::{push_count_line, put_text};
 use host_ports::{Sink, Source};
 use itoa::Buffer;
 use std::alloc::{AllocError, Global};

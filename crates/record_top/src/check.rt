@@ -5,7 +5,7 @@ ghost use Rattle.record_top.specs.Ports.{ports_of};
 
 use crate::body::{MAX_RECEIPT_BYTES, take_body};
 use crate::command::Outcome;
-use crate::text::{push_document_line, put_text};
+use command_line::{push_document_line, put_text};
 use host_ports::{Sink, Source};
 use receipt_check::{Checked, check_receipt};
 use receipt_text::{Receipt, read_receipt};

@@ -2,8 +2,9 @@
 ghost use Rattle.std.specs.Prelude.{◌≡◌, ◌↔◌, map};
 ghost use Rattle.std.specs.String.{string_bytes};
 ghost use Rattle.worm_device.specs.Calls.{Called};
-ghost use Rattle.command_laws.specs.Begins.{BeginsSteady};
-ghost use Rattle.record_top.specs.Commands.{Asks, AsksNothing, Does, IsAnswered, IsAskedFor, IsUnhindered, Request, request_of};
+ghost use Rattle.volume_exercise.specs.command_laws.Begins.{BeginsSteady};
+ghost use Rattle.command_line.specs.Requests.{Asks, AsksNothing, IsAskedFor, Request, request_of};
+ghost use Rattle.record_top.specs.Commands.{Does, IsAnswered, IsUnhindered};
 ghost use Rattle.record_top.specs.Ports.{ports_of};
 ghost use Rattle.record_top.specs.Steadiness.{LeavesWhole};
 
@@ -18,8 +19,8 @@ use crate::lookup::look_up_document;
 use crate::receipt::put_receipt;
 use crate::recover::recover_device;
 use crate::replay::replay_script;
-use crate::words::{Command, command_of};
 use cell_types::Refusal;
+use command_line::{Command, command_of};
 use host_ports::{Sink, Source};
 use progress::{Meter, Silent};
 use std::alloc::Global;

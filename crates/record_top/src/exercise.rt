@@ -1,6 +1,6 @@
 //! The command `exercise`.
 ghost use Rattle.std.specs.Prelude.{◌≤◌};
-ghost use Rattle.volume_exercise.specs.declared.limits.TheConstants.{MAX_DOCUMENTS};
+ghost use Rattle.command_line.specs.declared.words.TheConstants.{MAX_DOCUMENTS};
 ghost use Rattle.record_top.specs.Exercising.{DoesExercise};
 ghost use Rattle.record_top.specs.Ports.{ports_of};
 

@@ -4,11 +4,11 @@ ghost use Rattle.std.specs.String.{string_bytes};
 ghost use Rattle.record_top.specs.Finding.{DoesFind, TermsEnd, find_text};
 ghost use Rattle.record_top.specs.Ports.{ports_of};
 ghost use Rattle.record_top.specs.Ruling.{AsksRule};
-ghost use Rattle.record_top.specs.declared.words.TheConstants.{MAX_QUERY_WORDS};
+ghost use Rattle.command_line.specs.declared.words.TheConstants.{MAX_QUERY_WORDS};
 
 use crate::command::Outcome;
-use crate::text::{push_count_line, push_document_line, put_text};
 use cell_types::Refusal;
+use command_line::{push_count_line, push_document_line, put_text};
 use commit_record::volume_of;
 use host_ports::{Sink, Source};
 use record_query::{Match, find};

@@ -5,7 +5,7 @@ ghost use Rattle.record_top.specs.Formatting.{DoesFormat};
 ghost use Rattle.record_top.specs.Ports.{ports_of};
 
 use crate::command::Outcome;
-use crate::text::put_text;
+use command_line::put_text;
 use host_ports::{Sink, Source};
 use ingest_engine::format_volume;
 use worm_device::Device;

@@ -4,8 +4,8 @@ ghost use Rattle.record_top.specs.Ports.{ports_of};
 
 use crate::body::take_body;
 use crate::command::Outcome;
-use crate::text::put_slot_line;
 use cell_types::Refusal;
+use command_line::put_slot_line;
 use document_store::is_identifier;
 use host_ports::{Sink, Source};
 use std::alloc::Global;

@@ -29,9 +29,9 @@
 //! `ingest` these and the new one.
 //!
 //! A further command is one case in each relation of specs/Commands.antt and of specs/Steadiness.antt, a file of its
-//! own there and here, and one arm in `command.rt`.
+//! own there and here, and one arm in `command.rt`; its words are read in `command_line`.
 //!
-//! Stands on `ingest_engine` and `recovery_engine`, which write, on `record_query` and `time_index`, which search and
+//! Stands on `command_line`, which says what words ask for, on `ingest_engine` and `recovery_engine`, which write, on `record_query` and `time_index`, which search and
 //! look up, on `volume_audit`, on `hostile_replay` and `volume_exercise`, on `receipt_text`, `receipt_maker` and
 //! `receipt_check`, on `command_laws`, and on `host_ports`. Begin with `command.rt`; specs/Commands.antt says which
 //! commands there are, and leads to what each does; specs/Steadiness.antt says what a crash leaves of it, and which
@@ -52,10 +52,6 @@ mod lookup;
 mod receipt;
 mod recover;
 mod replay;
-mod text;
-mod words;
 
 pub use command::{Outcome, run, run_metered};
 pub use laws::receipts_are_ready;
-pub use text::{SinkFailed, put_text};
-pub use words::number_up_to;

@@ -3,8 +3,8 @@ ghost use Rattle.record_top.specs.Ports.{ports_of};
 ghost use Rattle.record_top.specs.Receipting.{DoesReceipt};
 
 use crate::command::Outcome;
-use crate::text::put_text;
 use cell_types::Refusal;
+use command_line::put_text;
 use document_store::is_identifier;
 use host_ports::{Sink, Source};
 use receipt_maker::make_receipt;

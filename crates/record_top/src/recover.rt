@@ -5,7 +5,7 @@ ghost use Rattle.record_top.specs.Ports.{ports_of};
 ghost use Rattle.record_top.specs.Recovering.{DoesRecover, step_text};
 
 use crate::command::Outcome;
-use crate::text::{SinkFailed, put_slot_line, put_text};
+use command_line::{SinkFailed, put_slot_line, put_text};
 use host_ports::{Sink, Source};
 use recovery_engine::{Step, settle};
 use worm_device::Device;

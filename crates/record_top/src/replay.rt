@@ -1,21 +1,21 @@
 //! The command `replay`.
 ghost use Rattle.std.specs.Prelude.{◌≡◌, List, IfOk, string_bytes};
 ghost use Rattle.script_events.specs.Events.{IsInLimits};
-ghost use Rattle.script_replies.specs.Lines.{replies_text};
-ghost use Rattle.script_replies.specs.declared.reply.Reply.{Reply};
+ghost use Rattle.volume_exercise.specs.script_replies.Lines.{replies_text};
+ghost use Rattle.volume_exercise.specs.script_replies.declared.reply.Reply.{Reply};
 ghost use Rattle.record_top.specs.Ports.{ports_of};
 ghost use Rattle.record_top.specs.Replaying.{DoesReplay, IsReplayOf};
 
 use crate::body::take_body;
 use crate::command::Outcome;
-use crate::text::put_text;
 use cell_types::NoMemory;
+use command_line::put_text;
 use host_ports::{Sink, Source};
-use hostile_replay::replay;
 use script_events::{Script, read_script, scripts_are_in_limits};
-use script_replies::text_of_replies;
 use std::alloc::Global;
 use stored_documents::MAX_BODY_BYTES;
+use volume_exercise::hostile_replay::replay;
+use volume_exercise::script_replies::text_of_replies;
 use worm_device::Device;
 use worm_memory::MemoryDevice;
 

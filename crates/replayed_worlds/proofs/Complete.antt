@@ -7,7 +7,7 @@ use Rattle.stored_documents.specs.Volumes.{IsVolume}
 use Rattle.worm_device.specs.Counts.{IsStill}
 use Rattle.worm_device.specs.State.{DeviceState, IsDevice}
 use Rattle.worm_memory.specs.Memory.{Memory, device_of}
-use Rattle.settling_laws.specs.Steadiness.{IsSteady}
+use Rattle.command_laws.specs.settling_laws.Steadiness.{IsSteady}
 use Rattle.command_laws.specs.Begins.{BeginsSteady}
 use Rattle.command_laws.specs.WholeLogs.{HasSteadyVolume}
 use Rattle.command_laws.proofs.Completing.{audits_whole, formats_whole, ingests_whole, looks_whole, searches_whole, steady_settles}

@@ -8,9 +8,9 @@ use Rattle.worm_device.specs.Counts.{IsStill, Rose}
 use Rattle.worm_device.specs.State.{DeviceState}
 use Rattle.worm_memory.specs.Memory.{Memory, device_of}
 use Rattle.commit_record.specs.Licences.{IsLicensed}
-use Rattle.ingest_engine.specs.Ingesting.{IsNamed, by_plan, by_settling, in_index}
-use Rattle.record_query.specs.LookingUp.{LookUpEnds}
-use Rattle.volume_audit.proofs.Comes.{licensed}
+use Rattle.command_laws.specs.ingest_engine.Ingesting.{IsNamed, by_plan, by_settling, in_index}
+use Rattle.command_laws.specs.record_query.LookingUp.{LookUpEnds}
+use Rattle.command_laws.proofs.of_volume_audit.Comes.{licensed}
 use Rattle.replayed_worlds.specs.Headline.{IsEvident, TamperingIsEvident}
 use Rattle.replayed_worlds.specs.Turns.{LookUpRefused, Turns}
 use Rattle.begun_commands.specs.Beginnings.{begun_with}

@@ -16,10 +16,10 @@ use Rattle.worm_memory.specs.Memory.{Memory, device_of}
 use Rattle.worm_memory.specs.Worlds.{world}
 use Rattle.worm_memory.specs.declared.change.Change.{Change}
 use Rattle.stored_documents.proofs.Extending.{blank_before}
-use Rattle.settling_laws.specs.Steadiness.{HoldsOneOf, IsSteady}
-use Rattle.settling_laws.proofs.LeftWhole.{left_between, sure_steady, whole_from}
-use Rattle.crash_laws.specs.Steadiness.{HasOneMore, HoldsOneMore, IsLeftByIngest, StaysSteadyBy}
-use Rattle.ingest_engine.specs.Ingesting.{document_in}
+use Rattle.command_laws.specs.settling_laws.Steadiness.{HoldsOneOf, IsSteady}
+use Rattle.command_laws.proofs.of_settling_laws.LeftWhole.{left_between, sure_steady, whole_from}
+use Rattle.command_laws.specs.crash_laws.Steadiness.{HasOneMore, HoldsOneMore, IsLeftByIngest, StaysSteadyBy}
+use Rattle.command_laws.specs.ingest_engine.Ingesting.{document_in}
 use Rattle.replayed_worlds.specs.Headline.{ComeFrom, MayGive, HoldsIngests, IngestsAreHeld, IsUndisturbed, IsNew, MayGiveNone, nothing_came, followed}
 use Rattle.replayed_worlds.specs.Headline as said
 use Rattle.command_laws.specs.Telling.{LeavesHeld}

@@ -10,3 +10,8 @@ mod Returned
 mod Standing
 pub mod Undisturbed
 mod Whole
+pub use Rattle.command_laws.proofs as of_command_laws
+pub use Rattle.command_laws.proofs.of_crash_laws
+pub use Rattle.command_laws.proofs.of_ingest_engine
+pub use Rattle.command_laws.proofs.of_plan_writer
+pub use Rattle.command_laws.proofs.of_settling_laws

@@ -7,12 +7,12 @@ use Rattle.host_ports.specs.Sinks.{SinkState}
 use Rattle.worm_device.specs.State.{DeviceState}
 use Rattle.worm_memory.specs.Memory.{device_of}
 use Rattle.recovery_engine.specs.Settling.{SettleEnds}
-use Rattle.ingest_engine.specs.Formats.{FormatEnds}
-use Rattle.ingest_engine.specs.Ingesting.{IngestEnds}
-use Rattle.record_query.specs.Finding.{FindEnds}
-use Rattle.record_query.specs.LookingUp.{LookUpEnds}
-use Rattle.volume_audit.specs.Audits.{SettlesThenAudits}
-use Rattle.volume_audit.proofs.Comes.{refuses}
+use Rattle.command_laws.specs.ingest_engine.Formats.{FormatEnds}
+use Rattle.command_laws.specs.ingest_engine.Ingesting.{IngestEnds}
+use Rattle.command_laws.specs.record_query.Finding.{FindEnds}
+use Rattle.command_laws.specs.record_query.LookingUp.{LookUpEnds}
+use Rattle.command_laws.specs.volume_audit.Audits.{SettlesThenAudits}
+use Rattle.command_laws.proofs.of_volume_audit.Comes.{refuses}
 use Rattle.replayed_worlds.specs.Headline.{Headline}
 use Rattle.replayed_worlds.specs.Refusals.{IsOfWords, NoneIsOfWords}
 use Rattle.replayed_worlds.specs.Turns.{LookUpRefused, layout_on}

@@ -15,12 +15,12 @@ use Rattle.worm_device.proofs.Elapsing.{called_self}
 use Rattle.worm_memory.specs.Memory.{Memory, device_of}
 use Rattle.recovery_engine.specs.Settling.{HasSettled, SettlesFirst, settled, settling}
 use Rattle.recovery_engine.specs.declared.settling.Ready.{Ready}
-use Rattle.settling_laws.specs.Steadiness.{IsSteady}
-use Rattle.settling_laws.proofs.LeftWhole.{held_unmoved, settling_keeps}
-use Rattle.ingest_engine.specs.Ingesting as ingesting
-use Rattle.ingest_engine.specs.Ingesting.{ComesTo, document_in}
-use Rattle.crash_laws.specs.Steadiness.{HasOneMore}
-use Rattle.volume_audit.proofs.Comes.{settles_first}
+use Rattle.command_laws.specs.settling_laws.Steadiness.{IsSteady}
+use Rattle.command_laws.proofs.of_settling_laws.LeftWhole.{held_unmoved, settling_keeps}
+use Rattle.command_laws.specs.ingest_engine.Ingesting as ingesting
+use Rattle.command_laws.specs.ingest_engine.Ingesting.{ComesTo, document_in}
+use Rattle.command_laws.specs.crash_laws.Steadiness.{HasOneMore}
+use Rattle.command_laws.proofs.of_volume_audit.Comes.{settles_first}
 use Rattle.command_laws.specs.Begins.{BeginsSteady}
 use Rattle.command_laws.proofs.Formatting.{format_makes}
 use Rattle.command_laws.proofs.HeldAnswers.{settled_now}

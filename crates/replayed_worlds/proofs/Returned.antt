@@ -13,10 +13,10 @@ use Rattle.index_paths.proofs.KeepingLaws.{kept_on}
 use Rattle.tamper_rules.proofs.GivenUp.{one_layout}
 use Rattle.worm_device.specs.State.{DeviceState, IsDevice}
 use Rattle.worm_memory.specs.Memory.{Memory, device_of}
-use Rattle.ingest_engine.specs.Ingesting.{IsIngested, document_in}
-use Rattle.record_query.specs.Finding.{HasMatch}
-use Rattle.record_query.specs.LookingUp.{IsAbsent, LookUpEnds}
-use Rattle.record_query.specs.declared.found.Match.{Match}
+use Rattle.command_laws.specs.ingest_engine.Ingesting.{IsIngested, document_in}
+use Rattle.command_laws.specs.record_query.Finding.{HasMatch}
+use Rattle.command_laws.specs.record_query.LookingUp.{IsAbsent, LookUpEnds}
+use Rattle.command_laws.specs.record_query.declared.found.Match.{Match}
 use Rattle.replayed_worlds.specs.Headline.{AcknowledgedAreReturned, Returns}
 use Rattle.replayed_worlds.specs.Turns.{LookUpRefused, Turns}
 use Rattle.replayed_worlds.specs.Worlds.{AreInTurn, Turn, acknowledged, acknowledged_by}

@@ -5,8 +5,8 @@ use Rattle.stored_documents.specs.Documents.{Stands}
 use Rattle.worm_device.specs.State.{DeviceState}
 use Rattle.worm_memory.specs.Memory.{Memory, device_of}
 use Rattle.host_ports.specs.Sinks.{Gets}
-use Rattle.record_query.specs.Finding.{IsMatch, Rises}
-use Rattle.record_query.specs.declared.found.Match.{Match}
+use Rattle.command_laws.specs.record_query.Finding.{IsMatch, Rises}
+use Rattle.command_laws.specs.record_query.declared.found.Match.{Match}
 use Rattle.replayed_worlds.specs.Headline.{ReturnedStand, ReturnsStanding, StandsAndMatches}
 use Rattle.replayed_worlds.specs.Turns.{BodyAnswered, Turns}
 use Rattle.script_events.specs.declared.event.Event.{Event}

@@ -9,18 +9,18 @@ use Rattle.tamper_rules.specs.Settling.{Held}
 use Rattle.worm_device.specs.Counts.{IsStill}
 use Rattle.worm_device.specs.State.{DeviceState, IsDevice}
 use Rattle.worm_memory.specs.Memory.{Memory, device_of}
-use Rattle.settling_laws.specs.Steadiness.{IsSteady}
-use Rattle.ingest_engine.specs.Formats.{Formats}
-use Rattle.ingest_engine.specs.Ingesting.{Ingests}
-use Rattle.crash_laws.specs.Steadiness.{HasOneMore}
-use Rattle.crash_laws.proofs.AddsOne.{comes_more}
-use Rattle.crash_laws.proofs.Alarms.{none_named}
-use Rattle.crash_laws.proofs.Kept.{refused_keeps}
-use Rattle.crash_laws.proofs.Steady.{comes_steady}
-use Rattle.record_query.specs.Finding.{Searches}
-use Rattle.record_query.specs.LookingUp.{LooksUp}
-use Rattle.volume_audit.specs.Audits.{Audits}
-use Rattle.volume_audit.proofs.Comes.{licensed, settles_first}
+use Rattle.command_laws.specs.settling_laws.Steadiness.{IsSteady}
+use Rattle.command_laws.specs.ingest_engine.Formats.{Formats}
+use Rattle.command_laws.specs.ingest_engine.Ingesting.{Ingests}
+use Rattle.command_laws.specs.crash_laws.Steadiness.{HasOneMore}
+use Rattle.command_laws.proofs.of_crash_laws.AddsOne.{comes_more}
+use Rattle.command_laws.proofs.of_crash_laws.Alarms.{none_named}
+use Rattle.command_laws.proofs.of_crash_laws.Kept.{refused_keeps}
+use Rattle.command_laws.proofs.of_crash_laws.Steady.{comes_steady}
+use Rattle.command_laws.specs.record_query.Finding.{Searches}
+use Rattle.command_laws.specs.record_query.LookingUp.{LooksUp}
+use Rattle.command_laws.specs.volume_audit.Audits.{Audits}
+use Rattle.command_laws.proofs.of_volume_audit.Comes.{licensed, settles_first}
 use Rattle.command_laws.specs.Begins.{BeginsSteady}
 use Rattle.command_laws.specs.Telling.{AreMatchesOf}
 use Rattle.command_laws.proofs.Alarms.{query_alarms, settling_alarms}

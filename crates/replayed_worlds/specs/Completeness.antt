@@ -7,7 +7,7 @@ use Rattle.stored_documents.specs.Volumes.{IsVolume}
 use Rattle.worm_device.specs.Counts.{IsStill}
 use Rattle.worm_device.specs.State.{DeviceState, IsDevice}
 use Rattle.worm_memory.specs.Memory.{Memory, device_of}
-use Rattle.settling_laws.specs.Steadiness.{IsSteady}
+use Rattle.command_laws.specs.settling_laws.Steadiness.{IsSteady}
 use Rattle.command_laws.specs.Completing.{HasPlaceFor}
 use Rattle.script_events.specs.declared.event.Event.{Event}
 use Rattle.script_events.specs.declared.event.Event.TheVariants as event

@@ -17,9 +17,9 @@ use Rattle.tamper_rules.specs.Settling.{Held}
 use Rattle.worm_device.specs.Counts.{Rose}
 use Rattle.worm_device.specs.State.{DeviceState, IsDevice}
 use Rattle.worm_memory.specs.Memory.{Memory, device_of}
-use Rattle.ingest_engine.specs.Ingesting.{document_in}
-use Rattle.record_query.specs.Finding.{HasMatch, HasTerms, Rises}
-use Rattle.record_query.specs.declared.found.Match.{Match}
+use Rattle.command_laws.specs.ingest_engine.Ingesting.{document_in}
+use Rattle.command_laws.specs.record_query.Finding.{HasMatch, HasTerms, Rises}
+use Rattle.command_laws.specs.record_query.declared.found.Match.{Match}
 use Rattle.script_events.specs.declared.event.Event.{Event}
 use Rattle.script_events.specs.declared.event.Event.TheVariants as event
 use Rattle.script_events.specs.declared.event.Schedule.{Schedule}

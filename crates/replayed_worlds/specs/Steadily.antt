@@ -8,8 +8,8 @@ use Rattle.tamper_rules.specs.Settling.{Held}
 use Rattle.worm_device.specs.Counts.{IsStill}
 use Rattle.worm_device.specs.State.{DeviceState, IsDevice}
 use Rattle.worm_memory.specs.Memory.{Memory, device_of, with_begin}
-use Rattle.settling_laws.specs.Steadiness.{IsSteady}
-use Rattle.crash_laws.specs.Steadiness.{HasOneMore, StaysSteadyBy}
+use Rattle.command_laws.specs.settling_laws.Steadiness.{IsSteady}
+use Rattle.command_laws.specs.crash_laws.Steadiness.{HasOneMore, StaysSteadyBy}
 use Rattle.command_laws.specs.Telling.{LeavesHeld}
 use Rattle.script_events.specs.declared.event.Event.{Event}
 use Rattle.script_events.specs.declared.event.Event.TheVariants as event

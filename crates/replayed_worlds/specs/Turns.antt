@@ -15,13 +15,13 @@ use Rattle.worm_memory.specs.declared.losses.Crash.{Crash}
 use Rattle.host_ports.specs.Sinks.{SinkState}
 use Rattle.recovery_engine.specs.Settling.{Settles}
 use Rattle.recovery_engine.specs.declared.settling.Ready.{Ready}
-use Rattle.ingest_engine.specs.Formats.{Formats}
-use Rattle.ingest_engine.specs.Ingesting.{Ingests}
-use Rattle.record_query.specs.Finding.{Searches}
-use Rattle.record_query.specs.LookingUp.{LooksUp}
-use Rattle.record_query.specs.declared.found.Found.{Found}
-use Rattle.record_query.specs.declared.found.Match.{Match}
-use Rattle.volume_audit.specs.Audits.{Audits}
+use Rattle.command_laws.specs.ingest_engine.Formats.{Formats}
+use Rattle.command_laws.specs.ingest_engine.Ingesting.{Ingests}
+use Rattle.command_laws.specs.record_query.Finding.{Searches}
+use Rattle.command_laws.specs.record_query.LookingUp.{LooksUp}
+use Rattle.command_laws.specs.record_query.declared.found.Found.{Found}
+use Rattle.command_laws.specs.record_query.declared.found.Match.{Match}
+use Rattle.command_laws.specs.volume_audit.Audits.{Audits}
 use Rattle.script_events.specs.declared.event.Event.{Event}
 use Rattle.script_events.specs.declared.event.Event.TheVariants as event
 use Rattle.script_events.specs.declared.event.Schedule.{Schedule}

@@ -8,7 +8,7 @@ use Rattle.tamper_rules.specs.Settling.{Held, Settled}
 use Rattle.worm_device.specs.Counts.{Rose}
 use Rattle.worm_device.specs.State.{IsDevice}
 use Rattle.worm_memory.specs.Memory.{Memory, device_of, mark_of}
-use Rattle.settling_laws.specs.Steadiness.{IsSteady}
+use Rattle.command_laws.specs.settling_laws.Steadiness.{IsSteady}
 use Rattle.script_events.specs.declared.event.Event.{Event}
 use Rattle.script_events.specs.declared.event.Event.TheVariants as event
 use Rattle.script_events.specs.declared.event.Schedule.{Schedule}

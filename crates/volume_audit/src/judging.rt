@@ -5,7 +5,7 @@ ghost use Rattle.kept_cells.specs.Kept.{image_of, count_of};
 ghost use Rattle.list_audit.specs.Blocks.{AreListBlocks};
 ghost use Rattle.log_audit.specs.Findings.{AreMetBelow};
 ghost use Rattle.log_audit.specs.Logs.{IsLog};
-ghost use Rattle.tree_audit.specs.Nodes.{AreNodes};
+ghost use Rattle.pointer_audit.specs.tree_audit.Nodes.{AreNodes};
 ghost use Rattle.volume_audit.specs.Judging.{Judges, Passes};
 
 use crate::checks::{
@@ -17,9 +17,9 @@ use cell_types::{Geometry, Refusal};
 use kept_cells::KeptCells;
 use list_audit::{ListBlock, blocks_of};
 use log_audit::{Log, check_log};
+use pointer_audit::tree_audit::{LevelNode, nodes_of};
 use progress::Meter;
 use std::alloc::Global;
-use tree_audit::{LevelNode, nodes_of};
 
 /// The numbers of the volume whose cells are kept, or the least rule that is broken at its least cell.
 pub(crate) fn judge<M: Meter>(

@@ -27,11 +27,11 @@ use Rattle.worm_device.proofs.Images.{extends_self, unchanged_then}
 use Rattle.document_store.specs.Standing.{HoldsDocument}
 use Rattle.document_store.proofs.Holding.{held_stands}
 use Rattle.ingest_engine.specs.Ingesting.{IngestEnds, Ingests, document_in}
-use Rattle.settling_laws.specs.Steadiness.{HoldsOneOf, IsSteady}
-use Rattle.settling_laws.proofs.LeftWhole.{sure_steady}
-use Rattle.crash_laws.specs.Steadiness.{HasOneMore, HoldsOneMore, IsLeftByIngest}
-use Rattle.crash_laws.proofs.AddsOne.{comes_more}
-use Rattle.crash_laws.proofs.Steady.{comes_steady}
+use Rattle.command_laws.specs.settling_laws.Steadiness.{HoldsOneOf, IsSteady}
+use Rattle.command_laws.proofs.of_settling_laws.LeftWhole.{sure_steady}
+use Rattle.command_laws.specs.crash_laws.Steadiness.{HasOneMore, HoldsOneMore, IsLeftByIngest}
+use Rattle.command_laws.proofs.of_crash_laws.AddsOne.{comes_more}
+use Rattle.command_laws.proofs.of_crash_laws.Steady.{comes_steady}
 use Rattle.volume_copy.specs.Adding.{AddEnds, AddFails, AddsNext, CanBeRead, Completes, CopiedSoFar, GoesOn, IngestsOf, RestFails, WhereCopied}
 use Rattle.volume_copy.specs.Auditing.{IsWhole}
 use Rattle.volume_copy.specs.Alone.{AreAlone}

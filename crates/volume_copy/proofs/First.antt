@@ -19,8 +19,8 @@ use Rattle.worm_device.specs.Calls.{Called}
 use Rattle.worm_device.specs.State.{DeviceState, IsDevice, LeftSince}
 use Rattle.worm_device.proofs.Elapsing.{elapses_of}
 use Rattle.worm_device.proofs.Images.{extends_self}
-use Rattle.settling_laws.specs.Steadiness.{HoldsOneOf, IsLeftWhole, IsSteady}
-use Rattle.settling_laws.proofs.LeftWhole.{left_between}
+use Rattle.command_laws.specs.settling_laws.Steadiness.{HoldsOneOf, IsLeftWhole, IsSteady}
+use Rattle.command_laws.proofs.of_settling_laws.LeftWhole.{left_between}
 use Rattle.command_laws.specs.Telling.{LeavesHeld}
 use Rattle.volume_copy.specs.First as firsts
 use Rattle.volume_copy.specs.First.{HoldsFirst, StaysFirst, first}

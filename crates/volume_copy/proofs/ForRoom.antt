@@ -25,13 +25,13 @@ use Rattle.worm_device.proofs.Counting.{rose_or_still}
 use Rattle.document_store.proofs.Holding.{held_stands}
 use Rattle.recovery_engine.specs.Settling.{HasSettled}
 use Rattle.recovery_engine.specs.declared.settling.Ready.{Ready}
-use Rattle.plan_writer.proofs.PutFrom.{volume_2}
+use Rattle.command_laws.proofs.of_plan_writer.PutFrom.{volume_2}
 use Rattle.ingest_engine.specs.Ingesting.{HasLaterStamp, IngestEnds, IsTaken, StampEnds, TakesNoSuchStamp}
 use Rattle.ingest_engine.specs.Stamps.{IsStampBelow}
 use Rattle.ingest_engine.proofs.CrashedIngests.{ready_layout}
-use Rattle.settling_laws.specs.Steadiness.{IsSteady}
-use Rattle.settling_laws.proofs.LookedAt.{looked_ends}
-use Rattle.crash_laws.proofs.Alarms.{none_named}
+use Rattle.command_laws.specs.settling_laws.Steadiness.{IsSteady}
+use Rattle.command_laws.proofs.of_settling_laws.LookedAt.{looked_ends}
+use Rattle.command_laws.proofs.of_crash_laws.Alarms.{none_named}
 use Rattle.command_laws.proofs.WholeLogs.{no_blank_cell, no_other_cell, no_other_size}
 use Rattle.volume_copy.specs.Completing.{IsForRoom}
 use Rattle.volume_copy.specs.Pairs.{ArePairs, SaysSame}

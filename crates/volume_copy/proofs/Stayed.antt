@@ -8,9 +8,9 @@ use Rattle.worm_device.specs.State.{DeviceState, IsDevice, LeftSince}
 use Rattle.worm_device.proofs.Counting.{still_first, still_second}
 use Rattle.worm_device.proofs.Elapsing.{called_self, elapses_of}
 use Rattle.ingest_engine.specs.Ingesting.{Ingests}
-use Rattle.settling_laws.specs.Steadiness.{IsLeftWhole, IsSteady}
-use Rattle.crash_laws.specs.Steadiness.{IsLeftByIngest}
-use Rattle.crash_laws.proofs.Steady.{comes_steady}
+use Rattle.command_laws.specs.settling_laws.Steadiness.{IsLeftWhole, IsSteady}
+use Rattle.command_laws.specs.crash_laws.Steadiness.{IsLeftByIngest}
+use Rattle.command_laws.proofs.of_crash_laws.Steady.{comes_steady}
 use Rattle.command_laws.specs.Begins.{BeginsSteady}
 use Rattle.command_laws.specs.Telling.{LeavesHeld}
 use Rattle.command_laws.proofs.LeavesThen.{leaves_then}

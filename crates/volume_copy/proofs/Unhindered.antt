@@ -19,7 +19,7 @@ use Rattle.worm_device.specs.Counts.{IsStill}
 use Rattle.worm_device.specs.State.{DeviceState, IsDevice}
 use Rattle.worm_device.proofs.Counting.{rose_or_still, still_first, still_second}
 use Rattle.recovery_engine.specs.Settling.{Settles}
-use Rattle.settling_laws.proofs.LeftWhole.{documents_after}
+use Rattle.command_laws.proofs.of_settling_laws.LeftWhole.{documents_after}
 use Rattle.volume_audit.specs.Audits.{Audits}
 use Rattle.volume_audit.specs.declared.report.AuditReport.{AuditReport}
 use Rattle.command_laws.specs.Begins.{BeginsSteady}

@@ -26,8 +26,8 @@ use Rattle.worm_device.proofs.Counting.{still_first, still_second}
 use Rattle.worm_device.proofs.Elapsing.{called_then}
 use Rattle.recovery_engine.specs.Settling.{Settles}
 use Rattle.recovery_engine.specs.declared.settling.Ready.{Ready}
-use Rattle.settling_laws.specs.Steadiness.{EndsAs}
-use Rattle.settling_laws.proofs.EndedAs.{settling_ends}
+use Rattle.command_laws.specs.settling_laws.Steadiness.{EndsAs}
+use Rattle.command_laws.proofs.of_settling_laws.EndedAs.{settling_ends}
 use Rattle.volume_audit.specs.Audits.{AuditEnds, Audits, settled, settling}
 use Rattle.volume_audit.specs.Reports.{IsSound}
 use Rattle.volume_audit.specs.declared.report.AuditReport.{AuditReport}

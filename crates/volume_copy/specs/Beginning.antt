@@ -11,7 +11,7 @@ use Rattle.worm_device.specs.Calls.{Called}
 use Rattle.worm_device.specs.State.{DeviceState}
 use Rattle.volume_copy.specs.Adding.{CopiedSoFar}
 use Rattle.volume_copy.specs.Auditing.{IsWhole}
-use Rattle.settling_laws.specs.Steadiness.{IsSteady}
+use Rattle.command_laws.specs.settling_laws.Steadiness.{IsSteady}
 use Rattle.volume_copy.specs.Alone.{AreAlone, AreUnfailed}
 use Rattle.volume_copy.specs.Completing.{EndsUnhindered}
 use Rattle.volume_copy.specs.First.{HoldsFirst}

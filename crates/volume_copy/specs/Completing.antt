@@ -7,7 +7,7 @@ use Rattle.cell_types.specs.declared.refusal.Refusal.TheVariants.{Full, PathFull
 use Rattle.stored_documents.specs.Volumes.{IsVolume}
 use Rattle.tamper_rules.specs.Settling.{Sound}
 use Rattle.worm_device.specs.State.{DeviceState}
-use Rattle.settling_laws.specs.Steadiness.{IsSteady}
+use Rattle.command_laws.specs.settling_laws.Steadiness.{IsSteady}
 use Rattle.volume_copy.specs.Alone.{AreAlone, AreUnfailed}
 use Rattle.volume_copy.specs.First.{HoldsFirst}
 

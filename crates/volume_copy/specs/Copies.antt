@@ -20,7 +20,7 @@ use Rattle.worm_device.specs.State.{DeviceState, LeftSince}
 use Rattle.document_store.specs.Standing.{HoldsDocument}
 use Rattle.ingest_engine.specs.Formats.{Formats}
 use Rattle.ingest_engine.specs.Ingesting.{Ingests, document_in}
-use Rattle.settling_laws.specs.Steadiness.{IsSteady}
+use Rattle.command_laws.specs.settling_laws.Steadiness.{IsSteady}
 use Rattle.volume_copy.specs.Auditing.{Refuses}
 use Rattle.volume_copy.specs.Alone.{AreAlone}
 use Rattle.volume_copy.specs.Completing.{EndsUnhindered, IsUnhindered}

@@ -12,3 +12,7 @@ mod Rows
 mod Stocked
 mod Told
 mod Words
+pub use Rattle.hostile_replay.proofs.of_command_laws
+pub use Rattle.hostile_replay.proofs.of_crash_laws
+pub use Rattle.hostile_replay.proofs.of_plan_writer
+pub use Rattle.hostile_replay.proofs.of_settling_laws

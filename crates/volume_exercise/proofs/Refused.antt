@@ -24,15 +24,15 @@ use Rattle.document_store.proofs.Holding.{held_stands}
 use Rattle.index_paths.specs.Postings.{ArePostings, AreTags}
 use Rattle.recovery_engine.specs.Settling.{HasSettled}
 use Rattle.recovery_engine.specs.declared.settling.Ready.{Ready}
-use Rattle.plan_writer.proofs.PutFrom.{volume_2}
-use Rattle.settling_laws.proofs.LookedAt.{looked_ends}
-use Rattle.crash_laws.proofs.WellPlanned as planned
-use Rattle.ingest_engine.specs.Ingesting.{HasNoRoom, HasNoSlot, IngestEnds, IsTaken, IsTooMany, TakesNoSuchStamp}
-use Rattle.ingest_engine.proofs.CrashedIngests.{ready_layout}
-use Rattle.command_laws.specs.Begins.{BeginsSteady}
-use Rattle.command_laws.proofs.HeldAnswers.{stands_among}
-use Rattle.command_laws.proofs.WholeLogs.{no_blank_cell, no_other_cell, no_other_size}
-use Rattle.replayed_worlds.proofs.Reading.{settled_documents}
+use Rattle.hostile_replay.proofs.of_plan_writer.PutFrom.{volume_2}
+use Rattle.hostile_replay.proofs.of_settling_laws.LookedAt.{looked_ends}
+use Rattle.hostile_replay.proofs.of_crash_laws.WellPlanned as planned
+use Rattle.hostile_replay.specs.ingest_engine.Ingesting.{HasNoRoom, HasNoSlot, IngestEnds, IsTaken, IsTooMany, TakesNoSuchStamp}
+use Rattle.hostile_replay.proofs.of_ingest_engine.CrashedIngests.{ready_layout}
+use Rattle.hostile_replay.specs.command_laws.Begins.{BeginsSteady}
+use Rattle.hostile_replay.proofs.of_command_laws.HeldAnswers.{stands_among}
+use Rattle.hostile_replay.proofs.of_command_laws.WholeLogs.{no_blank_cell, no_other_cell, no_other_size}
+use Rattle.hostile_replay.proofs.of_replayed_worlds.Reading.{settled_documents}
 use Rattle.volume_exercise.specs.Documents.{body_of, identifier_of}
 use Rattle.volume_exercise.specs.Refusing.{IsOfExercise}
 use Rattle.volume_exercise.proofs.Few.{few_cells, few_postings, few_tags, same_identifier}

@@ -18,27 +18,27 @@ use Rattle.worm_device.specs.State.{DeviceState, IsDevice}
 use Rattle.phase_writer.specs.Putting.{IsInFirst, IsPut}
 use Rattle.recovery_engine.specs.Settling.{HasSettled}
 use Rattle.recovery_engine.specs.declared.settling.Ready.{Ready}
-use Rattle.plan_writer.specs.Planned.{INGEST_PHASES, ingest_phases, reserved_by}
-use Rattle.plan_writer.specs.PuttingPlans.{PutsPlan}
-use Rattle.plan_writer.specs.declared.plan.Plan.{Plan}
-use Rattle.plan_writer.proofs.PutFrom as from
+use Rattle.hostile_replay.specs.plan_writer.Planned.{INGEST_PHASES, ingest_phases, reserved_by}
+use Rattle.hostile_replay.specs.plan_writer.PuttingPlans.{PutsPlan}
+use Rattle.hostile_replay.specs.plan_writer.declared.plan.Plan.{Plan}
+use Rattle.hostile_replay.proofs.of_plan_writer.PutFrom as from
 use Rattle.ingest_laws.specs.Filling.{IsFilled, IsWellPlanned}
 use Rattle.ingest_laws.proofs.Filled.{edge_is, old_edge}
 use Rattle.ingest_laws.proofs.Ingests.{next_horizon}
 use Rattle.ingest_laws.proofs.PlanSettled.{plan_is_settled}
-use Rattle.ingest_engine.specs.Ingesting as ingesting
-use Rattle.ingest_engine.specs.Ingesting.{ComesTo, IsIngested, IsPlanFor}
-use Rattle.ingest_engine.proofs.CrashedIngests.{ready_layout}
-use Rattle.settling_laws.specs.Steadiness.{IsSteady}
-use Rattle.settling_laws.proofs.LeftWhole.{held_unmoved, settling_keeps}
-use Rattle.settling_laws.proofs.LookedAt.{looked_ends, looking_keeps}
-use Rattle.crash_laws.specs.Steadiness.{HasOneMore}
-use Rattle.crash_laws.proofs.AddsOne.{put_whole}
-use Rattle.crash_laws.proofs.PutPlans.{still_looked, still_put, sure, tells_looked, well_made}
-use Rattle.crash_laws.proofs.ReserveCells.{one_slot}
-use Rattle.crash_laws.proofs.WellPlanned.{plan_of}
-use Rattle.command_laws.specs.Begins.{BeginsSteady}
-use Rattle.replayed_worlds.proofs.Reading.{not_held}
+use Rattle.hostile_replay.specs.ingest_engine.Ingesting as ingesting
+use Rattle.hostile_replay.specs.ingest_engine.Ingesting.{ComesTo, IsIngested, IsPlanFor}
+use Rattle.hostile_replay.proofs.of_ingest_engine.CrashedIngests.{ready_layout}
+use Rattle.hostile_replay.specs.settling_laws.Steadiness.{IsSteady}
+use Rattle.hostile_replay.proofs.of_settling_laws.LeftWhole.{held_unmoved, settling_keeps}
+use Rattle.hostile_replay.proofs.of_settling_laws.LookedAt.{looked_ends, looking_keeps}
+use Rattle.hostile_replay.specs.crash_laws.Steadiness.{HasOneMore}
+use Rattle.hostile_replay.proofs.of_crash_laws.AddsOne.{put_whole}
+use Rattle.hostile_replay.proofs.of_crash_laws.PutPlans.{still_looked, still_put, sure, tells_looked, well_made}
+use Rattle.hostile_replay.proofs.of_crash_laws.ReserveCells.{one_slot}
+use Rattle.hostile_replay.proofs.of_crash_laws.WellPlanned.{plan_of}
+use Rattle.hostile_replay.specs.command_laws.Begins.{BeginsSteady}
+use Rattle.hostile_replay.proofs.of_replayed_worlds.Reading.{not_held}
 
 -- The horizon is one slot further, and the edge by so many cells: those of the document, and at most 258 for each of its
 -- postings and 34 for its bucket.

@@ -4,3 +4,8 @@ pub mod Exercising
 pub mod Refusing
 pub mod Tallies
 pub mod Telling
+pub use Rattle.hostile_replay.specs.command_laws
+pub use Rattle.hostile_replay.specs.crash_laws
+pub use Rattle.hostile_replay.specs.replayed_worlds
+pub use Rattle.hostile_replay.specs.script_replies
+pub use Rattle.hostile_replay.specs.settling_laws

@@ -1,7 +1,8 @@
 //! The documents of the exercise.
 ghost use Rattle.std.specs.Prelude.{◌≡◌, ◌<◌, ◌≤◌, IfOk, string_bytes};
 ghost use Rattle.volume_exercise.specs.Documents.{body_of, digit_of, identifier_of, word_at, word_of};
-ghost use Rattle.volume_exercise.specs.declared.limits.TheConstants.{BODY_WORDS, MAX_DOCUMENTS};
+ghost use Rattle.command_line.specs.declared.words.TheConstants.{MAX_DOCUMENTS};
+ghost use Rattle.volume_exercise.specs.declared.limits.TheConstants.{BODY_WORDS};
 
 use crate::limits::{BODY_WORDS, DISTINCT_WORDS};
 use std::alloc::{AllocError, Global};

@@ -2,7 +2,8 @@
 ghost use Rattle.std.specs.Prelude.{◌≡◌, ◌++◌, ◌<◌, ◌≤◌, ◌-◌, IfOk, OnOk};
 ghost use Rattle.volume_exercise.specs.Events.{audit_event, exercise_events, format_event, ingest_event, ingests, look_up_event, look_ups, no_schedule, pair_event, pairs, single_event, singles};
 ghost use Rattle.volume_exercise.specs.Documents.{word_of};
-ghost use Rattle.volume_exercise.specs.declared.limits.TheConstants.{DISTINCT_WORDS, MAX_DOCUMENTS};
+ghost use Rattle.command_line.specs.declared.words.TheConstants.{MAX_DOCUMENTS};
+ghost use Rattle.volume_exercise.specs.declared.limits.TheConstants.{DISTINCT_WORDS};
 
 use crate::documents::{body, identifier, word};
 use crate::limits::{DISTINCT_WORDS, LISTS};

@@ -2,14 +2,14 @@
 ghost use Rattle.std.specs.Prelude.{◌≡◌, ◌≤◌};
 ghost use Rattle.worm_memory.specs.Device.{memory_of};
 ghost use Rattle.volume_exercise.specs.Exercising.{ExerciseEnds, exercise_device};
-ghost use Rattle.volume_exercise.specs.declared.limits.TheConstants.{MAX_DOCUMENTS};
+ghost use Rattle.command_line.specs.declared.words.TheConstants.{MAX_DOCUMENTS};
 
 use crate::events::exercise_events;
 use crate::tallies::{first_refusal, text_of};
 use cell_types::Refusal;
 use host_ports::{Sink, put_all};
 use hostile_replay::replay;
-use replayed_worlds::{acknowledged_are_returned, plain_is_done, turns_are_marked};
+use hostile_replay::replayed_worlds::{acknowledged_are_returned, plain_is_done, turns_are_marked};
 use std::alloc::Global;
 use worm_memory::{MemoryDevice, the_count_is_recorded};
 

@@ -15,7 +15,8 @@
 //! that the documents and their words ask for, and the device holds just the documents: nothing befalls the exercise, and
 //! nobody else writes.
 //!
-//! Stands on `hostile_replay`, which carries the events out, and on `replayed_worlds`, which says what a world promises.
+//! Stands on `hostile_replay`, which carries the events out, and on `replayed_worlds`, which says what a world promises;
+//! it passes both on, and the laws below them.
 //! Begin with `exercising.rt`; `specs/Documents.antt` has the documents, `specs/Events.antt` the events,
 //! `specs/Telling.antt` the lines, and `specs/Exercising.antt` says how an exercise ends and what it leaves.
 #![tactic(auto)]
@@ -28,7 +29,7 @@ mod limits;
 mod tallies;
 
 pub use exercising::exercise;
+pub use hostile_replay;
+pub use hostile_replay::script_replies;
 pub use laws::terms_are_words;
-pub use limits::{
-    BASE_CELLS, BODY_WORDS, CELLS_PER_DOCUMENT, DISTINCT_WORDS, LISTS, MAX_DOCUMENTS,
-};
+pub use limits::{BASE_CELLS, BODY_WORDS, CELLS_PER_DOCUMENT, DISTINCT_WORDS, LISTS};

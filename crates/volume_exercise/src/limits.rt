@@ -1,8 +1,5 @@
 //! The numbers of the exercise.
 
-/// The greatest number of documents.
-pub const MAX_DOCUMENTS: u32 = 2_000;
-
 /// How many lists its volume has.
 pub const LISTS: u16 = 16;
 

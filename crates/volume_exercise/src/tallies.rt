@@ -2,12 +2,12 @@
 ghost use Rattle.std.specs.Prelude.{◌≡◌, ◌+◌, ◌*◌, ◌≤◌, ◌<◌, IfOk, length, string_bytes};
 ghost use Rattle.std.specs.List.{count_by, sum_by};
 ghost use Rattle.volume_exercise.specs.Tallies.{counted_text, first_refusal, is_acknowledged, lines_of, matches_in, returned, returned_from, sound_line};
-ghost use Rattle.volume_exercise.specs.declared.limits.TheConstants.{MAX_DOCUMENTS};
+ghost use Rattle.command_line.specs.declared.words.TheConstants.{MAX_DOCUMENTS};
 
 use crate::documents::body;
 use crate::limits::DISTINCT_WORDS;
 use cell_types::Refusal;
-use script_replies::Reply;
+use hostile_replay::script_replies::Reply;
 use std::alloc::{AllocError, Global};
 
 /// What the replies come to.

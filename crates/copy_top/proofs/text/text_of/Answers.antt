@@ -2,7 +2,7 @@
 use Rattle.std.proofs.Common.{◌<◌, ◌++◌, List, ℕ, length, get_or, sym, ap, ◌∙◌, arith}
 use Rattle.std.proofs.lemmas.List.{get_or_default}
 use Rattle.volume_copy.specs.declared.moved.Moved.{Moved}
-use Rattle.record_top.proofs.Lines.{lines_more}
+use Rattle.command_line.proofs.Lines.{lines_more}
 use Rattle.copy_top.specs.Copying.{moved_line}
 use Rattle.copy_top.proofs.text.text_of.Goals as goal
 

@@ -1,6 +1,6 @@
 -- The text so far tells of the documents so far.
 use Rattle.std.proofs.Common.{◌≡◌, take}
-use Rattle.record_top.specs.Lines.{lines_of}
+use Rattle.command_line.specs.Lines.{lines_of}
 use Rattle.copy_top.specs.Copying.{moved_line}
 use Rattle.copy_top.proofs.text.text_of.Given as goal
 

@@ -4,8 +4,8 @@ use Rattle.std.specs.Prelude.{codes}
 use Rattle.std.specs.String.{string_bytes}
 use Rattle.cell_types.specs.declared.geometry.TheConstants.{MAX_LISTS, MAX_SLOTS}
 use Rattle.worm_device.proofs.Compared.{alike}
-use Rattle.record_top.specs.Words.{IsNumberUpTo}
-use Rattle.record_top.proofs.Listed.{if_none, second_is, third_is, three}
+use Rattle.command_line.specs.Words.{IsNumberUpTo}
+use Rattle.command_line.proofs.Listed.{if_none, second_is, third_is, three}
 use Rattle.copy_top.proofs.words.numbers_of.Goals as goal
 
 pub returns-clause-some : goal.returns-clause-some

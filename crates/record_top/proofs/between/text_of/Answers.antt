@@ -1,7 +1,7 @@
 -- The text of the matches so far has got the line of one match more.
 use Rattle.std.proofs.Common.{◌++◌, List, ℕ, sym, ap, ◌∙◌, arith}
 use Rattle.record_top.specs.Spanning.{stamped_line, time_line}
-use Rattle.record_top.proofs.Lines.{lines_more}
+use Rattle.command_line.proofs.Lines.{lines_more}
 use Rattle.record_top.proofs.between.text_of.Goals as goal
 
 pub loop-found-preserved : goal.loop-found-preserved

@@ -1,6 +1,6 @@
 -- The text so far tells of the matches so far.
 use Rattle.std.proofs.Common.{◌≡◌, take}
-use Rattle.record_top.specs.Lines.{lines_of}
+use Rattle.command_line.specs.Lines.{lines_of}
 use Rattle.record_top.specs.Spanning.{time_line}
 use Rattle.record_top.proofs.between.text_of.Given as goal
 

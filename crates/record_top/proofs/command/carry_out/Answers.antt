@@ -1,7 +1,7 @@
 -- The command is the one that was asked for.
 use Rattle.std.proofs.Common.{subst}
-use Rattle.record_top.specs.Commands.{IsAskedFor, request_of}
-use Rattle.record_top.specs.declared.words.Command.{Command}
+use Rattle.command_line.specs.Requests.{IsAskedFor, request_of}
+use Rattle.command_line.specs.declared.words.Command.{Command}
 use Rattle.record_top.proofs.command.carry_out.Goals as goal
 
 pub returns-in-Ingest : goal.returns-in-Ingest

@@ -1,7 +1,8 @@
 -- The text of the matches so far has got the line of one match more.
 use Rattle.std.proofs.Common.{◌++◌, List, ℕ, sym, ap, ◌∙◌, arith}
-use Rattle.record_top.specs.Finding.{document_line, match_line}
-use Rattle.record_top.proofs.Lines.{lines_more}
+use Rattle.command_line.specs.Lines.{document_line}
+use Rattle.record_top.specs.Finding.{match_line}
+use Rattle.command_line.proofs.Lines.{lines_more}
 use Rattle.record_top.proofs.find.text_of.Goals as goal
 
 pub loop-found-preserved : goal.loop-found-preserved

@@ -2,7 +2,7 @@
 use Rattle.std.proofs.Common.{Ok, refl}
 use Rattle.cell_types.proofs.Passed.{handed}
 use Rattle.cell_types.specs.declared.refusal.Refusal.TheVariants.{SinkFault}
-use Rattle.settling_laws.proofs.EndedAs.{settling_ends}
+use Rattle.volume_exercise.proofs.of_settling_laws.EndedAs.{settling_ends}
 use Rattle.record_top.proofs.recover.recover_device.Goals as goal
 
 -- the sink failed
