@@ -28,9 +28,6 @@ ghost use Rattle.record_top.specs.Ports.{ports_of};
 ghost use Rattle.record_top.specs.Steadiness.{LeavesWhole};
 ghost use Rattle.worm_device.specs.Calls.{Called};
 
-#[cfg(test)]
-mod tests;
-
 use cell_types::Refusal;
 use host_files::{FileDevice, HostFile, crashes_are_seen};
 use host_ports::{Sink, Source};

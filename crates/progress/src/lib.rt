@@ -24,8 +24,6 @@
 
 mod meter;
 mod metered_file;
-#[cfg(test)]
-mod tests;
 
 pub use meter::{Meter, Silent, Work};
 pub use metered_file::MeteredFile;

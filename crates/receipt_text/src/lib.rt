@@ -31,8 +31,6 @@ mod listed;
 mod printing;
 mod reading;
 mod receipt;
-#[cfg(test)]
-mod tests;
 
 pub use laws::{bad_is_one, listed_are_cells, texts_are_one};
 pub use listed::{ListedCell, ListedCells};

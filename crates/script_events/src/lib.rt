@@ -44,8 +44,6 @@ mod reader;
 mod rows;
 mod script;
 mod sequence;
-#[cfg(test)]
-mod tests;
 mod texts;
 mod values;
 

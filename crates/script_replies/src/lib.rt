@@ -19,8 +19,6 @@
 
 mod laws;
 mod reply;
-#[cfg(test)]
-mod tests;
 mod text;
 
 pub use laws::one_line_each;

@@ -1,7 +1,7 @@
 //! Scripts that are read, and texts that are none, each for one fault. They stand here with single quotes for double
 //! ones.
-use crate::{Event, Script, Timed, read_script};
 use cell_types::{Cell, Refusal};
+use script_events::{Event, Script, Timed, read_script};
 use std::alloc::Global;
 use std::test::Fail;
 use worm_memory::Moment;

@@ -1,7 +1,7 @@
 //! The receipt of the small volume, and texts that are none, each for one fault.
-use crate::{ListedCells, Receipt, ReceiptFault, read_receipt, text_of_receipt};
 use cell_types::{Cell, Refusal};
 use document_store::Text;
+use receipt_text::{ListedCells, Receipt, ReceiptFault, read_receipt, text_of_receipt};
 use std::alloc::Global;
 use std::test::Fail;
 
