@@ -1,5 +1,4 @@
-//! Tests of cells and devices: bytes of cells, a device in memory, a file as a device, what a
-//! meter is shown of one, sources and sinks, kept cells.
+//! Tests of cells and devices: bytes of cells, a device in memory, a file as a device, sources and sinks, kept cells.
 //!
 //! The files whose names end in `callers` have functions as other crates write them, generic over devices, views and ports,
 //! which are proved with next to no proof.
@@ -21,8 +20,6 @@ mod files;
 mod memory;
 #[cfg(test)]
 mod memory_callers;
-#[cfg(test)]
-mod meters;
 #[cfg(test)]
 mod port_callers;
 #[cfg(test)]

@@ -24,6 +24,8 @@
 
 mod meter;
 mod metered_file;
+#[cfg(test)]
+mod tests;
 
 pub use meter::{Meter, Silent, Work};
 pub use metered_file::MeteredFile;

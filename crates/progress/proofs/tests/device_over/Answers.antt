@@ -3,7 +3,7 @@ use Rattle.std.proofs.Common.{subst, sym}
 use Rattle.host_files.specs.Device.{SureStands}
 use Rattle.host_files.specs.MemoryFile.{state_of}
 use Rattle.host_files.specs.declared.memory_file.MemoryFile.{MemoryFile}
-use Rattle.device_tests.proofs.meters.device_over.Goals as goal
+use Rattle.progress.proofs.tests.device_over.Goals as goal
 
 -- what is sure of the file stands, and it is the file that was handed in
 pub over-requires : goal.over-requires

@@ -1,7 +1,7 @@
 //! What a meter is shown of a file in memory.
+use crate::{Meter, MeteredFile, Silent, Work};
 use cell_types::Cell;
 use host_files::{FileDevice, HostFile, Leaving, MemoryFile, Pages};
-use progress::{Meter, MeteredFile, Silent, Work};
 use std::alloc::Global;
 use std::process::Abort;
 use std::test::Fail;
