@@ -1,16 +1,12 @@
--- Words ask for one thing at most, and what holds of all that may be asked for.
-use Rattle.std.proofs.Common.{◌≡◌, ℕ, List, [], ◌∷◌, Option, Some, None, Result, Err, cond, sym, ap, ◌∙◌, inl, inr}
-use Rattle.std.specs.Prelude.{codes}
-use Rattle.std.specs.Str.{bytes_eq}
-use Rattle.cell_types.specs.declared.geometry.TheConstants.{FIRST_VERSION}
+-- What holds of all that may be asked for.
+use Rattle.std.proofs.Common.{◌≡◌, Result, Err}
 use Rattle.cell_types.specs.declared.refusal.Refusal.{Refusal}
 use Rattle.cell_types.specs.declared.refusal.Refusal.TheVariants.{Usage}
 use Rattle.worm_device.specs.Calls.{Called}
 use Rattle.worm_device.specs.State.{IsDevice}
-use Rattle.command_line.specs.Requests.{Asks, Request, ToAudit, ToCheck, ToExercise, ToFind, ToFindBetween, ToFormat, ToIngest, ToLookUp, ToMakeReceipt, ToRecover, ToReplay}
+use Rattle.command_line.specs.Requests.{Request, ToAudit, ToCheck, ToExercise, ToFind, ToFindBetween, ToFormat, ToIngest, ToLookUp, ToMakeReceipt, ToRecover, ToReplay}
 use Rattle.record_top.specs.Commands.{Does, IsAnswered, IsUnhindered}
 use Rattle.record_top.specs.Ports.{Ports}
-use Rattle.command_line.specs.Words.{digits_value}
 use Rattle.record_top.proofs.Audits.{audit_completes, audit_is_used}
 use Rattle.record_top.proofs.Checks.{check_called, check_completes, check_is_used}
 use Rattle.record_top.proofs.Completing.{format_completes, ingest_completes, recover_completes}

@@ -1,5 +1,5 @@
 -- The command `audit`: it says that the volume is sound, with how many slots and cells, or names what is not.
-use Rattle.std.specs.Prelude.{◌≡◌, ◌++◌, ℕ, List, [], ◌∷◌, codes, Result}
+use Rattle.std.specs.Prelude.{◌≡◌, ◌++◌, ℕ, List, codes, Result}
 use Rattle.std.specs.Fmt.{decimal}
 use Rattle.cell_types.specs.Layout.{Layout}
 use Rattle.cell_types.specs.declared.refusal.Refusal.{Refusal}

@@ -1,6 +1,6 @@
 -- The command `check`: it reads a receipt from the source, and says whether its cells stand on the device and keep its
 -- document. It settles nothing and writes nothing.
-use Rattle.std.specs.Prelude.{◌≡◌, ◌++◌, ℕ, List, [], ◌∷◌, codes, Some, Result, Ok, Err, IsTrue}
+use Rattle.std.specs.Prelude.{◌≡◌, ◌++◌, ℕ, List, codes, Some, Result, Ok, Err, IsTrue}
 use Rattle.cell_types.specs.Image.{Extends}
 use Rattle.cell_types.specs.declared.refusal.Refusal.{Refusal}
 use Rattle.host_ports.specs.Sources.{Gives, IsAtEnd}

@@ -1,12 +1,10 @@
--- Which commands there are: which words ask for each, what each does, and when nothing hinders it. A further command
--- is one more case in each of these.
-use Rattle.std.specs.Prelude.{ℕ, List, Option, Result, map}
-use Rattle.std.specs.String.{string_bytes}
+-- What each command does, and when nothing hinders it. A further command is one more case in each of these.
+use Rattle.std.specs.Prelude.{ℕ, List, Result}
 use Rattle.cell_types.specs.Layout.{Layout}
 use Rattle.cell_types.specs.declared.refusal.Refusal.{Refusal}
 use Rattle.receipt_text.specs.declared.receipt.Receipt.{Receipt}
 use Rattle.script_events.specs.declared.event.Script.{Script}
-use Rattle.command_line.specs.Asking.{AsksBetween, AsksForReceipt, AsksToAudit, AsksToCheck, AsksToExercise, AsksToFind, AsksToFormat, AsksToIngest, AsksToLookUp, AsksToRecover, AsksToReplay}
+use Rattle.command_line.specs.Requests.{Request, ToAudit, ToCheck, ToExercise, ToFind, ToFindBetween, ToFormat, ToIngest, ToLookUp, ToMakeReceipt, ToRecover, ToReplay}
 use Rattle.record_top.specs.Auditing.{DoesAudit, IsReadyToAudit}
 use Rattle.record_top.specs.Checking.{DoesCheck, IsReadyToCheck}
 use Rattle.record_top.specs.Exercising.{DoesExercise, IsOkOrOfExercise, IsReadyToExercise}
@@ -19,8 +17,6 @@ use Rattle.record_top.specs.Receipting.{DoesReceipt, IsOkOrNoReceipt, IsReadyFor
 use Rattle.record_top.specs.Recovering.{DoesRecover, IsReadyToRecover}
 use Rattle.record_top.specs.Replaying.{DoesReplay, IsReadyToReplay}
 use Rattle.record_top.specs.Spanning.{DoesBetween, IsReadyBetween}
-use Rattle.command_line.specs.declared.words.Command.{Command}
-use Rattle.command_line.specs.declared.words.Command.TheVariants.{Audit, Check, Exercise, Find, FindBetween, Format, Ingest, LookUp, MakeReceipt, Recover, Replay}
 
 -- the layout of so many slots and lists on the whole device, of this version
 abbrev pub layout_on : Ports → ℕ → ℕ → ℕ → Layout

@@ -1,14 +1,12 @@
 -- The command `exercise`: it does the exercise with so many documents on a new device in memory, and puts out its lines. The
 -- device that it is handed is left alone.
-use Rattle.std.specs.Prelude.{◌≡◌, ℕ, List, [], ◌∷◌, codes, Result, Ok, Err, ⊤}
+use Rattle.std.specs.Prelude.{◌≡◌, ℕ, Result, Ok, Err, ⊤}
 use Rattle.cell_types.specs.declared.refusal.Refusal.{Refusal}
 use Rattle.worm_device.specs.Counts.{IsStill}
 use Rattle.worm_memory.specs.Memory.{Memory}
 use Rattle.volume_exercise.specs.Exercising.{ExerciseEnds, exercise_device}
 use Rattle.volume_exercise.specs.Refusing.{IsOfExercise}
-use Rattle.command_line.specs.declared.words.TheConstants.{MAX_DOCUMENTS}
 use Rattle.record_top.specs.Ports.{Ports}
-use Rattle.command_line.specs.Words.{IsNumberUpTo}
 
 -- The exercise was done on a new device, and what it tells went into the sink; nothing was taken from the source.
 pub record DoesExercise (n : ℕ) (old new : Ports) (result : Result Unit Refusal) : Type 0 where

@@ -1,6 +1,5 @@
 -- The command `find`: it searches the documents of the volume for words, and puts out which have them all.
-use Rattle.std.specs.Prelude.{◌≡◌, ◌<◌, ◌≤◌, ◌+◌, ◌-◌, ◌++◌, ℕ, List, [], ◌∷◌, codes, length, slice_get, Contains, Some, Result, Ok, Err, IsTrue, ⊤}
-use Rattle.std.specs.Fmt.{decimal}
+use Rattle.std.specs.Prelude.{◌≡◌, ◌<◌, ◌≤◌, ◌+◌, ◌-◌, ℕ, List, [], ◌∷◌, slice_get, Contains, Some, Result, Ok, Err, IsTrue, ⊤}
 use Rattle.std.specs.Global.{Vec}
 use Rattle.cell_types.specs.Layout.{Layout}
 use Rattle.cell_types.specs.declared.refusal.Refusal.{Refusal}
@@ -13,12 +12,10 @@ use Rattle.worm_device.specs.Counts.{IsStill}
 use Rattle.worm_device.specs.State.{DeviceState}
 use Rattle.record_query.specs.Finding.{FindsAllOf, Searches}
 use Rattle.record_query.specs.declared.found.Match.{Match}
-use Rattle.command_line.specs.Lines.{found_lines}
+use Rattle.command_line.specs.Lines.{document_line, found_lines}
 use Rattle.record_top.specs.Ports.{Ports, TellsFromMemory}
 use Rattle.volume_exercise.specs.command_laws.WholeLogs.{HasSteadyVolume}
 use Rattle.record_top.specs.Ruling.{AsksRule}
-use Rattle.command_line.specs.Words.{IsNoOption}
-use Rattle.command_line.specs.declared.words.TheConstants.{MAX_QUERY_WORDS}
 
 -- by this rule the word holds this term, and no other
 abbrev pub IsOneTerm : WordRule → List ℕ → List ℕ → Type 0

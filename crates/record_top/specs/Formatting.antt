@@ -1,15 +1,13 @@
 -- The command `format`: it makes the device a volume, and says so.
-use Rattle.std.specs.Prelude.{◌≡◌, ◌⊎◌, ℕ, List, [], ◌∷◌, codes, None, Result, Ok, Err, IsTrue}
+use Rattle.std.specs.Prelude.{◌≡◌, ℕ, List, codes, None, Result, Ok, Err, IsTrue}
 use Rattle.cell_types.specs.Image.{ChangesOnly}
 use Rattle.cell_types.specs.Layout.{IsLayout, Layout}
-use Rattle.cell_types.specs.declared.geometry.TheConstants.{FIRST_VERSION, MAX_LISTS, MAX_SLOTS, NEWEST_VERSION}
 use Rattle.cell_types.specs.declared.refusal.Refusal.{Refusal}
 use Rattle.cell_types.specs.declared.refusal.Refusal.TheVariants.{SinkFault}
 use Rattle.ingest_engine.specs.Formats.{FormatEnds, volume_cell}
 use Rattle.worm_device.specs.Calls.{Called}
 use Rattle.worm_device.specs.Counts.{IsStill}
 use Rattle.record_top.specs.Ports.{Ports, KeepsSink, PutsOut, PutsOutPart}
-use Rattle.command_line.specs.Words.{IsNumberUpTo}
 
 -- the text that tells of a new volume
 abbrev pub formatted : List ℕ

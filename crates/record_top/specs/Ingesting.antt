@@ -1,6 +1,6 @@
 -- The command `ingest`: it stores the body that the source gives in the first free slot, with a stamp where documents
 -- have one, and acknowledges it.
-use Rattle.std.specs.Prelude.{◌≡◌, ℕ, List, [], ◌∷◌, codes, Option, Some, None, Result, Ok, Err, ⊤}
+use Rattle.std.specs.Prelude.{◌≡◌, ℕ, List, codes, Option, Some, Result, Ok, Err, ⊤}
 use Rattle.cell_types.specs.Layout.{Layout}
 use Rattle.cell_types.specs.declared.refusal.Refusal.{Refusal}
 use Rattle.cell_types.specs.declared.refusal.Refusal.TheVariants.{BadIdentifier, DeviceFault, SinkFault}
@@ -14,7 +14,6 @@ use Rattle.volume_exercise.specs.command_laws.Completing.{HasPlaceFor}
 use Rattle.command_line.specs.Lines.{slot_line}
 use Rattle.record_top.specs.Ports.{Ports, KeepsSink, Tells}
 use Rattle.record_top.specs.Taking.{BodyFails, refusal_of_body_fault}
-use Rattle.command_line.specs.Words.{AreSeconds, IsNoOption}
 use Rattle.record_top.specs.declared.body.BodyFault.{BodyFault}
 
 -- the text that acknowledges a document in this slot

@@ -1,5 +1,5 @@
 -- The command `lookup`: it puts out the body of the document with this identifier.
-use Rattle.std.specs.Prelude.{◌≡◌, ℕ, List, [], ◌∷◌, codes, Result, Ok, Err}
+use Rattle.std.specs.Prelude.{◌≡◌, ℕ, List, Result, Ok, Err}
 use Rattle.cell_types.specs.Layout.{Layout}
 use Rattle.cell_types.specs.declared.refusal.Refusal.{Refusal}
 use Rattle.cell_types.specs.declared.refusal.Refusal.TheVariants.{BadIdentifier}
@@ -9,7 +9,6 @@ use Rattle.record_query.specs.LookingUp.{LooksUp}
 use Rattle.record_query.specs.declared.found.Found.{Found}
 use Rattle.record_top.specs.Ports.{Ports}
 use Rattle.volume_exercise.specs.command_laws.WholeLogs.{HasSteadyVolume}
-use Rattle.command_line.specs.Words.{IsNoOption}
 
 -- the command answers as the engine did, which has put the body out itself
 abbrev pub Answers : Result Found Refusal → Result Unit Refusal → Type 0

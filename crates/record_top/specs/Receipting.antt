@@ -1,5 +1,5 @@
 -- The command `receipt`: it puts out a receipt of the document with this identifier.
-use Rattle.std.specs.Prelude.{◌≡◌, ℕ, List, [], ◌∷◌, codes, Result, Ok, Err, ⊤}
+use Rattle.std.specs.Prelude.{◌≡◌, ℕ, List, Result, Ok, Err, ⊤}
 use Rattle.cell_types.specs.Layout.{Layout}
 use Rattle.cell_types.specs.declared.refusal.Refusal.{Refusal}
 use Rattle.cell_types.specs.declared.refusal.Refusal.TheVariants.{Absent, BadIdentifier, NoMemory, ReceiptTooLong}
@@ -10,7 +10,6 @@ use Rattle.receipt_text.specs.Form.{text_of_receipt}
 use Rattle.receipt_text.specs.declared.receipt.Receipt.{Receipt}
 use Rattle.receipt_maker.specs.Making.{MakesReceipt}
 use Rattle.record_top.specs.Ports.{Ports, TellsFromMemory}
-use Rattle.command_line.specs.Words.{IsNoOption}
 
 -- What the command does, by how far it comes.
 pub data DoesReceipt (id : List ℕ) (old new : Ports) (result : Result Unit Refusal) : Type 0 where

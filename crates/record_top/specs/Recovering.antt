@@ -1,6 +1,5 @@
 -- The command `recover`: it settles the volume, and says what it did.
-use Rattle.std.specs.Prelude.{◌≡◌, ℕ, List, [], ◌∷◌, ◌++◌, codes, Result, Ok, Err, IsTrue, ⊤}
-use Rattle.std.specs.Fmt.{decimal}
+use Rattle.std.specs.Prelude.{◌≡◌, ℕ, List, codes, Result, Ok, Err, IsTrue, ⊤}
 use Rattle.cell_types.specs.Layout.{Layout}
 use Rattle.cell_types.specs.declared.refusal.Refusal.{Refusal}
 use Rattle.tamper_rules.specs.Settling.{Sound}
@@ -11,6 +10,7 @@ use Rattle.recovery_engine.specs.declared.settling.Ready.{Ready}
 use Rattle.recovery_engine.specs.declared.settling.Step.{Step}
 use Rattle.volume_exercise.specs.settling_laws.Steadiness.{EndsAs}
 use Rattle.recovery_engine.specs.declared.settling.Step.TheVariants.{Nothing, Abandoned, Completed}
+use Rattle.command_line.specs.Lines.{slot_line}
 use Rattle.record_top.specs.Ports.{Ports, Tells}
 use Rattle.volume_exercise.specs.command_laws.WholeLogs.{HasWholeLog}
 

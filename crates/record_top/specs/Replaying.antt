@@ -1,6 +1,6 @@
 -- The command `replay`: it reads a script from the source, replays its events on a new device in memory, and puts out a
 -- line for each. The device that it is handed is left alone.
-use Rattle.std.specs.Prelude.{◌≡◌, ℕ, List, [], ◌∷◌, codes, false, Some, Result, Ok, Err}
+use Rattle.std.specs.Prelude.{◌≡◌, ℕ, List, [], false, Some, Result, Ok, Err}
 use Rattle.cell_types.specs.declared.refusal.Refusal.{Refusal}
 use Rattle.cell_types.specs.declared.refusal.Refusal.TheVariants.{NoMemory}
 use Rattle.host_ports.specs.Sources.{Gives, IsAtEnd}

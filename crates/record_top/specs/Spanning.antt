@@ -1,5 +1,5 @@
 -- The command `between`: it searches the documents of a span of time, and puts out which these are.
-use Rattle.std.specs.Prelude.{◌≡◌, ◌≤◌, ◌++◌, ℕ, List, [], ◌∷◌, codes, Result}
+use Rattle.std.specs.Prelude.{◌≡◌, ◌++◌, ℕ, List, codes, Result}
 use Rattle.std.specs.Fmt.{decimal}
 use Rattle.std.specs.Global.{Vec}
 use Rattle.cell_types.specs.Layout.{Layout}
@@ -11,7 +11,6 @@ use Rattle.time_index.specs.Spans.{FindsBetween}
 use Rattle.time_index.specs.declared.found.TimeMatch.{TimeMatch}
 use Rattle.command_line.specs.Lines.{found_lines}
 use Rattle.record_top.specs.Ports.{Ports, TellsFromMemory}
-use Rattle.command_line.specs.Words.{AreSeconds}
 
 -- what the line of a document begins with: its slot, and its identifier
 abbrev pub line_start : ℕ → List ℕ → List ℕ
