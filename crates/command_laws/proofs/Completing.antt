@@ -14,20 +14,20 @@ use Rattle.stored_documents.specs.Documents.{Stands}
 use Rattle.stored_documents.specs.Slots.{IsEdge, IsHorizon}
 use Rattle.stored_documents.specs.Volumes.{IsVolume}
 use Rattle.stored_documents.proofs.Extending.{volume_on, written_on}
-use Rattle.tamper_rules.specs.Settling.{IsSettled}
-use Rattle.tamper_rules.proofs.GivenUp.{one_layout}
-use Rattle.tamper_rules.proofs.Settled.{taken_to}
+use Rattle.volume_audit.specs.tamper_rules.Settling.{IsSettled}
+use Rattle.volume_audit.proofs.of_tamper_rules.GivenUp.{one_layout}
+use Rattle.volume_audit.proofs.of_tamper_rules.Settled.{taken_to}
 use Rattle.index_paths.specs.Postings.{AreTags}
 use Rattle.index_paths.proofs.Tags.{tags_one}
-use Rattle.ingest_laws.specs.Needs.{IsNeed}
+use Rattle.record_query.specs.ingest_laws.Needs.{IsNeed}
 use Rattle.worm_device.specs.Calls.{Called}
 use Rattle.worm_device.specs.Counts.{IsStill}
 use Rattle.worm_device.specs.State.{DeviceState, IsDevice}
 use Rattle.worm_device.proofs.Counting.{rose_or_still, still_first, still_second}
-use Rattle.commit_record.specs.Licences.{IsLicensed}
-use Rattle.document_store.proofs.Holding.{held_stands}
-use Rattle.recovery_engine.specs.Settling.{HasSettled, IsSettlingRule, Settles, SettlesFirst}
-use Rattle.recovery_engine.specs.declared.settling.Ready.{Ready}
+use Rattle.volume_audit.specs.commit_record.Licences.{IsLicensed}
+use Rattle.volume_audit.proofs.of_document_store.Holding.{held_stands}
+use Rattle.record_query.specs.recovery_engine.Settling.{HasSettled, IsSettlingRule, Settles, SettlesFirst}
+use Rattle.record_query.specs.recovery_engine.declared.settling.Ready.{Ready}
 use Rattle.crash_laws.proofs.of_settling_laws.Alarms.{looked_unbroken, settling_named}
 use Rattle.crash_laws.proofs.of_settling_laws.LookedAt.{looked_ends}
 use Rattle.crash_laws.proofs.WellPlanned as planned

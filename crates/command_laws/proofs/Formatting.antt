@@ -8,9 +8,9 @@ use Rattle.cell_types.specs.declared.refusal.Refusal.{Refusal}
 use Rattle.cell_types.specs.declared.refusal.Refusal.TheVariants as refusals
 use Rattle.stored_documents.specs.Documents.{AreDocuments, Document}
 use Rattle.stored_documents.specs.Volumes.{IsVolume}
-use Rattle.tamper_rules.specs.Settling.{After, Held, Settled, Sound, none, nothing, of_after}
-use Rattle.tamper_rules.proofs.Images.{look, same_image}
-use Rattle.tamper_rules.proofs.SettledLaws.{formatted}
+use Rattle.volume_audit.specs.tamper_rules.Settling.{After, Held, Settled, Sound, none, nothing, of_after}
+use Rattle.volume_audit.proofs.of_tamper_rules.Images.{look, same_image}
+use Rattle.volume_audit.proofs.of_tamper_rules.SettledLaws.{formatted}
 use Rattle.worm_device.specs.Calls.{Called}
 use Rattle.worm_device.specs.Counts.{IsStill}
 use Rattle.worm_device.specs.State.{DeviceState, IsDevice}

@@ -7,13 +7,13 @@ use Rattle.cell_types.specs.declared.refusal.Refusal.{Refusal}
 use Rattle.cell_types.specs.declared.refusal.Refusal.TheVariants as refusals
 use Rattle.stored_documents.specs.Documents.{AreDocuments, Document, Stands}
 use Rattle.index_paths.specs.Keeping.{Kept}
-use Rattle.tamper_rules.proofs.GivenUp.{one_layout}
-use Rattle.tamper_rules.proofs.Keeps.{keeps_all}
-use Rattle.tamper_rules.proofs.Settled.{taken_below, written}
-use Rattle.tamper_rules.specs.Settling.{Held, Settled}
+use Rattle.volume_audit.proofs.of_tamper_rules.GivenUp.{one_layout}
+use Rattle.volume_audit.proofs.of_tamper_rules.Keeps.{keeps_all}
+use Rattle.volume_audit.proofs.of_tamper_rules.Settled.{taken_below, written}
+use Rattle.volume_audit.specs.tamper_rules.Settling.{Held, Settled}
 use Rattle.worm_device.specs.State.{DeviceState, IsDevice}
-use Rattle.recovery_engine.specs.Settling.{HasSettled, Settles, SettlesFirst, settled, settling}
-use Rattle.recovery_engine.specs.declared.settling.Ready.{Ready}
+use Rattle.record_query.specs.recovery_engine.Settling.{HasSettled, Settles, SettlesFirst, settled, settling}
+use Rattle.record_query.specs.recovery_engine.declared.settling.Ready.{Ready}
 use Rattle.crash_laws.proofs.of_settling_laws.LeftWhole.{documents_after}
 use Rattle.crash_laws.proofs.of_settling_laws.LookedAt.{looked_ends, looked_sound}
 use Rattle.record_query.specs.Finding.{Finds}

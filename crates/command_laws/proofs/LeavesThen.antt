@@ -2,7 +2,7 @@
 use Rattle.std.proofs.Common.{ℕ, List, sym, inl, inr, ⊎_elim, subst, arith}
 use Rattle.cell_types.specs.Image.{Image}
 use Rattle.stored_documents.specs.Documents.{Document}
-use Rattle.tamper_rules.specs.Settling.{Held, IsBlankOrSound}
+use Rattle.volume_audit.specs.tamper_rules.Settling.{Held, IsBlankOrSound}
 use Rattle.worm_device.specs.Calls.{Called}
 use Rattle.worm_device.specs.State.{DeviceState, IsDevice, LeftSince}
 use Rattle.worm_device.proofs.Elapsing.{elapses_of}

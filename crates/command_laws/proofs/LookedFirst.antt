@@ -6,8 +6,8 @@ use Rattle.cell_types.specs.Layout.{Layout}
 use Rattle.stored_documents.specs.Documents.{Document}
 use Rattle.stored_documents.proofs.Extending.{volume_on}
 use Rattle.stored_documents.specs.Volumes.{IsVolume}
-use Rattle.tamper_rules.specs.Settling.{Held}
-use Rattle.tamper_rules.proofs.Images.{same_image}
+use Rattle.volume_audit.specs.tamper_rules.Settling.{Held}
+use Rattle.volume_audit.proofs.of_tamper_rules.Images.{same_image}
 use Rattle.worm_device.specs.Calls.{Called}
 use Rattle.worm_device.specs.Counts.{IsStill}
 use Rattle.worm_device.specs.State.{DeviceState, IsDevice}

@@ -5,8 +5,8 @@ use Rattle.stored_documents.specs.Documents.{Stands}
 use Rattle.stored_documents.specs.Slots.{IsEdge, IsHorizon, IsStampFor, IsUnused}
 use Rattle.stored_documents.specs.Volumes.{IsVolume}
 use Rattle.index_paths.specs.Postings.{HasPostings}
-use Rattle.tamper_rules.specs.Settling.{Sound}
-use Rattle.ingest_laws.specs.Needs.{IsNeed}
+use Rattle.volume_audit.specs.tamper_rules.Settling.{Sound}
+use Rattle.record_query.specs.ingest_laws.Needs.{IsNeed}
 use Rattle.crash_laws.specs.ingest_plan.Planning.{IsLater}
 use Rattle.worm_device.specs.Counts.{IsStill}
 use Rattle.worm_device.specs.State.{DeviceState}

@@ -2,7 +2,7 @@
 use Rattle.std.specs.Prelude.{ℕ, IsTrue}
 use Rattle.cell_types.specs.Layout.{Layout}
 use Rattle.stored_documents.specs.Volumes.{IsVolume}
-use Rattle.tamper_rules.specs.Rules.{IsBroken}
+use Rattle.volume_audit.specs.tamper_rules.Rules.{IsBroken}
 use Rattle.worm_device.specs.Counts.{IsStill}
 use Rattle.worm_device.specs.State.{DeviceState}
 use Rattle.crash_laws.specs.settling_laws.Steadiness.{IsSteady}

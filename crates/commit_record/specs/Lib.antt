@@ -7,3 +7,4 @@ pub mod Reservations
 pub mod Stamps
 pub mod States
 pub mod SlotCells
+pub use Rattle.tamper_rules.specs as tamper_rules

@@ -9,24 +9,24 @@ use Rattle.stored_documents.specs.Documents.{AreDocuments, Stands}
 use Rattle.stored_documents.specs.Slots.{IsStampOf}
 use Rattle.stored_documents.specs.Volumes.{IsVolume}
 use Rattle.stored_documents.proofs.Extending.{volume_on}
-use Rattle.tamper_rules.specs.Rules as Rules
-use Rattle.tamper_rules.specs.Rules.{DoneRule, OutcomeRule}
-use Rattle.tamper_rules.specs.Settling.{IsSettled}
-use Rattle.tamper_rules.proofs.GivenUp.{one_layout}
-use Rattle.tamper_rules.proofs.Images.{look, same_both}
-use Rattle.ingest_laws.specs.Filling.{IsWellPlanned}
-use Rattle.ingest_laws.specs.Ingesting.{Phase, Row}
-use Rattle.ingest_laws.proofs.PlanAdds.{adds_one}
-use Rattle.ingest_laws.proofs.PlanSettled.{plan_is_settled}
+use Rattle.ingest_engine.specs.tamper_rules.Rules as Rules
+use Rattle.ingest_engine.specs.tamper_rules.Rules.{DoneRule, OutcomeRule}
+use Rattle.ingest_engine.specs.tamper_rules.Settling.{IsSettled}
+use Rattle.ingest_engine.proofs.of_tamper_rules.GivenUp.{one_layout}
+use Rattle.ingest_engine.proofs.of_tamper_rules.Images.{look, same_both}
+use Rattle.ingest_engine.specs.ingest_laws.Filling.{IsWellPlanned}
+use Rattle.ingest_engine.specs.ingest_laws.Ingesting.{Phase, Row}
+use Rattle.ingest_engine.proofs.of_ingest_laws.PlanAdds.{adds_one}
+use Rattle.ingest_engine.proofs.of_ingest_laws.PlanSettled.{plan_is_settled}
 use Rattle.worm_device.specs.Counts.{IsStill}
 use Rattle.worm_device.specs.State.{DeviceState, IsDevice, LeftSince}
 use Rattle.worm_device.proofs.Counting.{still_first, still_second}
 use Rattle.worm_device.proofs.Images.{extends_self}
-use Rattle.phase_writer.specs.declared.put.Put.{Put}
-use Rattle.phase_writer.specs.Putting.{AreStanding, IsInFirst, IsPut, LeavesPhases}
-use Rattle.recovery_engine.specs.Ending.{done_put}
-use Rattle.recovery_engine.specs.Settling.{HasSettled}
-use Rattle.recovery_engine.specs.declared.settling.Ready.{Ready}
+use Rattle.ingest_engine.specs.phase_writer.declared.put.Put.{Put}
+use Rattle.ingest_engine.specs.phase_writer.Putting.{AreStanding, IsInFirst, IsPut, LeavesPhases}
+use Rattle.settling_laws.specs.recovery_engine.Ending.{done_put}
+use Rattle.settling_laws.specs.recovery_engine.Settling.{HasSettled}
+use Rattle.settling_laws.specs.recovery_engine.declared.settling.Ready.{Ready}
 use Rattle.ingest_engine.specs.plan_writer.Planned.{INGEST_PHASES, PlansDocument, Suits, ingest_phases}
 use Rattle.ingest_engine.specs.plan_writer.PuttingPlans.{PutsPlan}
 use Rattle.ingest_engine.specs.plan_writer.declared.plan.Plan.{Plan}

@@ -3,8 +3,8 @@ use Rattle.std.specs.Prelude.{ℕ, List, IsTrue, Option}
 use Rattle.cell_types.specs.declared.refusal.Evidence.{Evidence}
 use Rattle.worm_device.specs.Counts.{IsStill}
 use Rattle.worm_device.specs.State.{DeviceState, IsDevice}
-use Rattle.commit_record.specs.Licences.{IsLicensed}
-use Rattle.recovery_engine.specs.declared.settling.Ready.{Ready}
+use Rattle.ingest_engine.specs.commit_record.Licences.{IsLicensed}
+use Rattle.settling_laws.specs.recovery_engine.declared.settling.Ready.{Ready}
 use Rattle.ingest_engine.specs.Ingesting.{HasSlot, IsNamed, by_plan, by_settling, in_index}
 use Rattle.ingest_engine.proofs.Named.{slot_still}
 use Rattle.settling_laws.specs.Steadiness.{IsSteady}

@@ -10,14 +10,14 @@ use Rattle.stored_documents.specs.Documents.{Document}
 use Rattle.stored_documents.specs.Volumes.{IsVolume, volume_record}
 use Rattle.stored_documents.proofs.Extending.{volume_on}
 use Rattle.stored_documents.proofs.Holding.{some_is}
-use Rattle.tamper_rules.specs.Settling.{Held}
-use Rattle.tamper_rules.proofs.GivenUp.{one_layout}
+use Rattle.ingest_engine.specs.tamper_rules.Settling.{Held}
+use Rattle.ingest_engine.proofs.of_tamper_rules.GivenUp.{one_layout}
 use Rattle.worm_device.specs.Calls.{Called}
 use Rattle.worm_device.specs.Counts.{IsStill}
 use Rattle.worm_device.specs.State.{DeviceState, IsDevice}
 use Rattle.worm_device.proofs.Counting.{still_first}
-use Rattle.recovery_engine.specs.Settling.{HasSettled}
-use Rattle.recovery_engine.specs.declared.settling.Ready.{Ready}
+use Rattle.settling_laws.specs.recovery_engine.Settling.{HasSettled}
+use Rattle.settling_laws.specs.recovery_engine.declared.settling.Ready.{Ready}
 use Rattle.ingest_engine.proofs.of_plan_writer.PutFrom as from
 use Rattle.ingest_engine.specs.Ingesting as ingesting
 use Rattle.ingest_engine.specs.Ingesting.{ComesTo, IngestEnds, Ingests, put, settled, settling}

@@ -2,7 +2,7 @@
 -- them.
 use Rattle.std.proofs.Common.{◌≡◌, ◌≤◌, ◌<◌, ℕ, List, inl, inr, ⊎_elim, sym, subst, arith, Option}
 use Rattle.cell_types.specs.Image.{Image, Between}
-use Rattle.tamper_rules.specs.Settling.{IsBlankOrSound}
+use Rattle.ingest_engine.specs.tamper_rules.Settling.{IsBlankOrSound}
 use Rattle.worm_device.specs.State.{DeviceState, LeftSince}
 use Rattle.settling_laws.specs.Steadiness.{IsLeftWhole, IsSteady, StaysSteady}
 use Rattle.crash_laws.specs.Steadiness.{CrashesLeaveIngest, IsLeftByIngest, StaysSteadyBy}

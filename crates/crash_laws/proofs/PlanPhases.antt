@@ -12,16 +12,16 @@ use Rattle.stored_documents.specs.Slots.{cells_for}
 use Rattle.stored_documents.specs.Volumes.{Holds}
 use Rattle.stored_documents.proofs.Holding.{some_is}
 use Rattle.stored_documents.proofs.Stamps.{stands_given}
-use Rattle.tamper_rules.specs.Journals.{journal_at}
-use Rattle.tamper_rules.specs.Settling.{RecordRow}
-use Rattle.tamper_rules.specs.declared.numbers.TheConstants.{STRAY_CELL}
-use Rattle.ingest_laws.specs.Filling.{IsWellPlanned}
-use Rattle.ingest_laws.specs.Ingesting.{Phase, Reserving, Storing, Committing, Applying, Finishing, order_of, ContentRow, CopyRow, StoredRow, Row, IsLeftIn}
-use Rattle.phase_writer.specs.declared.put.Blame.TheVariants as blames
-use Rattle.phase_writer.specs.declared.put.Put.{Put}
-use Rattle.phase_writer.specs.Putting.{AreStanding, ChangesBy, IsInFirst, IsInRow, IsPut}
-use Rattle.recovery_engine.specs.Ending.{done_put}
-use Rattle.recovery_engine.specs.Entries.{target_of}
+use Rattle.ingest_engine.specs.tamper_rules.Journals.{journal_at}
+use Rattle.ingest_engine.specs.tamper_rules.Settling.{RecordRow}
+use Rattle.ingest_engine.specs.tamper_rules.declared.numbers.TheConstants.{STRAY_CELL}
+use Rattle.ingest_engine.specs.ingest_laws.Filling.{IsWellPlanned}
+use Rattle.ingest_engine.specs.ingest_laws.Ingesting.{Phase, Reserving, Storing, Committing, Applying, Finishing, order_of, ContentRow, CopyRow, StoredRow, Row, IsLeftIn}
+use Rattle.ingest_engine.specs.phase_writer.declared.put.Blame.TheVariants as blames
+use Rattle.ingest_engine.specs.phase_writer.declared.put.Put.{Put}
+use Rattle.ingest_engine.specs.phase_writer.Putting.{AreStanding, ChangesBy, IsInFirst, IsInRow, IsPut}
+use Rattle.settling_laws.specs.recovery_engine.Ending.{done_put}
+use Rattle.settling_laws.specs.recovery_engine.Entries.{target_of}
 use Rattle.ingest_engine.specs.plan_writer.Planned.{IsPooledPut, IsStampPut, PlansDocument, Suits, commit_put, document_from, ingest_phases, journal_from, reserve_put, reserved_by, stamp_put}
 use Rattle.ingest_engine.specs.plan_writer.declared.plan.Plan.{Plan}
 use Rattle.crash_laws.proofs.WellPlanned.{plan_of}

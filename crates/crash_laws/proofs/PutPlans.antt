@@ -7,20 +7,20 @@ use Rattle.stored_documents.specs.Slots.{IsStampFor, IsStampOf}
 use Rattle.stored_documents.specs.Volumes.{IsVolume}
 use Rattle.stored_documents.proofs.Extending.{volume_on}
 use Rattle.stored_documents.specs.Documents.{AreDocuments, Document}
-use Rattle.tamper_rules.specs.Settling.{Held, Sound}
-use Rattle.tamper_rules.proofs.GivenUp.{one_layout}
-use Rattle.tamper_rules.proofs.Images.{look}
-use Rattle.ingest_laws.specs.Filling.{IsWellPlanned}
-use Rattle.ingest_laws.proofs.PlanAdds.{adds_one}
-use Rattle.ingest_laws.proofs.PlanLeaves.{plan_leaves_sound}
+use Rattle.ingest_engine.specs.tamper_rules.Settling.{Held, Sound}
+use Rattle.ingest_engine.proofs.of_tamper_rules.GivenUp.{one_layout}
+use Rattle.ingest_engine.proofs.of_tamper_rules.Images.{look}
+use Rattle.ingest_engine.specs.ingest_laws.Filling.{IsWellPlanned}
+use Rattle.ingest_engine.proofs.of_ingest_laws.PlanAdds.{adds_one}
+use Rattle.ingest_engine.proofs.of_ingest_laws.PlanLeaves.{plan_leaves_sound}
 use Rattle.worm_device.specs.Calls.{Called}
 use Rattle.worm_device.specs.Counts.{IsStill}
 use Rattle.worm_device.specs.State.{DeviceState, IsDevice, LeftSince}
 use Rattle.worm_device.proofs.Counting.{still_first, still_second}
 use Rattle.worm_device.proofs.Elapsing.{elapses_of}
-use Rattle.phase_writer.specs.Putting.{LeavesPhases}
-use Rattle.recovery_engine.specs.Settling.{HasSettled}
-use Rattle.recovery_engine.specs.declared.settling.Ready.{Ready}
+use Rattle.ingest_engine.specs.phase_writer.Putting.{LeavesPhases}
+use Rattle.settling_laws.specs.recovery_engine.Settling.{HasSettled}
+use Rattle.settling_laws.specs.recovery_engine.declared.settling.Ready.{Ready}
 use Rattle.ingest_engine.specs.plan_writer.Planned.{INGEST_PHASES, ingest_phases}
 use Rattle.ingest_engine.specs.plan_writer.PuttingPlans.{PutsPlan}
 use Rattle.ingest_engine.specs.plan_writer.declared.plan.Plan.{Plan}

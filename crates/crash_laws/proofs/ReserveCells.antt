@@ -7,19 +7,19 @@ use Rattle.cell_types.specs.declared.refusal.Refusal.{Refusal}
 use Rattle.stored_documents.specs.Documents.{document_at}
 use Rattle.stored_documents.specs.Volumes.{IsVolume}
 use Rattle.stored_documents.proofs.Extending.{volume_on}
-use Rattle.tamper_rules.specs.Journals.{journal_at}
-use Rattle.tamper_rules.proofs.GivenUp.{one_layout}
+use Rattle.ingest_engine.specs.tamper_rules.Journals.{journal_at}
+use Rattle.ingest_engine.proofs.of_tamper_rules.GivenUp.{one_layout}
 use Rattle.worm_device.specs.Counts.{IsStill}
 use Rattle.worm_device.specs.State.{DeviceState}
-use Rattle.phase_writer.specs.declared.put.Put.{Put}
-use Rattle.phase_writer.specs.Putting.{IsInFirst, IsPut}
-use Rattle.commit_record.specs.declared.slot.SlotState.{SlotState}
-use Rattle.commit_record.specs.declared.slot.SlotState.TheVariants.{Unused, Reserved, Abandoned, Committed, Done}
-use Rattle.recovery_engine.specs.Ending.{abandon_put, done_put, end_phases}
-use Rattle.recovery_engine.specs.Journal.{IsEntryPut}
-use Rattle.recovery_engine.specs.Settling.{IsEnding, Settles, settle_plan}
-use Rattle.recovery_engine.specs.declared.settling.Ready.{Ready}
-use Rattle.recovery_engine.proofs.Rising.{entries_from}
+use Rattle.ingest_engine.specs.phase_writer.declared.put.Put.{Put}
+use Rattle.ingest_engine.specs.phase_writer.Putting.{IsInFirst, IsPut}
+use Rattle.ingest_engine.specs.commit_record.declared.slot.SlotState.{SlotState}
+use Rattle.ingest_engine.specs.commit_record.declared.slot.SlotState.TheVariants.{Unused, Reserved, Abandoned, Committed, Done}
+use Rattle.settling_laws.specs.recovery_engine.Ending.{abandon_put, done_put, end_phases}
+use Rattle.settling_laws.specs.recovery_engine.Journal.{IsEntryPut}
+use Rattle.settling_laws.specs.recovery_engine.Settling.{IsEnding, Settles, settle_plan}
+use Rattle.settling_laws.specs.recovery_engine.declared.settling.Ready.{Ready}
+use Rattle.settling_laws.proofs.of_recovery_engine.Rising.{entries_from}
 use Rattle.ingest_engine.specs.plan_writer.Planned.{IsPooledPut, IsStampPut, Suits, ingest_phases}
 use Rattle.ingest_engine.specs.plan_writer.declared.plan.Plan.{Plan}
 use Rattle.ingest_engine.proofs.of_plan_writer.LogCells.{pooled_from, stamp_at}

@@ -13,19 +13,19 @@ use Rattle.stored_documents.proofs.Extending.{written_on}
 use Rattle.index_paths.specs.HashPaths.{IsPassed, PassedTo}
 use Rattle.index_paths.specs.Keeping.{sought_in}
 use Rattle.index_paths.proofs.Digests.{digest_is_bytes}
-use Rattle.tamper_rules.specs.Rules.{Paths}
-use Rattle.tamper_rules.specs.Settling.{IsSettled, Settled, Sound}
-use Rattle.tamper_rules.proofs.GivenUp.{one_layout}
-use Rattle.tamper_rules.proofs.Images.{same_image}
-use Rattle.ingest_laws.specs.Filling.{IsWellPlanned}
-use Rattle.ingest_laws.specs.Ingesting as growing
-use Rattle.ingest_laws.specs.Needs.{IsNeed}
+use Rattle.ingest_engine.specs.tamper_rules.Rules.{Paths}
+use Rattle.ingest_engine.specs.tamper_rules.Settling.{IsSettled, Settled, Sound}
+use Rattle.ingest_engine.proofs.of_tamper_rules.GivenUp.{one_layout}
+use Rattle.ingest_engine.proofs.of_tamper_rules.Images.{same_image}
+use Rattle.ingest_engine.specs.ingest_laws.Filling.{IsWellPlanned}
+use Rattle.ingest_engine.specs.ingest_laws.Ingesting as growing
+use Rattle.ingest_engine.specs.ingest_laws.Needs.{IsNeed}
 use Rattle.worm_device.specs.Counts.{IsStill}
 use Rattle.worm_device.specs.State.{DeviceState, IsDevice}
 use Rattle.worm_device.specs.Views.{seen_directly}
 use Rattle.worm_device.proofs.Counting.{still_second}
-use Rattle.recovery_engine.specs.Settling.{HasSettled}
-use Rattle.recovery_engine.specs.declared.settling.Ready.{Ready}
+use Rattle.settling_laws.specs.recovery_engine.Settling.{HasSettled}
+use Rattle.settling_laws.specs.recovery_engine.declared.settling.Ready.{Ready}
 use Rattle.plan_laws.specs.hash_tree.Levels.{node_of}
 use Rattle.plan_laws.specs.hash_tree.Steps.{IsOpenAt}
 use Rattle.plan_laws.specs.hash_tree.declared.level.Level.{Level}

@@ -4,7 +4,7 @@ use Rattle.cell_types.specs.declared.refusal.Evidence.{Evidence}
 use Rattle.cell_types.specs.declared.refusal.Refusal.{Refusal}
 use Rattle.cell_types.specs.declared.refusal.Refusal.TheVariants.{DeviceFault, Tampered}
 use Rattle.stored_documents.specs.Documents.{Document}
-use Rattle.tamper_rules.specs.Settling.{Held}
+use Rattle.ingest_engine.specs.tamper_rules.Settling.{Held}
 use Rattle.worm_device.specs.Counts.{IsStill}
 use Rattle.worm_device.specs.State.{DeviceState, IsDevice}
 use Rattle.ingest_engine.specs.Ingesting.{Ingests}

@@ -5,7 +5,7 @@ use Rattle.cell_types.specs.Layout.{Layout}
 use Rattle.stored_documents.specs.Documents.{AreDocuments, Document}
 use Rattle.stored_documents.specs.Slots.{IsStampOf}
 use Rattle.stored_documents.specs.Volumes.{IsVolume}
-use Rattle.tamper_rules.specs.Settling.{Held, IsBlankOrSound, Settled, Sound}
+use Rattle.ingest_engine.specs.tamper_rules.Settling.{Held, IsBlankOrSound, Settled, Sound}
 use Rattle.worm_device.specs.State.{DeviceState, LeftSince}
 use Rattle.ingest_engine.specs.Ingesting.{document_in}
 use Rattle.settling_laws.specs.Steadiness.{HoldsOneOf, IsSteady}

@@ -10,8 +10,8 @@ use Rattle.stored_documents.specs.Volumes.{IsVolume}
 use Rattle.stored_documents.proofs.Extending.{done_on, spells_on}
 use Rattle.stored_documents.proofs.Holding.{one_record_holds}
 use Rattle.stored_documents.proofs.OneDocument.{commits, reserves}
-use Rattle.tamper_rules.specs.Rules.{HasDocument}
-use Rattle.tamper_rules.proofs.GivenUp.{one_layout}
+use Rattle.commit_record.specs.tamper_rules.Rules.{HasDocument}
+use Rattle.commit_record.proofs.of_tamper_rules.GivenUp.{one_layout}
 use Rattle.worm_device.specs.Views.{ViewState, Viewed}
 use Rattle.append_file.proofs.Spelled.{spelled_once}
 use Rattle.document_store.specs.Heads.{IsWhole, SpellsNone}

@@ -8,9 +8,9 @@ use Rattle.cell_types.specs.declared.refusal.Fault.{Fault}
 use Rattle.cell_types.specs.declared.refusal.Fault.TheVariants.{Tampered, Failed}
 use Rattle.stored_documents.specs.Slots.{IsDoneSlot}
 use Rattle.stored_documents.proofs.Extending.{blank_before, unused_further, reserved_further, abandoned_further, committed_further, done_on, done_slot_on}
-use Rattle.tamper_rules.specs.Rules.{IsPlaceOf}
-use Rattle.tamper_rules.specs.Rules.{Documents}
-use Rattle.tamper_rules.specs.declared.numbers.TheConstants.{BROKEN_DOCUMENT}
+use Rattle.commit_record.specs.tamper_rules.Rules.{IsPlaceOf}
+use Rattle.commit_record.specs.tamper_rules.Rules.{Documents}
+use Rattle.commit_record.specs.tamper_rules.declared.numbers.TheConstants.{BROKEN_DOCUMENT}
 use Rattle.worm_device.specs.Views.{ViewState, Viewed}
 use Rattle.worm_device.proofs.Counting.{still_second}
 use Rattle.worm_device.proofs.Images.{extends_self}

@@ -3,7 +3,7 @@ use Rattle.std.specs.Prelude.{◌≡◌, ◌≤◌, ◌+◌, ℕ, List, ◌∷�
 use Rattle.cell_types.specs.Image.{Image}
 use Rattle.stored_documents.specs.Documents.{IsBody, IsIdentifier, Spells, stored_bytes}
 use Rattle.stored_documents.specs.declared.limits.TheConstants.{MAX_BODY_BYTES, MAX_IDENTIFIER_BYTES}
-use Rattle.tamper_rules.specs.Rules.{HasDocument}
+use Rattle.commit_record.specs.tamper_rules.Rules.{HasDocument}
 use Rattle.worm_device.specs.Counts.{Rose}
 use Rattle.worm_device.specs.Views.{ViewState}
 use Rattle.append_file.specs.Reading.{IsPosition, HasRead}

@@ -17,8 +17,8 @@
 
 ghost use Rattle.std.specs.Prelude.{◌≡◌, ◌↔◌, ℕ, List, Option, map};
 ghost use Rattle.std.specs.String.{string_bytes};
-ghost use Rattle.command_line.specs.Asking.{AsksToIngest};
-ghost use Rattle.command_line.specs.Requests.{Asks, AsksNothing, Request};
+ghost use Rattle.record_top.specs.command_line.Asking.{AsksToIngest};
+ghost use Rattle.record_top.specs.command_line.Requests.{Asks, AsksNothing, Request};
 ghost use Rattle.file_top.specs.Files.{KeepsAll, KeepsIn, WhereTold, file_ports};
 ghost use Rattle.host_files.specs.Crashes.{CrashesAreSeen};
 ghost use Rattle.host_files.specs.Over.{file_below, state_over};
@@ -32,7 +32,6 @@ use cell_types::Refusal;
 use host_files::{FileDevice, HostFile, crashes_are_seen};
 use host_ports::{Sink, Source};
 use progress::Meter;
-pub use record_top;
 use record_top::{Outcome, run_metered};
 use std::alloc::Global;
 
@@ -78,3 +77,5 @@ pub fn run_over_file<F: HostFile, S: Source, K: Sink, M: Meter>(
     crashes_are_seen(device);
     outcome
 }
+
+pub use record_top;

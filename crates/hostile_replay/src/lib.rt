@@ -27,7 +27,7 @@ mod queries;
 mod replaying;
 
 pub use replayed_worlds;
-pub use replayed_worlds::script_replies;
 pub use replayed_worlds::script_replies::Reply;
+pub use replayed_worlds::{ingest_engine, script_replies, volume_audit};
 pub use replaying::replay;
 pub use script_events::{Event, Schedule, Script, Timed, read_script};

@@ -11,7 +11,7 @@ use Rattle.stored_documents.proofs.Extending.{done_on, holds_on}
 use Rattle.index_paths.specs.HashPaths.{PassedTo, Sought, at_root, down, fingerprint_of, nibble}
 use Rattle.index_paths.specs.Nodes as nodes
 use Rattle.index_paths.specs.Nodes.{IsOnPath}
-use Rattle.tamper_rules.proofs.GoingOn.{on_path_on}
+use Rattle.document_store.proofs.of_tamper_rules.GoingOn.{on_path_on}
 use Rattle.worm_device.specs.Views.{ViewState, Viewed}
 use Rattle.identifier_lookup.specs.Costs.{AreCellsOf, CompareCosts, Comparison, Fall, HasDocumentCells, IsComparison, WalkCosts, cells_in}
 

@@ -15,7 +15,7 @@ use Rattle.index_paths.specs.Keeping.{sought_in}
 use Rattle.index_paths.specs.Nodes as nodes
 use Rattle.index_paths.specs.Nodes.{IsOnPath}
 use Rattle.index_paths.proofs.HashTrails.{follows, hash_trail_on, none_at_blank_bucket, none_at_blank_child, none_at_the_end, passed_to_on, the_found_one}
-use Rattle.tamper_rules.proofs.GoingOn.{on_path_on}
+use Rattle.document_store.proofs.of_tamper_rules.GoingOn.{on_path_on}
 use Rattle.worm_device.specs.Views.{ViewState, Viewed}
 use Rattle.worm_device.proofs.Counting.{rose_from}
 use Rattle.worm_device.proofs.Resting.{viewed_self, viewed_then}

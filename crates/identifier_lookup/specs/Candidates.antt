@@ -10,7 +10,7 @@ use Rattle.cell_types.specs.declared.refusal.Fault.TheVariants.{Tampered, Failed
 use Rattle.index_paths.specs.HashPaths.{fingerprint_of}
 use Rattle.stored_documents.specs.Slots.{IsDoneSlot}
 use Rattle.stored_documents.specs.Volumes.{Holds}
-use Rattle.tamper_rules.specs.declared.numbers.TheConstants.{FAKE_BUCKET}
+use Rattle.document_store.specs.tamper_rules.declared.numbers.TheConstants.{FAKE_BUCKET}
 use Rattle.worm_device.specs.Counts.{Rose}
 use Rattle.worm_device.specs.Views.{ViewState, Viewed}
 use Rattle.document_store.specs.Looks.{IsSame, LookFails}

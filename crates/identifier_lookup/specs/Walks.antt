@@ -12,8 +12,8 @@ use Rattle.stored_documents.specs.Slots.{IsEdge, IsHorizon}
 use Rattle.stored_documents.specs.Volumes.{Holds, IsVolume}
 use Rattle.index_paths.specs.HashPaths.{HashTrail, IsPassed, PassedTo, fingerprint_of, nibble}
 use Rattle.index_paths.specs.Keeping.{sought_in}
-use Rattle.tamper_rules.specs.Rules.{IsBroken, IsPlaceOf}
-use Rattle.tamper_rules.specs.declared.numbers.TheConstants.{BROKEN_DOCUMENT, DONE_CELL, OUTCOME_CELL, RESERVE_CELL}
+use Rattle.document_store.specs.tamper_rules.Rules.{IsBroken, IsPlaceOf}
+use Rattle.document_store.specs.tamper_rules.declared.numbers.TheConstants.{BROKEN_DOCUMENT, DONE_CELL, OUTCOME_CELL, RESERVE_CELL}
 use Rattle.worm_device.specs.Counts.{IsStill, Rose}
 use Rattle.worm_device.specs.Views.{ViewState, Viewed}
 use Rattle.document_store.specs.Looks.{HoldsIdentifier}

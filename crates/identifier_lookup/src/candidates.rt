@@ -1,12 +1,12 @@
 //! A bucket that may be that of an identifier.
 ghost use Rattle.std.specs.Prelude.{◌≡◌, ◌<◌, ◌≤◌, IsTrue};
 ghost use Rattle.cell_types.specs.declared.geometry.TheConstants.{MAX_SLOTS};
-ghost use Rattle.tamper_rules.specs.declared.numbers.TheConstants.{FAKE_BUCKET};
+ghost use Rattle.document_store.specs.tamper_rules.declared.numbers.TheConstants.{FAKE_BUCKET};
 ghost use Rattle.identifier_lookup.specs.Candidates.{Compares, HoldsNamed, IsNamedCell};
 
 use cell_types::{Evidence, Fault, RecordCell, Volume, encode};
+use document_store::tamper_rules::FAKE_BUCKET;
 use document_store::{part_has_identifier, slot_part};
-use tamper_rules::FAKE_BUCKET;
 use worm_device::View;
 
 /// A bucket with the fingerprint of this digest, which names a slot.

@@ -28,4 +28,5 @@ mod candidates;
 mod walks;
 
 pub use answers::Walk;
+pub use document_store;
 pub use walks::{lookup, walk};

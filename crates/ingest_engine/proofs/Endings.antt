@@ -13,9 +13,9 @@ use Rattle.worm_device.specs.Counts.{Rose}
 use Rattle.worm_device.specs.State.{DeviceState, IsDevice}
 use Rattle.worm_device.proofs.Elapsing.{called_self, called_then}
 use Rattle.stored_documents.proofs.Extending.{volume_on}
-use Rattle.recovery_engine.specs.Settling.{HasSettled, SettleEnds, Settles}
-use Rattle.recovery_engine.specs.declared.settling.Ready.{Ready}
-use Rattle.phase_writer.proofs.Phasing.{false_true}
+use Rattle.plan_writer.specs.recovery_engine.Settling.{HasSettled, SettleEnds, Settles}
+use Rattle.plan_writer.specs.recovery_engine.declared.settling.Ready.{Ready}
+use Rattle.plan_writer.proofs.of_phase_writer.Phasing.{false_true}
 use Rattle.plan_writer.specs.CrashLaws.{CrashesLeaveWholeSlots}
 use Rattle.plan_writer.specs.PuttingPlans.{PlanEnds, PutsPlan}
 use Rattle.plan_writer.specs.declared.plan.Plan.{Plan}

@@ -7,8 +7,8 @@ use Rattle.stored_documents.specs.Slots.{IsStampFor}
 use Rattle.stored_documents.specs.Volumes.{IsWritten}
 use Rattle.stored_documents.proofs.Extending.{written_on}
 use Rattle.worm_device.specs.State.{DeviceState}
-use Rattle.recovery_engine.specs.Settling.{HasSettled}
-use Rattle.recovery_engine.specs.declared.settling.Ready.{Ready}
+use Rattle.plan_writer.specs.recovery_engine.Settling.{HasSettled}
+use Rattle.plan_writer.specs.recovery_engine.declared.settling.Ready.{Ready}
 use Rattle.ingest_engine.specs.Ingesting.{HasNoSlot, HasSlot, IsLastFree}
 
 -- a cell that is not written is blank

@@ -12,8 +12,8 @@ use Rattle.index_paths.specs.HashPaths.{IsPassed, PassedTo}
 use Rattle.index_paths.specs.Keeping.{IsKept, Kept, sought_in}
 use Rattle.index_paths.proofs.HashTrails.{passed_on, passed_to_on}
 use Rattle.index_paths.proofs.KeepingLaws.{is_kept_on}
-use Rattle.tamper_rules.proofs.DocumentLists.{only_one}
-use Rattle.tamper_rules.proofs.GivenUp.{one_layout}
+use Rattle.commit_record.proofs.of_tamper_rules.DocumentLists.{only_one}
+use Rattle.commit_record.proofs.of_tamper_rules.GivenUp.{one_layout}
 use Rattle.worm_device.specs.Calls.{Called}
 use Rattle.worm_device.specs.State.{DeviceState}
 use Rattle.worm_device.specs.Views.{seen_directly}
@@ -22,7 +22,7 @@ use Rattle.hash_tree.specs.Levels.{node_of}
 use Rattle.hash_tree.specs.Steps.{IsOpenAt}
 use Rattle.hash_tree.specs.declared.level.Level.{Level}
 use Rattle.ingest_plan.specs.hash_insertion.Readiness.{PassedDown}
-use Rattle.recovery_engine.specs.declared.settling.Ready.{Ready}
+use Rattle.plan_writer.specs.recovery_engine.declared.settling.Ready.{Ready}
 use Rattle.identifier_lookup.specs.Walks.{EndsThere, IsPassedAbove, IsPassedUpToPlace}
 use Rattle.plan_writer.specs.Planned.{reserved_by}
 use Rattle.plan_writer.specs.PuttingPlans.{IsCarriedOut}

@@ -15,9 +15,9 @@ use Rattle.worm_device.specs.State.{DeviceState}
 use Rattle.worm_device.proofs.Counting.{still_first, still_second}
 use Rattle.worm_device.proofs.Elapsing.{called_then}
 use Rattle.ingest_plan.specs.hash_insertion.Readiness.{blank_in, blank_of}
-use Rattle.recovery_engine.specs.Entries.{target_of}
-use Rattle.recovery_engine.specs.Settling.{HasSettled}
-use Rattle.recovery_engine.specs.declared.settling.Ready.{Ready}
+use Rattle.plan_writer.specs.recovery_engine.Entries.{target_of}
+use Rattle.plan_writer.specs.recovery_engine.Settling.{HasSettled}
+use Rattle.plan_writer.specs.recovery_engine.declared.settling.Ready.{Ready}
 use Rattle.identifier_lookup.specs.Walks.{IsBlankIn}
 use Rattle.plan_writer.specs.Blank.{IsOfSlot}
 use Rattle.plan_writer.specs.Planned.{reserved_by}

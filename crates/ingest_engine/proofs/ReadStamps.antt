@@ -19,11 +19,11 @@ use Rattle.worm_device.proofs.Counting.{still_second}
 use Rattle.worm_device.proofs.Elapsing.{called_self}
 use Rattle.worm_device.proofs.Resting.{rests_of, viewed_self, viewed_then}
 use Rattle.commit_record.specs.Stamps.{IsStampOrNone, ReadsStamp}
-use Rattle.document_store.specs.Looks.{LookFails, PartEnds}
-use Rattle.document_store.specs.declared.part.Part.{Part}
+use Rattle.identifier_lookup.specs.document_store.Looks.{LookFails, PartEnds}
+use Rattle.identifier_lookup.specs.document_store.declared.part.Part.{Part}
 use Rattle.identifier_lookup.specs.Walks.{WalkFails}
 use Rattle.identifier_lookup.proofs.Licence.{names_licensed}
-use Rattle.recovery_engine.specs.declared.settling.Ready.{Ready}
+use Rattle.plan_writer.specs.recovery_engine.declared.settling.Ready.{Ready}
 use Rattle.ingest_engine.specs.Indexing.{LooksPast, PastEnds, ReadsOnDevice}
 use Rattle.ingest_engine.specs.Stamps.{AddsStamp, AreUpTo, IsOneBelow, IsUpTo, PastLast, ReadsStamps, StampsEnd, StampsSoFar}
 

@@ -11,7 +11,7 @@ use Rattle.stored_documents.specs.Slots.{IsStampFor, cells_for}
 use Rattle.worm_device.specs.State.{DeviceState}
 use Rattle.hash_tree.specs.declared.level.Level.{Level}
 use Rattle.hash_tree.specs.declared.path.Open.{Open}
-use Rattle.recovery_engine.specs.Entries.{AreEntries, IsFit, target_of}
+use Rattle.plan_writer.specs.recovery_engine.Entries.{AreEntries, IsFit, target_of}
 use Rattle.plan_writer.specs.Planned.{PlansDocument, Suits, document_from, journal_from, laid}
 use Rattle.plan_writer.specs.declared.plan.Plan.{Plan}
 use Rattle.ingest_plan.specs.Planning.{IsPlanned}

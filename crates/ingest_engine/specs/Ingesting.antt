@@ -10,14 +10,14 @@ use Rattle.stored_documents.specs.Documents.{Document, Stands, stored_bytes}
 use Rattle.stored_documents.specs.Slots.{IsStampFor, IsStampOf, IsUnused, Reserves, cells_for}
 use Rattle.stored_documents.specs.Volumes.{IsVolume, IsWritten}
 use Rattle.index_paths.specs.Keeping.{IsKept, Kept}
-use Rattle.tamper_rules.specs.declared.numbers.TheConstants.{STRAY_CELL}
+use Rattle.commit_record.specs.tamper_rules.declared.numbers.TheConstants.{STRAY_CELL}
 use Rattle.worm_device.specs.Calls.{Called}
 use Rattle.worm_device.specs.Counts.{Rose, IsStill}
 use Rattle.worm_device.specs.State.{DeviceState, IsDevice, LeftSince}
 use Rattle.commit_record.specs.Licences.{IsLicensed}
-use Rattle.document_store.specs.Looks.{HoldsIdentifier}
-use Rattle.recovery_engine.specs.Settling.{HasSettled, IsFound, IsSettlingRule, SettleEnds, Settles}
-use Rattle.recovery_engine.specs.declared.settling.Ready.{Ready}
+use Rattle.identifier_lookup.specs.document_store.Looks.{HoldsIdentifier}
+use Rattle.plan_writer.specs.recovery_engine.Settling.{HasSettled, IsFound, IsSettlingRule, SettleEnds, Settles}
+use Rattle.plan_writer.specs.recovery_engine.declared.settling.Ready.{Ready}
 use Rattle.identifier_lookup.specs.Walks.{HasTrail, IsFirstOnPath, IsPassedWhole, NoneHasTrail}
 use Rattle.plan_writer.specs.Blank.{IsOfSlot}
 use Rattle.plan_writer.specs.CrashLaws.{IsWholeOrUncommitted}

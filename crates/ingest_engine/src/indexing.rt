@@ -1,15 +1,15 @@
 //! The index of a document, planned on a settled volume.
 ghost use Rattle.std.specs.Prelude.{◌<◌, ◌≤◌};
-ghost use Rattle.recovery_engine.specs.Settling.{LiesInBounds};
+ghost use Rattle.plan_writer.specs.recovery_engine.Settling.{LiesInBounds};
 ghost use Rattle.ingest_engine.specs.Indexing.{EndsPath, PlansFor, WalksDevice};
-ghost use Rattle.term_tags.specs.Listing.{MayHaveStamp};
+ghost use Rattle.ingest_plan.specs.term_tags.Listing.{MayHaveStamp};
 
 use crate::stamps::look_past;
 use cell_types::{Fault, Refusal};
 use hash_tree::{Level, Open};
 use identifier_lookup::{Walk, walk};
 use ingest_plan::{PlannedIndex, plan_index};
-use recovery_engine::Ready;
+use plan_writer::recovery_engine::Ready;
 use std::alloc::Global;
 use worm_device::{Device, Direct};
 

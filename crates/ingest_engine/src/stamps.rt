@@ -1,13 +1,13 @@
 //! Whether the stamp of a document is past those of the volume.
 ghost use Rattle.std.specs.Prelude.{◌≡◌, ◌<◌, ◌≤◌, ◌⊎◌};
-ghost use Rattle.recovery_engine.specs.Settling.{LiesInBounds};
+ghost use Rattle.plan_writer.specs.recovery_engine.Settling.{LiesInBounds};
 ghost use Rattle.ingest_engine.specs.Indexing.{LooksPast, ReadsOnDevice};
 ghost use Rattle.ingest_engine.specs.Stamps.{AddsStamp, IsUpTo, PastLast, ReadsStamps};
 
 use cell_types::{Fault, Refusal, Volume};
 use commit_record::stamp_of;
-use document_store::slot_part;
-use recovery_engine::Ready;
+use identifier_lookup::document_store::slot_part;
+use plan_writer::recovery_engine::Ready;
 use worm_device::{Device, Direct, View};
 
 /// That the stamp, if one is given, is past that of each done slot below the horizon. The slots are read from the greatest

@@ -10,8 +10,8 @@ use Rattle.stored_documents.specs.Volumes.{Holds, IsWritten}
 use Rattle.stored_documents.proofs.Holding.{one_record_holds}
 use Rattle.index_paths.specs.Blocks.{PostingFields, pointer_at}
 use Rattle.cell_pool.specs.declared.pool.Pool.{Pool}
-use Rattle.hash_tree.specs.declared.level.Level.{Level}
-use Rattle.hash_tree.specs.declared.path.Open.{Open}
+use Rattle.hash_insertion.specs.hash_tree.declared.level.Level.{Level}
+use Rattle.hash_insertion.specs.hash_tree.declared.path.Open.{Open}
 use Rattle.cell_types.specs.Layout.{Layout}
 use Rattle.worm_device.specs.Counts.{IsStill}
 use Rattle.worm_device.specs.Views.{ViewState}

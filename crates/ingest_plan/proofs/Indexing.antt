@@ -15,13 +15,13 @@ use Rattle.index_paths.specs.HashPaths.{nibble}
 use Rattle.index_paths.specs.Postings.{ListedPosting}
 use Rattle.index_paths.proofs.Trails.{trail_on}
 use Rattle.stored_documents.specs.Volumes.{Holds}
-use Rattle.tamper_rules.specs.Journals.{IsIndexRecord}
+use Rattle.jump_insertion.specs.tamper_rules.Journals.{IsIndexRecord}
 use Rattle.cell_pool.specs.declared.pool.Pool.{Pool}
-use Rattle.hash_tree.specs.Levels.{IsLed, IsWithin, bucket_at, child_at, node_of}
-use Rattle.hash_tree.specs.Steps.{IsOpenOf}
-use Rattle.hash_tree.specs.declared.level.ChildCell.{ChildCell}
-use Rattle.hash_tree.specs.declared.level.Level.{Level}
-use Rattle.hash_tree.specs.declared.path.Open.{Open}
+use Rattle.hash_insertion.specs.hash_tree.Levels.{IsLed, IsWithin, bucket_at, child_at, node_of}
+use Rattle.hash_insertion.specs.hash_tree.Steps.{IsOpenOf}
+use Rattle.hash_insertion.specs.hash_tree.declared.level.ChildCell.{ChildCell}
+use Rattle.hash_insertion.specs.hash_tree.declared.level.Level.{Level}
+use Rattle.hash_insertion.specs.hash_tree.declared.path.Open.{Open}
 use Rattle.planned_cells.specs.Records.{HoldsPlanned}
 use Rattle.planned_cells.specs.declared.fault.GrowthFault.{GrowthFault}
 use Rattle.planned_cells.specs.declared.fault.GrowthFault.TheVariants.{Fault, NoMemory}
@@ -47,13 +47,13 @@ use Rattle.ingest_plan.proofs.Licensing.{licensable}
 
 -- a place of a level lies in the level's node
 place_within : (g : Layout) (level : Level) (bucket : ℕ) (child : Option ℕ) → nibble level.digest level.number < 16
-    → Rattle.hash_tree.specs.Steps.IsOpenAt g level bucket child
+    → Rattle.hash_insertion.specs.hash_tree.Steps.IsOpenAt g level bucket child
     → (node_of g level ≤ blank_in bucket child) × (blank_in bucket child < node_of g level + 32)
 place_within g level bucket None half at = (omega (arith, at), omega (arith, at, half))
 place_within g level bucket (Some child) half at = (omega (arith, at.1), omega (arith, at.1, half))
 
 root_node : (g : Layout) (level : Level) → level.led_by ≡ None → node_of g level ≡ root_at g
-root_node g level first = ap (λ (led : Option ChildCell). Rattle.hash_tree.specs.Levels.node_in g led) first
+root_node g level first = ap (λ (led : Option ChildCell). Rattle.hash_insertion.specs.hash_tree.Levels.node_in g led) first
 
 led_on : (old new : Image) (led : Option ChildCell) → Extends old new → IsLed old led → IsLed new led
 led_on old new None e is = tt
@@ -135,7 +135,7 @@ module _ (g : Layout) (n : ℕ) (rows : List ListedPosting) (level : Level) (pla
       by_led None is = omega (arith, root_node g level is)
       by_led (Some child) is =
           let w : IsWithin g old.fresh (Some child) = subst (λ (l : Option ChildCell). IsWithin g old.fresh l) is within in
-          let same : node_of g level ≡ child.target = ap (λ (l : Option ChildCell). Rattle.hash_tree.specs.Levels.node_in g l) is in
+          let same : node_of g level ≡ child.target = ap (λ (l : Option ChildCell). Rattle.hash_insertion.specs.hash_tree.Levels.node_in g l) is in
           omega (arith, w.0, same)
 
   module _ (pool rest : Pool) (new : ViewState) (at : ℕ) (inserted : IsInserted g level place n at pool rest mid new)
@@ -238,7 +238,7 @@ module _ (g : Layout) (n : ℕ) (rows : List ListedPosting) (level : Level) (pla
         bucket_place : place.child ≡ None → blank_of place ≡ bucket_at g level
         bucket_place none =
             ap (λ (c : Option ℕ). blank_in place.bucket c) none
-            ∙ subst (λ (c : Option ℕ). Rattle.hash_tree.specs.Steps.IsOpenAt g level place.bucket c) none open_at
+            ∙ subst (λ (c : Option ℕ). Rattle.hash_insertion.specs.hash_tree.Steps.IsOpenAt g level place.bucket c) none open_at
     blank_now view (with_node child is_child child_is less leads at_is holds others small below takes) tells blank cell
         value is = ⊎_elim
         (λ (here : cell ≡ child).

@@ -7,17 +7,17 @@ use Rattle.cell_types.specs.Layout.{Layout}
 use Rattle.cell_types.specs.declared.refusal.Evidence.{Evidence}
 use Rattle.stored_documents.specs.Slots.{IsEdge, IsHorizon}
 use Rattle.stored_documents.specs.Volumes.{IsVolume}
-use Rattle.tamper_rules.specs.Rules.{Children, IsBroken, IsPlaceOf}
-use Rattle.tamper_rules.specs.declared.numbers.TheConstants.{FAKE_POSTING}
+use Rattle.jump_insertion.specs.tamper_rules.Rules.{Children, IsBroken, IsPlaceOf}
+use Rattle.jump_insertion.specs.tamper_rules.declared.numbers.TheConstants.{FAKE_POSTING}
 use Rattle.index_paths.specs.Postings.{HasPostings, ListedPosting}
 use Rattle.worm_device.specs.Counts.{IsStill}
 use Rattle.worm_device.specs.State.{DeviceState}
 use Rattle.worm_device.specs.Views.{IsView, ViewState}
 use Rattle.worm_device.specs.declared.owner.Owner.{Owner}
-use Rattle.hash_tree.specs.Levels.{IsChildPlace, IsLedWithin}
-use Rattle.hash_tree.specs.declared.level.ChildCell.{ChildCell}
-use Rattle.hash_tree.specs.declared.level.Level.{Level}
-use Rattle.hash_tree.specs.declared.path.Open.{Open}
+use Rattle.hash_insertion.specs.hash_tree.Levels.{IsChildPlace, IsLedWithin}
+use Rattle.hash_insertion.specs.hash_tree.declared.level.ChildCell.{ChildCell}
+use Rattle.hash_insertion.specs.hash_tree.declared.level.Level.{Level}
+use Rattle.hash_insertion.specs.hash_tree.declared.path.Open.{Open}
 use Rattle.jump_insertion.specs.Evidence.{AreInTheirPlaces, IsInItsPlace, IsLicensedBelow, IsPastSlots, NothingBelowPlans, ShowsBelow, bad_entry, bad_pointer, late, of_list, of_new, of_tree}
 use Rattle.jump_insertion.proofs.Licence.{licensed}
 use Rattle.hash_insertion.specs.Inserting.{IsTaken}

@@ -12,11 +12,11 @@ use Rattle.index_paths.proofs.Trails.{trail_on, trail_wider}
 use Rattle.stored_documents.specs.Volumes.{Holds}
 use Rattle.cell_pool.specs.Grants.{TakesFront}
 use Rattle.cell_pool.specs.declared.pool.Pool.{Pool}
-use Rattle.jump_block.specs.Entries.{cell_of}
-use Rattle.jump_block.specs.declared.held_entry.Entry.{Entry}
+use Rattle.jump_insertion.specs.jump_block.Entries.{cell_of}
+use Rattle.jump_insertion.specs.jump_block.declared.held_entry.Entry.{Entry}
 use Rattle.planned_cells.specs.declared.fault.GrowthFault.{GrowthFault}
 use Rattle.planned_cells.specs.declared.fault.GrowthFault.TheVariants.{Fault, NoMemory}
-use Rattle.ingest_laws.specs.ListShapes.{IsWellListed}
+use Rattle.jump_insertion.specs.ingest_laws.ListShapes.{IsWellListed}
 use Rattle.worm_device.specs.Counts.{IsStill}
 use Rattle.worm_device.proofs.Counting.{still_first, still_second}
 use Rattle.worm_device.proofs.Elapsing.{called_self, called_then}

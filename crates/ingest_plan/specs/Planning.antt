@@ -11,17 +11,17 @@ use Rattle.stored_documents.specs.Slots.{IsEdge, IsHorizon, IsStampOf}
 use Rattle.stored_documents.specs.Volumes.{IsVolume}
 use Rattle.index_paths.specs.Keeping.{IsKept, sought_in}
 use Rattle.index_paths.specs.Postings.{ArePostings, HasPostings, ListedPosting}
-use Rattle.tamper_rules.specs.Rules.{IsBroken, IsPlaceOf}
-use Rattle.tamper_rules.specs.declared.numbers.TheConstants.{BLOCK_OUT_OF_ORDER, FAKE_POSTING, LOST_POINTER, LOST_CHILD}
+use Rattle.jump_insertion.specs.tamper_rules.Rules.{IsBroken, IsPlaceOf}
+use Rattle.jump_insertion.specs.tamper_rules.declared.numbers.TheConstants.{BLOCK_OUT_OF_ORDER, FAKE_POSTING, LOST_POINTER, LOST_CHILD}
 use Rattle.term_tags.specs.Listing.{GetsTooMany}
 use Rattle.worm_device.specs.Calls.{Called}
 use Rattle.worm_device.specs.Counts.{IsStill, Rose}
 use Rattle.worm_device.specs.Overlays.{over}
 use Rattle.worm_device.specs.State.{DeviceState}
 use Rattle.jump_insertion.specs.Evidence.{IsPastStamps}
-use Rattle.hash_tree.specs.Levels.{IsLedWithin}
-use Rattle.hash_tree.specs.declared.level.Level.{Level}
-use Rattle.hash_tree.specs.declared.path.Open.{Open}
+use Rattle.hash_insertion.specs.hash_tree.Levels.{IsLedWithin}
+use Rattle.hash_insertion.specs.hash_tree.declared.level.Level.{Level}
+use Rattle.hash_insertion.specs.hash_tree.declared.path.Open.{Open}
 use Rattle.hash_insertion.specs.Readiness.{PassedDown, blank_of, cost_of}
 use Rattle.ingest_plan.specs.Granting.{GivesWhatIsLedTo}
 use Rattle.ingest_plan.specs.Indexes.{IsIndexCell}

@@ -7,10 +7,10 @@ use Rattle.cell_types.specs.declared.record_cell.RecordCell.TheVariants.{Jump}
 use Rattle.index_paths.specs.Blocks.{Leads, pointer_at, posting_record}
 use Rattle.index_paths.specs.Nodes.{AreApart}
 use Rattle.index_paths.specs.Postings.{ListedPosting}
-use Rattle.ingest_laws.specs.ListShapes.{IsWellListed}
-use Rattle.ingest_laws.specs.Needs.{PostingsCost}
-use Rattle.hash_tree.specs.declared.level.Level.{Level}
-use Rattle.hash_tree.specs.declared.path.Open.{Open}
+use Rattle.jump_insertion.specs.ingest_laws.ListShapes.{IsWellListed}
+use Rattle.jump_insertion.specs.ingest_laws.Needs.{PostingsCost}
+use Rattle.hash_insertion.specs.hash_tree.declared.level.Level.{Level}
+use Rattle.hash_insertion.specs.hash_tree.declared.path.Open.{Open}
 use Rattle.jump_insertion.specs.Costs.{HaveTrails, HaveKeysBelow}
 use Rattle.jump_insertion.specs.Others.{ListsAreApart}
 use Rattle.hash_insertion.specs.Inserting.{TakesItsNeed}

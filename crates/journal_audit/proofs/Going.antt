@@ -8,7 +8,7 @@ use Rattle.cell_types.specs.Layout.{Layout}
 use Rattle.cell_types.specs.declared.refusal.Evidence.{Evidence}
 use Rattle.stored_documents.specs.Slots.{Stores}
 use Rattle.stored_documents.specs.Volumes.{IsWritten}
-use Rattle.tamper_rules.specs.Rules.{Rule, ReserveCells, IsMet, IsPlace, IsOfPool}
+use Rattle.document_store.specs.tamper_rules.Rules.{Rule, ReserveCells, IsMet, IsPlace, IsOfPool}
 use Rattle.log_audit.specs.Findings.{IsMetAll, IsLeast}
 use Rattle.log_audit.specs.Logs.{IsLog}
 use Rattle.log_audit.specs.Stored.{IsStored}

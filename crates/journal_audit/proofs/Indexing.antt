@@ -4,8 +4,8 @@ use Rattle.std.specs.Prelude.{IsTrue}
 use Rattle.std.proofs.lemmas.Bool.Decides.{nat_tests}
 use Rattle.cell_types.specs.Image.{Image}
 use Rattle.cell_types.specs.Layout.{Layout, all_lists, lists_at, list_at, root_at, pool_at, time_lists}
-use Rattle.tamper_rules.specs.Journals.{LiesInBlocks, IsIndexCell, of_list, of_root, of_slot}
-use Rattle.tamper_rules.specs.Rules.{ReserveCells}
+use Rattle.document_store.specs.tamper_rules.Journals.{LiesInBlocks, IsIndexCell, of_list, of_root, of_slot}
+use Rattle.document_store.specs.tamper_rules.Rules.{ReserveCells}
 use Rattle.log_audit.specs.Findings.{IsMetAll}
 use Rattle.log_audit.proofs.Logged.{one_slot}
 

@@ -9,7 +9,7 @@ use Rattle.cell_types.specs.declared.record_cell.RecordCell.{RecordCell}
 use Rattle.cell_types.proofs.OneRecord.{address_in}
 use Rattle.stored_documents.specs.Documents.{document_at}
 use Rattle.stored_documents.proofs.Holding.{some_is}
-use Rattle.tamper_rules.specs.Journals.{journal_at, Copies, IsIndexCell}
+use Rattle.document_store.specs.tamper_rules.Journals.{journal_at, Copies, IsIndexCell}
 use Rattle.recovery_engine.specs.Entries.{target_of}
 use Rattle.log_audit.specs.declared.stored.StoredSlot.{StoredSlot}
 use Rattle.journal_audit.specs.Copying.{HasTarget}

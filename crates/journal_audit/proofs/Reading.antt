@@ -4,10 +4,10 @@ use Rattle.std.specs.Prelude.{IsTrue, true}
 use Rattle.cell_types.specs.Image.{Image}
 use Rattle.worm_device.specs.Views.{Viewed}
 use Rattle.worm_device.proofs.Resting.{rests_of}
-use Rattle.tamper_rules.specs.Rules.{HasDocument}
-use Rattle.tamper_rules.proofs.Images.{same_image}
-use Rattle.append_file.specs.declared.piece.ContentFault.{ContentFault}
-use Rattle.append_file.specs.declared.piece.ContentFault.TheVariants as faults
+use Rattle.document_store.specs.tamper_rules.Rules.{HasDocument}
+use Rattle.document_store.proofs.of_tamper_rules.Images.{same_image}
+use Rattle.document_store.specs.append_file.declared.piece.ContentFault.{ContentFault}
+use Rattle.document_store.specs.append_file.declared.piece.ContentFault.TheVariants as faults
 use Rattle.document_store.specs.Heads.{DocumentEnds, id_of}
 use Rattle.document_store.specs.declared.head.Head.{Head}
 use Rattle.kept_cells.specs.Kept.{image_of, view_of}

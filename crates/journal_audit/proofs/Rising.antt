@@ -3,7 +3,7 @@ use Rattle.std.proofs.Common.{◌≡◌, ◌<◌, ◌≤◌, ◌+◌, ◌⊎◌,
 use Rattle.std.proofs.lemmas.Bool.{cases_order}
 use Rattle.cell_types.specs.Image.{Image}
 use Rattle.cell_types.specs.Layout.{Layout, outcome_at}
-use Rattle.tamper_rules.specs.Rules.{Journals}
+use Rattle.document_store.specs.tamper_rules.Rules.{Journals}
 use Rattle.log_audit.specs.Findings.{IsMetAll}
 use Rattle.log_audit.specs.Stored.{IsStored}
 use Rattle.log_audit.specs.declared.stored.StoredSlot.{StoredSlot}

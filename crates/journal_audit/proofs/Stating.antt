@@ -7,7 +7,7 @@ use Rattle.cell_types.specs.declared.refusal.Evidence.{Evidence}
 use Rattle.stored_documents.specs.Documents.{document_at}
 use Rattle.stored_documents.specs.Slots.{Stores}
 use Rattle.stored_documents.specs.Volumes.{IsWritten}
-use Rattle.tamper_rules.specs.Rules.{HasDocument, DocumentRule, JournalRule, Journals, RedoneRule, number_of, Rule}
+use Rattle.document_store.specs.tamper_rules.Rules.{HasDocument, DocumentRule, JournalRule, Journals, RedoneRule, number_of, Rule}
 use Rattle.log_audit.specs.Findings.{AreMetBelow, Finds, IsLeast}
 use Rattle.log_audit.proofs.Numbers.{below_next}
 use Rattle.journal_audit.specs.Checking.{FindsFirst}

@@ -5,8 +5,8 @@ use Rattle.cell_types.specs.Layout.{Layout}
 use Rattle.cell_types.specs.declared.record_cell.RecordCell.{RecordCell}
 use Rattle.cell_types.specs.declared.refusal.Evidence.{Evidence}
 use Rattle.stored_documents.specs.Volumes.{IsWritten}
-use Rattle.tamper_rules.specs.Journals.{journal_at, Copies, IsInOrder}
-use Rattle.tamper_rules.specs.Rules.{Rule, Journals, number_of}
+use Rattle.document_store.specs.tamper_rules.Journals.{journal_at, Copies, IsInOrder}
+use Rattle.document_store.specs.tamper_rules.Rules.{Rule, Journals, number_of}
 use Rattle.log_audit.specs.Findings.{IsLeast}
 use Rattle.log_audit.specs.Stored.{IsStored}
 use Rattle.log_audit.specs.declared.stored.StoredSlot.{StoredSlot}

@@ -1,6 +1,6 @@
 //! Journal cells: copies of index cells.
 ghost use Rattle.std.specs.Prelude.{◌↔◌, IsTrue};
-ghost use Rattle.tamper_rules.specs.Journals.{IsIndexRecord};
+ghost use Rattle.document_store.specs.tamper_rules.Journals.{IsIndexRecord};
 ghost use Rattle.recovery_engine.specs.Entries.{IsCopy};
 ghost use Rattle.kept_cells.specs.Kept.{image_of};
 ghost use Rattle.journal_audit.specs.Copying.{TargetEnds};

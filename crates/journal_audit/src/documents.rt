@@ -1,16 +1,16 @@
 //! Rule 4: documents.
 ghost use Rattle.std.specs.Prelude.{◌≤◌, ◌+◌, ◌↔◌, ◌≡◌, IsTrue};
 ghost use Rattle.stored_documents.specs.Slots.{cells_for};
-ghost use Rattle.tamper_rules.specs.Rules.{HasDocument, Documents};
+ghost use Rattle.document_store.specs.tamper_rules.Rules.{HasDocument, Documents};
 ghost use Rattle.kept_cells.specs.Kept.{image_of, count_of};
 ghost use Rattle.log_audit.specs.Findings.{Finds};
 ghost use Rattle.log_audit.specs.Logs.{IsLog};
 
 use cell_types::{Evidence, Geometry};
 use document_store::read_document;
+use document_store::tamper_rules::BROKEN_DOCUMENT;
 use kept_cells::{KeptCells, Shown};
 use log_audit::{Log, stored_slot};
-use tamper_rules::BROKEN_DOCUMENT;
 
 /// The first commit cell at which rule 4 is broken.
 pub fn first_broken_document(kept: &KeptCells, geometry: &Geometry, log: &Log) -> Option<Evidence>

@@ -1,7 +1,7 @@
 //! Rule 5 at one place of a journal.
 ghost use Rattle.std.specs.Prelude.{◌<◌, ◌↔◌, IsTrue};
-ghost use Rattle.tamper_rules.specs.Journals.{IsIndexCell};
-ghost use Rattle.tamper_rules.specs.Rules.{ReserveCells};
+ghost use Rattle.document_store.specs.tamper_rules.Journals.{IsIndexCell};
+ghost use Rattle.document_store.specs.tamper_rules.Rules.{ReserveCells};
 ghost use Rattle.kept_cells.specs.Kept.{image_of};
 ghost use Rattle.log_audit.specs.Findings.{IsMetAll};
 ghost use Rattle.log_audit.specs.Logs.{IsLog};

@@ -1,6 +1,6 @@
 //! Rule 5: journals.
 ghost use Rattle.std.specs.Prelude.{◌↔◌, IsTrue};
-ghost use Rattle.tamper_rules.specs.Rules.{Journals};
+ghost use Rattle.document_store.specs.tamper_rules.Rules.{Journals};
 ghost use Rattle.kept_cells.specs.Kept.{image_of};
 ghost use Rattle.log_audit.specs.Findings.{Finds, AreMetBelow};
 ghost use Rattle.log_audit.specs.Logs.{IsLog};
@@ -9,9 +9,9 @@ ghost use Rattle.journal_audit.specs.Journals.{BlankFinds, AreAllWritten, AreWri
 
 use crate::entries::is_in_order;
 use cell_types::{Evidence, Geometry};
+use document_store::tamper_rules::BROKEN_JOURNAL;
 use kept_cells::KeptCells;
 use log_audit::{Log, StoredSlot, stored_slot};
-use tamper_rules::BROKEN_JOURNAL;
 
 /// The first cell at which rule 5 is broken: the commit cell of a slot with a blank journal cell, or else a journal
 /// cell that is not in order.

@@ -1,5 +1,5 @@
 //! Journal cells by their targets.
-ghost use Rattle.tamper_rules.specs.Rules.{Journals};
+ghost use Rattle.document_store.specs.tamper_rules.Rules.{Journals};
 ghost use Rattle.kept_cells.specs.Kept.{image_of};
 ghost use Rattle.log_audit.specs.Findings.{IsMetAll};
 ghost use Rattle.log_audit.specs.Stored.{IsStored};

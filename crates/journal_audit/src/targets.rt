@@ -1,6 +1,6 @@
 //! Rule 6: the targets of journals.
 ghost use Rattle.std.specs.Prelude.{◌≡◌, ◌↔◌, Some, IsTrue};
-ghost use Rattle.tamper_rules.specs.Rules.{Targets};
+ghost use Rattle.document_store.specs.tamper_rules.Rules.{Targets};
 ghost use Rattle.kept_cells.specs.Kept.{image_of};
 ghost use Rattle.log_audit.specs.Findings.{Finds, AreMetBelow};
 ghost use Rattle.log_audit.specs.Logs.{IsLog};
@@ -9,9 +9,9 @@ ghost use Rattle.journal_audit.specs.Journals.{IsRedone, IsRedoneAt, PlacesFind}
 
 use crate::copies::target_at;
 use cell_types::{Cell, Evidence, Geometry};
+use document_store::tamper_rules::OTHER_TARGET;
 use kept_cells::KeptCells;
 use log_audit::{Log, StoredSlot, stored_slot};
-use tamper_rules::OTHER_TARGET;
 
 /// The first journal cell at which rule 6 is broken. No slot of the log is merely committed, so each target holds the
 /// same as its copy.

@@ -8,7 +8,7 @@ use Rattle.cell_types.specs.declared.refusal.Fault.{Fault}
 use Rattle.cell_types.specs.declared.refusal.Fault.TheVariants.{Tampered, Failed}
 use Rattle.stored_documents.specs.Volumes.{Holds}
 use Rattle.index_paths.specs.Blocks.{PostingFields, InFront, InSpan, Leads, pointer_at}
-use Rattle.tamper_rules.specs.declared.numbers.TheConstants.{BLOCK_OUT_OF_ORDER, LOST_POINTER}
+use Rattle.jump_block.specs.tamper_rules.declared.numbers.TheConstants.{BLOCK_OUT_OF_ORDER, LOST_POINTER}
 use Rattle.worm_device.specs.Counts.{Rose}
 use Rattle.worm_device.specs.Views.{ViewState}
 use Rattle.jump_block.specs.Fronts.{HasKeyAt, IsBadEntry}

@@ -8,7 +8,7 @@ use Rattle.cell_types.specs.declared.refusal.Fault.TheVariants.{Tampered, Failed
 use Rattle.stored_documents.specs.Slots.{IsEdge}
 use Rattle.stored_documents.specs.Volumes.{IsVolume}
 use Rattle.index_paths.specs.Blocks.{PostingFields, InFront, Leads, Trail}
-use Rattle.tamper_rules.specs.Rules.{HasPlace, Rule, IsBroken, IsPlace, number_of}
+use Rattle.jump_block.specs.tamper_rules.Rules.{HasPlace, Rule, IsBroken, IsPlace, number_of}
 use Rattle.worm_device.specs.Counts.{Rose}
 use Rattle.worm_device.specs.Views.{ViewState, Viewed}
 use Rattle.jump_block.specs.Entries.{cell_of, posting_of}

@@ -32,4 +32,5 @@ mod looked;
 mod search;
 
 pub use bounds::Bounds;
+pub use jump_block;
 pub use search::{find_geq, find_geq_from_kept};

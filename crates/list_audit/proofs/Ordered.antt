@@ -8,7 +8,7 @@ use Rattle.index_paths.specs.Blocks.{PostingFields, posting_record, Leads, arriv
 use Rattle.index_paths.specs.Nodes.{IsBlockOf}
 use Rattle.index_paths.proofs.Fronts.{one_posting}
 use Rattle.stored_documents.specs.Volumes.{Holds}
-use Rattle.tamper_rules.specs.Rules.{Entries, EntryRule, HoldsInOrder, IsPlace}
+use Rattle.log_audit.specs.tamper_rules.Rules.{Entries, EntryRule, HoldsInOrder, IsPlace}
 use Rattle.list_audit.specs.Entries.{BlockAsks}
 
 is_less : (a b : ℕ) → a < b → IsTrue (nat_lt a b)

@@ -1,6 +1,6 @@
 //! Rule 8: what stands in the places of blocks.
 ghost use Rattle.std.specs.Prelude.{◌<◌, ◌≤◌, ◌+◌, ◌↔◌, ◌^◌, IsTrue};
-ghost use Rattle.tamper_rules.specs.Rules.{Entries, HoldsInOrder};
+ghost use Rattle.log_audit.specs.tamper_rules.Rules.{Entries, HoldsInOrder};
 ghost use Rattle.index_paths.specs.Nodes.{IsBlockOf};
 ghost use Rattle.kept_cells.specs.Kept.{image_of};
 ghost use Rattle.log_audit.specs.Findings.{Finds};
@@ -15,7 +15,7 @@ use cell_types::{Evidence, Geometry};
 use index_paths::BLOCK_CELLS;
 use kept_cells::KeptCells;
 use log_audit::lower_of;
-use tamper_rules::BLOCK_OUT_OF_ORDER;
+use log_audit::tamper_rules::BLOCK_OUT_OF_ORDER;
 
 /// The least cell of a block at which rule 8 is broken, of these blocks of all lists.
 pub fn first_broken_entry(

@@ -10,8 +10,8 @@ use Rattle.stored_documents.specs.Slots.{Reserves, Stores, IsAbandonedSlot, IsDo
 use Rattle.stored_documents.specs.Volumes.{Holds}
 use Rattle.stored_documents.proofs.Holding.{one_record_holds}
 use Rattle.stored_documents.proofs.OneDocument.{reserves, commits}
-use Rattle.tamper_rules.specs.Rules.{ReserveCells, ReserveRule}
-use Rattle.tamper_rules.proofs.Settled.{written}
+use Rattle.commit_record.specs.tamper_rules.Rules.{ReserveCells, ReserveRule}
+use Rattle.commit_record.proofs.of_tamper_rules.Settled.{written}
 use Rattle.log_audit.specs.Findings.{IsMetAll}
 use Rattle.log_audit.specs.Logs.{IsLog}
 use Rattle.log_audit.specs.declared.ended.EndedSlot.{EndedSlot}

@@ -9,7 +9,7 @@ use Rattle.stored_documents.specs.Slots.{cells_for, Reserves, IsStamped, IsAband
 use Rattle.stored_documents.specs.Volumes.{Holds, IsWritten}
 use Rattle.stored_documents.proofs.Holding.{one_record_holds}
 use Rattle.stored_documents.proofs.OneDocument.{commits}
-use Rattle.tamper_rules.specs.Rules.{OutcomeRule}
+use Rattle.commit_record.specs.tamper_rules.Rules.{OutcomeRule}
 
 module _ (g : Layout) (image : Image) (n bytes journal : ℕ) (held : Holds image (outcome_at n) (Commit bytes journal)) where
   no_abandon : Holds image (outcome_at n) Abandon → ⊥

@@ -9,7 +9,7 @@ use Rattle.stored_documents.specs.Slots.{Reserves, Stores}
 use Rattle.stored_documents.specs.Volumes.{Holds, IsWritten}
 use Rattle.stored_documents.proofs.Holding.{one_record_holds}
 use Rattle.stored_documents.proofs.OneDocument.{reserves, commits}
-use Rattle.tamper_rules.proofs.Settled.{written}
+use Rattle.commit_record.proofs.of_tamper_rules.Settled.{written}
 use Rattle.log_audit.specs.Logs.{IsLog}
 use Rattle.log_audit.specs.Stored.{IsStored, StoredIsLive, LiveIsStored}
 use Rattle.log_audit.specs.declared.ended.EndedSlot.{EndedSlot}

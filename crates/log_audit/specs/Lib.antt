@@ -5,3 +5,4 @@ pub mod Least
 pub mod Logs
 pub mod Owning
 pub mod Stored
+pub use Rattle.commit_record.specs.tamper_rules

@@ -1,7 +1,7 @@
 //! In whose blocks a cell lies.
 ghost use Rattle.std.specs.Prelude.{◌<◌, ◌^◌, ℕ, length, IfSome, IfNone};
-ghost use Rattle.tamper_rules.specs.Journals.{LiesInBlocks};
-ghost use Rattle.tamper_rules.specs.Rules.{ReserveCells};
+ghost use Rattle.commit_record.specs.tamper_rules.Journals.{LiesInBlocks};
+ghost use Rattle.commit_record.specs.tamper_rules.Rules.{ReserveCells};
 ghost use Rattle.kept_cells.specs.Kept.{image_of};
 ghost use Rattle.log_audit.specs.Findings.{IsMetAll};
 ghost use Rattle.log_audit.specs.Logs.{IsLog};

@@ -4,7 +4,7 @@ ghost use Rattle.cell_types.specs.Layout.{reserve_at};
 ghost use Rattle.cell_types.specs.declared.record_cell.RecordCell.TheVariants.{Reserve};
 ghost use Rattle.stored_documents.specs.Slots.{cells_for};
 ghost use Rattle.stored_documents.specs.Volumes.{Holds};
-ghost use Rattle.tamper_rules.specs.Rules.{ReserveRule, OutcomeRule, DoneRule};
+ghost use Rattle.commit_record.specs.tamper_rules.Rules.{ReserveRule, OutcomeRule, DoneRule};
 ghost use Rattle.kept_cells.specs.Kept.{image_of};
 
 use crate::ended::{ended_slot, fits_into, has_its_stamp, is_done_cell};

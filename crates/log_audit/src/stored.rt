@@ -25,7 +25,7 @@ pub struct StoredSlot {
 impl StoredSlot {
     ghost use Rattle.std.specs.Prelude.{◌≤◌};
     ghost use Rattle.stored_documents.specs.Documents.{document_at};
-    ghost use Rattle.tamper_rules.specs.Journals.{journal_at};
+    ghost use Rattle.commit_record.specs.tamper_rules.Journals.{journal_at};
     ghost use Rattle.log_audit.specs.Stored.{HasCells};
 
     /// The first cell of its journal.

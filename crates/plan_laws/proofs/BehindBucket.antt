@@ -6,17 +6,17 @@ use Rattle.stored_documents.proofs.Extending.{written_on}
 use Rattle.index_paths.specs.Blocks.{Leads}
 use Rattle.index_paths.specs.HashPaths.{nibble}
 use Rattle.index_paths.specs.Nodes.{AreApart, IsNode}
-use Rattle.ingest_laws.proofs.ListShapes.{adds_extends}
+use Rattle.ingest_plan.proofs.of_ingest_laws.ListShapes.{adds_extends}
 use Rattle.worm_device.proofs.Images.{extends_then}
 use Rattle.index_paths.specs.Postings.{ListedPosting}
-use Rattle.hash_tree.specs.Levels.{node_of}
-use Rattle.hash_tree.specs.Steps.{IsOpenAt}
-use Rattle.hash_tree.specs.declared.level.Level.{Level}
-use Rattle.hash_tree.specs.declared.path.Open.{Open}
-use Rattle.jump_insertion.proofs.KeptTrails.{leads_below}
-use Rattle.hash_insertion.proofs.Paths.{nibble_low}
-use Rattle.hash_insertion.specs.Readiness.{blank_in, blank_of, cost_of}
-use Rattle.hash_insertion.specs.Rooting.{IsRooted, IsRootedBefore, TreeGrows, in_bucket, in_new_node}
+use Rattle.ingest_plan.specs.hash_tree.Levels.{node_of}
+use Rattle.ingest_plan.specs.hash_tree.Steps.{IsOpenAt}
+use Rattle.ingest_plan.specs.hash_tree.declared.level.Level.{Level}
+use Rattle.ingest_plan.specs.hash_tree.declared.path.Open.{Open}
+use Rattle.ingest_plan.proofs.of_jump_insertion.KeptTrails.{leads_below}
+use Rattle.ingest_plan.proofs.of_hash_insertion.Paths.{nibble_low}
+use Rattle.ingest_plan.specs.hash_insertion.Readiness.{blank_in, blank_of, cost_of}
+use Rattle.ingest_plan.specs.hash_insertion.Rooting.{IsRooted, IsRootedBefore, TreeGrows, in_bucket, in_new_node}
 use Rattle.ingest_plan.specs.Standing.{IndexStands}
 use Rattle.plan_laws.specs.Standing.{EndsPath, IndexesStand, TreeStands}
 use Rattle.plan_laws.proofs.BehindRow.{node_on, node_same, tree_behind}

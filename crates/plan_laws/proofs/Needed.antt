@@ -10,15 +10,15 @@ use Rattle.stored_documents.specs.Slots.{EndsBelow, IsEdge, IsHorizon, IsStampFo
 use Rattle.index_paths.specs.HashPaths.{IsPassed, nibble}
 use Rattle.index_paths.specs.Keeping.{sought_in}
 use Rattle.index_paths.specs.Postings.{ListedPosting}
-use Rattle.tamper_rules.specs.Settling.{IsSettled}
-use Rattle.ingest_laws.specs.Needs.{BucketCosts, IsNeed, PostingsCost, in_bucket, in_new_node}
+use Rattle.ingest_plan.specs.tamper_rules.Settling.{IsSettled}
+use Rattle.ingest_plan.specs.ingest_laws.Needs.{BucketCosts, IsNeed, PostingsCost, in_bucket, in_new_node}
 use Rattle.worm_device.specs.Counts.{IsStill}
 use Rattle.worm_device.specs.State.{DeviceState}
-use Rattle.hash_tree.specs.Levels.{node_of}
-use Rattle.hash_tree.specs.Steps.{IsOpenAt}
-use Rattle.hash_tree.specs.declared.level.Level.{Level}
-use Rattle.hash_tree.specs.declared.path.Open.{Open}
-use Rattle.hash_insertion.specs.Readiness.{PassedDown, blank_in, cost_in, cost_of}
+use Rattle.ingest_plan.specs.hash_tree.Levels.{node_of}
+use Rattle.ingest_plan.specs.hash_tree.Steps.{IsOpenAt}
+use Rattle.ingest_plan.specs.hash_tree.declared.level.Level.{Level}
+use Rattle.ingest_plan.specs.hash_tree.declared.path.Open.{Open}
+use Rattle.ingest_plan.specs.hash_insertion.Readiness.{PassedDown, blank_in, cost_in, cost_of}
 use Rattle.plan_laws.specs.Standing.{EndsPath, below_slot, seconds_of}
 use Rattle.plan_laws.proofs.SettledLists.{settled_stand}
 use Rattle.ingest_plan.specs.Planning.{IsLater, IsPlanned}

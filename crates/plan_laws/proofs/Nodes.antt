@@ -11,14 +11,14 @@ use Rattle.index_paths.specs.HashPaths.{PassedTo, fingerprint_of, nibble}
 use Rattle.index_paths.specs.Keeping.{sought_in}
 use Rattle.index_paths.specs.Nodes.{IsNode, IsOnPath}
 use Rattle.index_paths.specs.Postings.{ListedPosting}
-use Rattle.tamper_rules.proofs.GoingOn.{on_path_on}
-use Rattle.ingest_laws.specs.Ingesting.{Plan}
-use Rattle.ingest_laws.proofs.ListShapes.{holds_back, written_back}
-use Rattle.hash_tree.specs.Levels.{node_of}
-use Rattle.hash_tree.specs.declared.level.Level.{Level}
-use Rattle.hash_tree.specs.declared.path.Open.{Open}
-use Rattle.hash_insertion.proofs.Paths.{on_path}
-use Rattle.hash_insertion.specs.Readiness.{PassedDown}
+use Rattle.ingest_plan.proofs.of_tamper_rules.GoingOn.{on_path_on}
+use Rattle.ingest_plan.specs.ingest_laws.Ingesting.{Plan}
+use Rattle.ingest_plan.proofs.of_ingest_laws.ListShapes.{holds_back, written_back}
+use Rattle.ingest_plan.specs.hash_tree.Levels.{node_of}
+use Rattle.ingest_plan.specs.hash_tree.declared.level.Level.{Level}
+use Rattle.ingest_plan.specs.hash_tree.declared.path.Open.{Open}
+use Rattle.ingest_plan.proofs.of_hash_insertion.Paths.{on_path}
+use Rattle.ingest_plan.specs.hash_insertion.Readiness.{PassedDown}
 use Rattle.plan_laws.proofs.BehindRow as row
 use Rattle.plan_laws.specs.Laws.{IsPlannedIndex}
 use Rattle.plan_laws.proofs.Behind.{between_blank, is_rooted, pool_before, stand}

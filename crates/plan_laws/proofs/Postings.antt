@@ -12,11 +12,11 @@ use Rattle.index_paths.specs.Blocks.{Leads, PostingFields, posting_record}
 use Rattle.index_paths.specs.Nodes.{IsBlockOf}
 use Rattle.index_paths.specs.Postings.{IsPostingOf, ListedPosting}
 use Rattle.index_paths.proofs.Fronts.{one_posting}
-use Rattle.tamper_rules.proofs.Writing.{same_or_not}
-use Rattle.ingest_laws.specs.Ingesting.{Plan}
-use Rattle.ingest_laws.proofs.ListShapes.{holds_back}
-use Rattle.hash_tree.specs.declared.level.Level.{Level}
-use Rattle.hash_tree.specs.declared.path.Open.{Open}
+use Rattle.ingest_plan.proofs.of_tamper_rules.Writing.{same_or_not}
+use Rattle.ingest_plan.specs.ingest_laws.Ingesting.{Plan}
+use Rattle.ingest_plan.proofs.of_ingest_laws.ListShapes.{holds_back}
+use Rattle.ingest_plan.specs.hash_tree.declared.level.Level.{Level}
+use Rattle.ingest_plan.specs.hash_tree.declared.path.Open.{Open}
 use Rattle.plan_laws.specs.Laws.{IsPlannedIndex}
 use Rattle.plan_laws.proofs.Behind.{IsPlannedCell, a_posting, a_pointer, a_bucket, a_child, is_listed, planned_cell, stand_behind}
 use Rattle.plan_laws.proofs.NewImage.{new_image}

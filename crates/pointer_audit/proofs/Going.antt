@@ -4,7 +4,7 @@ use Rattle.cell_types.specs.Image.{Image}
 use Rattle.cell_types.specs.Layout.{Layout}
 use Rattle.index_paths.specs.Nodes.{IsBlockOf}
 use Rattle.tamper_rules.specs.Rules.{Pointers, PointerRule, LeadsWell, IsPlace}
-use Rattle.list_audit.proofs.Ordered.{is_place}
+use Rattle.tree_audit.proofs.of_list_audit.Ordered.{is_place}
 use Rattle.pointer_audit.specs.Leading.{PointerAsks}
 
 -- the level and the digit of a pointer place, counted from the first

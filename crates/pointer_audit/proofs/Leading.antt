@@ -8,10 +8,10 @@ use Rattle.index_paths.specs.Nodes.{IsBlockOf}
 use Rattle.stored_documents.specs.Volumes.{Holds}
 use Rattle.stored_documents.proofs.Holding.{one_record_holds}
 use Rattle.tamper_rules.specs.Rules.{LeadsWell}
-use Rattle.list_audit.proofs.Closing.{leads_on}
-use Rattle.log_audit.specs.Logs.{IsLog}
-use Rattle.log_audit.specs.declared.log.Log.{Log}
-use Rattle.log_audit.proofs.Edges.{is_edge, one_edge}
+use Rattle.tree_audit.proofs.of_list_audit.Closing.{leads_on}
+use Rattle.tree_audit.specs.log_audit.Logs.{IsLog}
+use Rattle.tree_audit.specs.log_audit.declared.log.Log.{Log}
+use Rattle.tree_audit.proofs.of_log_audit.Edges.{is_edge, one_edge}
 use Rattle.pointer_audit.specs.Leading.{IsBeforeEdge, IsOwned, IsInSpan}
 use Rattle.pointer_audit.specs.Occupied.{IsAlone, IsOffNodes}
 

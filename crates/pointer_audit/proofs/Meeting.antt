@@ -3,8 +3,8 @@ use Rattle.std.proofs.Common.{rules, ◌≡◌, ◌<◌, ◌≤◌, ◌+◌, ◌
 use Rattle.std.specs.Prelude.{◌↔◌, IsTrue, not}
 use Rattle.cell_types.specs.Image.{Image}
 use Rattle.cell_types.specs.Layout.{Layout}
-use Rattle.log_audit.specs.Between.{HasBetween}
-use Rattle.log_audit.proofs.Deciding.{no, yes}
+use Rattle.tree_audit.specs.log_audit.Between.{HasBetween}
+use Rattle.tree_audit.proofs.of_log_audit.Deciding.{no, yes}
 use Rattle.pointer_audit.specs.Occupied.{AreOccupied, IsAlone, IsOffNodes, number_of}
 use Rattle.pointer_audit.specs.declared.occupied.OccupiedCells.{OccupiedCells}
 

@@ -3,7 +3,7 @@ use Rattle.std.proofs.Common.{◌≡◌, ◌<◌, ◌+◌, ◌++◌, ◌⊎◌, 
 use Rattle.std.specs.Prelude.{slice_get}
 use Rattle.std.proofs.lemmas.Option.{slice_get_within}
 use Rattle.kept_cells.proofs.OneMore.{get_before, get_last, length_pushed}
-use Rattle.list_audit.specs.declared.listed.ListBlock.{ListBlock}
+use Rattle.tree_audit.specs.list_audit.declared.listed.ListBlock.{ListBlock}
 use Rattle.tree_audit.specs.declared.nodes.LevelNode.{LevelNode}
 use Rattle.pointer_audit.specs.Listing.{AreBlockNumbers, AreNodeCells}
 use Rattle.pointer_audit.specs.Occupied.{number_of}

@@ -6,8 +6,8 @@ use Rattle.std.proofs.lemmas.Option.{slice_get_cases, slice_get-get_or, slice_ge
 use Rattle.cell_types.specs.Image.{Image}
 use Rattle.cell_types.specs.Layout.{Layout}
 use Rattle.index_paths.specs.Nodes.{IsNode}
-use Rattle.list_audit.specs.Blocks.{AreListBlocks}
-use Rattle.list_audit.specs.declared.listed.ListBlock.{ListBlock}
+use Rattle.tree_audit.specs.list_audit.Blocks.{AreListBlocks}
+use Rattle.tree_audit.specs.list_audit.declared.listed.ListBlock.{ListBlock}
 use Rattle.tree_audit.specs.Nodes.{AreNodes}
 use Rattle.tree_audit.specs.declared.nodes.LevelNode.{LevelNode}
 use Rattle.pointer_audit.specs.Listing.{AreBlockNumbers, AreNodeCells, AreSortedOnce}

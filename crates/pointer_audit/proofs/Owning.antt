@@ -5,10 +5,10 @@ use Rattle.cell_types.specs.Image.{Image}
 use Rattle.cell_types.specs.Layout.{Layout}
 use Rattle.tamper_rules.specs.Journals.{LiesInBlocks}
 use Rattle.tamper_rules.specs.Rules.{ReserveCells}
-use Rattle.log_audit.specs.Findings.{IsMetAll}
-use Rattle.log_audit.specs.Logs.{IsLog}
-use Rattle.log_audit.specs.declared.log.Log.{Log}
-use Rattle.log_audit.proofs.Holders.{log_in_row, one_holder, owner_holds}
+use Rattle.tree_audit.specs.log_audit.Findings.{IsMetAll}
+use Rattle.tree_audit.specs.log_audit.Logs.{IsLog}
+use Rattle.tree_audit.specs.log_audit.declared.log.Log.{Log}
+use Rattle.tree_audit.proofs.of_log_audit.Holders.{log_in_row, one_holder, owner_holds}
 use Rattle.pointer_audit.specs.Leading.{IsOwned}
 
 is_same : (a b : ℕ) → a ≡ b → IsTrue (nat_eq a b)

@@ -8,8 +8,8 @@ use Rattle.index_paths.specs.Blocks.{PostingFields, posting_record, InFront, at_
 use Rattle.index_paths.specs.Nodes.{IsBlockOf}
 use Rattle.index_paths.proofs.Fronts.{front_holds, one_posting}
 use Rattle.tamper_rules.specs.Rules.{Entries, HoldsInOrder, EndsFront}
-use Rattle.log_audit.specs.Findings.{IsMetAll}
-use Rattle.log_audit.proofs.Deciding.{held_written}
+use Rattle.tree_audit.specs.log_audit.Findings.{IsMetAll}
+use Rattle.tree_audit.proofs.of_log_audit.Deciding.{held_written}
 use Rattle.pointer_audit.specs.Leading.{HasKeyBetween, IsInSpan}
 
 below_or_at : (k n : ℕ) → k < n + 1 → (k < n) ⊎ (k ≡ n)

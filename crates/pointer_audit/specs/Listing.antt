@@ -1,7 +1,7 @@
 -- Numbers of blocks and of nodes, as they are listed.
 use Rattle.std.specs.Prelude.{◌≡◌, ◌<◌, ℕ, List, length, slice_get, Some, Contains}
 use Rattle.std.specs.List.Sorted.{IsStrictlyIncreasing}
-use Rattle.list_audit.specs.declared.listed.ListBlock.{ListBlock}
+use Rattle.tree_audit.specs.list_audit.declared.listed.ListBlock.{ListBlock}
 use Rattle.tree_audit.specs.declared.nodes.LevelNode.{LevelNode}
 use Rattle.pointer_audit.specs.Occupied.{number_of}
 use Rattle.pointer_audit.specs.declared.occupied.TheConstants.{BLOCK_STEP}

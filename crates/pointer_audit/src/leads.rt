@@ -5,8 +5,8 @@ ghost use Rattle.index_paths.specs.Nodes.{IsBlockOf};
 ghost use Rattle.stored_documents.specs.Volumes.{Holds};
 ghost use Rattle.tamper_rules.specs.Rules.{LeadsWell};
 ghost use Rattle.kept_cells.specs.Kept.{image_of};
-ghost use Rattle.log_audit.specs.Findings.{AreMetBelow};
-ghost use Rattle.log_audit.specs.Logs.{IsLog};
+ghost use Rattle.tree_audit.specs.log_audit.Findings.{AreMetBelow};
+ghost use Rattle.tree_audit.specs.log_audit.Logs.{IsLog};
 ghost use Rattle.pointer_audit.specs.Leading.{IsBeforeEdge, IsOwned};
 ghost use Rattle.pointer_audit.specs.Occupied.{AreOccupied};
 
@@ -15,8 +15,8 @@ use crate::spans::is_in_span;
 use cell_types::{Geometry, RecordCell};
 use index_paths::BLOCK_CELLS;
 use kept_cells::KeptCells;
-use list_audit::ListBlock;
-use log_audit::{Log, owner_of, record_at};
+use tree_audit::list_audit::ListBlock;
+use tree_audit::log_audit::{Log, owner_of, record_at};
 
 /// Whether the pointer of this level and digit leads well from a block.
 pub(crate) fn leads_well(

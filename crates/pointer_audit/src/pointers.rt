@@ -3,10 +3,10 @@ ghost use Rattle.std.specs.Prelude.{◌<◌, ◌≤◌, ◌+◌, ◌^◌, IfOk};
 ghost use Rattle.index_paths.specs.Nodes.{IsBlockOf};
 ghost use Rattle.tamper_rules.specs.Rules.{Pointers};
 ghost use Rattle.kept_cells.specs.Kept.{image_of};
-ghost use Rattle.list_audit.specs.Blocks.{AreListBlocks};
-ghost use Rattle.log_audit.specs.Findings.{AreMetBelow, Finds};
-ghost use Rattle.log_audit.specs.Least.{FindsPart};
-ghost use Rattle.log_audit.specs.Logs.{IsLog};
+ghost use Rattle.tree_audit.specs.list_audit.Blocks.{AreListBlocks};
+ghost use Rattle.tree_audit.specs.log_audit.Findings.{AreMetBelow, Finds};
+ghost use Rattle.tree_audit.specs.log_audit.Least.{FindsPart};
+ghost use Rattle.tree_audit.specs.log_audit.Logs.{IsLog};
 ghost use Rattle.tree_audit.specs.Nodes.{AreNodes};
 ghost use Rattle.pointer_audit.specs.Leading.{PointerAsks};
 ghost use Rattle.pointer_audit.specs.Occupied.{AreOccupied};
@@ -15,11 +15,11 @@ use crate::leads::leads_well;
 use crate::occupied::OccupiedCells;
 use cell_types::{Evidence, Geometry, NoMemory};
 use kept_cells::KeptCells;
-use list_audit::ListBlock;
-use log_audit::{Log, lower_of};
 use std::alloc::Global;
 use tamper_rules::LOST_POINTER;
 use tree_audit::LevelNode;
+use tree_audit::list_audit::ListBlock;
+use tree_audit::log_audit::{Log, lower_of};
 
 /// How many pointer places a block has, and the first of them.
 const POINTER_PLACES: u32 = 120;

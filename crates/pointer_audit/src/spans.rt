@@ -3,13 +3,13 @@ ghost use Rattle.std.specs.Prelude.{◌≡◌, ◌<◌, ◌≤◌, ◌+◌, ◌^
 ghost use Rattle.tamper_rules.specs.Rules.{Entries};
 ghost use Rattle.index_paths.specs.Nodes.{IsBlockOf};
 ghost use Rattle.kept_cells.specs.Kept.{image_of};
-ghost use Rattle.log_audit.specs.Findings.{IsMetAll};
+ghost use Rattle.tree_audit.specs.log_audit.Findings.{IsMetAll};
 ghost use Rattle.pointer_audit.specs.Leading.{HasKeyBetween, IsInSpan};
 
 use cell_types::Geometry;
 use index_paths::ENTRY_PLACES;
 use kept_cells::KeptCells;
-use list_audit::{ListBlock, posting_at};
+use tree_audit::list_audit::{ListBlock, posting_at};
 
 /// Whether the block is full, and some key of the target's front lies in the span of its pointer of this level and digit.
 pub(crate) fn is_in_span(

@@ -6,11 +6,11 @@ use Rattle.document_store.specs.Standing.{HoldsDocument}
 use Rattle.stored_documents.specs.Documents.{Spells, document_at, stored_bytes}
 use Rattle.stored_documents.specs.Slots.{IsDone}
 use Rattle.tamper_rules.specs.Rules.{Documents, HasDocument}
-use Rattle.log_audit.specs.Findings.{IsMetAll}
-use Rattle.log_audit.specs.Stored.{IsStored}
-use Rattle.log_audit.specs.declared.stored.StoredSlot.{StoredSlot}
-use Rattle.log_audit.proofs.Deciding.{held_written}
-use Rattle.log_audit.proofs.Storing.{stores_it, one_row}
+use Rattle.list_audit.specs.log_audit.Findings.{IsMetAll}
+use Rattle.list_audit.specs.log_audit.Stored.{IsStored}
+use Rattle.list_audit.specs.log_audit.declared.stored.StoredSlot.{StoredSlot}
+use Rattle.list_audit.proofs.of_log_audit.Deciding.{held_written}
+use Rattle.list_audit.proofs.of_log_audit.Storing.{stores_it, one_row}
 use Rattle.posting_audit.specs.Bodies.{AreStored, IsStoredDocument}
 
 module _ {g : Layout} {image : Image} {s : StoredSlot} (stored : IsStored g image s) where

@@ -7,3 +7,4 @@ pub mod Stepping
 pub mod Tabling
 pub mod Trailing
 pub mod Walking
+pub use Rattle.document_store.proofs as of_document_store

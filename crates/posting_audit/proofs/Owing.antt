@@ -11,10 +11,10 @@ use Rattle.index_paths.specs.Postings.{ListedPosting, IsPostingOf}
 use Rattle.stored_documents.specs.Slots.{Stores}
 use Rattle.stored_documents.specs.Volumes.{Holds, IsVolume}
 use Rattle.tamper_rules.specs.Rules.{IsTruePosting, PostingRule}
-use Rattle.log_audit.specs.Logs.{IsLog}
-use Rattle.log_audit.specs.declared.log.Log.{Log}
-use Rattle.log_audit.proofs.Logged.{stores_of}
-use Rattle.log_audit.proofs.Storing.{stored_there, stored_is_live}
+use Rattle.list_audit.specs.log_audit.Logs.{IsLog}
+use Rattle.list_audit.specs.log_audit.declared.log.Log.{Log}
+use Rattle.list_audit.proofs.of_log_audit.Logged.{stores_of}
+use Rattle.list_audit.proofs.of_log_audit.Storing.{stored_there, stored_is_live}
 use Rattle.posting_audit.specs.Bodies.{AreRowsOf, HasNoRows}
 use Rattle.posting_audit.specs.Owing.{IsOwed, AreOwed, KeepsPostingRule, BlockOwes}
 use Rattle.posting_audit.specs.Tables.{AddsRows, AreSameRows, FitsRow, HasRow, number_of}

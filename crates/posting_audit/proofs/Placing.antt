@@ -5,7 +5,7 @@ use Rattle.cell_types.specs.Image.{Image}
 use Rattle.index_paths.specs.Blocks.{PostingFields, posting_record, InFront}
 use Rattle.index_paths.proofs.Fronts.{front_holds, one_posting, rises, rises_or_same}
 use Rattle.stored_documents.specs.Volumes.{Holds}
-use Rattle.log_audit.proofs.Deciding.{held_written}
+use Rattle.list_audit.proofs.of_log_audit.Deciding.{held_written}
 use Rattle.jump_block.proofs.Knowing.{front_below}
 use Rattle.posting_audit.specs.Trails.{IsAllFront, IsPlaceOf}
 

@@ -8,7 +8,7 @@ use Rattle.cell_types.specs.Image.{Image}
 use Rattle.stored_documents.specs.Documents.{IsIdentifier, IsBody, Spells, stored_bytes, content_at}
 use Rattle.stored_documents.specs.Slots.{cells_for}
 use Rattle.tamper_rules.specs.Rules.{HasDocument}
-use Rattle.append_file.proofs.Spelled.{part_fits}
+use Rattle.document_store.proofs.of_append_file.Spelled.{part_fits}
 use Rattle.document_store.proofs.Parsing.{stored_fits}
 use Rattle.posting_audit.specs.Bodies.{AreStored, HoldsContent}
 

@@ -15,8 +15,8 @@ use Rattle.jump_block.specs.Spans.{IsSpan}
 use Rattle.jump_block.specs.declared.spans.Span.{Span}
 use Rattle.jump_block.proofs.Knowing.{front_below}
 use Rattle.jump_block.proofs.OneBlock.{in_span, of_span}
-use Rattle.log_audit.specs.Findings.{IsMetAll}
-use Rattle.log_audit.proofs.Deciding.{held_written}
+use Rattle.list_audit.specs.log_audit.Findings.{IsMetAll}
+use Rattle.list_audit.proofs.of_log_audit.Deciding.{held_written}
 use Rattle.list_audit.specs.Blocks.{PointsTo}
 use Rattle.list_audit.proofs.Closing.{leads_on, one_target}
 use Rattle.posting_audit.specs.Trails.{HasTrail, IsAllFront, IsPlaceOf, LeadsOnTo, PlaceEnds, StepEnds}

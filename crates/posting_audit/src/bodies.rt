@@ -4,14 +4,14 @@ ghost use Rattle.stored_documents.specs.Documents.{stored_bytes};
 ghost use Rattle.stored_documents.specs.Slots.{cells_for};
 ghost use Rattle.tamper_rules.specs.Rules.{Documents, HasDocument};
 ghost use Rattle.kept_cells.specs.Kept.{image_of};
-ghost use Rattle.log_audit.specs.Findings.{IsMetAll};
-ghost use Rattle.log_audit.specs.Stored.{IsStored};
+ghost use Rattle.list_audit.specs.log_audit.Findings.{IsMetAll};
+ghost use Rattle.list_audit.specs.log_audit.Stored.{IsStored};
 ghost use Rattle.posting_audit.specs.Bodies.{AreStored, AreWordsOf, HoldsContent, IsStoredDocument};
 
 use cell_types::{Content, Geometry, NoMemory, content_of};
 use commit_record::document_cells;
 use kept_cells::KeptCells;
-use log_audit::StoredSlot;
+use list_audit::log_audit::StoredSlot;
 use std::alloc::Global;
 use stored_documents::rule_of;
 use word_reader::{Term, words};

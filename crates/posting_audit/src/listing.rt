@@ -3,14 +3,14 @@ ghost use Rattle.std.specs.Prelude.{IfOk, IfNone, IfSome};
 ghost use Rattle.stored_documents.specs.Slots.{IsStampOf};
 ghost use Rattle.tamper_rules.specs.Rules.{Documents};
 ghost use Rattle.kept_cells.specs.Kept.{image_of};
-ghost use Rattle.log_audit.specs.Findings.{IsMetAll};
-ghost use Rattle.log_audit.specs.Stored.{IsStored};
+ghost use Rattle.list_audit.specs.log_audit.Findings.{IsMetAll};
+ghost use Rattle.list_audit.specs.log_audit.Stored.{IsStored};
 ghost use Rattle.posting_audit.specs.Bodies.{AreRowsOf, HasNoRows};
 
 use crate::bodies::words_of;
 use cell_types::{Geometry, NoMemory, RecordCell, Refusal, STAMPED_VERSION};
 use kept_cells::KeptCells;
-use log_audit::{StoredSlot, record_at};
+use list_audit::log_audit::{StoredSlot, record_at};
 use std::alloc::Global;
 use term_tags::{ListedPosting, document_postings};
 

@@ -3,7 +3,7 @@ ghost use Rattle.std.specs.Prelude.{◌≡◌, ◌<◌, ◌≤◌, ◌+◌, ◌^
 ghost use Rattle.tamper_rules.specs.Rules.{Entries, Pointers};
 ghost use Rattle.index_paths.specs.Nodes.{IsBlockOf};
 ghost use Rattle.kept_cells.specs.Kept.{image_of};
-ghost use Rattle.log_audit.specs.Findings.{IsMetAll};
+ghost use Rattle.list_audit.specs.log_audit.Findings.{IsMetAll};
 ghost use Rattle.posting_audit.specs.Trails.{IsPlaceOf, PlaceEnds, StepEnds};
 
 use crate::places::place_of;

@@ -2,9 +2,9 @@
 ghost use Rattle.std.specs.Prelude.{◌≡◌, ◌↔◌, [], IfOk, IsTrue, OnOk};
 ghost use Rattle.tamper_rules.specs.Rules.{Documents};
 ghost use Rattle.kept_cells.specs.Kept.{image_of};
-ghost use Rattle.log_audit.specs.Findings.{IsMetAll};
-ghost use Rattle.log_audit.specs.Logs.{IsLog};
-ghost use Rattle.log_audit.specs.Stored.{HasCells};
+ghost use Rattle.list_audit.specs.log_audit.Findings.{IsMetAll};
+ghost use Rattle.list_audit.specs.log_audit.Logs.{IsLog};
+ghost use Rattle.list_audit.specs.log_audit.Stored.{HasCells};
 ghost use Rattle.posting_audit.specs.Owing.{AreOwed};
 ghost use Rattle.posting_audit.specs.Tables.{AddsRow, AddsRows, AreOrderedRows, AreSameRows, HasRow, number_of};
 
@@ -12,7 +12,7 @@ use crate::listing::postings_of;
 use cell_types::{Geometry, NoMemory, RecordCell, address_of, decode};
 use kept_cells::KeptCells;
 use list_audit::HeldPosting;
-use log_audit::{Log, StoredSlot, stored_slot};
+use list_audit::log_audit::{Log, StoredSlot, stored_slot};
 use progress::{Meter, Work};
 use std::alloc::Global;
 use term_tags::ListedPosting;

@@ -3,7 +3,7 @@ ghost use Rattle.std.specs.Prelude.{◌<◌, ◌↔◌, IsTrue};
 ghost use Rattle.cell_types.specs.Layout.{all_lists, list_at};
 ghost use Rattle.tamper_rules.specs.Rules.{Entries, Pointers};
 ghost use Rattle.kept_cells.specs.Kept.{image_of};
-ghost use Rattle.log_audit.specs.Findings.{IsMetAll};
+ghost use Rattle.list_audit.specs.log_audit.Findings.{IsMetAll};
 ghost use Rattle.posting_audit.specs.Trails.{HasTrail};
 
 use crate::steps::{Step, step_from};

@@ -8,10 +8,10 @@ use Rattle.index_paths.specs.Blocks.{PostingFields}
 use Rattle.index_paths.proofs.Fronts.{front_holds}
 use Rattle.worm_device.specs.Views.{ViewState, Viewed}
 use Rattle.worm_device.proofs.Resting.{viewed_self, viewed_then}
-use Rattle.jump_block.specs.Entries.{posting_of}
-use Rattle.jump_block.specs.declared.held_entry.Entry.{Entry}
+use Rattle.jump_index.specs.jump_block.Entries.{posting_of}
+use Rattle.jump_index.specs.jump_block.declared.held_entry.Entry.{Entry}
 use Rattle.jump_index.specs.Searches.{FindsGeq}
-use Rattle.jump_block.proofs.OneBlock.{leads_wider}
+use Rattle.jump_index.proofs.of_jump_block.OneBlock.{leads_wider}
 use Rattle.jump_index.proofs.Telling.{told}
 use Rattle.posting_list.specs.Owing.{IsOwed}
 use Rattle.posting_list.specs.Searches.{HasSlot, Probes, head_of, within}

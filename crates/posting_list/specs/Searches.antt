@@ -12,8 +12,8 @@ use Rattle.worm_device.specs.Counts.{IsStill}
 use Rattle.worm_device.specs.Views.{ViewState, Viewed}
 use Rattle.commit_record.specs.declared.slot.SlotState.{SlotState}
 use Rattle.commit_record.specs.declared.slot.SlotState.TheVariants.{Unused, Reserved, Abandoned, Committed, Done}
-use Rattle.jump_block.specs.Entries.{cell_of, posting_of}
-use Rattle.jump_block.specs.declared.held_entry.Entry.{Entry}
+use Rattle.jump_index.specs.jump_block.Entries.{cell_of, posting_of}
+use Rattle.jump_index.specs.jump_block.declared.held_entry.Entry.{Entry}
 use Rattle.jump_index.specs.Searches.{HasTrail, IsEntryBehind}
 use Rattle.jump_index.specs.declared.bounds.Bounds.{Bounds}
 use Rattle.posting_list.specs.Naming.{FaultSays}

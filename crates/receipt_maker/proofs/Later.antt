@@ -15,9 +15,9 @@ use Rattle.worm_device.proofs.Counting.{still_first, still_second}
 use Rattle.worm_device.proofs.Elapsing.{called_then}
 use Rattle.worm_device.proofs.Images.{unchanged_then}
 use Rattle.worm_device.proofs.Resting.{rests_of}
-use Rattle.recovery_engine.specs.Settling.{HasSettled, SettlesFirst, settled, settling}
-use Rattle.recovery_engine.specs.declared.settling.Ready.{Ready}
-use Rattle.identifier_lookup.specs.Walks.{IsFirstOnPath}
+use Rattle.record_query.specs.recovery_engine.Settling.{HasSettled, SettlesFirst, settled, settling}
+use Rattle.record_query.specs.recovery_engine.declared.settling.Ready.{Ready}
+use Rattle.record_query.specs.identifier_lookup.Walks.{IsFirstOnPath}
 use Rattle.record_query.specs.LookingUp.{IsFirst, IsLookedUp}
 
 -- a call that ended with this refusal, as one that answers something else

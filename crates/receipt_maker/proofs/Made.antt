@@ -21,11 +21,11 @@ use Rattle.worm_device.specs.Views.{Viewed, seen_directly}
 use Rattle.worm_device.proofs.Counting.{still_second}
 use Rattle.worm_device.proofs.Elapsing.{called_then}
 use Rattle.worm_device.proofs.Resting.{viewed_then}
-use Rattle.commit_record.specs.Licences.{IsLicensed}
+use Rattle.document_store.specs.commit_record.Licences.{IsLicensed}
 use Rattle.record_query.specs.LookingUp.{IsFirst, IsLookUpRule, IsLookedUp, LookUpEnds, LooksUp, NamesLookUpRule}
 use Rattle.record_query.specs.declared.found.Found.{Found}
-use Rattle.kept_documents.specs.Kept.{KeepsNone, document_of}
-use Rattle.kept_documents.proofs.Opening.{the_same}
+use Rattle.receipt_check.specs.kept_documents.Kept.{KeepsNone, document_of}
+use Rattle.receipt_check.proofs.of_kept_documents.Opening.{the_same}
 use Rattle.receipt_text.specs.Listed.{listed_image}
 use Rattle.receipt_text.specs.declared.receipt.Receipt.{Receipt}
 use Rattle.receipt_maker.specs.Judging.{IsSlotReceipt, LimitEnds}

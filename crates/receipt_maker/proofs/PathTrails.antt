@@ -4,7 +4,7 @@ use Rattle.cell_types.specs.Image.{Image}
 use Rattle.cell_types.specs.Layout.{Layout, root_at}
 use Rattle.index_paths.specs.HashPaths.{HashTrail, PassedTo, Sought, at_root, below, down, here}
 use Rattle.index_paths.specs.Keeping.{sought_in}
-use Rattle.identifier_lookup.specs.Walks.{IsFirstOnPath}
+use Rattle.record_query.specs.identifier_lookup.Walks.{IsFirstOnPath}
 
 -- a hash trail goes on upwards along a path that is passed
 leads_up : {image : Image} {s : Sought} {root n node level : ℕ} → PassedTo image s root node level

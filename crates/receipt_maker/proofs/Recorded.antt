@@ -8,9 +8,9 @@ use Rattle.worm_device.specs.Views.{ViewReads, ViewState, Viewed, seen_directly}
 use Rattle.worm_device.specs.declared.device.Failed.{Failed}
 use Rattle.worm_device.proofs.Resting.{rested_since, rests_of}
 use Rattle.receipt_text.specs.Listed.{ListsAlso, listed_image}
-use Rattle.kept_documents.specs.Kept.{AsksKept, KeptAnswer}
-use Rattle.kept_documents.specs.declared.fault.AskFault.{AskFault}
-use Rattle.kept_documents.specs.declared.fault.AskFault.TheVariants.{NoMemory, ReadFault}
+use Rattle.receipt_check.specs.kept_documents.Kept.{AsksKept, KeptAnswer}
+use Rattle.receipt_check.specs.kept_documents.declared.fault.AskFault.{AskFault}
+use Rattle.receipt_check.specs.kept_documents.declared.fault.AskFault.TheVariants.{NoMemory, ReadFault}
 use Rattle.record_query.proofs.Loans.{viewed_by_any}
 use Rattle.receipt_maker.specs.Recording.{AreRead, ListsKept, seen_by_recorder}
 

@@ -12,8 +12,8 @@ use Rattle.index_paths.proofs.KeepingLaws.{kept_on}
 use Rattle.worm_device.specs.State.{DeviceState}
 use Rattle.worm_device.specs.Views.{seen_directly}
 use Rattle.worm_device.proofs.Resting.{rests_of}
-use Rattle.kept_documents.specs.Kept.{AsksKept, document_of}
-use Rattle.kept_documents.specs.declared.fault.AskFault.{AskFault}
+use Rattle.receipt_check.specs.kept_documents.Kept.{AsksKept, document_of}
+use Rattle.receipt_check.specs.kept_documents.declared.fault.AskFault.{AskFault}
 use Rattle.receipt_text.specs.Listed.{AreListed, AreListedFrom, listed_image}
 use Rattle.receipt_text.specs.declared.receipt.Receipt.{Receipt}
 use Rattle.receipt_check.specs.Checks.{ShowsDocument}

@@ -7,9 +7,9 @@ use Rattle.cell_types.specs.declared.refusal.Refusal.TheVariants.{ReceiptTooLong
 use Rattle.worm_device.specs.Counts.{Rose}
 use Rattle.worm_device.specs.State.{DeviceState}
 use Rattle.worm_device.specs.Views.{Viewed, seen_directly}
-use Rattle.kept_documents.specs.Kept.{KeepsNone}
-use Rattle.kept_documents.specs.declared.fault.AskFault.{AskFault}
-use Rattle.kept_documents.specs.declared.fault.AskFault.TheVariants as asks
+use Rattle.receipt_check.specs.kept_documents.Kept.{KeepsNone}
+use Rattle.receipt_check.specs.kept_documents.declared.fault.AskFault.{AskFault}
+use Rattle.receipt_check.specs.kept_documents.declared.fault.AskFault.TheVariants as asks
 use Rattle.receipt_text.specs.Listed.{AreListed, listed_image}
 use Rattle.receipt_text.specs.declared.receipt.Receipt.{Receipt}
 use Rattle.receipt_text.specs.declared.receipt.TheConstants.{MAX_RECEIPT_CELLS}

@@ -4,16 +4,16 @@ use Rattle.cell_types.specs.Image.{Extends}
 use Rattle.cell_types.specs.Layout.{done_at}
 use Rattle.cell_types.specs.declared.refusal.Refusal.{Refusal}
 use Rattle.cell_types.specs.declared.refusal.Refusal.TheVariants.{Absent, DeviceFault, NoMemory, NotAVolume, NotFormatted, ReceiptTooLong, Tampered, WrongSize}
-use Rattle.commit_record.specs.Licences.{IsLicensed}
+use Rattle.document_store.specs.commit_record.Licences.{IsLicensed}
 use Rattle.index_paths.specs.Keeping.{Kept}
 use Rattle.tamper_rules.specs.Rules.{TrailRule}
 use Rattle.tamper_rules.specs.declared.numbers.TheConstants.{MISSING_TRAIL}
 use Rattle.worm_device.specs.Calls.{Called}
 use Rattle.worm_device.specs.Counts.{IsStill, Rose}
 use Rattle.worm_device.specs.State.{DeviceState}
-use Rattle.recovery_engine.specs.Settling.{SettleEnds, SettlesFirst}
+use Rattle.record_query.specs.recovery_engine.Settling.{SettleEnds, SettlesFirst}
 use Rattle.record_query.specs.LookingUp.{IsAbsent, IsLookUpRule, IsLookedUp}
-use Rattle.kept_documents.specs.Kept.{document_of}
+use Rattle.receipt_check.specs.kept_documents.Kept.{document_of}
 use Rattle.receipt_text.specs.Form.{IsReceiptOn}
 use Rattle.receipt_text.specs.Listed.{AreListed, listed_image}
 use Rattle.receipt_text.specs.declared.receipt.Receipt.{Receipt}

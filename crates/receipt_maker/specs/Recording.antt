@@ -4,8 +4,8 @@ use Rattle.std.proofs.Props.{props}
 use Rattle.worm_device.specs.Views.{IsView, ViewState}
 use Rattle.worm_device.specs.declared.device.Failed.{Failed}
 use Rattle.receipt_text.specs.Listed.{ListsAlso, listed_image}
-use Rattle.kept_documents.specs.Kept.{AsksKept}
-use Rattle.kept_documents.specs.declared.fault.AskFault.{AskFault}
+use Rattle.receipt_check.specs.kept_documents.Kept.{AsksKept}
+use Rattle.receipt_check.specs.kept_documents.declared.fault.AskFault.{AskFault}
 
 -- each listed cell is one of the view, and stands there as it is listed
 abbrev pub AreRead : ViewState → List (ℕ × List ℕ) → Type 0

@@ -4,7 +4,7 @@ use Rattle.std.specs.Prelude.{Contains, nat_eq, slice_index, slice_index_or, ⊤
 use Rattle.stored_documents.specs.Documents.{Document, Rise, stored_bytes}
 use Rattle.stored_documents.specs.Slots.{cells_for}
 use Rattle.index_paths.specs.Nearness.{Count}
-use Rattle.zigzag_join.specs.Gathering as gathering
+use Rattle.posting_list.specs.zigzag_join.Gathering as gathering
 use Rattle.record_query.specs.Among.{row_cost}
 use Rattle.record_query.specs.Finding.{HaveCells}
 

@@ -12,9 +12,9 @@ use Rattle.index_paths.specs.Nearness.{IsCandidate, SharesList}
 use Rattle.index_paths.specs.Nodes.{IsBlockOf}
 use Rattle.index_paths.specs.Postings.{HasPostings, HasTag, IsWordPosting, list_of, tag_of}
 use Rattle.index_paths.proofs.Tags.{of_word, word_slot}
-use Rattle.tamper_rules.specs.Rules.{Postings, Trails}
-use Rattle.tamper_rules.specs.Settling.{IsSettled}
-use Rattle.jump_block.proofs.OneBlock.{leads_wider}
+use Rattle.ingest_laws.specs.tamper_rules.Rules.{Postings, Trails}
+use Rattle.ingest_laws.specs.tamper_rules.Settling.{IsSettled}
+use Rattle.posting_list.proofs.of_jump_block.OneBlock.{leads_wider}
 use Rattle.posting_list.specs.Owing.{HasPosting, IsVouched}
 use Rattle.posting_list.specs.Terms.{sought_of}
 use Rattle.posting_list.specs.declared.reach.Reach.{Reach}

@@ -15,9 +15,9 @@ use Rattle.index_paths.specs.HashPaths.{fingerprint_of, nibble}
 use Rattle.index_paths.specs.Nearness.{IsPathMate}
 use Rattle.index_paths.specs.Nodes as nodes
 use Rattle.index_paths.specs.Nodes.{IsNode, IsOnPath}
-use Rattle.tamper_rules.specs.Rules.{BucketRule, Buckets}
-use Rattle.tamper_rules.specs.Settling.{IsSettled}
-use Rattle.tamper_rules.proofs.Settled.{some_edge, some_horizon}
+use Rattle.ingest_laws.specs.tamper_rules.Rules.{BucketRule, Buckets}
+use Rattle.ingest_laws.specs.tamper_rules.Settling.{IsSettled}
+use Rattle.ingest_laws.proofs.of_tamper_rules.Settled.{some_edge, some_horizon}
 use Rattle.ingest_laws.specs.TreeShapes.{IsWellRooted}
 use Rattle.ingest_laws.proofs.SettledShapes.{settled_rooted}
 use Rattle.ingest_laws.proofs.TreeShapes.{one_level}

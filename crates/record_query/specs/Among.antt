@@ -9,9 +9,9 @@ use Rattle.stored_documents.specs.Words.{Matches, rule_of}
 use Rattle.worm_device.specs.State.{DeviceState}
 use Rattle.worm_device.specs.Views.{seen_directly}
 use Rattle.stored_documents.specs.Slots.{IsDone, cells_for}
-use Rattle.commit_record.specs.States.{stamp_cells}
-use Rattle.document_store.specs.Looks.{LookRefuses, ReadsOnce}
-use Rattle.document_store.specs.Standing.{HoldsDocument}
+use Rattle.posting_list.specs.commit_record.States.{stamp_cells}
+use Rattle.identifier_lookup.specs.document_store.Looks.{LookRefuses, ReadsOnce}
+use Rattle.identifier_lookup.specs.document_store.Standing.{HoldsDocument}
 use Rattle.record_query.specs.Finding.{HasMatch, Rises}
 use Rattle.record_query.specs.Matching.{IsMatchIn}
 use Rattle.record_query.specs.declared.found.Match.{Match}

@@ -2,7 +2,7 @@
 ghost use Rattle.std.specs.Prelude.{◌≡◌, ◌<◌, ◌≤◌, ℕ, List, IfOk, length};
 ghost use Rattle.stored_documents.specs.Words.{rule_of};
 ghost use Rattle.worm_device.specs.Views.{Viewed, seen_directly};
-ghost use Rattle.zigzag_join.specs.Gathering.{Rise};
+ghost use Rattle.posting_list.specs.zigzag_join.Gathering.{Rise};
 ghost use Rattle.record_query.specs.Among.{AmongEnds, LooksOnce, ReadsEach, added};
 ghost use Rattle.record_query.specs.Finding.{Searches};
 ghost use Rattle.record_query.specs.Matching.{IsMatcherOf, KeepsTerms, SlotEnds};

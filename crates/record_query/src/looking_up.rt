@@ -1,14 +1,14 @@
 //! A document, by its identifier.
 ghost use Rattle.std.specs.Prelude.{◌≡◌, ◌<◌, ◌≤◌, IsTrue};
 ghost use Rattle.stored_documents.specs.Slots.{IsDoneSlot};
-ghost use Rattle.hash_tree.specs.Levels.{AreBounds};
+ghost use Rattle.identifier_lookup.specs.hash_tree.Levels.{AreBounds};
 ghost use Rattle.record_query.specs.LookingUp.{LooksUp, refusal_of_body};
 ghost use Rattle.record_query.specs.Reaching.{PutsFromDevice, WalksOnDevice};
 
 use crate::found::Found;
 use cell_types::{Fault, Refusal, Volume};
-use document_store::{BodyFault, body_into};
 use host_ports::Sink;
+use identifier_lookup::document_store::{BodyFault, body_into};
 use identifier_lookup::{Walk, walk};
 use recovery_engine::{Ready, settle};
 use worm_device::{Device, Direct};

@@ -4,16 +4,16 @@ ghost use Rattle.stored_documents.specs.Slots.{cells_for};
 ghost use Rattle.stored_documents.specs.Words.{rule_of};
 ghost use Rattle.stored_documents.specs.declared.word_rules.WordRule.{WordRule};
 ghost use Rattle.worm_device.specs.Views.{Viewed};
-ghost use Rattle.append_file.specs.Reading.{IsPosition};
+ghost use Rattle.identifier_lookup.specs.append_file.Reading.{IsPosition};
 ghost use Rattle.word_reader.specs.Matching.{HasPushed};
-ghost use Rattle.document_store.specs.Heads.{IsHead};
-ghost use Rattle.document_store.specs.Looks.{IsPartOf, IsStated, ReadsOnce};
+ghost use Rattle.identifier_lookup.specs.document_store.Heads.{IsHead};
+ghost use Rattle.identifier_lookup.specs.document_store.Looks.{IsPartOf, IsStated, ReadsOnce};
 ghost use Rattle.record_query.specs.Matching.{IsMatcherOf, KeepsTerms, MatchEnds, PushNextEnds, SeekEnds, SlotEnds, seek_fault_of};
 ghost use Rattle.record_query.specs.declared.matching.SeekFault.TheVariants as seeks;
 
 use crate::found::Match;
 use cell_types::{Geometry, NoMemory, Refusal, Volume};
-use document_store::{
+use identifier_lookup::document_store::{
     ContentFault, Head, Part, Position, ROW_BYTES, identifier_of_head, name_commit, next_row,
     read_head, slot_part,
 };

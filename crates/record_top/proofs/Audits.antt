@@ -5,9 +5,9 @@ use Rattle.cell_types.specs.declared.refusal.Refusal.{Refusal}
 use Rattle.cell_types.specs.declared.refusal.Refusal.TheVariants as refusals
 use Rattle.worm_device.specs.State.{IsDevice}
 use Rattle.worm_device.proofs.Counting.{rose_or_still}
-use Rattle.volume_audit.specs.Audits.{Audits, SettlesThenAudits}
-use Rattle.volume_audit.specs.declared.report.AuditReport.{AuditReport}
-use Rattle.volume_audit.proofs.Comes.{refuses}
+use Rattle.volume_exercise.specs.volume_audit.Audits.{Audits, SettlesThenAudits}
+use Rattle.volume_exercise.specs.volume_audit.declared.report.AuditReport.{AuditReport}
+use Rattle.volume_exercise.proofs.of_volume_audit.Comes.{refuses}
 use Rattle.record_top.specs.Auditing.{DoesAudit, IsReadyToAudit, report_text}
 use Rattle.record_top.specs.Ports.{Ports, IsOkOrNoMemory, TellsFromMemory}
 use Rattle.volume_exercise.proofs.of_command_laws.Completing.{audits_whole}

@@ -12,8 +12,8 @@ use Rattle.worm_device.specs.State.{IsDevice}
 use Rattle.worm_device.proofs.Counting.{rose_or_still}
 use Rattle.recovery_engine.specs.Settling.{Settles}
 use Rattle.recovery_engine.specs.declared.settling.Ready.{Ready}
-use Rattle.ingest_engine.specs.Formats.{FormatEnds}
-use Rattle.ingest_engine.specs.Ingesting.{IngestEnds}
+use Rattle.volume_exercise.specs.ingest_engine.Formats.{FormatEnds}
+use Rattle.volume_exercise.specs.ingest_engine.Ingesting.{IngestEnds}
 use Rattle.record_top.specs.Formatting.{DoesFormat, IsReadyToFormat}
 use Rattle.record_top.specs.Ingesting.{DoesIngest, IsReadyToIngest, acknowledgement, misnamed, untaken, taken}
 use Rattle.record_top.specs.Ports.{Ports, IsOkAlone, IsOkOrNoMemory, Tells}

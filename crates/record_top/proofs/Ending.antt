@@ -7,7 +7,7 @@ use Rattle.worm_device.specs.State.{DeviceState}
 use Rattle.worm_device.proofs.Elapsing.{called_self}
 use Rattle.recovery_engine.specs.Settling.{SettleEnds, Settles}
 use Rattle.recovery_engine.specs.declared.settling.Ready.{Ready}
-use Rattle.ingest_engine.specs.Ingesting.{IngestEnds}
+use Rattle.volume_exercise.specs.ingest_engine.Ingesting.{IngestEnds}
 use Rattle.record_top.specs.Ingesting.{DoesIngest, acknowledgement, misnamed, untaken, taken}
 use Rattle.record_top.specs.Ports.{Ports, Tells}
 use Rattle.record_top.specs.Recovering.{recovered}

@@ -14,13 +14,13 @@ use Rattle.stored_documents.proofs.Extending.{volume_on}
 use Rattle.index_paths.proofs.KeepingLaws.{kept_on}
 use Rattle.index_paths.specs.Keeping.{Kept}
 use Rattle.stored_documents.specs.Volumes.{IsVolume}
-use Rattle.tamper_rules.proofs.GivenUp.{one_layout}
+use Rattle.commit_record.proofs.of_tamper_rules.GivenUp.{one_layout}
 use Rattle.worm_device.specs.Calls.{Called}
 use Rattle.worm_device.specs.State.{DeviceState, IsDevice}
 use Rattle.worm_device.proofs.Counting.{rose_or_still}
 use Rattle.worm_device.proofs.Elapsing.{called_then}
-use Rattle.record_query.specs.Finding.{FindEnds, Searches}
-use Rattle.record_query.specs.declared.found.Match.{Match}
+use Rattle.time_index.specs.record_query.Finding.{FindEnds, Searches}
+use Rattle.time_index.specs.record_query.declared.found.Match.{Match}
 use Rattle.record_top.specs.Finding.{AreTermsOf, DoesFind, FindsKept, HasOneTerm, IsFirstBadWord, IsReadyToFind, TermsEnd, found_text, misworded, searched, unread, unruled}
 use Rattle.record_top.specs.Ruling.{AsksRule, RuleEnds}
 use Rattle.record_top.specs.Ports.{Ports, IsOkOrNoMemory, TellsFromMemory}

@@ -8,10 +8,10 @@ use Rattle.stored_documents.specs.declared.word_rules.WordRule.{WordRule}
 use Rattle.stored_documents.proofs.Extending.{volume_on}
 use Rattle.worm_device.specs.Calls.{Called}
 use Rattle.worm_device.specs.State.{DeviceState, IsDevice}
-use Rattle.record_query.specs.Finding.{Searches}
-use Rattle.record_query.specs.LookingUp.{LookUpEnds, LooksUp}
-use Rattle.record_query.specs.declared.found.Found.{Found}
-use Rattle.record_query.specs.declared.found.Match.{Match}
+use Rattle.time_index.specs.record_query.Finding.{Searches}
+use Rattle.time_index.specs.record_query.LookingUp.{LookUpEnds, LooksUp}
+use Rattle.time_index.specs.record_query.declared.found.Found.{Found}
+use Rattle.time_index.specs.record_query.declared.found.Match.{Match}
 use Rattle.volume_exercise.specs.command_laws.Begins.{BeginsSteady}
 use Rattle.record_top.specs.Finding.{AreTermsOf, DoesFind, found_text, misworded, searched, unread, unruled}
 use Rattle.record_top.specs.Ruling.{AsksRule, HasRule}

@@ -8,8 +8,8 @@ use Rattle.worm_device.specs.Calls.{Called}
 use Rattle.worm_device.specs.State.{IsDevice}
 use Rattle.worm_device.proofs.Counting.{rose_or_still}
 use Rattle.worm_device.proofs.Elapsing.{called_self}
-use Rattle.record_query.specs.LookingUp.{LookUpEnds, LooksUp}
-use Rattle.record_query.specs.declared.found.Found.{Found}
+use Rattle.time_index.specs.record_query.LookingUp.{LookUpEnds, LooksUp}
+use Rattle.time_index.specs.record_query.declared.found.Found.{Found}
 use Rattle.record_top.specs.LookingUp.{Answers, DoesLookUp, IsReadyToLookUp, looked, misnamed}
 use Rattle.record_top.specs.Ports.{Ports, IsOkOrAbsent}
 use Rattle.volume_exercise.proofs.of_command_laws.Results.{no_answer, one_refusal, other_refusal}

@@ -9,11 +9,11 @@ use Rattle.host_ports.specs.Sources.{Gives}
 use Rattle.stored_documents.specs.Documents.{Document}
 use Rattle.stored_documents.specs.Slots.{IsEdge, IsHorizon}
 use Rattle.stored_documents.specs.Volumes.{IsVolume}
-use Rattle.tamper_rules.specs.Settling.{Held}
-use Rattle.ingest_laws.specs.Needs.{IsNeed}
+use Rattle.commit_record.specs.tamper_rules.Settling.{Held}
+use Rattle.time_index.specs.ingest_laws.Needs.{IsNeed}
 use Rattle.worm_device.specs.State.{DeviceState, IsDevice}
 use Rattle.volume_exercise.proofs.of_plan_writer.PutFrom.{volume_2}
-use Rattle.ingest_engine.specs.Ingesting.{HasNoRoom, IngestEnds, Ingests}
+use Rattle.volume_exercise.specs.ingest_engine.Ingesting.{HasNoRoom, IngestEnds, Ingests}
 use Rattle.volume_exercise.proofs.of_settling_laws.LeftWhole.{held_unmoved}
 use Rattle.volume_exercise.specs.crash_laws.Steadiness.{HasOneMore}
 use Rattle.volume_exercise.proofs.of_crash_laws.AddsOne.{comes_more}

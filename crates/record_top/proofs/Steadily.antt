@@ -11,16 +11,16 @@ use Rattle.worm_device.specs.State.{IsDevice}
 use Rattle.recovery_engine.specs.Settling.{Settles, SettlesFirst}
 use Rattle.recovery_engine.specs.declared.settling.Ready.{Ready}
 use Rattle.volume_exercise.proofs.of_settling_laws.LeftWhole.{held_unmoved}
-use Rattle.ingest_engine.specs.Formats.{FormatEnds}
+use Rattle.volume_exercise.specs.ingest_engine.Formats.{FormatEnds}
 use Rattle.commit_record.specs.Licences.{IsLicensed}
-use Rattle.record_query.specs.Finding.{FindEnds}
-use Rattle.record_query.specs.LookingUp.{LookUpEnds}
+use Rattle.time_index.specs.record_query.Finding.{FindEnds}
+use Rattle.time_index.specs.record_query.LookingUp.{LookUpEnds}
 use Rattle.receipt_text.specs.Form.{text_of_receipt}
-use Rattle.record_query.specs.declared.found.Found.{Found}
-use Rattle.record_query.specs.declared.found.Match.{Match}
-use Rattle.volume_audit.specs.Audits.{SettlesThenAudits}
-use Rattle.volume_audit.specs.declared.report.AuditReport.{AuditReport}
-use Rattle.volume_audit.proofs.Comes.{licensed, settles_first}
+use Rattle.time_index.specs.record_query.declared.found.Found.{Found}
+use Rattle.time_index.specs.record_query.declared.found.Match.{Match}
+use Rattle.volume_exercise.specs.volume_audit.Audits.{SettlesThenAudits}
+use Rattle.volume_exercise.specs.volume_audit.declared.report.AuditReport.{AuditReport}
+use Rattle.volume_exercise.proofs.of_volume_audit.Comes.{licensed, settles_first}
 use Rattle.command_line.specs.Requests.{Request, ToAudit, ToCheck, ToExercise, ToFind, ToFindBetween, ToFormat, ToIngest, ToLookUp, ToMakeReceipt, ToRecover, ToReplay}
 use Rattle.record_top.specs.Auditing.{DoesAudit, report_text}
 use Rattle.record_top.specs.Checking.{DoesCheck}

@@ -4,8 +4,8 @@ use Rattle.std.specs.Fmt.{decimal}
 use Rattle.cell_types.specs.Layout.{Layout}
 use Rattle.cell_types.specs.declared.refusal.Refusal.{Refusal}
 use Rattle.worm_device.specs.Counts.{IsStill}
-use Rattle.volume_audit.specs.Audits.{Audits}
-use Rattle.volume_audit.specs.declared.report.AuditReport.{AuditReport}
+use Rattle.volume_exercise.specs.volume_audit.Audits.{Audits}
+use Rattle.volume_exercise.specs.volume_audit.declared.report.AuditReport.{AuditReport}
 use Rattle.record_top.specs.Ports.{Ports, TellsFromMemory}
 use Rattle.volume_exercise.specs.command_laws.WholeLogs.{HasSteadyVolume}
 

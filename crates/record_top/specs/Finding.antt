@@ -10,8 +10,8 @@ use Rattle.stored_documents.specs.Documents.{Document}
 use Rattle.index_paths.specs.Keeping.{Kept}
 use Rattle.worm_device.specs.Counts.{IsStill}
 use Rattle.worm_device.specs.State.{DeviceState}
-use Rattle.record_query.specs.Finding.{FindsAllOf, Searches}
-use Rattle.record_query.specs.declared.found.Match.{Match}
+use Rattle.time_index.specs.record_query.Finding.{FindsAllOf, Searches}
+use Rattle.time_index.specs.record_query.declared.found.Match.{Match}
 use Rattle.command_line.specs.Lines.{document_line, found_lines}
 use Rattle.record_top.specs.Ports.{Ports, TellsFromMemory}
 use Rattle.volume_exercise.specs.command_laws.WholeLogs.{HasSteadyVolume}

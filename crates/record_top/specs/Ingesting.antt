@@ -8,7 +8,7 @@ use Rattle.host_ports.specs.Sources.{Gives, IsAtEnd}
 use Rattle.stored_documents.specs.Documents.{IsBody, IsIdentifier}
 use Rattle.stored_documents.specs.declared.limits.TheConstants.{MAX_BODY_BYTES}
 use Rattle.worm_device.specs.Counts.{IsStill}
-use Rattle.ingest_engine.specs.Ingesting.{Ingests}
+use Rattle.volume_exercise.specs.ingest_engine.Ingesting.{Ingests}
 use Rattle.volume_exercise.specs.command_laws.Begins.{BeginsSteady}
 use Rattle.volume_exercise.specs.command_laws.Completing.{HasPlaceFor}
 use Rattle.command_line.specs.Lines.{slot_line}

@@ -16,4 +16,5 @@ pub mod Spanning
 pub mod Steadiness
 pub mod Taking
 pub use Rattle.volume_exercise.specs.command_laws
-pub use Rattle.ingest_engine.specs as ingest_engine
+pub use Rattle.command_line.specs as command_line
+pub use Rattle.volume_exercise.specs.ingest_engine

@@ -5,8 +5,8 @@ use Rattle.cell_types.specs.declared.refusal.Refusal.{Refusal}
 use Rattle.cell_types.specs.declared.refusal.Refusal.TheVariants.{BadIdentifier}
 use Rattle.stored_documents.specs.Documents.{IsIdentifier}
 use Rattle.worm_device.specs.Counts.{IsStill}
-use Rattle.record_query.specs.LookingUp.{LooksUp}
-use Rattle.record_query.specs.declared.found.Found.{Found}
+use Rattle.time_index.specs.record_query.LookingUp.{LooksUp}
+use Rattle.time_index.specs.record_query.declared.found.Found.{Found}
 use Rattle.record_top.specs.Ports.{Ports}
 use Rattle.volume_exercise.specs.command_laws.WholeLogs.{HasSteadyVolume}
 

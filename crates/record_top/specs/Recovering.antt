@@ -2,7 +2,7 @@
 use Rattle.std.specs.Prelude.{◌≡◌, ℕ, List, codes, Result, Ok, Err, IsTrue, ⊤}
 use Rattle.cell_types.specs.Layout.{Layout}
 use Rattle.cell_types.specs.declared.refusal.Refusal.{Refusal}
-use Rattle.tamper_rules.specs.Settling.{Sound}
+use Rattle.commit_record.specs.tamper_rules.Settling.{Sound}
 use Rattle.worm_device.specs.Counts.{IsStill}
 use Rattle.worm_device.specs.State.{DeviceState}
 use Rattle.recovery_engine.specs.Settling.{IsSettlingRule, Settles}

@@ -9,7 +9,7 @@ use host_ports::{Sink, Source};
 use itoa::Buffer;
 use progress::Meter;
 use std::alloc::{AllocError, Global};
-use volume_audit::{AuditReport, audit_metered};
+use volume_exercise::volume_audit::{AuditReport, audit_metered};
 use worm_device::Device;
 
 /// Audits the volume, and puts out how many slots and cells it has. The text is made before its first byte goes out.

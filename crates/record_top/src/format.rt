@@ -7,7 +7,7 @@ ghost use Rattle.record_top.specs.Ports.{ports_of};
 use crate::command::Outcome;
 use command_line::put_text;
 use host_ports::{Sink, Source};
-use ingest_engine::format_volume;
+use volume_exercise::ingest_engine::format_volume;
 use worm_device::Device;
 
 /// Makes the device a volume of so many slots and lists, and of this version, and says so.

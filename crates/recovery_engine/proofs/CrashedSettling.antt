@@ -6,7 +6,7 @@ use Rattle.cell_types.specs.Layout.{Layout, outcome_at, done_at, lists_at}
 use Rattle.stored_documents.specs.Documents.{document_at}
 use Rattle.stored_documents.specs.Slots.{IsAbandoned, IsCommitted, IsDone, IsReserved, IsUnused}
 use Rattle.stored_documents.proofs.Extending.{abandons_on, commits_on, done_on, reserves_on}
-use Rattle.tamper_rules.specs.Journals.{journal_at}
+use Rattle.commit_record.specs.tamper_rules.Journals.{journal_at}
 use Rattle.phase_writer.specs.Putting.{IsInFirst, IsPut}
 use Rattle.phase_writer.specs.declared.put.Put.{Put}
 use Rattle.commit_record.specs.States.{IsState}

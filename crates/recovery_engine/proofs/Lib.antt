@@ -9,3 +9,4 @@ pub mod OfSettled
 pub mod Rising
 pub mod Settled
 pub mod States
+pub use Rattle.commit_record.proofs.of_tamper_rules

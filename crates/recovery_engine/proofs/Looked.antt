@@ -20,8 +20,8 @@ use Rattle.worm_device.proofs.Images.{extends_self, extends_then, unchanged_then
 use Rattle.recovery_engine.specs.Ending.{HasJournal, IsFirstEnd, IsLastEnd, end_plan, end_phases, step_of}
 use Rattle.recovery_engine.specs.Settling.{Settles, SettleEnds, LooksBriefly, LooksBrieflyAgain, NamesTarget, EndsByPhases, IsEnding, settle_plan}
 use Rattle.recovery_engine.specs.declared.settling.Step.TheVariants.{Nothing}
-use Rattle.tamper_rules.specs.Settling.{Settled}
-use Rattle.tamper_rules.proofs.Images.{same_image}
+use Rattle.commit_record.specs.tamper_rules.Settling.{Settled}
+use Rattle.commit_record.proofs.of_tamper_rules.Images.{same_image}
 use Rattle.commit_record.specs.States.{IsState}
 use Rattle.recovery_engine.proofs.HalfDone.{settled_is_whole}
 use Rattle.recovery_engine.specs.LastSlot.{IsLast}

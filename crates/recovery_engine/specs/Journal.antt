@@ -4,7 +4,7 @@ use Rattle.cell_types.specs.Image.{Image}
 use Rattle.cell_types.specs.declared.refusal.Evidence.{Evidence}
 use Rattle.cell_types.specs.declared.refusal.Fault.{Fault}
 use Rattle.cell_types.specs.declared.refusal.Fault.TheVariants.{Tampered, Failed}
-use Rattle.tamper_rules.specs.declared.numbers.TheConstants.{BROKEN_JOURNAL}
+use Rattle.commit_record.specs.tamper_rules.declared.numbers.TheConstants.{BROKEN_JOURNAL}
 use Rattle.worm_device.specs.Counts.{Rose}
 use Rattle.worm_device.specs.State.{DeviceState}
 use Rattle.phase_writer.specs.declared.put.Blame.TheVariants as blames

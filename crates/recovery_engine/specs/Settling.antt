@@ -7,10 +7,10 @@ use Rattle.cell_types.specs.declared.refusal.Refusal.{Refusal}
 use Rattle.cell_types.specs.declared.refusal.Refusal.TheVariants.{Tampered, DeviceFault, NotFormatted, NotAVolume, WrongSize}
 use Rattle.stored_documents.specs.Slots.{Reserves, IsReserved, IsCommitted, IsAbandoned, IsDone, HasEnded, EndsBelow, IsHorizon}
 use Rattle.stored_documents.specs.Volumes.{Holds, IsVolume, IsWritten, volume_record}
-use Rattle.tamper_rules.specs.Journals.{journal_at}
-use Rattle.tamper_rules.specs.Rules.{IsBroken}
-use Rattle.tamper_rules.specs.Settling.{Settled}
-use Rattle.tamper_rules.specs.declared.numbers.TheConstants.{BROKEN_JOURNAL, OTHER_TARGET}
+use Rattle.commit_record.specs.tamper_rules.Journals.{journal_at}
+use Rattle.commit_record.specs.tamper_rules.Rules.{IsBroken}
+use Rattle.commit_record.specs.tamper_rules.Settling.{Settled}
+use Rattle.commit_record.specs.tamper_rules.declared.numbers.TheConstants.{BROKEN_JOURNAL, OTHER_TARGET}
 use Rattle.worm_device.specs.Calls.{Called}
 use Rattle.worm_device.specs.Counts.{Rose, IsStill}
 use Rattle.worm_device.specs.State.{DeviceState}

@@ -6,17 +6,17 @@ use Rattle.cell_types.specs.declared.refusal.Refusal.{Refusal}
 use Rattle.cell_types.specs.declared.refusal.Refusal.TheVariants as refusals
 use Rattle.worm_device.specs.Counts.{IsStill, Rose}
 use Rattle.worm_device.specs.State.{DeviceState}
-use Rattle.worm_memory.specs.Memory.{Memory, device_of}
-use Rattle.commit_record.specs.Licences.{IsLicensed}
+use Rattle.script_replies.specs.worm_memory.Memory.{Memory, device_of}
+use Rattle.command_laws.specs.commit_record.Licences.{IsLicensed}
 use Rattle.command_laws.specs.ingest_engine.Ingesting.{IsNamed, by_plan, by_settling, in_index}
 use Rattle.command_laws.specs.record_query.LookingUp.{LookUpEnds}
 use Rattle.command_laws.proofs.of_volume_audit.Comes.{licensed}
 use Rattle.replayed_worlds.specs.Headline.{IsEvident, TamperingIsEvident}
 use Rattle.replayed_worlds.specs.Turns.{LookUpRefused, Turns}
 use Rattle.begun_commands.specs.Beginnings.{begun_with}
-use Rattle.script_events.specs.declared.event.Event.{Event}
-use Rattle.script_events.specs.declared.event.Event.TheVariants as event
-use Rattle.script_events.specs.declared.event.Schedule.{Schedule}
+use Rattle.script_replies.specs.script_events.declared.event.Event.{Event}
+use Rattle.script_replies.specs.script_events.declared.event.Event.TheVariants as event
+use Rattle.script_replies.specs.script_events.declared.event.Schedule.{Schedule}
 use Rattle.script_replies.specs.declared.reply.Reply.{Reply}
 use Rattle.script_replies.specs.declared.reply.Reply.TheVariants as reply
 use Rattle.replayed_worlds.proofs.Along.{split}

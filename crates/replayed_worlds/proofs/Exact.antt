@@ -2,12 +2,12 @@
 use Rattle.std.proofs.Common.{subst, arith}
 use Rattle.cell_types.specs.declared.refusal.Evidence.{Evidence}
 use Rattle.cell_types.specs.declared.refusal.Refusal.TheVariants as refusals
-use Rattle.worm_memory.specs.Memory.{Memory}
+use Rattle.script_replies.specs.worm_memory.Memory.{Memory}
 use Rattle.replayed_worlds.specs.Headline.{IsDoneQuery, IsUndisturbed, ToldIsExact}
 use Rattle.replayed_worlds.specs.Steadily.{CommandsAreWhole, IsCommand}
 use Rattle.replayed_worlds.specs.Turns.{Turns}
-use Rattle.script_events.specs.declared.event.Event.{Event}
-use Rattle.script_events.specs.declared.event.Event.TheVariants as event
+use Rattle.script_replies.specs.script_events.declared.event.Event.{Event}
+use Rattle.script_replies.specs.script_events.declared.event.Event.TheVariants as event
 use Rattle.script_replies.specs.declared.reply.Reply.{Reply}
 use Rattle.script_replies.specs.declared.reply.Reply.TheVariants as reply
 use Rattle.replayed_worlds.proofs.Along.{along, split, turn_goes}

@@ -5,16 +5,16 @@ use Rattle.std.proofs.lemmas.List.Elements.{Contains-push}
 use Rattle.cell_types.specs.Image.{Image, Between, Extends}
 use Rattle.cell_types.specs.declared.refusal.Refusal.TheVariants as refusals
 use Rattle.stored_documents.specs.Documents.{AreDocuments, Document}
-use Rattle.tamper_rules.specs.Settling.{Held, IsBlankOrSound, none, nothing, of_after}
-use Rattle.tamper_rules.proofs.Images.{same_image}
-use Rattle.tamper_rules.proofs.Steady.{steady_two}
+use Rattle.command_laws.specs.tamper_rules.Settling.{Held, IsBlankOrSound, none, nothing, of_after}
+use Rattle.command_laws.proofs.of_tamper_rules.Images.{same_image}
+use Rattle.command_laws.proofs.of_tamper_rules.Steady.{steady_two}
 use Rattle.worm_device.specs.Counts.{IsStill}
 use Rattle.worm_device.specs.State.{DeviceState, IsDevice, LeftSince}
 use Rattle.worm_device.proofs.Images.{extends_self, extends_then}
-use Rattle.worm_memory.specs.Unsure.{is_among}
-use Rattle.worm_memory.specs.Memory.{Memory, device_of}
-use Rattle.worm_memory.specs.Worlds.{world}
-use Rattle.worm_memory.specs.declared.change.Change.{Change}
+use Rattle.script_replies.specs.worm_memory.Unsure.{is_among}
+use Rattle.script_replies.specs.worm_memory.Memory.{Memory, device_of}
+use Rattle.script_replies.specs.worm_memory.Worlds.{world}
+use Rattle.script_replies.specs.worm_memory.declared.change.Change.{Change}
 use Rattle.stored_documents.proofs.Extending.{blank_before}
 use Rattle.command_laws.specs.settling_laws.Steadiness.{HoldsOneOf, IsSteady}
 use Rattle.command_laws.proofs.of_settling_laws.LeftWhole.{left_between, sure_steady, whole_from}
@@ -27,13 +27,13 @@ use Rattle.replayed_worlds.specs.Steadily.{CommandsAreWhole, IsCommand, IsWholeT
 use Rattle.replayed_worlds.specs.Turns.{IsCrash, Turns}
 use Rattle.begun_commands.specs.Beginnings.{begun_with}
 use Rattle.replayed_worlds.specs.Worlds.{AreInTurn, Turn}
-use Rattle.script_events.specs.declared.event.Event.{Event}
-use Rattle.script_events.specs.declared.event.Event.TheVariants as event
-use Rattle.script_events.specs.declared.event.Schedule.{Schedule}
+use Rattle.script_replies.specs.script_events.declared.event.Event.{Event}
+use Rattle.script_replies.specs.script_events.declared.event.Event.TheVariants as event
+use Rattle.script_replies.specs.script_events.declared.event.Schedule.{Schedule}
 use Rattle.script_replies.specs.declared.reply.Reply.{Reply}
 use Rattle.script_replies.specs.declared.reply.Reply.TheVariants as reply
 use Rattle.replayed_worlds.proofs.Along.{along, crash_sure, turn_goes}
-use Rattle.tamper_rules.proofs.HeldGrows.{held_up}
+use Rattle.command_laws.proofs.of_tamper_rules.HeldGrows.{held_up}
 use Rattle.replayed_worlds.proofs.LastDocuments.{last_is_new}
 
 -- what an image holds comes from these turns

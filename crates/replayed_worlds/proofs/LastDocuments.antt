@@ -4,7 +4,7 @@ use Rattle.std.specs.Prelude.{Contains}
 use Rattle.std.proofs.lemmas.List.Elements.{Contains-append_cases, Contains-push_cases}
 use Rattle.cell_types.specs.Image.{Image}
 use Rattle.stored_documents.specs.Documents.{Document, Rise}
-use Rattle.tamper_rules.specs.Settling.{Held, none, of_after}
+use Rattle.command_laws.specs.tamper_rules.Settling.{Held, none, of_after}
 
 none_in : (d : Document) → Contains [] d → ⊥
 none_in d c = omega (arith, c.1)

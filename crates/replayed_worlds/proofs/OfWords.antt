@@ -5,8 +5,8 @@ use Rattle.cell_types.specs.declared.refusal.Refusal.{Refusal}
 use Rattle.cell_types.specs.declared.refusal.Refusal.TheVariants as refusals
 use Rattle.host_ports.specs.Sinks.{SinkState}
 use Rattle.worm_device.specs.State.{DeviceState}
-use Rattle.worm_memory.specs.Memory.{device_of}
-use Rattle.recovery_engine.specs.Settling.{SettleEnds}
+use Rattle.script_replies.specs.worm_memory.Memory.{device_of}
+use Rattle.script_replies.specs.recovery_engine.Settling.{SettleEnds}
 use Rattle.command_laws.specs.ingest_engine.Formats.{FormatEnds}
 use Rattle.command_laws.specs.ingest_engine.Ingesting.{IngestEnds}
 use Rattle.command_laws.specs.record_query.Finding.{FindEnds}
@@ -17,7 +17,7 @@ use Rattle.replayed_worlds.specs.Headline.{Headline}
 use Rattle.replayed_worlds.specs.Refusals.{IsOfWords, NoneIsOfWords}
 use Rattle.replayed_worlds.specs.Turns.{LookUpRefused, layout_on}
 use Rattle.begun_commands.specs.Beginnings.{begun_with}
-use Rattle.script_events.specs.declared.event.Event.TheVariants as event
+use Rattle.script_replies.specs.script_events.declared.event.Event.TheVariants as event
 use Rattle.replayed_worlds.proofs.Evident.{tampering_evident}
 use Rattle.replayed_worlds.proofs.Exact.{told_exact}
 use Rattle.replayed_worlds.proofs.HeldIngests.{ingests_held}

@@ -6,15 +6,15 @@ use Rattle.cell_types.specs.Image.{Image}
 use Rattle.cell_types.specs.declared.refusal.Refusal.{Refusal}
 use Rattle.stored_documents.specs.Documents.{AreDocuments, Document}
 use Rattle.stored_documents.proofs.Lists.{lists_one}
-use Rattle.tamper_rules.specs.Settling.{Held, Settled, none, nothing, of_after}
-use Rattle.tamper_rules.proofs.Images.{same_image}
-use Rattle.tamper_rules.proofs.OneAfter.{one_after}
+use Rattle.command_laws.specs.tamper_rules.Settling.{Held, Settled, none, nothing, of_after}
+use Rattle.command_laws.proofs.of_tamper_rules.Images.{same_image}
+use Rattle.command_laws.proofs.of_tamper_rules.OneAfter.{one_after}
 use Rattle.worm_device.specs.Counts.{IsStill, Rose}
 use Rattle.worm_device.specs.State.{DeviceState, IsDevice}
 use Rattle.worm_device.proofs.Elapsing.{called_self}
-use Rattle.worm_memory.specs.Memory.{Memory, device_of}
-use Rattle.recovery_engine.specs.Settling.{HasSettled, SettlesFirst, settled, settling}
-use Rattle.recovery_engine.specs.declared.settling.Ready.{Ready}
+use Rattle.script_replies.specs.worm_memory.Memory.{Memory, device_of}
+use Rattle.script_replies.specs.recovery_engine.Settling.{HasSettled, SettlesFirst, settled, settling}
+use Rattle.script_replies.specs.recovery_engine.declared.settling.Ready.{Ready}
 use Rattle.command_laws.specs.settling_laws.Steadiness.{IsSteady}
 use Rattle.command_laws.proofs.of_settling_laws.LeftWhole.{held_unmoved, settling_keeps}
 use Rattle.command_laws.specs.ingest_engine.Ingesting as ingesting
@@ -25,9 +25,9 @@ use Rattle.command_laws.specs.Begins.{BeginsSteady}
 use Rattle.command_laws.proofs.Formatting.{format_makes}
 use Rattle.command_laws.proofs.HeldAnswers.{settled_now}
 use Rattle.command_laws.proofs.Results.{no_answer}
-use Rattle.script_events.specs.declared.event.Event.{Event}
-use Rattle.script_events.specs.declared.event.Event.TheVariants as event
-use Rattle.script_events.specs.declared.event.Schedule.{Schedule}
+use Rattle.script_replies.specs.script_events.declared.event.Event.{Event}
+use Rattle.script_replies.specs.script_events.declared.event.Event.TheVariants as event
+use Rattle.script_replies.specs.script_events.declared.event.Schedule.{Schedule}
 use Rattle.script_replies.specs.declared.reply.Reply.{Reply}
 use Rattle.script_replies.specs.declared.reply.Reply.TheVariants as reply
 use Rattle.begun_commands.specs.Beginnings.{begun_with}

@@ -10,9 +10,9 @@ use Rattle.stored_documents.specs.Volumes.{IsVolume}
 use Rattle.stored_documents.proofs.Extending.{volume_on}
 use Rattle.index_paths.specs.Keeping.{IsKept, Kept}
 use Rattle.index_paths.proofs.KeepingLaws.{kept_on}
-use Rattle.tamper_rules.proofs.GivenUp.{one_layout}
+use Rattle.command_laws.proofs.of_tamper_rules.GivenUp.{one_layout}
 use Rattle.worm_device.specs.State.{DeviceState, IsDevice}
-use Rattle.worm_memory.specs.Memory.{Memory, device_of}
+use Rattle.script_replies.specs.worm_memory.Memory.{Memory, device_of}
 use Rattle.command_laws.specs.ingest_engine.Ingesting.{IsIngested, document_in}
 use Rattle.command_laws.specs.record_query.Finding.{HasMatch}
 use Rattle.command_laws.specs.record_query.LookingUp.{IsAbsent, LookUpEnds}
@@ -20,8 +20,8 @@ use Rattle.command_laws.specs.record_query.declared.found.Match.{Match}
 use Rattle.replayed_worlds.specs.Headline.{AcknowledgedAreReturned, Returns}
 use Rattle.replayed_worlds.specs.Turns.{LookUpRefused, Turns}
 use Rattle.replayed_worlds.specs.Worlds.{AreInTurn, Turn, acknowledged, acknowledged_by}
-use Rattle.script_events.specs.declared.event.Event.{Event}
-use Rattle.script_events.specs.declared.event.Event.TheVariants as event
+use Rattle.script_replies.specs.script_events.declared.event.Event.{Event}
+use Rattle.script_replies.specs.script_events.declared.event.Event.TheVariants as event
 use Rattle.script_replies.specs.declared.reply.Reply.{Reply}
 use Rattle.script_replies.specs.declared.reply.Reply.TheVariants as reply
 use Rattle.replayed_worlds.proofs.Along.{Goes, along, split}

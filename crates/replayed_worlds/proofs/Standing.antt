@@ -3,14 +3,14 @@ use Rattle.std.proofs.Common.{◌≡◌, ℕ, List, [], Option, Some, refl, sym,
 use Rattle.std.specs.Prelude.{Contains}
 use Rattle.stored_documents.specs.Documents.{Stands}
 use Rattle.worm_device.specs.State.{DeviceState}
-use Rattle.worm_memory.specs.Memory.{Memory, device_of}
+use Rattle.script_replies.specs.worm_memory.Memory.{Memory, device_of}
 use Rattle.host_ports.specs.Sinks.{Gets}
 use Rattle.command_laws.specs.record_query.Finding.{IsMatch, Rises}
 use Rattle.command_laws.specs.record_query.declared.found.Match.{Match}
 use Rattle.replayed_worlds.specs.Headline.{ReturnedStand, ReturnsStanding, StandsAndMatches}
 use Rattle.replayed_worlds.specs.Turns.{BodyAnswered, Turns}
-use Rattle.script_events.specs.declared.event.Event.{Event}
-use Rattle.script_events.specs.declared.event.Event.TheVariants as event
+use Rattle.script_replies.specs.script_events.declared.event.Event.{Event}
+use Rattle.script_replies.specs.script_events.declared.event.Event.TheVariants as event
 use Rattle.script_replies.specs.declared.reply.Reply.{Reply}
 use Rattle.script_replies.specs.declared.reply.Reply.TheVariants as reply
 use Rattle.replayed_worlds.proofs.Along.{split}

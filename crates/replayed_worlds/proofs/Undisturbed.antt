@@ -6,18 +6,18 @@ use Rattle.std.proofs.lemmas.List.{append_assoc, append-nil, map-append}
 use Rattle.std.proofs.lemmas.List.Elements.{All-cons, All-nil}
 use Rattle.cell_types.specs.declared.refusal.Refusal.TheVariants as refusals
 use Rattle.stored_documents.specs.Documents.{Document}
-use Rattle.tamper_rules.specs.Settling.{Held}
+use Rattle.command_laws.specs.tamper_rules.Settling.{Held}
 use Rattle.worm_device.specs.Counts.{IsStill, Rose}
 use Rattle.worm_device.specs.State.{DeviceState, IsDevice}
-use Rattle.worm_memory.specs.Memory.{Memory, device_of, mark_of}
-use Rattle.worm_memory.specs.Plans.{Plan, is_due, is_reached, last_faults, last_foreign_writes, may_be_written, may_fail, may_stop}
-use Rattle.worm_memory.specs.declared.mark.Mark.{Mark}
-use Rattle.worm_memory.specs.declared.moment.Moment.{Moment}
-use Rattle.worm_memory.proofs.Accounts.{faults_append, foreign_writes_append}
-use Rattle.script_events.specs.declared.event.Event.{Event}
-use Rattle.script_events.specs.declared.event.Event.TheVariants as event
-use Rattle.script_events.specs.declared.event.Schedule.{Schedule}
-use Rattle.script_events.specs.declared.event.Timed.{Timed}
+use Rattle.script_replies.specs.worm_memory.Memory.{Memory, device_of, mark_of}
+use Rattle.script_replies.specs.worm_memory.Plans.{Plan, is_due, is_reached, last_faults, last_foreign_writes, may_be_written, may_fail, may_stop}
+use Rattle.script_replies.specs.worm_memory.declared.mark.Mark.{Mark}
+use Rattle.script_replies.specs.worm_memory.declared.moment.Moment.{Moment}
+use Rattle.script_replies.proofs.of_worm_memory.Accounts.{faults_append, foreign_writes_append}
+use Rattle.script_replies.specs.script_events.declared.event.Event.{Event}
+use Rattle.script_replies.specs.script_events.declared.event.Event.TheVariants as event
+use Rattle.script_replies.specs.script_events.declared.event.Schedule.{Schedule}
+use Rattle.script_replies.specs.script_events.declared.event.Timed.{Timed}
 use Rattle.script_replies.specs.declared.reply.Reply.{Reply}
 use Rattle.script_replies.specs.declared.reply.Reply.TheVariants as reply
 use Rattle.begun_commands.specs.Beginnings.{planned_of}

@@ -5,10 +5,10 @@ use Rattle.cell_types.specs.declared.refusal.Evidence.{Evidence}
 use Rattle.cell_types.specs.declared.refusal.Refusal.{Refusal}
 use Rattle.cell_types.specs.declared.refusal.Refusal.TheVariants as refusals
 use Rattle.stored_documents.specs.Documents.{AreDocuments, Document}
-use Rattle.tamper_rules.specs.Settling.{Held}
+use Rattle.command_laws.specs.tamper_rules.Settling.{Held}
 use Rattle.worm_device.specs.Counts.{IsStill}
 use Rattle.worm_device.specs.State.{DeviceState, IsDevice}
-use Rattle.worm_memory.specs.Memory.{Memory, device_of}
+use Rattle.script_replies.specs.worm_memory.Memory.{Memory, device_of}
 use Rattle.command_laws.specs.settling_laws.Steadiness.{IsSteady}
 use Rattle.command_laws.specs.ingest_engine.Formats.{Formats}
 use Rattle.command_laws.specs.ingest_engine.Ingesting.{Ingests}
@@ -27,8 +27,8 @@ use Rattle.command_laws.proofs.Alarms.{query_alarms, settling_alarms}
 use Rattle.command_laws.proofs.Formatting.{format_leaves}
 use Rattle.command_laws.proofs.HeldAnswers.{just_these, none_held, stand_now, stands_among}
 use Rattle.command_laws.proofs.Queries.{query_leaves, settling_leaves}
-use Rattle.script_events.specs.declared.event.Event.TheVariants as event
-use Rattle.script_events.specs.declared.event.Schedule.{Schedule}
+use Rattle.script_replies.specs.script_events.declared.event.Event.TheVariants as event
+use Rattle.script_replies.specs.script_events.declared.event.Schedule.{Schedule}
 use Rattle.script_replies.specs.declared.reply.Reply.{Reply}
 use Rattle.script_replies.specs.declared.reply.Reply.TheVariants as reply
 use Rattle.begun_commands.specs.Beginnings.{begun_with}

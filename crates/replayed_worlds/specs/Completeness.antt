@@ -6,11 +6,11 @@ use Rattle.cell_types.specs.declared.refusal.Refusal.TheVariants as refusals
 use Rattle.stored_documents.specs.Volumes.{IsVolume}
 use Rattle.worm_device.specs.Counts.{IsStill}
 use Rattle.worm_device.specs.State.{DeviceState, IsDevice}
-use Rattle.worm_memory.specs.Memory.{Memory, device_of}
+use Rattle.script_replies.specs.worm_memory.Memory.{Memory, device_of}
 use Rattle.command_laws.specs.settling_laws.Steadiness.{IsSteady}
 use Rattle.command_laws.specs.Completing.{HasPlaceFor}
-use Rattle.script_events.specs.declared.event.Event.{Event}
-use Rattle.script_events.specs.declared.event.Event.TheVariants as event
+use Rattle.script_replies.specs.script_events.declared.event.Event.{Event}
+use Rattle.script_replies.specs.script_events.declared.event.Event.TheVariants as event
 use Rattle.script_replies.specs.declared.reply.Reply.{Reply}
 use Rattle.script_replies.specs.declared.reply.Reply.TheVariants as reply
 use Rattle.replayed_worlds.specs.Steadily.{begun_by}

@@ -12,17 +12,17 @@ use Rattle.cell_types.specs.declared.refusal.Evidence.{Evidence}
 use Rattle.cell_types.specs.declared.refusal.Refusal.TheVariants as refusals
 use Rattle.stored_documents.specs.Documents.{AreDocuments, Document, Stands}
 use Rattle.stored_documents.specs.Volumes.{IsVolume}
-use Rattle.tamper_rules.specs.Rules.{IsBroken, IsPlaceOf}
-use Rattle.tamper_rules.specs.Settling.{Held}
+use Rattle.command_laws.specs.tamper_rules.Rules.{IsBroken, IsPlaceOf}
+use Rattle.command_laws.specs.tamper_rules.Settling.{Held}
 use Rattle.worm_device.specs.Counts.{Rose}
 use Rattle.worm_device.specs.State.{DeviceState, IsDevice}
-use Rattle.worm_memory.specs.Memory.{Memory, device_of}
+use Rattle.script_replies.specs.worm_memory.Memory.{Memory, device_of}
 use Rattle.command_laws.specs.ingest_engine.Ingesting.{document_in}
 use Rattle.command_laws.specs.record_query.Finding.{HasMatch, HasTerms, Rises}
 use Rattle.command_laws.specs.record_query.declared.found.Match.{Match}
-use Rattle.script_events.specs.declared.event.Event.{Event}
-use Rattle.script_events.specs.declared.event.Event.TheVariants as event
-use Rattle.script_events.specs.declared.event.Schedule.{Schedule}
+use Rattle.script_replies.specs.script_events.declared.event.Event.{Event}
+use Rattle.script_replies.specs.script_events.declared.event.Event.TheVariants as event
+use Rattle.script_replies.specs.script_events.declared.event.Schedule.{Schedule}
 use Rattle.script_replies.specs.declared.reply.Reply.{Reply}
 use Rattle.script_replies.specs.declared.reply.Reply.TheVariants as reply
 use Rattle.command_laws.specs.Telling.{AreMatchesOf}

@@ -9,6 +9,7 @@ pub use Rattle.begun_commands.specs as begun_commands
 pub use Rattle.command_laws.specs as command_laws
 pub use Rattle.command_laws.specs.crash_laws
 pub use Rattle.command_laws.specs.ingest_engine
+pub use Rattle.command_laws.specs.ingest_laws
 pub use Rattle.command_laws.specs.plan_writer
 pub use Rattle.command_laws.specs.record_query
 pub use Rattle.script_replies.specs as script_replies

@@ -2,8 +2,8 @@
 use Rattle.std.specs.Prelude.{⊤}
 use Rattle.cell_types.specs.declared.refusal.Refusal.{Refusal}
 use Rattle.cell_types.specs.declared.refusal.Refusal.TheVariants as refusals
-use Rattle.worm_memory.specs.Memory.{Memory}
-use Rattle.script_events.specs.declared.event.Event.{Event}
+use Rattle.script_replies.specs.worm_memory.Memory.{Memory}
+use Rattle.script_replies.specs.script_events.declared.event.Event.{Event}
 use Rattle.script_replies.specs.declared.reply.Reply.TheVariants as reply
 use Rattle.replayed_worlds.specs.Turns.{Turns}
 

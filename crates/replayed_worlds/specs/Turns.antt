@@ -6,15 +6,15 @@ use Rattle.cell_types.specs.declared.refusal.Refusal.{Refusal}
 use Rattle.cell_types.specs.declared.refusal.Refusal.TheVariants as refusals
 use Rattle.worm_device.specs.Calls.{Called}
 use Rattle.worm_device.specs.State.{DeviceState}
-use Rattle.worm_memory.specs.Device.{ForeignWrites}
-use Rattle.worm_memory.specs.Losses.{kept_count, kept_image}
-use Rattle.worm_memory.specs.Memory.{KeepsPlan, Memory, device_of, with_begin, with_foreign, with_hand}
-use Rattle.worm_memory.specs.Outcomes.{with_crash}
-use Rattle.worm_memory.specs.Unsure.{unsure_of}
-use Rattle.worm_memory.specs.declared.losses.Crash.{Crash}
+use Rattle.script_replies.specs.worm_memory.Device.{ForeignWrites}
+use Rattle.script_replies.specs.worm_memory.Losses.{kept_count, kept_image}
+use Rattle.script_replies.specs.worm_memory.Memory.{KeepsPlan, Memory, device_of, with_begin, with_foreign, with_hand}
+use Rattle.script_replies.specs.worm_memory.Outcomes.{with_crash}
+use Rattle.script_replies.specs.worm_memory.Unsure.{unsure_of}
+use Rattle.script_replies.specs.worm_memory.declared.losses.Crash.{Crash}
 use Rattle.host_ports.specs.Sinks.{SinkState}
-use Rattle.recovery_engine.specs.Settling.{Settles}
-use Rattle.recovery_engine.specs.declared.settling.Ready.{Ready}
+use Rattle.script_replies.specs.recovery_engine.Settling.{Settles}
+use Rattle.script_replies.specs.recovery_engine.declared.settling.Ready.{Ready}
 use Rattle.command_laws.specs.ingest_engine.Formats.{Formats}
 use Rattle.command_laws.specs.ingest_engine.Ingesting.{Ingests}
 use Rattle.command_laws.specs.record_query.Finding.{Searches}
@@ -22,9 +22,9 @@ use Rattle.command_laws.specs.record_query.LookingUp.{LooksUp}
 use Rattle.command_laws.specs.record_query.declared.found.Found.{Found}
 use Rattle.command_laws.specs.record_query.declared.found.Match.{Match}
 use Rattle.command_laws.specs.volume_audit.Audits.{Audits}
-use Rattle.script_events.specs.declared.event.Event.{Event}
-use Rattle.script_events.specs.declared.event.Event.TheVariants as event
-use Rattle.script_events.specs.declared.event.Schedule.{Schedule}
+use Rattle.script_replies.specs.script_events.declared.event.Event.{Event}
+use Rattle.script_replies.specs.script_events.declared.event.Event.TheVariants as event
+use Rattle.script_replies.specs.script_events.declared.event.Schedule.{Schedule}
 use Rattle.script_replies.specs.declared.reply.Reply.{Reply}
 use Rattle.script_replies.specs.declared.reply.Reply.TheVariants as reply
 use Rattle.begun_commands.specs.Beginnings.{begun_with, plan_by}

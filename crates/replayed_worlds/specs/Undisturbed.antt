@@ -4,14 +4,14 @@
 -- commands in which no call fails, holds of each turn of such a world.
 use Rattle.std.specs.Prelude.{◌≡◌, List, [], ◌∷◌, ◌++◌, map, None, ⊤}
 use Rattle.std.specs.List.{All}
-use Rattle.tamper_rules.specs.Settling.{Held, Settled}
+use Rattle.command_laws.specs.tamper_rules.Settling.{Held, Settled}
 use Rattle.worm_device.specs.Counts.{Rose}
 use Rattle.worm_device.specs.State.{IsDevice}
-use Rattle.worm_memory.specs.Memory.{Memory, device_of, mark_of}
+use Rattle.script_replies.specs.worm_memory.Memory.{Memory, device_of, mark_of}
 use Rattle.command_laws.specs.settling_laws.Steadiness.{IsSteady}
-use Rattle.script_events.specs.declared.event.Event.{Event}
-use Rattle.script_events.specs.declared.event.Event.TheVariants as event
-use Rattle.script_events.specs.declared.event.Schedule.{Schedule}
+use Rattle.script_replies.specs.script_events.declared.event.Event.{Event}
+use Rattle.script_replies.specs.script_events.declared.event.Event.TheVariants as event
+use Rattle.script_replies.specs.script_events.declared.event.Schedule.{Schedule}
 use Rattle.script_replies.specs.declared.reply.Reply.{Reply}
 use Rattle.script_replies.specs.declared.reply.Reply.TheVariants as reply
 use Rattle.replayed_worlds.specs.Completeness.{IsDoneWherePossible}

@@ -2,10 +2,10 @@
 use Rattle.std.specs.Prelude.{◌≡◌, List, [], ◌∷◌, ◌++◌, map}
 use Rattle.stored_documents.specs.Documents.{Document}
 use Rattle.worm_device.specs.State.{IsDevice}
-use Rattle.worm_memory.specs.Memory.{Memory, device_of}
+use Rattle.script_replies.specs.worm_memory.Memory.{Memory, device_of}
 use Rattle.command_laws.specs.ingest_engine.Ingesting.{document_in}
-use Rattle.script_events.specs.declared.event.Event.{Event}
-use Rattle.script_events.specs.declared.event.Event.TheVariants as event
+use Rattle.script_replies.specs.script_events.declared.event.Event.{Event}
+use Rattle.script_replies.specs.script_events.declared.event.Event.TheVariants as event
 use Rattle.script_replies.specs.declared.reply.Reply.{Reply}
 use Rattle.script_replies.specs.declared.reply.Reply.TheVariants as reply
 use Rattle.replayed_worlds.specs.Turns.{Turns}

@@ -4,13 +4,13 @@ use Rattle.std.specs.Prelude.{IsTrue}
 use Rattle.std.proofs.lemmas.Option.{none-some}
 use Rattle.cell_types.specs.declared.refusal.Evidence.{Evidence}
 use Rattle.cell_types.specs.declared.refusal.Refusal.TheVariants.{Tampered}
-use Rattle.tamper_rules.specs.Rules.{IsBroken}
-use Rattle.tamper_rules.specs.Settling.{Sound}
-use Rattle.tamper_rules.specs.declared.numbers.TheConstants.{BROKEN_JOURNAL, OTHER_TARGET}
+use Rattle.recovery_engine.specs.tamper_rules.Rules.{IsBroken}
+use Rattle.recovery_engine.specs.tamper_rules.Settling.{Sound}
+use Rattle.recovery_engine.specs.tamper_rules.declared.numbers.TheConstants.{BROKEN_JOURNAL, OTHER_TARGET}
 use Rattle.worm_device.specs.Counts.{IsStill}
 use Rattle.worm_device.specs.State.{DeviceState, IsDevice}
 use Rattle.worm_device.proofs.Images.{extends_self}
-use Rattle.tamper_rules.proofs.SettledLaws.{unbroken}
+use Rattle.recovery_engine.proofs.of_tamper_rules.SettledLaws.{unbroken}
 use Rattle.cell_types.specs.Image.{Image}
 use Rattle.recovery_engine.specs.LastSlot.{IsSlotRule}
 use Rattle.recovery_engine.specs.Settling.{HasSettled, IsFound, IsSettlingRule, Settles}

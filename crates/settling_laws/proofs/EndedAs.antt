@@ -8,15 +8,15 @@ use Rattle.cell_types.specs.declared.record_cell.RecordCell.TheVariants as recor
 use Rattle.stored_documents.specs.Slots.{IsAbandonedSlot, IsDoneSlot, HasEnded, IsHorizon}
 use Rattle.stored_documents.specs.Volumes.{IsVolume}
 use Rattle.stored_documents.proofs.Holding.{one_record_holds}
-use Rattle.tamper_rules.specs.Settling.{Settled, IsOneHorizon, After, nothing, abandoned, completed, Sound}
-use Rattle.tamper_rules.proofs.GivenUp.{no_abandon, one_layout}
-use Rattle.tamper_rules.proofs.Images.{same_image, same_both}
+use Rattle.recovery_engine.specs.tamper_rules.Settling.{Settled, IsOneHorizon, After, nothing, abandoned, completed, Sound}
+use Rattle.recovery_engine.proofs.of_tamper_rules.GivenUp.{no_abandon, one_layout}
+use Rattle.recovery_engine.proofs.of_tamper_rules.Images.{same_image, same_both}
 use Rattle.worm_device.specs.Counts.{IsStill}
 use Rattle.worm_device.specs.State.{DeviceState, IsDevice}
 use Rattle.worm_device.proofs.Images.{extends_self, extends_then}
-use Rattle.phase_writer.specs.Putting.{AreStanding, IsInFirst, ChangesBy}
-use Rattle.commit_record.specs.declared.slot.SlotState.{SlotState}
-use Rattle.commit_record.specs.declared.slot.SlotState.TheVariants.{Unused, Reserved, Abandoned, Committed, Done}
+use Rattle.recovery_engine.specs.phase_writer.Putting.{AreStanding, IsInFirst, ChangesBy}
+use Rattle.recovery_engine.specs.commit_record.declared.slot.SlotState.{SlotState}
+use Rattle.recovery_engine.specs.commit_record.declared.slot.SlotState.TheVariants.{Unused, Reserved, Abandoned, Committed, Done}
 use Rattle.recovery_engine.specs.Ending.{abandon_put, done_put, end_phases, step_of}
 use Rattle.recovery_engine.specs.Settling.{Settles, IsEnding, IsReady, StepMakes, settle_plan}
 use Rattle.recovery_engine.specs.declared.settling.Ready.{Ready}

@@ -7,17 +7,17 @@ use Rattle.cell_types.specs.Layout.{Layout}
 use Rattle.cell_types.specs.declared.refusal.Refusal.{Refusal}
 use Rattle.stored_documents.specs.Documents.{AreDocuments, Document}
 use Rattle.stored_documents.specs.Volumes.{IsVolume}
-use Rattle.tamper_rules.specs.Settling.{Settled, After, nothing, abandoned, completed, IsBlankOrSound, Sound, Held, none, of_after}
-use Rattle.tamper_rules.proofs.Images.{same_both, same_image}
-use Rattle.tamper_rules.proofs.OneAfter.{one_after}
-use Rattle.tamper_rules.proofs.Steady.{steady_two}
+use Rattle.recovery_engine.specs.tamper_rules.Settling.{Settled, After, nothing, abandoned, completed, IsBlankOrSound, Sound, Held, none, of_after}
+use Rattle.recovery_engine.proofs.of_tamper_rules.Images.{same_both, same_image}
+use Rattle.recovery_engine.proofs.of_tamper_rules.OneAfter.{one_after}
+use Rattle.recovery_engine.proofs.of_tamper_rules.Steady.{steady_two}
 use Rattle.worm_device.specs.Counts.{IsStill}
 use Rattle.worm_device.specs.State.{DeviceState, IsDevice, LeftSince}
 use Rattle.worm_device.proofs.Images.{extends_self}
-use Rattle.phase_writer.specs.declared.put.Put.{Put}
-use Rattle.phase_writer.specs.Putting.{IsPut, IsInFirst, ChangesBy, LeavesPhases}
-use Rattle.commit_record.specs.declared.slot.SlotState.{SlotState}
-use Rattle.commit_record.specs.declared.slot.SlotState.TheVariants.{Unused, Reserved, Abandoned, Committed, Done}
+use Rattle.recovery_engine.specs.phase_writer.declared.put.Put.{Put}
+use Rattle.recovery_engine.specs.phase_writer.Putting.{IsPut, IsInFirst, ChangesBy, LeavesPhases}
+use Rattle.recovery_engine.specs.commit_record.declared.slot.SlotState.{SlotState}
+use Rattle.recovery_engine.specs.commit_record.declared.slot.SlotState.TheVariants.{Unused, Reserved, Abandoned, Committed, Done}
 use Rattle.recovery_engine.specs.Ending.{IsFirstEnd, IsLastEnd, end_phases}
 use Rattle.recovery_engine.specs.Settling.{Settles, IsEnding, settle_plan}
 use Rattle.recovery_engine.specs.declared.settling.Ready.{Ready}

@@ -3,8 +3,8 @@ use Rattle.std.proofs.Common.{◌≡◌, ℕ, List, Ok, sym, ◌∙◌, inr, ⊎
 use Rattle.std.specs.Prelude.{IsTrue}
 use Rattle.cell_types.specs.Image.{Image, Between, Extends}
 use Rattle.stored_documents.specs.Documents.{Document}
-use Rattle.tamper_rules.specs.Settling.{Held, Sound, nothing, of_after}
-use Rattle.tamper_rules.proofs.Images.{same_both, same_image}
+use Rattle.recovery_engine.specs.tamper_rules.Settling.{Held, Sound, nothing, of_after}
+use Rattle.recovery_engine.proofs.of_tamper_rules.Images.{same_both, same_image}
 use Rattle.worm_device.specs.Counts.{IsStill}
 use Rattle.worm_device.specs.State.{DeviceState, IsDevice, LeftSince}
 use Rattle.worm_device.proofs.Counting.{still_first, still_second}

@@ -7,23 +7,23 @@ use Rattle.cell_types.specs.declared.geometry.TheConstants.{MAX_SLOTS}
 use Rattle.cell_types.specs.declared.record_cell.RecordCell.{RecordCell}
 use Rattle.cell_types.specs.declared.record_cell.RecordCell.TheVariants as records
 use Rattle.cell_types.proofs.OneRecord.{address_in}
-use Rattle.commit_record.specs.declared.slot.SlotState.TheVariants.{Reserved, Committed}
-use Rattle.phase_writer.specs.declared.put.Blame.TheVariants.{Journal}
-use Rattle.phase_writer.specs.declared.put.Put.{Put}
-use Rattle.phase_writer.specs.Putting.{AreStanding, IsPut, IsInFirst, ChangesBy}
+use Rattle.recovery_engine.specs.commit_record.declared.slot.SlotState.TheVariants.{Reserved, Committed}
+use Rattle.recovery_engine.specs.phase_writer.declared.put.Blame.TheVariants.{Journal}
+use Rattle.recovery_engine.specs.phase_writer.declared.put.Put.{Put}
+use Rattle.recovery_engine.specs.phase_writer.Putting.{AreStanding, IsPut, IsInFirst, ChangesBy}
 use Rattle.recovery_engine.specs.Ending.{abandon_put, done_put}
 use Rattle.recovery_engine.specs.Journal.{IsEntryPut}
 use Rattle.recovery_engine.specs.Settling.{settle_plan}
 use Rattle.recovery_engine.specs.Entries.{target_of}
-use Rattle.tamper_rules.specs.Journals.{journal_at, Copies}
-use Rattle.tamper_rules.specs.Settling.{IsSettled, Settled, IsOneHorizon, IsWith, AbandonRow, JournalRow, DoneRow, After, nothing, abandoned, completed}
+use Rattle.recovery_engine.specs.tamper_rules.Journals.{journal_at, Copies}
+use Rattle.recovery_engine.specs.tamper_rules.Settling.{IsSettled, Settled, IsOneHorizon, IsWith, AbandonRow, JournalRow, DoneRow, After, nothing, abandoned, completed}
 use Rattle.stored_documents.specs.Slots.{IsReserved, IsCommitted, IsAbandonedSlot, IsDoneSlot, HasEnded, IsHorizon}
 use Rattle.stored_documents.specs.Volumes.{Holds, IsVolume}
 use Rattle.stored_documents.proofs.Holding.{some_is, one_record_holds}
-use Rattle.tamper_rules.proofs.GivenUp.{no_abandon, one_layout}
-use Rattle.tamper_rules.proofs.Images.{all_of_it}
+use Rattle.recovery_engine.proofs.of_tamper_rules.GivenUp.{no_abandon, one_layout}
+use Rattle.recovery_engine.proofs.of_tamper_rules.Images.{all_of_it}
 use Rattle.stored_documents.proofs.OneDocument.{reserves, commits}
-use Rattle.tamper_rules.proofs.SettlingGoesOn.{goes_on, target_behind_log}
+use Rattle.recovery_engine.proofs.of_tamper_rules.SettlingGoesOn.{goes_on, target_behind_log}
 
 -- slot n is given up, and that cell is all that settling adds
 pub record GivesUp (g : Layout) (image after : Image) (n : ℕ) : Type 0 where

@@ -13,17 +13,17 @@ use Rattle.stored_documents.specs.Slots.{HasStamp, IsStamped, cells_for, Commits
 use Rattle.stored_documents.specs.Volumes.{Holds, IsVolume, IsWritten}
 use Rattle.stored_documents.proofs.Extending.{blank_before, commits_on, holds_on, volume_on, written_on}
 use Rattle.stored_documents.proofs.Holding.{some_is}
-use Rattle.tamper_rules.specs.Journals.{Copies, IsInOrder, IsIndexCell, IsIndexRecord, journal_at, of_list, of_root, of_slot}
-use Rattle.tamper_rules.specs.Rules
-use Rattle.tamper_rules.specs.Rules.{DocumentRule, DoneRule, IsBroken, IsMet, JournalRule, OutcomeRule, RedoneRule, ReserveRule, Rule, number_of}
-use Rattle.tamper_rules.specs.Settling.{AbandonRow, After, DoneRow, IsSettled, JournalRow, Settled, Sound, abandoned, completed, nothing}
-use Rattle.tamper_rules.specs.declared.numbers.TheConstants.{BROKEN_DOCUMENT, BROKEN_JOURNAL, DONE_CELL, OTHER_TARGET, OUTCOME_CELL, RESERVE_CELL}
-use Rattle.tamper_rules.proofs.Between.{after_keeps}
-use Rattle.tamper_rules.proofs.GivenUp.{no_abandon, one_layout}
-use Rattle.tamper_rules.proofs.GoingOn.{copies_on}
-use Rattle.tamper_rules.proofs.Images.{look}
-use Rattle.tamper_rules.proofs.SettledLaws.{unbroken}
-use Rattle.tamper_rules.proofs.SettlingGoesOn.{target_behind_log}
+use Rattle.recovery_engine.specs.tamper_rules.Journals.{Copies, IsInOrder, IsIndexCell, IsIndexRecord, journal_at, of_list, of_root, of_slot}
+use Rattle.recovery_engine.specs.tamper_rules.Rules
+use Rattle.recovery_engine.specs.tamper_rules.Rules.{DocumentRule, DoneRule, IsBroken, IsMet, JournalRule, OutcomeRule, RedoneRule, ReserveRule, Rule, number_of}
+use Rattle.recovery_engine.specs.tamper_rules.Settling.{AbandonRow, After, DoneRow, IsSettled, JournalRow, Settled, Sound, abandoned, completed, nothing}
+use Rattle.recovery_engine.specs.tamper_rules.declared.numbers.TheConstants.{BROKEN_DOCUMENT, BROKEN_JOURNAL, DONE_CELL, OTHER_TARGET, OUTCOME_CELL, RESERVE_CELL}
+use Rattle.recovery_engine.proofs.of_tamper_rules.Between.{after_keeps}
+use Rattle.recovery_engine.proofs.of_tamper_rules.GivenUp.{no_abandon, one_layout}
+use Rattle.recovery_engine.proofs.of_tamper_rules.GoingOn.{copies_on}
+use Rattle.recovery_engine.proofs.of_tamper_rules.Images.{look}
+use Rattle.recovery_engine.proofs.of_tamper_rules.SettledLaws.{unbroken}
+use Rattle.recovery_engine.proofs.of_tamper_rules.SettlingGoesOn.{target_behind_log}
 use Rattle.recovery_engine.specs.Entries.{target_of}
 use Rattle.recovery_engine.specs.LastSlot.{IsSlotRule}
 use Rattle.recovery_engine.specs.Settling.{HasOtherTarget}

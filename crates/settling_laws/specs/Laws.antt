@@ -4,9 +4,9 @@ use Rattle.cell_types.specs.Image.{Image, IsUnchanged}
 use Rattle.cell_types.specs.declared.refusal.Evidence.{Evidence}
 use Rattle.cell_types.specs.declared.refusal.Refusal.{Refusal}
 use Rattle.cell_types.specs.declared.refusal.Refusal.TheVariants.{Tampered}
-use Rattle.tamper_rules.specs.Rules.{IsBroken}
-use Rattle.tamper_rules.specs.Settling.{IsBlankOrSound, Sound}
-use Rattle.tamper_rules.specs.declared.numbers.TheConstants.{OTHER_TARGET}
+use Rattle.recovery_engine.specs.tamper_rules.Rules.{IsBroken}
+use Rattle.recovery_engine.specs.tamper_rules.Settling.{IsBlankOrSound, Sound}
+use Rattle.recovery_engine.specs.tamper_rules.declared.numbers.TheConstants.{OTHER_TARGET}
 use Rattle.worm_device.specs.Counts.{IsStill}
 use Rattle.worm_device.specs.State.{DeviceState, IsDevice, LeftSince}
 use Rattle.recovery_engine.specs.Settling.{HasOtherTarget, HasSettled, Settles}

@@ -5,8 +5,8 @@ use Rattle.cell_types.specs.Layout.{Layout}
 use Rattle.stored_documents.specs.Documents.{Document}
 use Rattle.stored_documents.specs.Slots.{IsCommitted, IsReserved}
 use Rattle.stored_documents.specs.Volumes.{IsVolume}
-use Rattle.tamper_rules.specs.Settling.{AbandonRow, DoneRow, Held, IsBlankOrSound, IsOneHorizon, IsWith, JournalRow, Settled}
-use Rattle.tamper_rules.specs.declared.numbers.TheConstants.{BROKEN_DOCUMENT, BROKEN_JOURNAL}
+use Rattle.recovery_engine.specs.tamper_rules.Settling.{AbandonRow, DoneRow, Held, IsBlankOrSound, IsOneHorizon, IsWith, JournalRow, Settled}
+use Rattle.recovery_engine.specs.tamper_rules.declared.numbers.TheConstants.{BROKEN_DOCUMENT, BROKEN_JOURNAL}
 use Rattle.worm_device.specs.State.{DeviceState, LeftSince}
 use Rattle.recovery_engine.specs.LastSlot.{IsSlotRule}
 use Rattle.recovery_engine.specs.declared.settling.Step.{Step}

@@ -9,9 +9,9 @@ use Rattle.tamper_rules.specs.Rules.{StrayCells, IsPlace, number_of}
 use Rattle.kept_cells.specs.Cells.{shown_by}
 use Rattle.kept_cells.specs.Rows.{AreRows}
 use Rattle.kept_cells.specs.declared.written.WrittenCell.{WrittenCell}
-use Rattle.log_audit.specs.Least.{FindsPart, IsLeastOf}
-use Rattle.log_audit.specs.Logs.{IsLog}
-use Rattle.log_audit.specs.declared.log.Log.{Log}
+use Rattle.journal_audit.specs.log_audit.Least.{FindsPart, IsLeastOf}
+use Rattle.journal_audit.specs.log_audit.Logs.{IsLog}
+use Rattle.journal_audit.specs.log_audit.declared.log.Log.{Log}
 use Rattle.stray_audit.specs.Strays.{IsExpected}
 use Rattle.stray_audit.proofs.Regions.{expected_first, expected_slots}
 

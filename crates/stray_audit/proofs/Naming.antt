@@ -8,9 +8,9 @@ use Rattle.cell_types.specs.Image.{Image}
 use Rattle.cell_types.specs.Layout.{Layout}
 use Rattle.stored_documents.specs.Slots.{Stores}
 use Rattle.tamper_rules.specs.Journals.{journal_at, IsNamed}
-use Rattle.log_audit.specs.Stored.{IsStored}
-use Rattle.log_audit.specs.declared.stored.StoredSlot.{StoredSlot}
-use Rattle.log_audit.proofs.Storing.{one_row}
+use Rattle.journal_audit.specs.log_audit.Stored.{IsStored}
+use Rattle.journal_audit.specs.log_audit.declared.stored.StoredSlot.{StoredSlot}
+use Rattle.journal_audit.proofs.of_log_audit.Storing.{one_row}
 use Rattle.journal_audit.specs.Copying.{HasTarget}
 use Rattle.journal_audit.proofs.Ordering.{copies, has_target}
 use Rattle.stray_audit.specs.Strays.{AreNamed, Names}

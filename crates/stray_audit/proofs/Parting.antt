@@ -4,9 +4,9 @@ use Rattle.cell_types.specs.Image.{Image}
 use Rattle.cell_types.specs.Layout.{Layout}
 use Rattle.cell_types.specs.declared.refusal.Evidence.{Evidence}
 use Rattle.tamper_rules.specs.Rules.{StrayCells}
-use Rattle.log_audit.specs.Findings.{Finds}
-use Rattle.log_audit.specs.Least.{FindsPart, lower_finding}
-use Rattle.log_audit.proofs.Parts.{both_parts, finds_all}
+use Rattle.journal_audit.specs.log_audit.Findings.{Finds}
+use Rattle.journal_audit.specs.log_audit.Least.{FindsPart, lower_finding}
+use Rattle.journal_audit.proofs.of_log_audit.Parts.{both_parts, finds_all}
 use Rattle.stray_audit.specs.Strays.{IsExpected, IsInTime}
 
 pub both_are : (g : Layout) (image : Image) (unexpected stamp : Option Evidence)

@@ -4,10 +4,10 @@ use Rattle.cell_types.specs.Image.{Image}
 use Rattle.cell_types.specs.Layout.{Layout, all_lists, lists_at, root_at, pool_at}
 use Rattle.tamper_rules.specs.Journals.{LiesInBlocks, IsNamed}
 use Rattle.tamper_rules.specs.Rules.{IsDoneIndexCell, of_list, of_root, of_slot}
-use Rattle.log_audit.specs.Logs.{IsLog}
-use Rattle.log_audit.specs.declared.log.Log.{Log}
-use Rattle.log_audit.proofs.Logged.{stores_of}
-use Rattle.log_audit.proofs.Edges.{one_edge}
+use Rattle.journal_audit.specs.log_audit.Logs.{IsLog}
+use Rattle.journal_audit.specs.log_audit.declared.log.Log.{Log}
+use Rattle.journal_audit.proofs.of_log_audit.Logged.{stores_of}
+use Rattle.journal_audit.proofs.of_log_audit.Edges.{one_edge}
 use Rattle.stray_audit.specs.Strays.{IsExpected}
 
 order : (a b : ℕ) → (a < b) ⊎ (b ≤ a)

@@ -9,9 +9,9 @@ use Rattle.stored_documents.specs.Slots.{IsDoneSlot, HasStamp}
 use Rattle.stored_documents.proofs.Holding.{one_record_holds}
 use Rattle.stored_documents.specs.Volumes.{IsWritten}
 use Rattle.tamper_rules.specs.Rules.{IsTrueStamp}
-use Rattle.log_audit.proofs.Deciding.{yes}
-use Rattle.log_audit.specs.Stored.{IsStored}
-use Rattle.log_audit.specs.declared.stored.StoredSlot.{StoredSlot}
+use Rattle.journal_audit.proofs.of_log_audit.Deciding.{yes}
+use Rattle.journal_audit.specs.log_audit.Stored.{IsStored}
+use Rattle.journal_audit.specs.log_audit.declared.stored.StoredSlot.{StoredSlot}
 use Rattle.stray_audit.specs.Strays.{IsLatest}
 
 below_or_at : (k n : ℕ) → k < n + 1 → (k < n) ⊎ (k ≡ n)

@@ -2,7 +2,7 @@
 use Rattle.std.specs.Prelude.{◌<◌, ◌+◌, ◌^◌, ◌⊎◌, ℕ, List, Contains}
 use Rattle.cell_types.specs.Image.{Image}
 use Rattle.tamper_rules.specs.Journals.{journal_at}
-use Rattle.log_audit.specs.declared.stored.StoredSlot.{StoredSlot}
+use Rattle.journal_audit.specs.log_audit.declared.stored.StoredSlot.{StoredSlot}
 use Rattle.journal_audit.specs.Copying.{HasTarget}
 
 -- one of the first places of the slot's journal names the cell

@@ -2,15 +2,15 @@
 ghost use Rattle.std.specs.Prelude.{◌↔◌, IsTrue, IfOk, OnOk, Contains};
 ghost use Rattle.std.specs.List.Sorted.{IsNonDecreasing};
 ghost use Rattle.kept_cells.specs.Kept.{image_of};
-ghost use Rattle.log_audit.specs.Logs.{IsLog};
-ghost use Rattle.log_audit.specs.Stored.{HasCells};
+ghost use Rattle.journal_audit.specs.log_audit.Logs.{IsLog};
+ghost use Rattle.journal_audit.specs.log_audit.Stored.{HasCells};
 ghost use Rattle.stray_audit.specs.Strays.{AreNamed};
 ghost use Rattle.stray_audit.specs.Targets.{AddsTargets};
 
 use cell_types::{Geometry, NoMemory};
+use journal_audit::log_audit::{Log, StoredSlot, stored_slot};
 use journal_audit::target_at;
 use kept_cells::KeptCells;
-use log_audit::{Log, StoredSlot, stored_slot};
 use std::alloc::Global;
 
 /// The numbers of the cells that the journals of done slots name, in order, 4 bytes each.

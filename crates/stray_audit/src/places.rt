@@ -2,15 +2,15 @@
 ghost use Rattle.std.specs.Prelude.{◌≡◌, ◌<◌, ◌↔◌, IsTrue};
 ghost use Rattle.tamper_rules.specs.Rules.{ReserveCells, StrayCells};
 ghost use Rattle.kept_cells.specs.Kept.{image_of, count_of};
-ghost use Rattle.log_audit.specs.Findings.{IsMetAll};
-ghost use Rattle.log_audit.specs.Least.{FindsPart};
-ghost use Rattle.log_audit.specs.Logs.{IsLog};
+ghost use Rattle.journal_audit.specs.log_audit.Findings.{IsMetAll};
+ghost use Rattle.journal_audit.specs.log_audit.Least.{FindsPart};
+ghost use Rattle.journal_audit.specs.log_audit.Logs.{IsLog};
 ghost use Rattle.stray_audit.specs.Strays.{AreNamed, IsExpected};
 
 use crate::named::NamedCells;
 use cell_types::{Evidence, Geometry};
+use journal_audit::log_audit::{Log, owner_of};
 use kept_cells::KeptCells;
-use log_audit::{Log, owner_of};
 use tamper_rules::STRAY_CELL;
 
 /// The first written cell that is not expected where it stands.

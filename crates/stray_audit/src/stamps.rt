@@ -3,13 +3,13 @@ ghost use Rattle.std.specs.Prelude.{◌≡◌, ◌<◌, ◌+◌, ◌↔◌, ℕ,
 ghost use Rattle.stored_documents.specs.Slots.{HasStamp};
 ghost use Rattle.tamper_rules.specs.Rules.{IsTrueStamp, StrayCells};
 ghost use Rattle.kept_cells.specs.Kept.{image_of};
-ghost use Rattle.log_audit.specs.Least.{FindsPart};
-ghost use Rattle.log_audit.specs.Logs.{IsLog};
+ghost use Rattle.journal_audit.specs.log_audit.Least.{FindsPart};
+ghost use Rattle.journal_audit.specs.log_audit.Logs.{IsLog};
 ghost use Rattle.stray_audit.specs.Strays.{IsInTime, IsLatest};
 
 use cell_types::{Evidence, Geometry, RecordCell, STAMPED_VERSION};
+use journal_audit::log_audit::{Log, record_at, stored_slot};
 use kept_cells::KeptCells;
-use log_audit::{Log, record_at, stored_slot};
 use tamper_rules::STRAY_CELL;
 
 /// The first spare cell that is written and holds no stamp in order.

@@ -2,15 +2,15 @@
 ghost use Rattle.std.specs.Prelude.{◌≡◌, IfOk};
 ghost use Rattle.tamper_rules.specs.Rules.{ReserveCells, StrayCells};
 ghost use Rattle.kept_cells.specs.Kept.{image_of, count_of};
-ghost use Rattle.log_audit.specs.Findings.{Finds, IsMetAll};
-ghost use Rattle.log_audit.specs.Logs.{IsLog};
+ghost use Rattle.journal_audit.specs.log_audit.Findings.{Finds, IsMetAll};
+ghost use Rattle.journal_audit.specs.log_audit.Logs.{IsLog};
 
 use crate::named::named_cells;
 use crate::places::first_unexpected;
 use crate::stamps::first_false_stamp;
 use cell_types::{Evidence, Geometry, NoMemory};
+use journal_audit::log_audit::{Log, lower_of};
 use kept_cells::KeptCells;
-use log_audit::{Log, lower_of};
 use std::alloc::Global;
 
 /// The least cell at which rule 7 is broken. It takes 4 bytes a journal cell.

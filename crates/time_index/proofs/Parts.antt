@@ -22,14 +22,14 @@ use Rattle.commit_record.specs.Stamps.{IsStampOrNone, ReadsStamp}
 use Rattle.document_store.specs.Looks.{IsPartOf, LookFails, Names, PartEnds, of_document, of_state}
 use Rattle.document_store.specs.declared.part.Part.{Part}
 use Rattle.document_store.proofs.Holding.{part_on}
-use Rattle.identifier_lookup.specs.Walks.{IsLicensed}
-use Rattle.identifier_lookup.proofs.Licence.{names_licensed}
+use Rattle.record_query.specs.identifier_lookup.Walks.{IsLicensed}
+use Rattle.record_query.proofs.of_identifier_lookup.Licence.{names_licensed}
 use Rattle.jump_block.specs.Entries.{posting_of}
 use Rattle.jump_block.specs.declared.held_entry.Entry.{Entry}
 use Rattle.jump_index.proofs.Telling.{told, told_before}
-use Rattle.posting_list.specs.Naming.{FaultSays, IsReachOf}
-use Rattle.posting_list.specs.declared.reach.Reach.{Reach}
-use Rattle.posting_list.proofs.Evidence.{live_not, state_rule}
+use Rattle.record_query.specs.posting_list.Naming.{FaultSays, IsReachOf}
+use Rattle.record_query.specs.posting_list.declared.reach.Reach.{Reach}
+use Rattle.record_query.proofs.of_posting_list.Evidence.{live_not, state_rule}
 use Rattle.time_index.specs.Matching.{IsTimeRule, StampedPartEnds, TimeFault}
 use Rattle.time_index.specs.Postings.{slot_named}
 

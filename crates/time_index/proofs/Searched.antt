@@ -24,8 +24,8 @@ use Rattle.worm_device.proofs.Counting.{still_first, still_second}
 use Rattle.worm_device.proofs.Elapsing.{called_then}
 use Rattle.document_store.specs.Standing.{HoldsDocument}
 use Rattle.document_store.proofs.Holding.{held_is_one, held_on, held_stands, stands_held}
-use Rattle.posting_list.specs.Naming.{Shows}
-use Rattle.posting_list.specs.declared.reach.Reach.{Reach}
+use Rattle.record_query.specs.posting_list.Naming.{Shows}
+use Rattle.record_query.specs.posting_list.declared.reach.Reach.{Reach}
 use Rattle.recovery_engine.specs.Settling.{SettleEnds, Settles, SettlesFirst}
 use Rattle.recovery_engine.specs.declared.settling.Ready.{Ready}
 use Rattle.record_query.specs.Looking.{HasLooked}

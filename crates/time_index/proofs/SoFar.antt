@@ -22,8 +22,8 @@ use Rattle.jump_block.specs.Entries.{posting_of}
 use Rattle.jump_block.specs.declared.held_entry.Entry.{Entry}
 use Rattle.jump_index.proofs.LookingLater.{trail_then}
 use Rattle.jump_index.proofs.Telling.{told}
-use Rattle.posting_list.specs.Searches.{head_of}
-use Rattle.posting_list.specs.declared.reach.Reach.{Reach}
+use Rattle.record_query.specs.posting_list.Searches.{head_of}
+use Rattle.record_query.specs.posting_list.declared.reach.Reach.{Reach}
 use Rattle.time_index.specs.Gathering.{AreTimeMatches, Gathers, HasSlot, IsBehind, IsLastMatch, IsUpTo, SpanGathered, SpanSoFar, unanswered}
 use Rattle.time_index.specs.Matching.{IsEarlier, IsMatchOf, IsTimeMatchIn, ReadsMatch, TimeFault, TimeRefuses, cells_of}
 use Rattle.time_index.specs.Postings.{IsTimed, NextPosting, slot_named}

@@ -6,7 +6,7 @@ use Rattle.index_paths.specs.Postings.{time_posting}
 use Rattle.stored_documents.specs.Slots.{HasStamp}
 use Rattle.worm_device.specs.State.{DeviceState}
 use Rattle.worm_device.specs.Views.{ViewState, Viewed, seen_directly}
-use Rattle.posting_list.specs.declared.reach.Reach.{Reach}
+use Rattle.record_query.specs.posting_list.declared.reach.Reach.{Reach}
 use Rattle.recovery_engine.specs.declared.settling.Ready.{Ready}
 use Rattle.record_query.specs.Reaching.{reach_of}
 use Rattle.time_index.specs.Matching.{IsTimeMatchIn, TimeRefuses}

@@ -19,8 +19,8 @@ use Rattle.document_store.specs.Standing.{HoldsDocument}
 use Rattle.document_store.specs.declared.part.Part.{Part}
 use Rattle.jump_block.specs.Entries.{posting_of}
 use Rattle.jump_block.specs.declared.held_entry.Entry.{Entry}
-use Rattle.posting_list.specs.Naming.{IsListRule, Shows}
-use Rattle.posting_list.specs.declared.reach.Reach.{Reach}
+use Rattle.record_query.specs.posting_list.Naming.{IsListRule, Shows}
+use Rattle.record_query.specs.posting_list.declared.reach.Reach.{Reach}
 use Rattle.time_index.specs.Postings.{slot_named}
 use Rattle.time_index.specs.declared.found.TimeMatch.{TimeMatch}
 use Rattle.time_index.specs.declared.matching.Stamped.{Stamped}

@@ -4,7 +4,7 @@ ghost use Rattle.cell_types.specs.declared.geometry.TheConstants.{STAMPED_VERSIO
 ghost use Rattle.document_store.specs.Looks.{IsPartOf, IsStated};
 ghost use Rattle.jump_block.specs.Entries.{posting_of};
 ghost use Rattle.jump_index.specs.Searches.{IsEntry, IsEntryBehind};
-ghost use Rattle.posting_list.specs.Searches.{head_of, within};
+ghost use Rattle.record_query.specs.posting_list.Searches.{head_of, within};
 ghost use Rattle.stored_documents.specs.Slots.{HasStamp, cells_for};
 ghost use Rattle.worm_device.specs.Views.{Viewed};
 ghost use Rattle.time_index.specs.Matching.{IsEarlier, OrderEnds, ReadsMatch, ReadsPart, StampedPartEnds, stamp_breach};
@@ -16,7 +16,7 @@ use cell_types::{Fault, Geometry, RecordCell, Refusal, breach, encode};
 use commit_record::stamp_of;
 use document_store::{Part, identifier_of_head, read_part, slot_part};
 use jump_block::Entry;
-use posting_list::{Reach, false_posting};
+use record_query::posting_list::{Reach, false_posting};
 use std::alloc::Global;
 use tamper_rules::STRAY_CELL;
 use worm_device::View;

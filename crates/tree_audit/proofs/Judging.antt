@@ -13,7 +13,7 @@ use Rattle.stored_documents.specs.Volumes.{Holds}
 use Rattle.stored_documents.proofs.Holding.{one_record_holds}
 use Rattle.stored_documents.proofs.OneDocument.{one_document}
 use Rattle.tamper_rules.specs.Rules.{BucketRule, Buckets, IsPlace, IsTrueBucket}
-use Rattle.log_audit.proofs.Parts.{AskedBelow}
+use Rattle.journal_audit.proofs.of_log_audit.Parts.{AskedBelow}
 use Rattle.tree_audit.specs.Buckets.{AsksBucket}
 use Rattle.tree_audit.specs.Documents.{HasDigest}
 use Rattle.tree_audit.specs.Nodes.{AreNodes}

@@ -12,9 +12,9 @@ use Rattle.stored_documents.specs.Volumes.{Holds, IsVolume}
 use Rattle.stored_documents.proofs.Holding.{one_record_holds}
 use Rattle.stored_documents.proofs.OneDocument.{one_document}
 use Rattle.tamper_rules.specs.Rules.{PathRule}
-use Rattle.document_store.proofs.Holding.{stands_held}
+use Rattle.journal_audit.proofs.of_document_store.Holding.{stands_held}
 use Rattle.kept_cells.proofs.OneMore.{below_or_at}
-use Rattle.log_audit.proofs.Families.{AreFine}
+use Rattle.journal_audit.proofs.of_log_audit.Families.{AreFine}
 use Rattle.tree_audit.specs.Nodes.{HasChild}
 use Rattle.tree_audit.specs.Paths.{HasTrail, IsOther, IsOwn}
 use Rattle.tree_audit.specs.declared.looks.HeldBucket.{HeldBucket}

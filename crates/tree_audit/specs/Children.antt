@@ -9,7 +9,7 @@ use Rattle.stored_documents.specs.Slots.{IsEdge, Stores}
 use Rattle.stored_documents.specs.Volumes.{Holds}
 use Rattle.tamper_rules.specs.Journals.{journal_at}
 use Rattle.tamper_rules.specs.Rules.{LeadsDownWell}
-use Rattle.log_audit.specs.declared.stored.StoredSlot.{StoredSlot}
+use Rattle.journal_audit.specs.log_audit.declared.stored.StoredSlot.{StoredSlot}
 
 -- what rule 12 asks of a cell on account of this node of a level
 abbrev pub AsksChild : Layout → Image → ℕ → ℕ → ℕ → Type 0

@@ -5,9 +5,9 @@ ghost use Rattle.index_paths.specs.Nodes.{IsNode};
 ghost use Rattle.stored_documents.specs.Volumes.{IsVolume};
 ghost use Rattle.tamper_rules.specs.Rules.{Buckets, Documents, IsTrueBucket};
 ghost use Rattle.kept_cells.specs.Kept.{image_of, count_of};
-ghost use Rattle.log_audit.specs.Findings.{Finds, IsMetAll};
-ghost use Rattle.log_audit.specs.Least.{FindsPart};
-ghost use Rattle.log_audit.specs.Logs.{IsLog};
+ghost use Rattle.journal_audit.specs.log_audit.Findings.{Finds, IsMetAll};
+ghost use Rattle.journal_audit.specs.log_audit.Least.{FindsPart};
+ghost use Rattle.journal_audit.specs.log_audit.Logs.{IsLog};
 ghost use Rattle.tree_audit.specs.Buckets.{AsksBucket};
 ghost use Rattle.tree_audit.specs.Nodes.{AreNodes};
 
@@ -17,8 +17,8 @@ use crate::nodes::LevelNode;
 use crate::paths::goes_by;
 use cell_types::{Evidence, Geometry};
 use index_paths::NODE_BUCKETS;
+use journal_audit::log_audit::{Log, lower_of};
 use kept_cells::KeptCells;
-use log_audit::{Log, lower_of};
 use tamper_rules::FAKE_BUCKET;
 
 /// The least bucket at which rule 11 is broken, among those of all nodes, where rule 4 is kept.

@@ -4,10 +4,10 @@ ghost use Rattle.sha2.specs.Sha256.{sha256};
 ghost use Rattle.stored_documents.specs.Volumes.{IsVolume};
 ghost use Rattle.stored_documents.specs.declared.limits.TheConstants.{MAX_IDENTIFIER_BYTES};
 ghost use Rattle.tamper_rules.specs.Rules.{Documents, Paths};
-ghost use Rattle.document_store.specs.Heads.{id_of};
+ghost use Rattle.journal_audit.specs.document_store.Heads.{id_of};
 ghost use Rattle.kept_cells.specs.Kept.{image_of, count_of};
-ghost use Rattle.log_audit.specs.Findings.{Finds, IsMetAll};
-ghost use Rattle.log_audit.specs.Logs.{IsLog};
+ghost use Rattle.journal_audit.specs.log_audit.Findings.{Finds, IsMetAll};
+ghost use Rattle.journal_audit.specs.log_audit.Logs.{IsLog};
 ghost use Rattle.tree_audit.specs.Paths.{HasTrail, IsOther, IsOwn};
 
 use crate::buckets::is_fingerprint;
@@ -15,11 +15,11 @@ use crate::documents::{head_of, identifier, same_identifier};
 use crate::looks::{HeldBucket, bucket_at, child_at};
 use crate::paths::LEVELS;
 use cell_types::{Evidence, Geometry};
-use document_store::Head;
 use hash_tree::nibble_of;
 use index_paths::NODE_BUCKETS;
+use journal_audit::document_store::Head;
+use journal_audit::log_audit::Log;
 use kept_cells::KeptCells;
-use log_audit::Log;
 use sha2::{Digest, Sha256};
 use tamper_rules::MISSING_PATH;
 

@@ -4,7 +4,7 @@ use Rattle.cell_types.specs.Image.{Image}
 use Rattle.cell_types.specs.Layout.{Layout}
 use Rattle.stored_documents.specs.Slots.{IsDoneSlot, IsAbandonedSlot}
 use Rattle.stored_documents.specs.Volumes.{IsVolume, IsWritten}
-use Rattle.tamper_rules.specs.Settling.{IsSettled}
+use Rattle.commit_record.specs.tamper_rules.Settling.{IsSettled}
 use Rattle.volume_audit.specs.Counts.{Counts}
 use Rattle.volume_audit.specs.declared.report.AuditReport.{AuditReport}
 

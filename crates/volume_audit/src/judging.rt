@@ -2,9 +2,9 @@
 ghost use Rattle.std.specs.Prelude.{◌≡◌};
 ghost use Rattle.stored_documents.specs.Volumes.{IsVolume};
 ghost use Rattle.kept_cells.specs.Kept.{image_of, count_of};
-ghost use Rattle.list_audit.specs.Blocks.{AreListBlocks};
-ghost use Rattle.log_audit.specs.Findings.{AreMetBelow};
-ghost use Rattle.log_audit.specs.Logs.{IsLog};
+ghost use Rattle.posting_audit.specs.list_audit.Blocks.{AreListBlocks};
+ghost use Rattle.tiling_audit.specs.log_audit.Findings.{AreMetBelow};
+ghost use Rattle.tiling_audit.specs.log_audit.Logs.{IsLog};
 ghost use Rattle.pointer_audit.specs.tree_audit.Nodes.{AreNodes};
 ghost use Rattle.volume_audit.specs.Judging.{Judges, Passes};
 
@@ -15,11 +15,11 @@ use crate::checks::{
 use crate::report::{AuditReport, report_of};
 use cell_types::{Geometry, Refusal};
 use kept_cells::KeptCells;
-use list_audit::{ListBlock, blocks_of};
-use log_audit::{Log, check_log};
 use pointer_audit::tree_audit::{LevelNode, nodes_of};
+use posting_audit::list_audit::{ListBlock, blocks_of};
 use progress::Meter;
 use std::alloc::Global;
+use tiling_audit::log_audit::{Log, check_log};
 
 /// The numbers of the volume whose cells are kept, or the least rule that is broken at its least cell.
 pub(crate) fn judge<M: Meter>(

@@ -26,7 +26,7 @@ use Rattle.worm_device.proofs.Elapsing.{called_self, called_then, elapses_of}
 use Rattle.worm_device.proofs.Images.{extends_self, unchanged_then}
 use Rattle.document_store.specs.Standing.{HoldsDocument}
 use Rattle.document_store.proofs.Holding.{held_stands}
-use Rattle.ingest_engine.specs.Ingesting.{IngestEnds, Ingests, document_in}
+use Rattle.command_laws.specs.ingest_engine.Ingesting.{IngestEnds, Ingests, document_in}
 use Rattle.command_laws.specs.settling_laws.Steadiness.{HoldsOneOf, IsSteady}
 use Rattle.command_laws.proofs.of_settling_laws.LeftWhole.{sure_steady}
 use Rattle.command_laws.specs.crash_laws.Steadiness.{HasOneMore, HoldsOneMore, IsLeftByIngest}

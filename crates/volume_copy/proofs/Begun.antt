@@ -24,7 +24,7 @@ use Rattle.worm_device.specs.State.{DeviceState, IsDevice}
 use Rattle.worm_device.proofs.Counting.{rose_or_still, still_first, still_second}
 use Rattle.worm_device.proofs.Elapsing.{called_self, called_then}
 use Rattle.worm_device.proofs.Images.{extends_self}
-use Rattle.ingest_engine.specs.Formats.{FormatEnds, Formats, volume_cell}
+use Rattle.command_laws.specs.ingest_engine.Formats.{FormatEnds, Formats, volume_cell}
 use Rattle.command_laws.specs.settling_laws.Steadiness.{IsSteady}
 use Rattle.command_laws.specs.Begins.{BeginsSteady}
 use Rattle.command_laws.specs.Telling.{IsFormatted, LeavesHeld}

@@ -25,7 +25,7 @@ use Rattle.worm_device.specs.Counts.{IsStill}
 use Rattle.worm_device.specs.State.{DeviceState, IsDevice}
 use Rattle.worm_device.proofs.Counting.{still_first, still_second}
 use Rattle.worm_device.proofs.Elapsing.{called_self, called_then}
-use Rattle.ingest_engine.specs.Ingesting.{document_in}
+use Rattle.command_laws.specs.ingest_engine.Ingesting.{document_in}
 use Rattle.command_laws.specs.settling_laws.Steadiness.{IsSteady}
 use Rattle.volume_copy.specs.Adding.{AddsRest, CopiedSoFar, RestFails}
 use Rattle.volume_copy.specs.Auditing.{AuditsSteady, HasAudited, IsWhole, Refuses, by_reading}

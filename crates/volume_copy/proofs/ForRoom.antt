@@ -26,9 +26,9 @@ use Rattle.document_store.proofs.Holding.{held_stands}
 use Rattle.recovery_engine.specs.Settling.{HasSettled}
 use Rattle.recovery_engine.specs.declared.settling.Ready.{Ready}
 use Rattle.command_laws.proofs.of_plan_writer.PutFrom.{volume_2}
-use Rattle.ingest_engine.specs.Ingesting.{HasLaterStamp, IngestEnds, IsTaken, StampEnds, TakesNoSuchStamp}
-use Rattle.ingest_engine.specs.Stamps.{IsStampBelow}
-use Rattle.ingest_engine.proofs.CrashedIngests.{ready_layout}
+use Rattle.command_laws.specs.ingest_engine.Ingesting.{HasLaterStamp, IngestEnds, IsTaken, StampEnds, TakesNoSuchStamp}
+use Rattle.command_laws.specs.ingest_engine.Stamps.{IsStampBelow}
+use Rattle.command_laws.proofs.of_ingest_engine.CrashedIngests.{ready_layout}
 use Rattle.command_laws.specs.settling_laws.Steadiness.{IsSteady}
 use Rattle.command_laws.proofs.of_settling_laws.LookedAt.{looked_ends}
 use Rattle.command_laws.proofs.of_crash_laws.Alarms.{none_named}

@@ -20,8 +20,8 @@ use Rattle.worm_device.specs.State.{DeviceState, IsDevice}
 use Rattle.worm_device.proofs.Counting.{rose_or_still, still_first, still_second}
 use Rattle.recovery_engine.specs.Settling.{Settles}
 use Rattle.command_laws.proofs.of_settling_laws.LeftWhole.{documents_after}
-use Rattle.volume_audit.specs.Audits.{Audits}
-use Rattle.volume_audit.specs.declared.report.AuditReport.{AuditReport}
+use Rattle.command_laws.specs.volume_audit.Audits.{Audits}
+use Rattle.command_laws.specs.volume_audit.declared.report.AuditReport.{AuditReport}
 use Rattle.command_laws.specs.Begins.{BeginsSteady}
 use Rattle.command_laws.specs.WholeLogs.{HasSteadyVolume}
 use Rattle.command_laws.proofs.Completing.{audits_whole, steady_settles}

@@ -28,9 +28,9 @@ use Rattle.recovery_engine.specs.Settling.{Settles}
 use Rattle.recovery_engine.specs.declared.settling.Ready.{Ready}
 use Rattle.command_laws.specs.settling_laws.Steadiness.{EndsAs}
 use Rattle.command_laws.proofs.of_settling_laws.EndedAs.{settling_ends}
-use Rattle.volume_audit.specs.Audits.{AuditEnds, Audits, settled, settling}
-use Rattle.volume_audit.specs.Reports.{IsSound}
-use Rattle.volume_audit.specs.declared.report.AuditReport.{AuditReport}
+use Rattle.command_laws.specs.volume_audit.Audits.{AuditEnds, Audits, settled, settling}
+use Rattle.command_laws.specs.volume_audit.Reports.{IsSound}
+use Rattle.command_laws.specs.volume_audit.declared.report.AuditReport.{AuditReport}
 use Rattle.volume_copy.specs.Auditing.{HasAudited, IsWhole, Refuses, by_audit, by_reading, by_settling}
 use Rattle.volume_copy.specs.Pairs.{slots_of}
 use Rattle.volume_copy.specs.Reading.{IsOnlyRead, ReadingFails, RiseFrom}
@@ -142,7 +142,7 @@ audit_sound : {old new : DeviceState} {report : AuditReport} → Audits old new 
     → IsStill old.foreign_writes new.foreign_writes → IsSound new.cells new.image report
 audit_sound {old} {new} {report} audits tells still = by_case audits.comes
   where
-    by_case : Rattle.volume_audit.specs.Audits.SettlesThenAudits old new (Ok report)
+    by_case : Rattle.command_laws.specs.volume_audit.Audits.SettlesThenAudits old new (Ok report)
         → IsSound new.cells new.image report
     by_case (settling refusal is settles) = absurd (no_error refusal is)
       where

@@ -10,7 +10,7 @@ use Rattle.stored_documents.specs.Volumes.{IsVolume}
 use Rattle.worm_device.specs.Calls.{Called}
 use Rattle.worm_device.specs.State.{DeviceState}
 use Rattle.document_store.specs.Standing.{HoldsDocument}
-use Rattle.ingest_engine.specs.Ingesting.{Ingests}
+use Rattle.command_laws.specs.ingest_engine.Ingesting.{Ingests}
 use Rattle.volume_copy.specs.Alone.{AreAlone, AreUnfailed}
 use Rattle.volume_copy.specs.Completing.{AreOfOneVersion, EndsUnhindered}
 use Rattle.volume_copy.specs.First.{StaysFirst}

@@ -13,8 +13,8 @@ use Rattle.worm_device.specs.Counts.{IsStill}
 use Rattle.worm_device.specs.State.{DeviceState}
 use Rattle.recovery_engine.specs.Settling.{Settles}
 use Rattle.command_laws.specs.WholeLogs.{HasSteadyVolume}
-use Rattle.volume_audit.specs.Audits.{Audits}
-use Rattle.volume_audit.specs.declared.report.AuditReport.{AuditReport}
+use Rattle.command_laws.specs.volume_audit.Audits.{Audits}
+use Rattle.command_laws.specs.volume_audit.declared.report.AuditReport.{AuditReport}
 use Rattle.volume_copy.specs.Pairs.{slots_of}
 use Rattle.volume_copy.specs.Reading.{ReadingFails}
 use Rattle.volume_copy.specs.declared.audited.AuditedVolume.{AuditedVolume}

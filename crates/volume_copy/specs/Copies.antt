@@ -18,8 +18,8 @@ use Rattle.worm_device.specs.Calls.{Called}
 use Rattle.worm_device.specs.Counts.{Rose}
 use Rattle.worm_device.specs.State.{DeviceState, LeftSince}
 use Rattle.document_store.specs.Standing.{HoldsDocument}
-use Rattle.ingest_engine.specs.Formats.{Formats}
-use Rattle.ingest_engine.specs.Ingesting.{Ingests, document_in}
+use Rattle.command_laws.specs.ingest_engine.Formats.{Formats}
+use Rattle.command_laws.specs.ingest_engine.Ingesting.{Ingests, document_in}
 use Rattle.command_laws.specs.settling_laws.Steadiness.{IsSteady}
 use Rattle.volume_copy.specs.Auditing.{Refuses}
 use Rattle.volume_copy.specs.Alone.{AreAlone}

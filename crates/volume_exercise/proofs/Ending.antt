@@ -11,7 +11,7 @@ use Rattle.cell_types.specs.declared.refusal.Refusal.TheVariants as refusals
 use Rattle.stored_documents.specs.Documents.{Document}
 use Rattle.stored_documents.specs.Volumes.{IsVolume}
 use Rattle.stored_documents.proofs.Extending.{volume_on}
-use Rattle.tamper_rules.specs.Settling.{Held, Settled}
+use Rattle.document_store.specs.tamper_rules.Settling.{Held, Settled}
 use Rattle.hostile_replay.specs.settling_laws.Steadiness.{IsSteady}
 use Rattle.worm_device.specs.Counts.{IsStill}
 use Rattle.worm_device.specs.State.{IsDevice}

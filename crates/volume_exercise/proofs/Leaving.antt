@@ -7,8 +7,8 @@ use Rattle.std.specs.List.{All, count_by, range_with_len, sum_by}
 use Rattle.cell_types.specs.Layout.{Layout}
 use Rattle.stored_documents.specs.Documents.{AreDocuments, Document}
 use Rattle.stored_documents.specs.Volumes.{IsVolume}
-use Rattle.tamper_rules.specs.Settling.{Held, Settled}
-use Rattle.tamper_rules.proofs.GivenUp.{one_layout}
+use Rattle.document_store.specs.tamper_rules.Settling.{Held, Settled}
+use Rattle.document_store.proofs.of_tamper_rules.GivenUp.{one_layout}
 use Rattle.worm_device.specs.State.{IsDevice}
 use Rattle.worm_memory.specs.Memory.{Memory, device_of}
 use Rattle.worm_memory.specs.Worlds.{foreign_writes_in}

@@ -16,3 +16,4 @@ pub use Rattle.hostile_replay.proofs.of_command_laws
 pub use Rattle.hostile_replay.proofs.of_crash_laws
 pub use Rattle.hostile_replay.proofs.of_plan_writer
 pub use Rattle.hostile_replay.proofs.of_settling_laws
+pub use Rattle.hostile_replay.proofs.of_volume_audit

@@ -8,7 +8,7 @@ use Rattle.cell_types.specs.declared.refusal.Refusal.{Refusal}
 use Rattle.stored_documents.specs.Documents.{Document}
 use Rattle.stored_documents.specs.Volumes.{IsVolume}
 use Rattle.stored_documents.proofs.Extending.{volume_on}
-use Rattle.tamper_rules.specs.Settling.{Held}
+use Rattle.document_store.specs.tamper_rules.Settling.{Held}
 use Rattle.worm_device.specs.State.{IsDevice}
 use Rattle.worm_device.proofs.Images.{extends_then}
 use Rattle.worm_memory.specs.Memory.{Memory, device_of}

@@ -14,16 +14,16 @@ use Rattle.stored_documents.specs.Volumes.{IsVolume}
 use Rattle.stored_documents.specs.Words.{rule_of}
 use Rattle.stored_documents.specs.declared.word_rules.WordRule.TheVariants.{Ascii}
 use Rattle.stored_documents.proofs.Extending.{volume_on, written_on}
-use Rattle.tamper_rules.specs.Settling.{Held, Sound, nothing}
-use Rattle.tamper_rules.proofs.Settled.{one_horizon}
+use Rattle.document_store.specs.tamper_rules.Settling.{Held, Sound, nothing}
+use Rattle.document_store.proofs.of_tamper_rules.Settled.{one_horizon}
 use Rattle.worm_device.specs.Calls.{Called}
 use Rattle.worm_device.specs.Counts.{IsStill}
 use Rattle.worm_device.specs.State.{DeviceState, IsDevice}
 use Rattle.worm_device.proofs.Counting.{rose_or_still}
 use Rattle.document_store.proofs.Holding.{held_stands}
 use Rattle.index_paths.specs.Postings.{ArePostings, AreTags}
-use Rattle.recovery_engine.specs.Settling.{HasSettled}
-use Rattle.recovery_engine.specs.declared.settling.Ready.{Ready}
+use Rattle.hostile_replay.specs.recovery_engine.Settling.{HasSettled}
+use Rattle.hostile_replay.specs.recovery_engine.declared.settling.Ready.{Ready}
 use Rattle.hostile_replay.proofs.of_plan_writer.PutFrom.{volume_2}
 use Rattle.hostile_replay.proofs.of_settling_laws.LookedAt.{looked_ends}
 use Rattle.hostile_replay.proofs.of_crash_laws.WellPlanned as planned

@@ -10,8 +10,8 @@ use Rattle.stored_documents.specs.Volumes.{IsVolume}
 use Rattle.stored_documents.specs.Words.{Matches, rule_of}
 use Rattle.stored_documents.specs.declared.word_rules.WordRule.{WordRule}
 use Rattle.stored_documents.specs.declared.word_rules.WordRule.TheVariants.{Ascii}
-use Rattle.tamper_rules.specs.Settling.{Held}
-use Rattle.tamper_rules.proofs.GivenUp.{one_layout}
+use Rattle.document_store.specs.tamper_rules.Settling.{Held}
+use Rattle.document_store.proofs.of_tamper_rules.GivenUp.{one_layout}
 use Rattle.worm_device.specs.State.{DeviceState}
 use Rattle.worm_memory.specs.Memory.{Memory, device_of}
 use Rattle.hostile_replay.specs.ingest_engine.Ingesting.{document_in}

@@ -9,23 +9,23 @@ use Rattle.stored_documents.specs.Documents.{Document, Stands, stored_bytes}
 use Rattle.stored_documents.specs.Slots.{IsEdge, IsHorizon, cells_for}
 use Rattle.stored_documents.specs.Volumes.{IsVolume}
 use Rattle.stored_documents.proofs.Extending.{volume_on}
-use Rattle.tamper_rules.specs.Settling.{Held, IsSettled, Settled, Sound, nothing}
-use Rattle.tamper_rules.proofs.GivenUp.{one_layout}
-use Rattle.tamper_rules.proofs.Settled.{one_horizon}
+use Rattle.document_store.specs.tamper_rules.Settling.{Held, IsSettled, Settled, Sound, nothing}
+use Rattle.document_store.proofs.of_tamper_rules.GivenUp.{one_layout}
+use Rattle.document_store.proofs.of_tamper_rules.Settled.{one_horizon}
 use Rattle.index_paths.specs.Postings.{ArePostings, ListedPosting}
 use Rattle.worm_device.specs.Counts.{IsStill}
 use Rattle.worm_device.specs.State.{DeviceState, IsDevice}
-use Rattle.phase_writer.specs.Putting.{IsInFirst, IsPut}
-use Rattle.recovery_engine.specs.Settling.{HasSettled}
-use Rattle.recovery_engine.specs.declared.settling.Ready.{Ready}
+use Rattle.hostile_replay.specs.phase_writer.Putting.{IsInFirst, IsPut}
+use Rattle.hostile_replay.specs.recovery_engine.Settling.{HasSettled}
+use Rattle.hostile_replay.specs.recovery_engine.declared.settling.Ready.{Ready}
 use Rattle.hostile_replay.specs.plan_writer.Planned.{INGEST_PHASES, ingest_phases, reserved_by}
 use Rattle.hostile_replay.specs.plan_writer.PuttingPlans.{PutsPlan}
 use Rattle.hostile_replay.specs.plan_writer.declared.plan.Plan.{Plan}
 use Rattle.hostile_replay.proofs.of_plan_writer.PutFrom as from
-use Rattle.ingest_laws.specs.Filling.{IsFilled, IsWellPlanned}
-use Rattle.ingest_laws.proofs.Filled.{edge_is, old_edge}
-use Rattle.ingest_laws.proofs.Ingests.{next_horizon}
-use Rattle.ingest_laws.proofs.PlanSettled.{plan_is_settled}
+use Rattle.hostile_replay.specs.ingest_laws.Filling.{IsFilled, IsWellPlanned}
+use Rattle.hostile_replay.proofs.of_ingest_laws.Filled.{edge_is, old_edge}
+use Rattle.hostile_replay.proofs.of_ingest_laws.Ingests.{next_horizon}
+use Rattle.hostile_replay.proofs.of_ingest_laws.PlanSettled.{plan_is_settled}
 use Rattle.hostile_replay.specs.ingest_engine.Ingesting as ingesting
 use Rattle.hostile_replay.specs.ingest_engine.Ingesting.{ComesTo, IsIngested, IsPlanFor}
 use Rattle.hostile_replay.proofs.of_ingest_engine.CrashedIngests.{ready_layout}

@@ -3,7 +3,7 @@ use Rattle.std.specs.Prelude.{◌≡◌, ◌+◌, ◌*◌, ℕ, List, [], ◌∷
 use Rattle.cell_types.specs.declared.refusal.Refusal.{Refusal}
 use Rattle.cell_types.specs.declared.refusal.Refusal.TheVariants.{NoMemory, SinkFault}
 use Rattle.stored_documents.specs.Documents.{AreDocuments, Document}
-use Rattle.tamper_rules.specs.Settling.{Settled}
+use Rattle.document_store.specs.tamper_rules.Settling.{Settled}
 use Rattle.worm_device.specs.Counts.{Rose}
 use Rattle.host_ports.specs.Sinks.{Gets, PutsPart, SinkState}
 use Rattle.worm_memory.specs.Memory.{Memory, device_of}

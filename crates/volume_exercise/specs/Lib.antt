@@ -6,6 +6,8 @@ pub mod Tallies
 pub mod Telling
 pub use Rattle.hostile_replay.specs.command_laws
 pub use Rattle.hostile_replay.specs.crash_laws
+pub use Rattle.hostile_replay.specs.ingest_engine
 pub use Rattle.hostile_replay.specs.replayed_worlds
 pub use Rattle.hostile_replay.specs.script_replies
 pub use Rattle.hostile_replay.specs.settling_laws
+pub use Rattle.hostile_replay.specs.volume_audit

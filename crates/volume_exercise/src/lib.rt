@@ -30,6 +30,6 @@ mod tallies;
 
 pub use exercising::exercise;
 pub use hostile_replay;
-pub use hostile_replay::script_replies;
+pub use hostile_replay::{ingest_engine, script_replies, volume_audit};
 pub use laws::terms_are_words;
 pub use limits::{BASE_CELLS, BODY_WORDS, CELLS_PER_DOCUMENT, DISTINCT_WORDS, LISTS};

@@ -1,5 +1,5 @@
 -- The device of which `run` speaks is one over the file.
-use Rattle.command_line.specs.Requests.{ToIngest}
+use Rattle.record_top.specs.command_line.Requests.{ToIngest}
 use Rattle.file_top.proofs.Keeping.{keeps, stays}
 use Rattle.file_top.proofs.run_over_file.Goals as goal
 

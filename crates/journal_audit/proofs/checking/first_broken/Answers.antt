@@ -1,6 +1,6 @@
 -- Each rule in turn: it is broken, and those below it are kept; or it is kept.
 use Rattle.kept_cells.specs.Kept.{image_of}
-use Rattle.tamper_rules.specs.Rules.{Documents, Journals, Targets}
+use Rattle.document_store.specs.tamper_rules.Rules.{Documents, Journals, Targets}
 use Rattle.log_audit.specs.Findings.{AreMetBelow}
 use Rattle.log_audit.proofs.Numbers.{below_next}
 use Rattle.log_audit.proofs.Stopping.{first_found, found_none}

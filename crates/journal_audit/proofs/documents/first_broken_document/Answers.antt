@@ -1,6 +1,6 @@
 -- A slot that is not done, one with a document, one without, and all of them.
 use Rattle.std.proofs.Common.{◌<◌, sym, ◌∙◌, arith}
-use Rattle.tamper_rules.specs.Rules.{Documents}
+use Rattle.document_store.specs.tamper_rules.Rules.{Documents}
 use Rattle.log_audit.proofs.Deciding.{decided_no, decided_yes}
 use Rattle.log_audit.proofs.Families.{fine_more, met_all, first_rising}
 use Rattle.journal_audit.proofs.Stating.{document_rule, no_document_rule}

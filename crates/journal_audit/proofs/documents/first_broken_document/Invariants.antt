@@ -1,7 +1,7 @@
 -- The slots below this turn's keep the rule.
 use Rattle.cell_types.specs.Layout.{outcome_at}
 use Rattle.kept_cells.specs.Kept.{image_of}
-use Rattle.tamper_rules.specs.Rules.{DocumentRule}
+use Rattle.document_store.specs.tamper_rules.Rules.{DocumentRule}
 use Rattle.log_audit.proofs.Families.{AreFine}
 use Rattle.journal_audit.proofs.documents.first_broken_document.Given as goal
 

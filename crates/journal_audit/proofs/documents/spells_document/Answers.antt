@@ -1,6 +1,6 @@
 -- No document, and one.
 use Rattle.std.proofs.Common.{sym, subst}
-use Rattle.tamper_rules.specs.Rules.{HasDocument}
+use Rattle.document_store.specs.tamper_rules.Rules.{HasDocument}
 use Rattle.kept_cells.specs.Kept.{image_of}
 use Rattle.kept_cells.specs.declared.kept.KeptCells.{KeptCells}
 use Rattle.log_audit.proofs.Deciding.{no, yes}

@@ -2,7 +2,7 @@
 use Rattle.std.proofs.Common.{◌↔◌, ℕ, nat_le, sym, subst, arith}
 use Rattle.std.specs.Prelude.{IsTrue}
 use Rattle.kept_cells.specs.Kept.{image_of}
-use Rattle.tamper_rules.specs.Journals.{IsIndexCell}
+use Rattle.document_store.specs.tamper_rules.Journals.{IsIndexCell}
 use Rattle.log_audit.proofs.Deciding.{no}
 use Rattle.journal_audit.proofs.Indexing.{before_pool, owned_in_pool, unowned_in_pool}
 use Rattle.journal_audit.proofs.entries.is_index_cell.Goals as goal

@@ -1,7 +1,7 @@
 -- A slot without a document; one whose journal is in order; one whose is not; and all.
 use Rattle.std.proofs.Common.{sym, subst, inr, arith}
 use Rattle.kept_cells.specs.Kept.{image_of}
-use Rattle.tamper_rules.specs.Rules.{Journals, ReserveCells}
+use Rattle.document_store.specs.tamper_rules.Rules.{Journals, ReserveCells}
 use Rattle.journal_audit.specs.Journals.{IsFirstPlace, IsOrdered}
 use Rattle.journal_audit.proofs.Going.{AreGoodTo, none_more, slot_more, all_good, least_place, in_pool}
 use Rattle.journal_audit.proofs.Stating.{journal_rule, ordered_so}

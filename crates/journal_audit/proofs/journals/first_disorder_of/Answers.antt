@@ -3,7 +3,7 @@ use Rattle.std.proofs.Common.{◌+◌, ℕ, sym, ◌∙◌, ap, arith, refl}
 use Rattle.std.proofs.lemmas.Option.{none-some}
 use borrow.Author.Count.{below_more}
 use Rattle.kept_cells.specs.Kept.{image_of}
-use Rattle.tamper_rules.specs.Rules.{ReserveCells}
+use Rattle.document_store.specs.tamper_rules.Rules.{ReserveCells}
 use Rattle.log_audit.proofs.Deciding.{decided_no, decided_yes}
 use Rattle.journal_audit.specs.Journals.{IsOrdered}
 use Rattle.journal_audit.proofs.journals.first_disorder_of.Goals as goal

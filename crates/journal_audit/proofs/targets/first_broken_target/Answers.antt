@@ -1,7 +1,7 @@
 -- A slot without a document; one whose targets hold the same; one of which one does not; and all.
 use Rattle.std.proofs.Common.{sym, subst, arith}
 use Rattle.kept_cells.specs.Kept.{image_of}
-use Rattle.tamper_rules.specs.Rules.{Journals, Targets, ReserveCells}
+use Rattle.document_store.specs.tamper_rules.Rules.{Journals, Targets, ReserveCells}
 use Rattle.journal_audit.specs.Journals.{IsFirstPlace, IsRedone}
 use Rattle.journal_audit.proofs.Going.{AreGoodTo, none_more, slot_more, all_good, least_place, in_pool}
 use Rattle.journal_audit.proofs.Stating.{redone_rule, redone_so, ordered_so}

@@ -1,7 +1,7 @@
 -- Nobody's first cell, nobody's last, and both.
 use Rattle.std.proofs.Common.{arith}
 use Rattle.tamper_rules.specs.Rules.{ReserveCells}
-use Rattle.log_audit.proofs.Deciding.{no}
+use Rattle.tree_audit.proofs.of_log_audit.Deciding.{no}
 use Rattle.pointer_audit.proofs.Owning.{owned_by}
 use Rattle.pointer_audit.proofs.leads.is_owned.Goals as goal
 

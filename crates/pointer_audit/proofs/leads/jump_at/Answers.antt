@@ -1,6 +1,6 @@
 -- No record is there.
 use Rattle.std.proofs.Common.{refl}
-use Rattle.log_audit.proofs.Deciding.{none_held}
+use Rattle.tree_audit.proofs.of_log_audit.Deciding.{none_held}
 use Rattle.pointer_audit.proofs.leads.jump_at.Goals as goal
 
 pub returns-in_default-clause-none : goal.returns-in_default-clause-none

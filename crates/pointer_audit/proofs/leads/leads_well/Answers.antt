@@ -2,7 +2,7 @@
 use Rattle.std.proofs.Common.{arith}
 use Rattle.tamper_rules.specs.Rules.{Entries}
 use Rattle.kept_cells.specs.Kept.{image_of}
-use Rattle.log_audit.proofs.Deciding.{decided_no, decided_yes, no}
+use Rattle.tree_audit.proofs.of_log_audit.Deciding.{decided_no, decided_yes, no}
 use Rattle.pointer_audit.proofs.Leading.{alone_so, inside_so, off_nodes_so, owned_so, span_so, target_is, well}
 use Rattle.pointer_audit.proofs.leads.leads_well.Goals as goal
 

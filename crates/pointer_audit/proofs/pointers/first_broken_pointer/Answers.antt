@@ -3,7 +3,7 @@ use Rattle.std.proofs.Common.{arith}
 use Rattle.std.proofs.lemmas.Option.{slice_get-get_or}
 use Rattle.kept_cells.specs.Kept.{image_of}
 use Rattle.tamper_rules.specs.Rules.{Pointers}
-use Rattle.list_audit.proofs.EachBlock.{one_block, every_block}
+use Rattle.tree_audit.proofs.of_list_audit.EachBlock.{one_block, every_block}
 use Rattle.pointer_audit.specs.Leading.{PointerAsks}
 use Rattle.pointer_audit.proofs.Going.{block_asks, rule_asks}
 use Rattle.pointer_audit.proofs.pointers.first_broken_pointer.Goals as goal

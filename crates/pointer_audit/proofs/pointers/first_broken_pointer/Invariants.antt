@@ -1,9 +1,9 @@
 -- The least of what the blocks before this turn's break.
 use Rattle.kept_cells.specs.Kept.{image_of}
 use Rattle.tamper_rules.specs.Rules.{Pointers}
-use Rattle.log_audit.specs.Least.{FindsPart}
-use Rattle.log_audit.proofs.Parts.{AskedBelow}
-use Rattle.list_audit.proofs.EachBlock.{BlockAt}
+use Rattle.tree_audit.specs.log_audit.Least.{FindsPart}
+use Rattle.tree_audit.proofs.of_log_audit.Parts.{AskedBelow}
+use Rattle.tree_audit.proofs.of_list_audit.EachBlock.{BlockAt}
 use Rattle.pointer_audit.specs.Leading.{PointerAsks}
 use Rattle.pointer_audit.proofs.pointers.first_broken_pointer.Given as goal
 

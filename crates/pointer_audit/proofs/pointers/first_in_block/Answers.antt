@@ -2,10 +2,10 @@
 use Rattle.std.proofs.Common.{◌≤◌, ◌<◌, ◌+◌, ℕ, refl, sym, ◌∙◌, arith}
 use Rattle.kept_cells.specs.Kept.{image_of}
 use Rattle.tamper_rules.specs.Rules.{LeadsWell, Pointers}
-use Rattle.log_audit.proofs.Deciding.{decided_no, decided_yes}
-use Rattle.log_audit.proofs.Families.{fine_more, not_written}
-use Rattle.log_audit.proofs.Parts.{first_of_part, part_met}
-use Rattle.list_audit.proofs.Closing.{block_inside}
+use Rattle.tree_audit.proofs.of_log_audit.Deciding.{decided_no, decided_yes}
+use Rattle.tree_audit.proofs.of_log_audit.Families.{fine_more, not_written}
+use Rattle.tree_audit.proofs.of_log_audit.Parts.{first_of_part, part_met}
+use Rattle.tree_audit.proofs.of_list_audit.Closing.{block_inside}
 use Rattle.pointer_audit.specs.Leading.{PointerAsks}
 use Rattle.pointer_audit.proofs.Going.{at_digits, by_digits, digit_of, level_of, pointer_place}
 use Rattle.pointer_audit.proofs.pointers.first_in_block.Goals as goal

@@ -1,7 +1,7 @@
 -- The pointer places before this turn's keep the rule.
 use Rattle.std.specs.Prelude.{◌+◌, ◌/◌, ◌%◌, ℕ}
 use Rattle.kept_cells.specs.Kept.{image_of}
-use Rattle.log_audit.proofs.Families.{AreFine}
+use Rattle.tree_audit.proofs.of_log_audit.Families.{AreFine}
 use Rattle.tamper_rules.specs.Rules.{LeadsWell}
 use Rattle.pointer_audit.proofs.pointers.first_in_block.Given as goal
 

@@ -3,7 +3,7 @@ use Rattle.std.proofs.Common.{ap, arith}
 use Rattle.index_paths.specs.Blocks.{PostingFields}
 use Rattle.index_paths.proofs.Fronts.{one_posting}
 use Rattle.kept_cells.specs.Kept.{image_of}
-use Rattle.log_audit.proofs.Deciding.{no}
+use Rattle.tree_audit.proofs.of_log_audit.Deciding.{no}
 use Rattle.pointer_audit.proofs.Spanning.{none_more, none_there}
 use Rattle.pointer_audit.proofs.spans.has_key_between.Goals as goal
 

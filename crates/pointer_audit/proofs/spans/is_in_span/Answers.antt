@@ -2,7 +2,7 @@
 use Rattle.std.proofs.Common.{◌≡◌, ◌*◌, ◌^◌, arith}
 use Rattle.std.proofs.Math.Nat.{mul-le-mul_left}
 use Rattle.kept_cells.specs.Kept.{image_of}
-use Rattle.log_audit.proofs.Deciding.{no}
+use Rattle.tree_audit.proofs.of_log_audit.Deciding.{no}
 use Rattle.pointer_audit.proofs.Spanning.{in_front, not_full, spans_tell}
 use Rattle.pointer_audit.proofs.spans.is_in_span.Goals as goal
 

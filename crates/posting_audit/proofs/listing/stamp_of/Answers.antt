@@ -1,6 +1,6 @@
 -- A stored slot of a volume of stamped documents has a stamp, so a record stands in its spare cell.
 use Rattle.std.proofs.Common.{◌∙◌, sym}
-use Rattle.log_audit.proofs.Deciding.{none_held}
+use Rattle.list_audit.proofs.of_log_audit.Deciding.{none_held}
 use Rattle.posting_audit.proofs.listing.stamp_of.Goals as goal
 
 pub unreachable-requires : goal.unreachable-requires

@@ -1,8 +1,8 @@
 -- The least of what the blocks before this turn's break.
 use Rattle.kept_cells.specs.Kept.{image_of}
 use Rattle.tamper_rules.specs.Rules.{Postings}
-use Rattle.log_audit.specs.Least.{FindsPart}
-use Rattle.log_audit.proofs.Parts.{AskedBelow}
+use Rattle.list_audit.specs.log_audit.Least.{FindsPart}
+use Rattle.list_audit.proofs.of_log_audit.Parts.{AskedBelow}
 use Rattle.list_audit.proofs.EachBlock.{BlockAt}
 use Rattle.posting_audit.specs.Owing.{BlockOwes}
 use Rattle.posting_audit.proofs.postings.first_fake.Given as goal

@@ -3,9 +3,9 @@ use Rattle.std.proofs.Common.{◌≤◌, ◌<◌, ◌+◌, ℕ, refl, sym, ◌�
 use Rattle.std.proofs.lemmas.Option.{none-some}
 use Rattle.kept_cells.specs.Kept.{image_of}
 use Rattle.tamper_rules.specs.Rules.{Postings}
-use Rattle.log_audit.proofs.Deciding.{decided_no, decided_yes}
-use Rattle.log_audit.proofs.Families.{fine_more}
-use Rattle.log_audit.proofs.Parts.{first_of_part, part_met}
+use Rattle.list_audit.proofs.of_log_audit.Deciding.{decided_no, decided_yes}
+use Rattle.list_audit.proofs.of_log_audit.Families.{fine_more}
+use Rattle.list_audit.proofs.of_log_audit.Parts.{first_of_part, part_met}
 use Rattle.list_audit.proofs.Closing.{block_inside}
 use Rattle.list_audit.proofs.Ordered.{is_place}
 use Rattle.posting_audit.specs.Owing.{KeepsPostingRule, BlockOwes}

@@ -1,7 +1,7 @@
 -- The places before this turn's keep the rule.
 use Rattle.std.proofs.Common.{◌+◌, ℕ}
 use Rattle.kept_cells.specs.Kept.{image_of}
-use Rattle.log_audit.proofs.Families.{AreFine}
+use Rattle.list_audit.proofs.of_log_audit.Families.{AreFine}
 use Rattle.posting_audit.specs.Owing.{KeepsPostingRule}
 use Rattle.posting_audit.proofs.postings.first_fake_in.Given as goal
 

@@ -2,8 +2,8 @@
 use Rattle.std.proofs.Common.{◌<◌, refl, sym, ◌∙◌, subst, arith}
 use Rattle.kept_cells.specs.Kept.{image_of}
 use Rattle.tamper_rules.specs.Rules.{Documents, Entries, Pointers, Trails}
-use Rattle.log_audit.proofs.Deciding.{decided_no, decided_yes}
-use Rattle.log_audit.proofs.Families.{fine_more, met_all, first_rising}
+use Rattle.list_audit.proofs.of_log_audit.Deciding.{decided_no, decided_yes}
+use Rattle.list_audit.proofs.of_log_audit.Families.{fine_more, met_all, first_rising}
 use Rattle.posting_audit.specs.Keeping.{KeepsTrailRule}
 use Rattle.posting_audit.proofs.Trailing.{not_stored, rule_at, rule_of}
 use Rattle.posting_audit.proofs.rules.first_broken_trail.Goals as goal

@@ -1,7 +1,7 @@
 -- The document has no postings; it has, and each of them has a trail or not.
 use Rattle.std.proofs.Common.{sym, subst}
 use Rattle.kept_cells.specs.Kept.{image_of}
-use Rattle.log_audit.proofs.Deciding.{no}
+use Rattle.list_audit.proofs.of_log_audit.Deciding.{no}
 use Rattle.posting_audit.specs.Bodies.{AreRowsOf, HasNoRows}
 use Rattle.posting_audit.proofs.Holding.{held_by}
 use Rattle.posting_audit.proofs.Trailing.{in_lists, kept_by, broken_by, some_of, none_of}

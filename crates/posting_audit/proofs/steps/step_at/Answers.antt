@@ -1,6 +1,6 @@
 -- No posting stands there, or another one.
 use Rattle.std.proofs.Common.{◌≡◌, Some, sym, ◌∙◌}
-use Rattle.log_audit.proofs.Deciding.{decided_no}
+use Rattle.list_audit.proofs.of_log_audit.Deciding.{decided_no}
 use Rattle.posting_audit.proofs.steps.step_at.Goals as goal
 
 pub returns-in_default : goal.returns-in_default

@@ -2,7 +2,7 @@
 use Rattle.std.proofs.Common.{ℕ, List, Ok, Err, refl, subst, rules}
 use Rattle.cell_types.specs.declared.refusal.Refusal.TheVariants.{SinkFault}
 use Rattle.cell_types.proofs.Passed.{handed}
-use Rattle.ingest_engine.specs.Ingesting.{Ingests}
+use Rattle.volume_exercise.specs.ingest_engine.Ingesting.{Ingests}
 use Rattle.record_top.specs.Ingesting.{taken, untaken}
 use Rattle.record_top.specs.Taking.{refusal_of_body_fault}
 use Rattle.record_top.proofs.Taken.{is_body}

@@ -1,7 +1,7 @@
 -- The first that is not expected, one more that is, and all of them.
 use Rattle.std.proofs.Common.{◌∙◌, refl, sym, arith}
 use Rattle.kept_cells.specs.Rows.{rows_of}
-use Rattle.log_audit.proofs.Deciding.{decided_no, decided_yes}
+use Rattle.journal_audit.proofs.of_log_audit.Deciding.{decided_no, decided_yes}
 use Rattle.stray_audit.proofs.Going.{all_expected, first_not, one_more}
 use Rattle.stray_audit.proofs.places.first_unexpected.Goals as goal
 

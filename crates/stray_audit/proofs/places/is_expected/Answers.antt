@@ -1,8 +1,8 @@
 -- Before the pool, behind the edge, of no slot's blocks, and of a slot's.
 use Rattle.std.proofs.Common.{arith}
 use Rattle.kept_cells.specs.Kept.{image_of}
-use Rattle.log_audit.proofs.Deciding.{no, yes}
-use Rattle.log_audit.proofs.Edges.{is_edge}
+use Rattle.journal_audit.proofs.of_log_audit.Deciding.{no, yes}
+use Rattle.journal_audit.proofs.of_log_audit.Edges.{is_edge}
 use Rattle.stray_audit.proofs.Regions.{expected_free, expected_named, in_blocks, in_first_parts}
 use Rattle.stray_audit.proofs.places.is_expected.Goals as goal
 

@@ -3,9 +3,9 @@ use Rattle.std.proofs.Common.{◌<◌, ◌∙◌, inl, inr, refl, sym, arith}
 use Rattle.tamper_rules.specs.Rules.{StrayCells, IsTrueStamp}
 use Rattle.cell_types.specs.Layout.{spare_at}
 use Rattle.kept_cells.specs.Kept.{image_of}
-use Rattle.log_audit.proofs.Deciding.{decided_no, decided_yes}
-use Rattle.log_audit.proofs.Families.{fine_more, not_written}
-use Rattle.log_audit.proofs.Parts.{first_of_part, part_met}
+use Rattle.journal_audit.proofs.of_log_audit.Deciding.{decided_no, decided_yes}
+use Rattle.journal_audit.proofs.of_log_audit.Families.{fine_more, not_written}
+use Rattle.journal_audit.proofs.of_log_audit.Parts.{first_of_part, part_met}
 use Rattle.stray_audit.specs.Strays.{IsInTime}
 use Rattle.stray_audit.proofs.stamps.first_false_stamp.Goals as goal
 

@@ -1,7 +1,7 @@
 -- The stamps of the slots so far are in order, and this is the greatest of the done ones.
 use Rattle.cell_types.specs.Layout.{spare_at}
 use Rattle.kept_cells.specs.Kept.{image_of}
-use Rattle.log_audit.proofs.Families.{AreFine}
+use Rattle.journal_audit.proofs.of_log_audit.Families.{AreFine}
 use Rattle.tamper_rules.specs.Rules.{IsTrueStamp}
 use Rattle.stray_audit.specs.Strays.{IsLatest}
 use Rattle.stray_audit.proofs.stamps.first_false_stamp.Given as goal

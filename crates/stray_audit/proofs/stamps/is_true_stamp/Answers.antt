@@ -1,7 +1,7 @@
 -- A stamp is in order where it is greater than the greatest of the done slots below, and where none of them has one.
 use Rattle.std.proofs.Common.{◌∙◌, sym, subst}
 use Rattle.kept_cells.specs.Kept.{image_of}
-use Rattle.log_audit.proofs.Deciding.{written_by}
+use Rattle.journal_audit.proofs.of_log_audit.Deciding.{written_by}
 use Rattle.stray_audit.specs.Strays.{IsLatest}
 use Rattle.stray_audit.proofs.Stamping.{first_is_true, greater_is_true}
 use Rattle.stray_audit.proofs.stamps.is_true_stamp.Goals as goal

@@ -1,5 +1,5 @@
 -- No record is there.
-use Rattle.log_audit.proofs.Deciding.{none_held}
+use Rattle.journal_audit.proofs.of_log_audit.Deciding.{none_held}
 use Rattle.stray_audit.proofs.stamps.stamp_at.Goals as goal
 
 pub returns-in_default-clause-none : goal.returns-in_default-clause-none

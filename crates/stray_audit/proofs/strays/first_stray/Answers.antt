@@ -2,7 +2,7 @@
 use Rattle.std.proofs.Common.{sym, subst}
 use Rattle.tamper_rules.specs.Rules.{StrayCells}
 use Rattle.kept_cells.specs.Kept.{image_of}
-use Rattle.log_audit.specs.Findings.{Finds}
+use Rattle.journal_audit.specs.log_audit.Findings.{Finds}
 use Rattle.stray_audit.proofs.Parting.{both_are}
 use Rattle.stray_audit.proofs.strays.first_stray.Goals as goal
 

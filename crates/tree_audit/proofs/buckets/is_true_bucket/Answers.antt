@@ -2,7 +2,7 @@
 use Rattle.std.proofs.Common.{ℕ, subst}
 use Rattle.stored_documents.specs.Documents.{Stands}
 use Rattle.kept_cells.specs.Kept.{image_of}
-use Rattle.log_audit.proofs.Deciding.{no, decided_no, decided_yes}
+use Rattle.journal_audit.proofs.of_log_audit.Deciding.{no, decided_no, decided_yes}
 use Rattle.tree_audit.proofs.Judging.{same_slot, is_true, true_fingerprint, true_path}
 use Rattle.tree_audit.proofs.buckets.is_true_bucket.Goals as goal
 

@@ -2,7 +2,7 @@
 use Rattle.std.proofs.Common.{◌+◌, ℕ}
 use Rattle.kept_cells.specs.Kept.{image_of}
 use Rattle.tamper_rules.specs.Rules.{LeadsDownWell}
-use Rattle.log_audit.proofs.Families.{AreFine}
+use Rattle.journal_audit.proofs.of_log_audit.Families.{AreFine}
 use Rattle.tree_audit.proofs.children.broken_under.Given as goal
 
 abbrev pub invariant-loop-x : goal.invariant-loop-x

@@ -1,7 +1,7 @@
 -- A block meets it from before, or from behind, or none does.
 use Rattle.std.proofs.Common.{refl, sym, arith}
 use Rattle.kept_cells.specs.Kept.{image_of}
-use Rattle.log_audit.proofs.Deciding.{decided_no, decided_yes, no}
+use Rattle.tree_audit.proofs.of_log_audit.Deciding.{decided_no, decided_yes, no}
 use Rattle.pointer_audit.proofs.Meeting.{alone, between_same, not_alone_before, not_alone_behind, turned}
 use Rattle.pointer_audit.proofs.occupied.OccupiedCells.is_alone.Goals as goal
 

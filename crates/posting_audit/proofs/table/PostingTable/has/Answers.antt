@@ -1,7 +1,7 @@
 -- It is not there, or there.
 use Rattle.std.proofs.Common.{◌≡◌, ℕ, List, sym, ◌∙◌, subst, ap, arith}
 use Rattle.std.specs.Prelude.{Contains}
-use Rattle.log_audit.proofs.Deciding.{no, yes}
+use Rattle.list_audit.proofs.of_log_audit.Deciding.{no, yes}
 use Rattle.posting_audit.specs.Tables.{AreOrderedRows, number_of}
 use Rattle.posting_audit.proofs.Tabling.{found_row, no_row}
 use Rattle.posting_audit.proofs.table.PostingTable.has.Goals as goal

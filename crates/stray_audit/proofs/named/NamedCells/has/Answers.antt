@@ -2,7 +2,7 @@
 use Rattle.std.proofs.Common.{ℕ, List, sym, subst}
 use Rattle.std.specs.Prelude.{Contains}
 use Rattle.std.specs.List.Sorted.{IsNonDecreasing}
-use Rattle.log_audit.proofs.Deciding.{no}
+use Rattle.journal_audit.proofs.of_log_audit.Deciding.{no}
 use Rattle.stray_audit.proofs.Finding.{not_found}
 use Rattle.stray_audit.proofs.named.NamedCells.has.Goals as goal
 
