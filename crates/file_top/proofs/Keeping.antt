@@ -11,12 +11,12 @@ use Rattle.host_files.specs.File.{Told}
 use Rattle.host_ports.specs.Sinks.{SinkState}
 use Rattle.host_ports.specs.Sources.{Gives, SourceState}
 use Rattle.record_top.specs.ingest_engine.Ingesting.{IngestEnds, Ingests, IsIngested}
-use Rattle.record_top.specs.Ingesting.{DoesIngest, HasStored, acknowledgement, misnamed, untaken, taken}
-use Rattle.record_top.specs.Ports.{Ports, Tells, ports_of}
-use Rattle.record_top.specs.Taking.{refusal_of_body_fault}
-use Rattle.record_top.specs.declared.body.BodyFault.{BodyFault}
-use Rattle.record_top.specs.declared.body.BodyFault.TheVariants as faults
-use Rattle.record_top.proofs.Pieces.{gives_nothing}
+use Rattle.record_top.specs.volume_commands.Ingesting.{DoesIngest, HasStored, acknowledgement, misnamed, untaken, taken}
+use Rattle.record_top.specs.volume_commands.Ports.{Ports, Tells, ports_of}
+use Rattle.record_top.specs.volume_commands.Taking.{refusal_of_body_fault}
+use Rattle.record_top.specs.volume_commands.declared.body.BodyFault.{BodyFault}
+use Rattle.record_top.specs.volume_commands.declared.body.BodyFault.TheVariants as faults
+use Rattle.record_top.proofs.of_volume_commands.Pieces.{gives_nothing}
 use Rattle.stored_documents.specs.Documents.{Document, Stands}
 use Rattle.stored_documents.specs.Slots.{HasStamp, IsStampOf}
 use Rattle.index_paths.specs.Keeping.{Kept}

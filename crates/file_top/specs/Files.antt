@@ -6,7 +6,7 @@ use Rattle.host_files.specs.Crashes.{CrashLeaves}
 use Rattle.host_files.specs.File.{Told}
 use Rattle.host_ports.specs.Sinks.{SinkState, Gets}
 use Rattle.host_ports.specs.Sources.{SourceState, Gives}
-use Rattle.record_top.specs.Ingesting.{HasStored, acknowledgement}
+use Rattle.record_top.specs.volume_commands.Ingesting.{HasStored, acknowledgement}
 use Rattle.stored_documents.specs.Documents.{Document, Stands}
 use Rattle.stored_documents.specs.Slots.{HasStamp}
 use Rattle.index_paths.specs.Keeping.{Kept}

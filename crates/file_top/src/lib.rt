@@ -12,7 +12,8 @@
 //! Besides, each clause of `run` is said again over the device that shows the file, so that the program's own call has
 //! them, too: what each command does and puts out, when it refuses, and what a crash leaves.
 //!
-//! Stands on `host_files` and on `record_top`, which it passes on. Begin with `run_over_file`; `specs/Files.antt` says what is kept.
+//! Stands on `host_files` and on `record_top`. It passes this one and `copy_top` on, so that the program names one crate of
+//! commands. Begin with `run_over_file`; `specs/Files.antt` says what is kept.
 #![tactic(auto)]
 
 ghost use Rattle.std.specs.Prelude.{◌≡◌, ◌↔◌, ℕ, List, Option, map};
@@ -24,8 +25,8 @@ ghost use Rattle.host_files.specs.Crashes.{CrashesAreSeen};
 ghost use Rattle.host_files.specs.Over.{file_below, state_over};
 ghost use Rattle.record_top.specs.command_laws.Begins.{BeginsSteady};
 ghost use Rattle.record_top.specs.Commands.{Does, IsAnswered, IsUnhindered};
-ghost use Rattle.record_top.specs.Ports.{ports_of};
-ghost use Rattle.record_top.specs.Steadiness.{LeavesWhole};
+ghost use Rattle.record_top.specs.volume_commands.Ports.{ports_of};
+ghost use Rattle.record_top.specs.volume_commands.Steadiness.{LeavesWhole};
 ghost use Rattle.worm_device.specs.Calls.{Called};
 
 use cell_types::Refusal;
@@ -78,4 +79,5 @@ pub fn run_over_file<F: HostFile, S: Source, K: Sink, M: Meter>(
     outcome
 }
 
+pub use copy_top;
 pub use record_top;

@@ -6,17 +6,17 @@ use Rattle.worm_device.specs.Calls.{Called}
 use Rattle.worm_device.specs.State.{IsDevice}
 use Rattle.command_line.specs.Requests.{Request, ToAudit, ToCheck, ToExercise, ToFind, ToFindBetween, ToFormat, ToIngest, ToLookUp, ToMakeReceipt, ToRecover, ToReplay}
 use Rattle.record_top.specs.Commands.{Does, IsAnswered, IsUnhindered}
-use Rattle.record_top.specs.Ports.{Ports}
-use Rattle.record_top.proofs.Audits.{audit_completes, audit_is_used}
-use Rattle.record_top.proofs.Checks.{check_called, check_completes, check_is_used}
-use Rattle.record_top.proofs.Completing.{format_completes, ingest_completes, recover_completes}
-use Rattle.record_top.proofs.Ending.{ingest_called, ingest_is_used, recover_is_used}
+use Rattle.volume_commands.specs.Ports.{Ports}
+use Rattle.volume_commands.proofs.Audits.{audit_completes, audit_is_used}
+use Rattle.volume_commands.proofs.Checks.{check_called, check_completes, check_is_used}
+use Rattle.volume_commands.proofs.Completing.{format_completes, ingest_completes, recover_completes}
+use Rattle.volume_commands.proofs.Ending.{ingest_called, ingest_is_used, recover_is_used}
 use Rattle.record_top.proofs.Exercises.{exercise_called, exercise_completes, exercise_is_used}
-use Rattle.record_top.proofs.Finds.{find_called, find_completes, find_is_used}
-use Rattle.record_top.proofs.LookUps.{look_up_called, look_up_completes, look_up_is_used}
-use Rattle.record_top.proofs.Receipts.{receipt_called, receipt_completes, receipt_is_used}
+use Rattle.volume_commands.proofs.Finds.{find_called, find_completes, find_is_used}
+use Rattle.volume_commands.proofs.LookUps.{look_up_called, look_up_completes, look_up_is_used}
+use Rattle.volume_commands.proofs.Receipts.{receipt_called, receipt_completes, receipt_is_used}
 use Rattle.record_top.proofs.Replays.{replay_called, replay_completes, replay_is_used}
-use Rattle.record_top.proofs.Spans.{between_completes, between_is_used}
+use Rattle.volume_commands.proofs.Spans.{between_completes, between_is_used}
 
 module _ (old new : Ports) where
   -- whatever is done keeps what every call of the device keeps

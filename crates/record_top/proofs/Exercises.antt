@@ -15,7 +15,7 @@ use Rattle.volume_exercise.specs.Exercising.{ExerciseEnds, exercise_device, refu
 use Rattle.volume_exercise.specs.Refusing.{IsOfExercise}
 use Rattle.volume_exercise.proofs.of_command_laws.Results.{no_answer, one_refusal, other_refusal}
 use Rattle.record_top.specs.Exercising.{DoesExercise, IsOkOrOfExercise}
-use Rattle.record_top.specs.Ports.{Ports}
+use Rattle.volume_commands.specs.Ports.{Ports}
 
 -- the device is untouched
 pub exercise_called : (n : ℕ) (old new : Ports) (result : Result Unit Refusal) → DoesExercise n old new result

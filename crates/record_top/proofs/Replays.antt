@@ -15,12 +15,12 @@ use Rattle.script_events.specs.declared.event.Script.{Script}
 use Rattle.script_events.proofs.OneScript.{texts_are_one_script}
 use Rattle.volume_exercise.specs.script_replies.Lines.{replies_text}
 use Rattle.volume_exercise.specs.script_replies.declared.reply.Reply.{Reply}
-use Rattle.record_top.specs.Ports.{IsOkOrNoMemory, Ports, TellsFromMemory}
+use Rattle.volume_commands.specs.Ports.{IsOkOrNoMemory, Ports, TellsFromMemory}
 use Rattle.record_top.specs.Replaying.{DoesReplay, IsReadyToReplay, ReplayEnds, replayed, unread, untaken}
-use Rattle.record_top.specs.Taking.{refusal_of_body_fault}
-use Rattle.record_top.specs.declared.body.BodyFault.{BodyFault}
-use Rattle.record_top.specs.declared.body.BodyFault.TheVariants as faults
-use Rattle.record_top.proofs.Completing.{body_taken, gives_all}
+use Rattle.volume_commands.specs.Taking.{refusal_of_body_fault}
+use Rattle.volume_commands.specs.declared.body.BodyFault.{BodyFault}
+use Rattle.volume_commands.specs.declared.body.BodyFault.TheVariants as faults
+use Rattle.volume_commands.proofs.Completing.{body_taken, gives_all}
 
 module _ (old new : Ports) where
   -- the device is untouched

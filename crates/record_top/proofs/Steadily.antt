@@ -8,45 +8,45 @@ use Rattle.cell_types.specs.declared.refusal.Refusal.TheVariants as refusals
 use Rattle.stored_documents.specs.declared.word_rules.WordRule.{WordRule}
 use Rattle.worm_device.proofs.Elapsing.{called_self}
 use Rattle.worm_device.specs.State.{IsDevice}
-use Rattle.recovery_engine.specs.Settling.{Settles, SettlesFirst}
-use Rattle.recovery_engine.specs.declared.settling.Ready.{Ready}
+use Rattle.volume_commands.specs.recovery_engine.Settling.{Settles, SettlesFirst}
+use Rattle.volume_commands.specs.recovery_engine.declared.settling.Ready.{Ready}
 use Rattle.volume_exercise.proofs.of_settling_laws.LeftWhole.{held_unmoved}
 use Rattle.volume_exercise.specs.ingest_engine.Formats.{FormatEnds}
-use Rattle.commit_record.specs.Licences.{IsLicensed}
-use Rattle.time_index.specs.record_query.Finding.{FindEnds}
-use Rattle.time_index.specs.record_query.LookingUp.{LookUpEnds}
-use Rattle.receipt_text.specs.Form.{text_of_receipt}
-use Rattle.time_index.specs.record_query.declared.found.Found.{Found}
-use Rattle.time_index.specs.record_query.declared.found.Match.{Match}
+use Rattle.volume_commands.specs.commit_record.Licences.{IsLicensed}
+use Rattle.volume_commands.specs.record_query.Finding.{FindEnds}
+use Rattle.volume_commands.specs.record_query.LookingUp.{LookUpEnds}
+use Rattle.volume_commands.specs.receipt_text.Form.{text_of_receipt}
+use Rattle.volume_commands.specs.record_query.declared.found.Found.{Found}
+use Rattle.volume_commands.specs.record_query.declared.found.Match.{Match}
 use Rattle.volume_exercise.specs.volume_audit.Audits.{SettlesThenAudits}
 use Rattle.volume_exercise.specs.volume_audit.declared.report.AuditReport.{AuditReport}
 use Rattle.volume_exercise.proofs.of_volume_audit.Comes.{licensed, settles_first}
 use Rattle.command_line.specs.Requests.{Request, ToAudit, ToCheck, ToExercise, ToFind, ToFindBetween, ToFormat, ToIngest, ToLookUp, ToMakeReceipt, ToRecover, ToReplay}
-use Rattle.record_top.specs.Auditing.{DoesAudit, report_text}
-use Rattle.record_top.specs.Checking.{DoesCheck}
+use Rattle.volume_commands.specs.Auditing.{DoesAudit, report_text}
+use Rattle.volume_commands.specs.Checking.{DoesCheck}
 use Rattle.record_top.specs.Commands.{Does, layout_on}
 use Rattle.record_top.specs.Exercising.{DoesExercise}
 use Rattle.record_top.proofs.Exercises.{exercise_names_none}
-use Rattle.record_top.specs.Finding.{DoesFind, found_text, misworded, searched, unread, unruled}
-use Rattle.record_top.specs.Receipting.{DoesReceipt, made}
-use Rattle.record_top.specs.Receipting as receipts
-use Rattle.record_top.specs.Ruling.{AsksRule, RuleEnds}
-use Rattle.record_top.specs.Formatting.{DoesFormat, FormatCommandEnds}
-use Rattle.record_top.specs.LookingUp.{Answers, DoesLookUp, looked, misnamed}
+use Rattle.volume_commands.specs.Finding.{DoesFind, found_text, misworded, searched, unread, unruled}
+use Rattle.volume_commands.specs.Receipting.{DoesReceipt, made}
+use Rattle.volume_commands.specs.Receipting as receipts
+use Rattle.volume_commands.specs.Ruling.{AsksRule, RuleEnds}
+use Rattle.volume_commands.specs.Formatting.{DoesFormat, FormatCommandEnds}
+use Rattle.volume_commands.specs.LookingUp.{Answers, DoesLookUp, looked, misnamed}
 use Rattle.record_top.specs.Replaying.{DoesReplay}
-use Rattle.record_top.specs.Spanning.{DoesBetween}
-use Rattle.record_top.specs.Ports.{Ports, Tells, TellsFromMemory}
-use Rattle.record_top.specs.Recovering.{DoesRecover, recovered}
-use Rattle.record_top.proofs.Checks.{check_called, check_only, check_refuses}
-use Rattle.record_top.proofs.Receipts.{receipt_held, told_alarm}
+use Rattle.volume_commands.specs.Spanning.{DoesBetween}
+use Rattle.volume_commands.specs.Ports.{Ports, Tells, TellsFromMemory}
+use Rattle.volume_commands.specs.Recovering.{DoesRecover, recovered}
+use Rattle.volume_commands.proofs.Checks.{check_called, check_only, check_refuses}
+use Rattle.volume_commands.proofs.Receipts.{receipt_held, told_alarm}
 use Rattle.volume_exercise.proofs.of_command_laws.Alarms.{query_alarms, settling_alarms}
-use Rattle.record_top.proofs.HeldAnswers.{find_held, look_up_held}
-use Rattle.record_top.proofs.OneMore.{ingest_adds}
+use Rattle.volume_commands.proofs.HeldAnswers.{find_held, look_up_held}
+use Rattle.volume_commands.proofs.OneMore.{ingest_adds}
 use Rattle.record_top.proofs.Replays.{replay_keeps, replay_names_none}
-use Rattle.record_top.proofs.Spans.{between_held, between_leaves, between_names_none}
+use Rattle.volume_commands.proofs.Spans.{between_held, between_leaves, between_names_none}
 use Rattle.volume_exercise.proofs.of_command_laws.Results.{no_answer, one_refusal, other_refusal}
 use Rattle.volume_exercise.specs.command_laws.Begins.{BeginsSteady}
-use Rattle.record_top.specs.Steadiness.{AddsNone, LeavesFormatted, LeavesWhole}
+use Rattle.volume_commands.specs.Steadiness.{AddsNone, LeavesFormatted, LeavesWhole}
 use Rattle.volume_exercise.specs.command_laws.Telling.{IsFormatted, LeavesHeld}
 use Rattle.volume_exercise.proofs.of_command_laws.Formatting.{format_leaves, format_makes, unused_steady}
 use Rattle.volume_exercise.proofs.of_command_laws.LookedFirst.{begins_mid, leaves_both, looked_leaves}

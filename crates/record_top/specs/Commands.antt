@@ -2,21 +2,21 @@
 use Rattle.std.specs.Prelude.{ℕ, List, Result}
 use Rattle.cell_types.specs.Layout.{Layout}
 use Rattle.cell_types.specs.declared.refusal.Refusal.{Refusal}
-use Rattle.receipt_text.specs.declared.receipt.Receipt.{Receipt}
+use Rattle.volume_commands.specs.receipt_text.declared.receipt.Receipt.{Receipt}
 use Rattle.script_events.specs.declared.event.Script.{Script}
 use Rattle.command_line.specs.Requests.{Request, ToAudit, ToCheck, ToExercise, ToFind, ToFindBetween, ToFormat, ToIngest, ToLookUp, ToMakeReceipt, ToRecover, ToReplay}
-use Rattle.record_top.specs.Auditing.{DoesAudit, IsReadyToAudit}
-use Rattle.record_top.specs.Checking.{DoesCheck, IsReadyToCheck}
+use Rattle.volume_commands.specs.Auditing.{DoesAudit, IsReadyToAudit}
+use Rattle.volume_commands.specs.Checking.{DoesCheck, IsReadyToCheck}
 use Rattle.record_top.specs.Exercising.{DoesExercise, IsOkOrOfExercise, IsReadyToExercise}
-use Rattle.record_top.specs.Finding.{DoesFind, IsReadyToFind}
-use Rattle.record_top.specs.Formatting.{DoesFormat, IsReadyToFormat}
-use Rattle.record_top.specs.Ingesting.{DoesIngest, IsReadyToIngest}
-use Rattle.record_top.specs.LookingUp.{DoesLookUp, IsReadyToLookUp}
-use Rattle.record_top.specs.Ports.{IsOkAlone, IsOkOrAbsent, IsOkOrNoMemory, Ports}
-use Rattle.record_top.specs.Receipting.{DoesReceipt, IsOkOrNoReceipt, IsReadyForReceipt}
-use Rattle.record_top.specs.Recovering.{DoesRecover, IsReadyToRecover}
+use Rattle.volume_commands.specs.Finding.{DoesFind, IsReadyToFind}
+use Rattle.volume_commands.specs.Formatting.{DoesFormat, IsReadyToFormat}
+use Rattle.volume_commands.specs.Ingesting.{DoesIngest, IsReadyToIngest}
+use Rattle.volume_commands.specs.LookingUp.{DoesLookUp, IsReadyToLookUp}
+use Rattle.volume_commands.specs.Ports.{IsOkAlone, IsOkOrAbsent, IsOkOrNoMemory, Ports}
+use Rattle.volume_commands.specs.Receipting.{DoesReceipt, IsOkOrNoReceipt, IsReadyForReceipt}
+use Rattle.volume_commands.specs.Recovering.{DoesRecover, IsReadyToRecover}
 use Rattle.record_top.specs.Replaying.{DoesReplay, IsReadyToReplay}
-use Rattle.record_top.specs.Spanning.{DoesBetween, IsReadyBetween}
+use Rattle.volume_commands.specs.Spanning.{DoesBetween, IsReadyBetween}
 
 -- the layout of so many slots and lists on the whole device, of this version
 abbrev pub layout_on : Ports → ℕ → ℕ → ℕ → Layout

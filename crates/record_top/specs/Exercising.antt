@@ -6,7 +6,7 @@ use Rattle.worm_device.specs.Counts.{IsStill}
 use Rattle.worm_memory.specs.Memory.{Memory}
 use Rattle.volume_exercise.specs.Exercising.{ExerciseEnds, exercise_device}
 use Rattle.volume_exercise.specs.Refusing.{IsOfExercise}
-use Rattle.record_top.specs.Ports.{Ports}
+use Rattle.volume_commands.specs.Ports.{Ports}
 
 -- The exercise was done on a new device, and what it tells went into the sink; nothing was taken from the source.
 pub record DoesExercise (n : ℕ) (old new : Ports) (result : Result Unit Refusal) : Type 0 where

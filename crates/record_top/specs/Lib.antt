@@ -1,20 +1,7 @@
-pub mod Auditing
-pub mod Checking
 pub mod Commands
 pub mod Exercising
-pub mod Finding
-pub mod Formatting
-pub mod Ingesting
-pub mod Laws
-pub mod LookingUp
-pub mod Ports
-pub mod Receipting
-pub mod Recovering
 pub mod Replaying
-pub mod Ruling
-pub mod Spanning
-pub mod Steadiness
-pub mod Taking
 pub use Rattle.volume_exercise.specs.command_laws
 pub use Rattle.command_line.specs as command_line
 pub use Rattle.volume_exercise.specs.ingest_engine
+pub use Rattle.volume_commands.specs as volume_commands

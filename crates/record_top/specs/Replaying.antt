@@ -14,9 +14,9 @@ use Rattle.script_events.specs.declared.event.Script.{Script}
 use Rattle.volume_exercise.specs.script_replies.Lines.{replies_text}
 use Rattle.volume_exercise.specs.script_replies.declared.reply.Reply.{Reply}
 use Rattle.volume_exercise.specs.replayed_worlds.Worlds.{IsWorld}
-use Rattle.record_top.specs.Ports.{KeepsSink, Ports, TellsFromMemory}
-use Rattle.record_top.specs.Taking.{BodyFails, refusal_of_body_fault}
-use Rattle.record_top.specs.declared.body.BodyFault.{BodyFault}
+use Rattle.volume_commands.specs.Ports.{KeepsSink, Ports, TellsFromMemory}
+use Rattle.volume_commands.specs.Taking.{BodyFails, refusal_of_body_fault}
+use Rattle.volume_commands.specs.declared.body.BodyFault.{BodyFault}
 
 -- a device of so many cells as it is made: each cell is blank, nothing is planned, and all counts are 0
 abbrev pub new_memory : ℕ → Memory

@@ -5,29 +5,21 @@ ghost use Rattle.worm_device.specs.Calls.{Called};
 ghost use Rattle.volume_exercise.specs.command_laws.Begins.{BeginsSteady};
 ghost use Rattle.command_line.specs.Requests.{Asks, AsksNothing, IsAskedFor, Request, request_of};
 ghost use Rattle.record_top.specs.Commands.{Does, IsAnswered, IsUnhindered};
-ghost use Rattle.record_top.specs.Ports.{ports_of};
-ghost use Rattle.record_top.specs.Steadiness.{LeavesWhole};
+ghost use Rattle.volume_commands.specs.Ports.{ports_of};
+ghost use Rattle.volume_commands.specs.Steadiness.{LeavesWhole};
 
-use crate::audit::audit_volume;
-use crate::between::find_between;
-use crate::check::check_source;
 use crate::exercise::exercise_volume;
-use crate::find::find_documents;
-use crate::format::format_device;
-use crate::ingest::ingest_body;
-use crate::lookup::look_up_document;
-use crate::receipt::put_receipt;
-use crate::recover::recover_device;
 use crate::replay::replay_script;
 use cell_types::Refusal;
 use command_line::{Command, command_of};
 use host_ports::{Sink, Source};
 use progress::{Meter, Silent};
 use std::alloc::Global;
+use volume_commands::{
+    Outcome, audit_volume, check_source, find_between, find_documents, format_device, ingest_body,
+    look_up_document, put_receipt, recover_device,
+};
 use worm_device::Device;
-
-/// What a command answers.
-pub type Outcome = Result<(), Refusal>;
 
 /// Carries out the command that the words ask for, or refuses.
 pub fn run<D: Device, S: Source, K: Sink>(

@@ -2,12 +2,12 @@
 ghost use Rattle.std.specs.Prelude.{◌≤◌};
 ghost use Rattle.command_line.specs.declared.words.TheConstants.{MAX_DOCUMENTS};
 ghost use Rattle.record_top.specs.Exercising.{DoesExercise};
-ghost use Rattle.record_top.specs.Ports.{ports_of};
+ghost use Rattle.volume_commands.specs.Ports.{ports_of};
 
-use crate::command::Outcome;
 use cell_types::Refusal;
 use host_ports::{Sink, Source};
 use std::alloc::Global;
+use volume_commands::Outcome;
 use volume_exercise::{BASE_CELLS, CELLS_PER_DOCUMENT, exercise};
 use worm_device::Device;
 use worm_memory::MemoryDevice;

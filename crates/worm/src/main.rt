@@ -36,7 +36,7 @@
 mod terminal;
 
 use cell_types::{CopyRefusal, Refusal};
-use copy_top::run_two_over_files;
+use file_top::copy_top::run_two_over_files;
 use file_top::record_top::run;
 use file_top::run_over_file;
 use host_files::{FileDevice, Hold, OsFile, Pages};

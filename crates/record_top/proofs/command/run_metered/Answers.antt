@@ -3,7 +3,7 @@ use Rattle.std.proofs.Common.{subst}
 use Rattle.command_line.proofs.OneRequest.{asks_once}
 use Rattle.command_line.specs.Requests.{Request, request_of}
 use Rattle.record_top.specs.Commands.{Does}
-use Rattle.record_top.specs.Ports.{ports_of}
+use Rattle.volume_commands.specs.Ports.{ports_of}
 use Rattle.record_top.proofs.Asking.{called_of, completes}
 use Rattle.record_top.proofs.Steadily.{leaves_whole}
 use Rattle.record_top.proofs.command.run_metered.Goals as goal

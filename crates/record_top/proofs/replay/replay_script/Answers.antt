@@ -5,8 +5,8 @@ use Rattle.cell_types.proofs.Passed.{handed}
 use Rattle.host_ports.specs.Sinks.{Gets, PutsPart}
 use Rattle.script_events.specs.Scripts.{IsScript, ReadScriptEnds}
 use Rattle.record_top.specs.Replaying.{replayed, unread, untaken}
-use Rattle.record_top.specs.Taking.{refusal_of_body_fault}
-use Rattle.record_top.proofs.Taken.{is_body}
+use Rattle.volume_commands.specs.Taking.{refusal_of_body_fault}
+use Rattle.volume_commands.proofs.Taken.{is_body}
 use Rattle.record_top.proofs.replay.replay_script.Goals as goal
 
 -- what was read is within the limits

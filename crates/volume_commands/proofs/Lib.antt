@@ -1,0 +1,16 @@
+pub mod Audits
+pub mod Checks
+pub mod Completing
+pub mod Ending
+pub mod Finds
+pub mod HeldAnswers
+pub mod LookUps
+pub mod OneMore
+pub mod Pieces
+pub mod Ready
+pub mod ReceiptSizes
+pub mod Receipts
+pub mod Reports
+pub mod Spans
+pub mod Taken
+pub mod Terms

@@ -1,0 +1,45 @@
+-- Each exit, by how far the command came.
+use Rattle.std.proofs.Common.{Err, List, Ok, refl, subst, ◌∙◌, ℕ}
+use Rattle.cell_types.specs.declared.refusal.Refusal.TheVariants.{NoMemory, SinkFault}
+use Rattle.cell_types.proofs.Passed.{handed}
+use Rattle.host_ports.specs.Sinks.{Gets, PutsPart}
+use Rattle.volume_commands.proofs.audit.audit_volume.Goals as goal
+
+-- the audit was ended
+pub returns-in_err-report : goal.returns-in_err-report
+returns-in_err-report g c =
+    let refusal = c.in_err-report.field-0.0 in
+    rw (handed c.from_residual.result refusal c.from_residual.ensures.1)
+    (record { answer = Err refusal; audits = c.in_err-report.ensures; source = refl; tells = (refl, refl) })
+
+-- no memory was to be had for the text
+pub returns-in_err-text : goal.returns-in_err-text
+returns-in_err-text g c =
+    rw (handed c.from_residual-in_err-text.result NoMemory c.from_residual-in_err-text.ensures.1)
+    (record { answer = Ok c.in_ok-report.report; audits = c.in_ok-report.ensures; source = refl; tells = refl })
+
+-- the sink failed
+pub returns-in_err-put_text : goal.returns-in_err-put_text
+returns-in_err-put_text g c =
+    let failed = c.from_residual-in_err-put_text in
+    let text = c.deref.ensures.value ∙ c.in_ok-text.ensures in
+    rw (handed failed.result SinkFault failed.ensures.1)
+    (record {
+      answer = Ok c.in_ok-report.report;
+      audits = c.in_ok-report.ensures;
+      source = refl;
+      tells = subst (λ (t : List ℕ). PutsPart t (g.K.Sink.state c.args.sink.now) (g.K.Sink.state c.put_text.new.sink)) text
+          c.in_err-put_text.ensures.part;
+    })
+
+-- the text was put out
+pub returns : goal.returns
+returns g c =
+    let text = c.deref.ensures.value ∙ c.in_ok-text.ensures in
+    record {
+      answer = Ok c.in_ok-report.report;
+      audits = c.in_ok-report.ensures;
+      source = refl;
+      tells = subst (λ (t : List ℕ). Gets (g.K.Sink.state c.args.sink.now).held (g.K.Sink.state c.put_text.new.sink).held t) text
+          c.in_ok-put_text.ensures.whole;
+    }
