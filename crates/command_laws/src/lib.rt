@@ -12,13 +12,10 @@
 //! stand on them alike.
 //!
 //! Stands on `crash_laws` and `settling_laws`, which say what a crash leaves, and on the engines: `ingest_engine`,
-//! `record_query`, `volume_audit`. It passes all of these on, so that a crate of commands names this one alone. Begin with
-//! specs/Telling.antt; specs/Laws.antt has the laws' sentences.
+//! `record_query`, `volume_audit`. It passes the specifications and lemmas of all of these on, so that those of a crate of
+//! commands name this one alone. Begin with specs/Telling.antt; specs/Laws.antt has the laws' sentences.
 #![tactic(auto)]
 
 mod laws;
 
-pub use crash_laws::ingest_engine;
 pub use laws::{commands_leave_what_is_held, finds_tell_what_is_held};
-pub use record_query;
-pub use volume_audit;

@@ -65,5 +65,4 @@ pub use reservation::Reservation;
 pub use slot::{SlotState, slot_state};
 pub use slot_parts::{document_cells, parts};
 pub use stamp_cell::stamp_of;
-pub use tamper_rules;
 pub use used_slot::slot_state_of;

@@ -1,10 +1,10 @@
 //! Copies of the small volume.
 use crate::volumes::{begin, blank, small_volume, store};
 use cell_types::{CopyRefusal, FIRST_VERSION, Refusal, STAMPED_VERSION};
-use copy_top::volume_copy::{Moved, copy};
 use ingest_engine::{format_volume, ingest};
 use std::alloc::Global;
 use std::test::Fail;
+use volume_copy::{Moved, copy};
 use worm_device::Device;
 use worm_memory::{MemoryDevice, Moment};
 

@@ -13,9 +13,9 @@
 //! Over two files, `run_two_over_files` says besides that what a crash leaves of a file is what it leaves of the device that
 //! shows the file.
 //!
-//! Stands on `volume_copy`, which copies and says when each refusal comes, and which it passes on; on `command_line`, whose
-//! numbers and texts these are; on `host_files`; and on `progress`, which shows how many documents are copied. Begin with
-//! `command.rt`; specs/Copying.antt says what the command does.
+//! Stands on `volume_copy`, which copies and says when each refusal comes; on `command_line`, whose numbers and texts these
+//! are; on `host_files`; and on `progress`, which shows how many documents are copied. Begin with `command.rt`;
+//! specs/Copying.antt says what the command does.
 #![tactic(auto)]
 
 mod command;
@@ -25,4 +25,3 @@ mod words;
 
 pub use command::run_two;
 pub use over_files::run_two_over_files;
-pub use volume_copy;

@@ -18,11 +18,10 @@
 //!
 //! There is no code here, only laws. Stands on `ingest_engine`, which says what an ingest does; on `plan_laws`, by
 //! which what it plans is well made; on `ingest_laws`, by which a well made plan that is cut short leaves a sound
-//! volume; and on `settling_laws`, which says this of settling. It passes these on, but for `ingest_laws`. Begin with
-//! specs/Steadiness.antt; specs/Laws.antt has the laws' sentences.
+//! volume; and on `settling_laws`, which says this of settling. It passes the specifications and lemmas of these on, but
+//! for those of `ingest_laws`. Begin with specs/Steadiness.antt; specs/Laws.antt has the laws' sentences.
 #![tactic(auto)]
 
 mod laws;
 
-pub use ingest_engine;
 pub use laws::{ingest_adds_one, ingest_names_none, ingest_stays_steady, refused_ingest_keeps};

@@ -33,7 +33,6 @@ mod text;
 pub use append_file::{ContentFault, Position, ROW_BYTES, next_row};
 pub use body::{BodyFault, body_into};
 pub use checked::{Stored, check};
-pub use commit_record::tamper_rules;
 pub use head::{Head, identifier_of_head, read_document, read_head};
 pub use identifier::{identifier_of, is_identifier, part_has_identifier, same_identifier};
 pub use laws::{held_is_one, held_is_standing, held_stays};

@@ -8,8 +8,8 @@ ghost use Rattle.document_store.specs.Looks.{DoneHeadEnds, DonePartEnds, IsPartO
 use crate::head::{Head, read_document};
 use append_file::ContentFault;
 use cell_types::{Fault, Geometry, RecordCell, Volume, breach, encode};
-use commit_record::tamper_rules::BROKEN_DOCUMENT;
 use commit_record::{SlotState, document_cells, slot_state};
+use tamper_rules::BROKEN_DOCUMENT;
 use worm_device::View;
 
 /// Where the document of a slot lies.

@@ -12,8 +12,7 @@
 //! Besides, each clause of `run` is said again over the device that shows the file, so that the program's own call has
 //! them, too: what each command does and puts out, when it refuses, and what a crash leaves.
 //!
-//! Stands on `host_files` and on `record_top`. It passes this one and `copy_top` on, so that the program names one crate of
-//! commands. Begin with `run_over_file`; `specs/Files.antt` says what is kept.
+//! Stands on `host_files` and on `record_top`. Begin with `run_over_file`; `specs/Files.antt` says what is kept.
 #![tactic(auto)]
 
 ghost use Rattle.std.specs.Prelude.{◌≡◌, ◌↔◌, ℕ, List, Option, map};
@@ -78,6 +77,3 @@ pub fn run_over_file<F: HostFile, S: Source, K: Sink, M: Meter>(
     crashes_are_seen(device);
     outcome
 }
-
-pub use copy_top;
-pub use record_top;

@@ -31,6 +31,5 @@
 mod insertion;
 mod laws;
 
-pub use hash_tree;
 pub use insertion::insert;
 pub use laws::{passed_is_on_path, taken_is_broken};

@@ -7,9 +7,9 @@ ghost use Rattle.replayed_worlds.specs.Turns.{CrashAnswers};
 ghost use Rattle.hostile_replay.specs.Plays.{Plays};
 ghost use Rattle.hostile_replay.specs.Sinks.{reply_of_foreign};
 
+use begun_commands::begin_by_hand;
 use cell_types::{Cell, NoMemory};
-use replayed_worlds::begun_commands::begin_by_hand;
-use replayed_worlds::script_replies::Reply;
+use script_replies::Reply;
 use worm_device::Written;
 use worm_memory::MemoryDevice;
 

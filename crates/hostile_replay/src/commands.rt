@@ -8,15 +8,15 @@ ghost use Rattle.script_events.specs.declared.event.Event.TheVariants as event;
 ghost use Rattle.replayed_worlds.specs.begun_commands.declared.beginning.TheConstants.{MAX_REPLAYED_CELLS};
 ghost use Rattle.hostile_replay.specs.Plays.{Plays};
 
+use begun_commands::begin_with;
 use cell_types::NoMemory;
 use document_store::Text;
+use ingest_engine::{format_volume, ingest};
 use recovery_engine::settle;
-use replayed_worlds::begun_commands::begin_with;
-use replayed_worlds::ingest_engine::{format_volume, ingest};
-use replayed_worlds::script_replies::Reply;
-use replayed_worlds::volume_audit::audit;
 use script_events::Schedule;
+use script_replies::Reply;
 use std::alloc::Global;
+use volume_audit::audit;
 use worm_memory::{MemoryDevice, a_plan_is_kept};
 
 /// Formats.

@@ -17,8 +17,8 @@
 //! The only refusal is want of memory for the replay itself; a command that finds none is answered so, and the replay goes
 //! on.
 //!
-//! Stands on `replayed_worlds`, and on the engines, which that passes on. It passes both on. Begin with `replaying.rt`;
-//! `commands.rt` has a function an event.
+//! Stands on `replayed_worlds`, and on the engines. It passes their specifications and lemmas on. Begin with
+//! `replaying.rt`; `commands.rt` has a function an event.
 #![tactic(auto)]
 
 mod by_hand;
@@ -26,8 +26,6 @@ mod commands;
 mod queries;
 mod replaying;
 
-pub use replayed_worlds;
-pub use replayed_worlds::script_replies::Reply;
-pub use replayed_worlds::{ingest_engine, script_replies, volume_audit};
 pub use replaying::replay;
 pub use script_events::{Event, Schedule, Script, Timed, read_script};
+pub use script_replies::Reply;

@@ -7,13 +7,13 @@ ghost use Rattle.replayed_worlds.specs.begun_commands.declared.beginning.TheCons
 ghost use Rattle.hostile_replay.specs.Plays.{Plays};
 ghost use Rattle.hostile_replay.specs.Sinks.{without_sink};
 
+use begun_commands::begin_with;
 use cell_types::{NoMemory, Refusal};
 use document_store::Text;
 use host_ports::MemorySink;
-use replayed_worlds::begun_commands::begin_with;
-use replayed_worlds::record_query::{find, lookup_into};
-use replayed_worlds::script_replies::Reply;
+use record_query::{find, lookup_into};
 use script_events::{Schedule, Sequence};
+use script_replies::Reply;
 use std::alloc::Global;
 use stored_documents::MAX_BODY_BYTES;
 use word_reader::Term;

@@ -5,8 +5,8 @@ ghost use Rattle.document_store.specs.tamper_rules.declared.numbers.TheConstants
 ghost use Rattle.identifier_lookup.specs.Candidates.{Compares, HoldsNamed, IsNamedCell};
 
 use cell_types::{Evidence, Fault, RecordCell, Volume, encode};
-use document_store::tamper_rules::FAKE_BUCKET;
 use document_store::{part_has_identifier, slot_part};
+use tamper_rules::FAKE_BUCKET;
 use worm_device::View;
 
 /// A bucket with the fingerprint of this digest, which names a slot.

@@ -28,5 +28,4 @@ mod candidates;
 mod walks;
 
 pub use answers::Walk;
-pub use document_store;
 pub use walks::{lookup, walk};

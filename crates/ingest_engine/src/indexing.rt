@@ -9,7 +9,7 @@ use cell_types::{Fault, Refusal};
 use hash_tree::{Level, Open};
 use identifier_lookup::{Walk, walk};
 use ingest_plan::{PlannedIndex, plan_index};
-use plan_writer::recovery_engine::Ready;
+use recovery_engine::Ready;
 use std::alloc::Global;
 use worm_device::{Device, Direct};
 

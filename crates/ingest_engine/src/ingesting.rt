@@ -6,8 +6,8 @@ ghost use Rattle.ingest_engine.specs.Ingesting.{Ingests, RoomEnds, SlotsEnd, Sta
 use crate::document::StoredDocument;
 use crate::indexing::plan_for;
 use cell_types::{Refusal, STAMPED_VERSION};
-use plan_writer::recovery_engine::{Ready, settle};
 use plan_writer::{Plan, crashes_leave_whole_slots, put_planned};
+use recovery_engine::{Ready, settle};
 use std::alloc::Global;
 use worm_device::Device;
 

@@ -6,8 +6,8 @@ ghost use Rattle.ingest_engine.specs.Stamps.{AddsStamp, IsUpTo, PastLast, ReadsS
 
 use cell_types::{Fault, Refusal, Volume};
 use commit_record::stamp_of;
-use identifier_lookup::document_store::slot_part;
-use plan_writer::recovery_engine::Ready;
+use document_store::slot_part;
+use recovery_engine::Ready;
 use worm_device::{Device, Direct, View};
 
 /// That the stamp, if one is given, is past that of each done slot below the horizon. The slots are read from the greatest

@@ -13,7 +13,7 @@ ghost use Rattle.worm_device.specs.Overlays.{of_overlay};
 use crate::{copies_of, insert_document};
 use cell_pool::Pool;
 use cell_types::{Cell, Refusal, Volume};
-use hash_insertion::hash_tree::{Level, Open};
+use hash_tree::{Level, Open};
 use std::alloc::Global;
 use stored_documents::rule_of;
 use term_tags::{ListedPosting, document_postings};

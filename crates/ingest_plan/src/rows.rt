@@ -9,7 +9,7 @@ ghost use Rattle.worm_device.specs.Overlays.{of_overlay};
 
 use cell_pool::Pool;
 use cell_types::Geometry;
-use jump_insertion::jump_block::Entry;
+use jump_block::Entry;
 use jump_insertion::{NewEntry, insert};
 use planned_cells::GrowthFault;
 use term_tags::ListedPosting;

@@ -12,7 +12,7 @@ ghost use Rattle.worm_device.specs.Overlays.{of_overlay};
 use crate::rows::insert_postings;
 use cell_pool::Pool;
 use cell_types::Volume;
-use hash_insertion::hash_tree::{Level, Open, nibble_of};
+use hash_tree::{Level, Open, nibble_of};
 use planned_cells::GrowthFault;
 use term_tags::ListedPosting;
 use worm_device::{Overlay, View};

@@ -8,9 +8,9 @@ ghost use Rattle.log_audit.specs.Logs.{IsLog};
 
 use cell_types::{Evidence, Geometry};
 use document_store::read_document;
-use document_store::tamper_rules::BROKEN_DOCUMENT;
 use kept_cells::{KeptCells, Shown};
 use log_audit::{Log, stored_slot};
+use tamper_rules::BROKEN_DOCUMENT;
 
 /// The first commit cell at which rule 4 is broken.
 pub fn first_broken_document(kept: &KeptCells, geometry: &Geometry, log: &Log) -> Option<Evidence>

@@ -9,9 +9,9 @@ ghost use Rattle.journal_audit.specs.Journals.{BlankFinds, AreAllWritten, AreWri
 
 use crate::entries::is_in_order;
 use cell_types::{Evidence, Geometry};
-use document_store::tamper_rules::BROKEN_JOURNAL;
 use kept_cells::KeptCells;
 use log_audit::{Log, StoredSlot, stored_slot};
+use tamper_rules::BROKEN_JOURNAL;
 
 /// The first cell at which rule 5 is broken: the commit cell of a slot with a blank journal cell, or else a journal
 /// cell that is not in order.

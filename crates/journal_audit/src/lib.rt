@@ -34,10 +34,8 @@ mod targets;
 
 pub use checking::first_broken;
 pub use copies::target_at;
-pub use document_store;
 pub use documents::first_broken_document;
 pub use entries::is_in_order;
 pub use journals::first_broken_journal;
-pub use log_audit;
 pub use places::journal_place_of;
 pub use targets::first_broken_target;

@@ -9,9 +9,9 @@ ghost use Rattle.journal_audit.specs.Journals.{IsRedone, IsRedoneAt, PlacesFind}
 
 use crate::copies::target_at;
 use cell_types::{Cell, Evidence, Geometry};
-use document_store::tamper_rules::OTHER_TARGET;
 use kept_cells::KeptCells;
 use log_audit::{Log, StoredSlot, stored_slot};
+use tamper_rules::OTHER_TARGET;
 
 /// The first journal cell at which rule 6 is broken. No slot of the log is merely committed, so each target holds the
 /// same as its copy.

@@ -32,5 +32,4 @@ mod looked;
 mod search;
 
 pub use bounds::Bounds;
-pub use jump_block;
 pub use search::{find_geq, find_geq_from_kept};

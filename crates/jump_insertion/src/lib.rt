@@ -42,7 +42,6 @@ mod spans;
 
 pub use entries::NewEntry;
 pub use insertion::insert;
-pub use jump_block;
 pub use laws::{
     evidence_is_licensed, insertions_cost_their_need, insertions_keep_trails, others_stand,
 };

@@ -15,7 +15,7 @@ use cell_types::{Evidence, Geometry};
 use index_paths::BLOCK_CELLS;
 use kept_cells::KeptCells;
 use log_audit::lower_of;
-use log_audit::tamper_rules::BLOCK_OUT_OF_ORDER;
+use tamper_rules::BLOCK_OUT_OF_ORDER;
 
 /// The least cell of a block at which rule 8 is broken, of these blocks of all lists.
 pub fn first_broken_entry(

@@ -36,5 +36,4 @@ pub use blocks::blocks_of;
 pub use entries::first_broken_entry;
 pub use held_posting::{HeldPosting, posting_at};
 pub use listed::ListBlock;
-pub use log_audit;
 pub use targets::pointer_target;

@@ -5,8 +5,8 @@ ghost use Rattle.log_audit.specs.Findings.{Finds};
 
 use crate::slot_rules::{keeps_done_rule, keeps_outcome_rule, keeps_reserve_rule};
 use cell_types::{Evidence, Geometry};
-use commit_record::tamper_rules::{DONE_CELL, OUTCOME_CELL, RESERVE_CELL};
 use kept_cells::KeptCells;
+use tamper_rules::{DONE_CELL, OUTCOME_CELL, RESERVE_CELL};
 
 /// The first reserve cell at which rule 1 is broken.
 pub fn first_broken_reserve(kept: &KeptCells, geometry: &Geometry) -> Option<Evidence>

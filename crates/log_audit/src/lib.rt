@@ -46,7 +46,6 @@ mod stored;
 
 pub use broken::{first_broken_done, first_broken_outcome, first_broken_reserve};
 pub use checking::check_log;
-pub use commit_record::tamper_rules;
 pub use ended::{EndedSlot, ended_slot};
 pub use laws::{evidence_is_one, stored_slots_are_live};
 pub use log::{Log, log_of};

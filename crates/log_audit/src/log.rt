@@ -6,9 +6,9 @@ ghost use Rattle.log_audit.specs.Findings.{AreMetBelow};
 
 use crate::ended::{EndedSlot, ended_slot};
 use cell_types::{Evidence, Geometry, NoMemory, Refusal};
-use commit_record::tamper_rules::RESERVE_CELL;
 use kept_cells::KeptCells;
 use std::alloc::Global;
+use tamper_rules::RESERVE_CELL;
 
 /// The slots below the horizon, each of which has ended, and the edge.
 #[derive(Drop)]

@@ -30,4 +30,3 @@ mod steps;
 pub use laws::{commits_follow_documents, crashes_leave_whole_slots, slots_keep_states};
 pub use plan::Plan;
 pub use put::put_planned;
-pub use recovery_engine;

@@ -15,8 +15,8 @@ use crate::spans::is_in_span;
 use cell_types::{Geometry, RecordCell};
 use index_paths::BLOCK_CELLS;
 use kept_cells::KeptCells;
-use tree_audit::list_audit::ListBlock;
-use tree_audit::log_audit::{Log, owner_of, record_at};
+use list_audit::ListBlock;
+use log_audit::{Log, owner_of, record_at};
 
 /// Whether the pointer of this level and digit leads well from a block.
 pub(crate) fn leads_well(

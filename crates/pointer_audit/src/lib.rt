@@ -15,7 +15,7 @@
 //! Which blocks and nodes a target meets is asked of two rows of numbers in order, of 8 bytes a block and a node, by
 //! bisection.
 //!
-//! Stands on `list_audit` and on `tree_audit`, which it passes on. Begin with `pointers.rt`.
+//! Stands on `list_audit` and on `tree_audit`, whose specifications it passes on. Begin with `pointers.rt`.
 #![tactic(auto)]
 
 mod leads;
@@ -25,4 +25,3 @@ mod spans;
 
 pub use occupied::OccupiedCells;
 pub use pointers::first_broken_pointer;
-pub use tree_audit;

@@ -11,10 +11,10 @@ ghost use Rattle.pointer_audit.specs.Listing.{AreBlockNumbers, AreNodeCells};
 use cell_types::{Geometry, NoMemory};
 use index_paths::{BLOCK_CELLS, NODE_CELLS};
 use kept_cells::KeptCells;
+use list_audit::ListBlock;
+use log_audit::{has_between, sort_once};
 use std::alloc::Global;
 use tree_audit::LevelNode;
-use tree_audit::list_audit::ListBlock;
-use tree_audit::log_audit::{has_between, sort_once};
 
 /// How far the numbers of blocks lie apart that begin one cell apart: there are fewer lists.
 pub(crate) const BLOCK_STEP: u64 = 65_536;

@@ -15,11 +15,11 @@ use crate::leads::leads_well;
 use crate::occupied::OccupiedCells;
 use cell_types::{Evidence, Geometry, NoMemory};
 use kept_cells::KeptCells;
+use list_audit::ListBlock;
+use log_audit::{Log, lower_of};
 use std::alloc::Global;
 use tamper_rules::LOST_POINTER;
 use tree_audit::LevelNode;
-use tree_audit::list_audit::ListBlock;
-use tree_audit::log_audit::{Log, lower_of};
 
 /// How many pointer places a block has, and the first of them.
 const POINTER_PLACES: u32 = 120;

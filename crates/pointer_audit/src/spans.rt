@@ -9,7 +9,7 @@ ghost use Rattle.pointer_audit.specs.Leading.{HasKeyBetween, IsInSpan};
 use cell_types::Geometry;
 use index_paths::ENTRY_PLACES;
 use kept_cells::KeptCells;
-use tree_audit::list_audit::{ListBlock, posting_at};
+use list_audit::{ListBlock, posting_at};
 
 /// Whether the block is full, and some key of the target's front lies in the span of its pointer of this level and digit.
 pub(crate) fn is_in_span(

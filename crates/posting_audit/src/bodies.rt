@@ -11,7 +11,7 @@ ghost use Rattle.posting_audit.specs.Bodies.{AreStored, AreWordsOf, HoldsContent
 use cell_types::{Content, Geometry, NoMemory, content_of};
 use commit_record::document_cells;
 use kept_cells::KeptCells;
-use list_audit::log_audit::StoredSlot;
+use log_audit::StoredSlot;
 use std::alloc::Global;
 use stored_documents::rule_of;
 use word_reader::{Term, words};

@@ -39,7 +39,6 @@ mod steps;
 mod table;
 mod trails;
 
-pub use list_audit;
 pub use postings::first_broken_posting;
 pub use rules::first_broken_trail;
 pub use trails::has_trail;

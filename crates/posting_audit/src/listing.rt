@@ -10,7 +10,7 @@ ghost use Rattle.posting_audit.specs.Bodies.{AreRowsOf, HasNoRows};
 use crate::bodies::words_of;
 use cell_types::{Geometry, NoMemory, RecordCell, Refusal, STAMPED_VERSION};
 use kept_cells::KeptCells;
-use list_audit::log_audit::{StoredSlot, record_at};
+use log_audit::{StoredSlot, record_at};
 use std::alloc::Global;
 use term_tags::{ListedPosting, document_postings};
 

@@ -15,7 +15,7 @@ use crate::trails::has_trail;
 use cell_types::{Evidence, Geometry, NoMemory};
 use kept_cells::KeptCells;
 use list_audit::HeldPosting;
-use list_audit::log_audit::{Log, StoredSlot, stored_slot};
+use log_audit::{Log, StoredSlot, stored_slot};
 use progress::{Meter, Work};
 use std::alloc::Global;
 use tamper_rules::MISSING_TRAIL;

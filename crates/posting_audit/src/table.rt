@@ -12,7 +12,7 @@ use crate::listing::postings_of;
 use cell_types::{Geometry, NoMemory, RecordCell, address_of, decode};
 use kept_cells::KeptCells;
 use list_audit::HeldPosting;
-use list_audit::log_audit::{Log, StoredSlot, stored_slot};
+use log_audit::{Log, StoredSlot, stored_slot};
 use progress::{Meter, Work};
 use std::alloc::Global;
 use term_tags::ListedPosting;

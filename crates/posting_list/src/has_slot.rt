@@ -10,7 +10,7 @@ use crate::search::find_in_list;
 use crate::{Reach, SoughtTerm};
 use byteorder::{BigEndian, ByteOrder};
 use cell_types::Fault;
-use jump_index::jump_block::{Entry, KeptFronts};
+use jump_block::{Entry, KeptFronts};
 use worm_device::View;
 
 /// How many reads one ask whether a list has a slot may cost: those of nine searches.

@@ -49,7 +49,6 @@ mod sought_terms;
 mod term_lists;
 
 pub use has_slot::HAS_READS;
-pub use jump_index;
 pub use laws::kept_are_owed;
 pub use live::{false_posting, is_live};
 pub use next_slot::NEXT_READS;

@@ -5,7 +5,7 @@ ghost use Rattle.posting_list.specs.Searches.{IsFalsePosting, LooksLive, says_do
 use crate::Reach;
 use cell_types::{Fault, breach};
 use commit_record::{SlotState, slot_state};
-use jump_index::jump_block::Entry;
+use jump_block::Entry;
 use tamper_rules::FAKE_POSTING;
 use worm_device::View;
 

@@ -10,7 +10,7 @@ use crate::live::{false_posting, is_live};
 use crate::search::find_in_list;
 use crate::{Reach, SoughtTerm};
 use cell_types::Fault;
-use jump_index::jump_block::KeptFronts;
+use jump_block::KeptFronts;
 use worm_device::View;
 use zigzag_join::Landing;
 

@@ -7,7 +7,7 @@ ghost use Rattle.posting_list.specs.Searches.{head_of, within};
 
 use crate::Reach;
 use cell_types::Fault;
-use jump_index::jump_block::{Entry, KeptFronts};
+use jump_block::{Entry, KeptFronts};
 use jump_index::{Bounds, find_geq_from_kept};
 use worm_device::View;
 

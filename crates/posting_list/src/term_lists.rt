@@ -3,8 +3,8 @@ ghost use Rattle.posting_list.specs.Keeping.{KeepEach, keep_each_prop};
 
 use crate::{Reach, SoughtTerms};
 use cell_types::Volume;
+use jump_block::KeptFronts;
 use jump_index::Bounds;
-use jump_index::jump_block::KeptFronts;
 use worm_device::View;
 
 /// How many lists have fronts of their own: as many as a query has terms.

@@ -24,6 +24,5 @@ mod laws;
 mod shown;
 
 pub use checking::{CheckRefusal, Checked, check_receipt};
-pub use kept_documents;
 pub use laws::receipts_hold_on;
 pub use shown::ShownCells;

@@ -7,8 +7,8 @@ ghost use Rattle.receipt_maker.specs.Judging.{JudgesReceipt};
 
 use crate::recorder::Recorder;
 use cell_types::NoMemory;
+use kept_documents::{AskFault, is_kept};
 use receipt_check::ShownCells;
-use receipt_check::kept_documents::{AskFault, is_kept};
 use receipt_text::{ListedCells, Receipt};
 use std::alloc::Global;
 use worm_device::{Device, Direct, View};

@@ -9,7 +9,7 @@ use crate::looking::look_up;
 use crate::naming::name_unkept;
 use cell_types::Refusal;
 use document_store::Text;
-use receipt_check::kept_documents::AskFault;
+use kept_documents::AskFault;
 use receipt_text::{ListedCells, MAX_RECEIPT_CELLS, Receipt};
 use std::alloc::Global;
 use worm_device::Device;

@@ -5,7 +5,7 @@ ghost use Rattle.posting_list.specs.Joins.{TermsGather, TermsGatherReads};
 ghost use Rattle.record_query.specs.Reaching.{reach_of};
 
 use cell_types::{Refusal, Volume};
-use posting_list::jump_index::Bounds;
+use jump_index::Bounds;
 use posting_list::{SoughtTerms, TermLists};
 use recovery_engine::Ready;
 use std::alloc::Global;

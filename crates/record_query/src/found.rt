@@ -1,5 +1,5 @@
 //! What queries answer.
-use identifier_lookup::document_store::Text;
+use document_store::Text;
 
 /// A document that has the words which were sought.
 #[derive(Debug, Drop)]

@@ -40,9 +40,8 @@ mod laws;
 mod looking_up;
 mod matching;
 
+pub use document_store::Text;
 pub use finding::{CELL_READS, FIND_READS, TERM_READS, find};
 pub use found::{Found, Match};
-pub use identifier_lookup::document_store::Text;
 pub use laws::a_path_has_mates;
 pub use looking_up::lookup_into;
-pub use posting_list;

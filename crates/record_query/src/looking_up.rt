@@ -7,8 +7,8 @@ ghost use Rattle.record_query.specs.Reaching.{PutsFromDevice, WalksOnDevice};
 
 use crate::found::Found;
 use cell_types::{Fault, Refusal, Volume};
+use document_store::{BodyFault, body_into};
 use host_ports::Sink;
-use identifier_lookup::document_store::{BodyFault, body_into};
 use identifier_lookup::{Walk, walk};
 use recovery_engine::{Ready, settle};
 use worm_device::{Device, Direct};

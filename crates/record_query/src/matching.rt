@@ -13,7 +13,7 @@ ghost use Rattle.record_query.specs.declared.matching.SeekFault.TheVariants as s
 
 use crate::found::Match;
 use cell_types::{Geometry, NoMemory, Refusal, Volume};
-use identifier_lookup::document_store::{
+use document_store::{
     ContentFault, Head, Part, Position, ROW_BYTES, identifier_of_head, name_commit, next_row,
     read_head, slot_part,
 };

@@ -8,7 +8,7 @@ ghost use Rattle.record_top.specs.Commands.{Does, IsAnswered, IsUnhindered};
 ghost use Rattle.volume_commands.specs.Ports.{ports_of};
 ghost use Rattle.volume_commands.specs.Steadiness.{LeavesWhole};
 
-use crate::exercise::exercise_volume;
+use crate::exercising::exercise_volume;
 use crate::replay::replay_script;
 use cell_types::Refusal;
 use command_line::{Command, command_of};

@@ -21,14 +21,15 @@
 //! A further command is one case in each relation of specs/Commands.antt and of specs/Steadiness.antt of
 //! `volume_commands`, a file of its own there, and one arm in `command.rt`; its words are read in `command_line`.
 //!
-//! Stands on `command_line`, which says what words ask for, on `volume_commands`, and on `volume_exercise`, which passes on
-//! `hostile_replay` and `command_laws`. It passes on `volume_commands`. Begin with `command.rt`; specs/Commands.antt says
-//! which commands there are, and leads to what each does.
+//! Stands on `command_line`, which says what words ask for, and on `volume_commands`, `hostile_replay` and
+//! `volume_exercise`. Begin with `command.rt`; specs/Commands.antt says which commands there are, and leads to what each
+//! does.
 #![tactic(auto)]
 
 mod command;
-mod exercise;
+mod exercising;
 mod replay;
 
 pub use command::{run, run_metered};
+pub use exercising::exercise;
 pub use volume_commands::{Outcome, receipts_are_ready};

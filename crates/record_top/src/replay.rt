@@ -9,12 +9,12 @@ ghost use Rattle.record_top.specs.Replaying.{DoesReplay, IsReplayOf};
 use cell_types::NoMemory;
 use command_line::put_text;
 use host_ports::{Sink, Source};
+use hostile_replay::replay;
 use script_events::{Script, read_script, scripts_are_in_limits};
+use script_replies::text_of_replies;
 use std::alloc::Global;
 use stored_documents::MAX_BODY_BYTES;
 use volume_commands::{Outcome, take_body};
-use volume_exercise::hostile_replay::replay;
-use volume_exercise::script_replies::text_of_replies;
 use worm_device::Device;
 use worm_memory::MemoryDevice;
 

@@ -12,9 +12,9 @@ ghost use Rattle.recovery_engine.specs.Ending.{done_put, end_phases, end_plan, j
 use crate::journal::{Journal, apply_journal, check_journal};
 use crate::settling::Step;
 use cell_types::{Evidence, Fault, Geometry, RecordCell, encode};
-use commit_record::tamper_rules::{BROKEN_JOURNAL, DONE_CELL, OUTCOME_CELL};
 use commit_record::{Reservation, SlotState, document_cells};
 use phase_writer::{Blame, Put, put_one};
+use tamper_rules::{BROKEN_JOURNAL, DONE_CELL, OUTCOME_CELL};
 use worm_device::Device;
 
 /// The journal of a slot that reserves these cells, and whose commit cell states so many stored bytes and journal

@@ -9,8 +9,8 @@ ghost use Rattle.cell_types.specs.Image.{IsUnchanged};
 ghost use Rattle.recovery_engine.specs.Journal.{EntryEnds, JournalEnds, IsEntryPut};
 
 use cell_types::{Cell, Evidence, Fault, RecordCell, address_of, breach, decode};
-use commit_record::tamper_rules::BROKEN_JOURNAL;
 use phase_writer::{Blame, Put, put_cell};
+use tamper_rules::BROKEN_JOURNAL;
 use worm_device::Device;
 
 /// Where a journal stands, and which cells it may ask for.

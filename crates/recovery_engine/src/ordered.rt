@@ -6,8 +6,8 @@ ghost use Rattle.commit_record.specs.Reservations.{reservation_of};
 ghost use Rattle.recovery_engine.specs.LastSlot.{IsFollowed, IsReserveCell, LastEnds};
 
 use cell_types::{Cell, Evidence, Fault, Geometry, RecordCell, Volume, encode};
-use commit_record::tamper_rules::RESERVE_CELL;
 use commit_record::{Reservation, SlotState, slot_state, slot_state_of};
+use tamper_rules::RESERVE_CELL;
 use worm_device::View;
 
 /// The state of a slot that follows those below it: its cells begin where theirs end, and the slot before is abandoned

@@ -1,13 +1,13 @@
 //! A line of each kind. What is expected was written by hand.
 use cell_types::{Cell, Evidence, Refusal};
 use document_store::Text;
-use hostile_replay::replayed_worlds::record_query::Match;
-use hostile_replay::replayed_worlds::volume_audit::AuditReport;
-use hostile_replay::script_replies::{Reply, text_of_replies};
+use record_query::Match;
 use recovery_engine::Step;
 use script_events::Sequence;
+use script_replies::{Reply, text_of_replies};
 use std::alloc::{AllocError, Global};
 use std::test::Fail;
+use volume_audit::AuditReport;
 use worm_memory::Crash;
 
 /// The bytes 04, thirteen zeros, and a last one.

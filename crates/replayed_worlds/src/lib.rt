@@ -18,19 +18,15 @@
 //! those of a world, so all that is said here holds of them.
 //!
 //! Stands on `worm_memory` (the device and its plan), `begun_commands` (how a command begins), the engines, and
-//! `command_laws` and `crash_laws` (what one command leaves). It passes on the engines, the laws, the replies, and how a
-//! command begins. Begin with specs/Headline.antt, the page of the promise;
-//! specs/Turns.antt and specs/Worlds.antt say what a world is, and
+//! `command_laws` and `crash_laws` (what one command leaves), whose specifications and lemmas it passes on. Begin with
+//! specs/Headline.antt, the page of the promise; specs/Turns.antt and specs/Worlds.antt say what a world is, and
 //! specs/Undisturbed.antt what is known of a world whose events let nobody else write, or that nothing befalls.
 #![tactic(auto)]
 
 mod laws;
 
-pub use begun_commands;
-pub use command_laws::{ingest_engine, record_query, volume_audit};
 pub use laws::{
     acknowledged_are_returned, commands_are_whole, commands_complete, headline, ingests_are_held,
     none_is_of_words, plain_is_done, returned_stand, tampering_is_evident, told_is_exact,
     turns_are_marked, unshared_is_alone,
 };
-pub use script_replies;

@@ -17,7 +17,7 @@
 //!
 //! The cells that journals name are put into a row in order, 4 bytes each, where bisection finds one.
 //!
-//! Stands on `log_audit` and on `journal_audit`, which it passes on. Begin with `strays.rt`; specs/Strays.antt has the rule in its parts.
+//! Stands on `log_audit` and on `journal_audit`. Begin with `strays.rt`; specs/Strays.antt has the rule in its parts.
 #![tactic(auto)]
 
 mod named;
@@ -25,6 +25,5 @@ mod places;
 mod stamps;
 mod strays;
 
-pub use journal_audit;
 pub use named::NamedCells;
 pub use strays::first_stray;

@@ -8,9 +8,9 @@ ghost use Rattle.stray_audit.specs.Strays.{AreNamed};
 ghost use Rattle.stray_audit.specs.Targets.{AddsTargets};
 
 use cell_types::{Geometry, NoMemory};
-use journal_audit::log_audit::{Log, StoredSlot, stored_slot};
 use journal_audit::target_at;
 use kept_cells::KeptCells;
+use log_audit::{Log, StoredSlot, stored_slot};
 use std::alloc::Global;
 
 /// The numbers of the cells that the journals of done slots name, in order, 4 bytes each.

@@ -9,8 +9,8 @@ ghost use Rattle.stray_audit.specs.Strays.{AreNamed, IsExpected};
 
 use crate::named::NamedCells;
 use cell_types::{Evidence, Geometry};
-use journal_audit::log_audit::{Log, owner_of};
 use kept_cells::KeptCells;
+use log_audit::{Log, owner_of};
 use tamper_rules::STRAY_CELL;
 
 /// The first written cell that is not expected where it stands.

@@ -8,8 +8,8 @@ ghost use Rattle.journal_audit.specs.log_audit.Logs.{IsLog};
 ghost use Rattle.stray_audit.specs.Strays.{IsInTime, IsLatest};
 
 use cell_types::{Evidence, Geometry, RecordCell, STAMPED_VERSION};
-use journal_audit::log_audit::{Log, record_at, stored_slot};
 use kept_cells::KeptCells;
+use log_audit::{Log, record_at, stored_slot};
 use tamper_rules::STRAY_CELL;
 
 /// The first spare cell that is written and holds no stamp in order.

@@ -9,8 +9,8 @@ use crate::named::named_cells;
 use crate::places::first_unexpected;
 use crate::stamps::first_false_stamp;
 use cell_types::{Evidence, Geometry, NoMemory};
-use journal_audit::log_audit::{Log, lower_of};
 use kept_cells::KeptCells;
+use log_audit::{Log, lower_of};
 use std::alloc::Global;
 
 /// The least cell at which rule 7 is broken. It takes 4 bytes a journal cell.

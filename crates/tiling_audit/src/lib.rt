@@ -26,7 +26,5 @@ mod tile;
 mod tilings;
 
 pub use laws::walks_tell;
-pub use log_audit;
-pub use recovery_engine;
 pub use tile::{Tile, tile_at};
 pub use tilings::first_broken_tiling;

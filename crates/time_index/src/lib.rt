@@ -32,5 +32,4 @@ mod stamped;
 
 pub use document_store::Text;
 pub use found::TimeMatch;
-pub use record_query;
 pub use span::{CELL_READS, SPAN_READS, TURN_READS, between};

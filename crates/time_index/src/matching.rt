@@ -16,7 +16,7 @@ use cell_types::{Fault, Geometry, RecordCell, Refusal, breach, encode};
 use commit_record::stamp_of;
 use document_store::{Part, identifier_of_head, read_part, slot_part};
 use jump_block::Entry;
-use record_query::posting_list::{Reach, false_posting};
+use posting_list::{Reach, false_posting};
 use std::alloc::Global;
 use tamper_rules::STRAY_CELL;
 use worm_device::View;

@@ -8,7 +8,7 @@ ghost use Rattle.time_index.specs.Postings.{IsOfKey, NextPosting};
 
 use cell_types::Fault;
 use jump_block::{Entry, KeptFronts};
-use record_query::posting_list::{Reach, find_in_list};
+use posting_list::{Reach, find_in_list};
 use worm_device::View;
 
 /// The first entry of the time list at or past a stamp.

@@ -12,7 +12,7 @@ use crate::stamped::check_stamps;
 use cell_types::{Refusal, STAMPED_VERSION};
 use jump_block::KeptFronts;
 use jump_index::Bounds;
-use record_query::posting_list::Reach;
+use posting_list::Reach;
 use recovery_engine::{Ready, settle};
 use std::alloc::Global;
 use worm_device::{Device, Direct, View};

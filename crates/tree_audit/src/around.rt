@@ -9,9 +9,9 @@ use crate::looks::child_at;
 use crate::nodes::LevelNode;
 use cell_types::{Geometry, NoMemory};
 use index_paths::{NODE_BUCKETS, NODE_CELLS};
-use journal_audit::log_audit::sort_once;
 use kept_cells::KeptCells;
 use list_audit::ListBlock;
+use log_audit::sort_once;
 use std::alloc::Global;
 
 /// How far the numbers of the child cells that lead to one node lie from those that lead to the next cell.

@@ -17,8 +17,8 @@ use crate::nodes::LevelNode;
 use crate::paths::goes_by;
 use cell_types::{Evidence, Geometry};
 use index_paths::NODE_BUCKETS;
-use journal_audit::log_audit::{Log, lower_of};
 use kept_cells::KeptCells;
+use log_audit::{Log, lower_of};
 use tamper_rules::FAKE_BUCKET;
 
 /// The least bucket at which rule 11 is broken, among those of all nodes, where rule 4 is kept.

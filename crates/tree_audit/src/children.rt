@@ -20,9 +20,9 @@ use crate::nodes::{LAST_LEVEL, LevelNode};
 use cell_types::{Cell, Evidence, Geometry, NoMemory};
 use index_paths::{BLOCK_CELLS, NODE_BUCKETS, NODE_CELLS};
 use journal_audit::journal_place_of;
-use journal_audit::log_audit::{Log, StoredSlot, has_between, lower_of, owner_of, stored_slot};
 use kept_cells::KeptCells;
 use list_audit::ListBlock;
+use log_audit::{Log, StoredSlot, has_between, lower_of, owner_of, stored_slot};
 use std::alloc::Global;
 use tamper_rules::LOST_CHILD;
 

@@ -11,9 +11,9 @@ ghost use Rattle.journal_audit.specs.log_audit.Logs.{IsLog};
 ghost use Rattle.tree_audit.specs.Documents.{HasDigest, HasHead};
 
 use cell_types::Geometry;
-use journal_audit::document_store::{Head, Position, read_head};
-use journal_audit::log_audit::{Log, stored_slot};
+use document_store::{Head, Position, read_head};
 use kept_cells::{KeptCells, Shown};
+use log_audit::{Log, stored_slot};
 use sha2::{Digest, Sha256};
 
 /// What stands before the body of the document of a slot, if the slot is done, where rule 4 is kept.

@@ -44,8 +44,6 @@ mod volume;
 
 pub use buckets::first_broken_bucket;
 pub use children::first_broken_child;
-pub use journal_audit::log_audit;
-pub use list_audit;
 pub use nodes::{LevelNode, nodes_of};
 pub use trails::first_broken_path;
 pub use volume::states_volume;

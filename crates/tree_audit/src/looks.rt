@@ -6,8 +6,8 @@ ghost use Rattle.tree_audit.specs.Buckets.{BucketEnds};
 
 use cell_types::{Geometry, RecordCell};
 use index_paths::NODE_CELLS;
-use journal_audit::log_audit::{lies_in_pool, record_at};
 use kept_cells::KeptCells;
+use log_audit::{lies_in_pool, record_at};
 
 /// What a bucket says: the slot of a document, and the first bytes of its identifier's digest.
 #[derive(Clone, Copy, Debug, PartialEq, Eq)]

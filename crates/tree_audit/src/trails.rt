@@ -15,11 +15,11 @@ use crate::documents::{head_of, identifier, same_identifier};
 use crate::looks::{HeldBucket, bucket_at, child_at};
 use crate::paths::LEVELS;
 use cell_types::{Evidence, Geometry};
+use document_store::Head;
 use hash_tree::nibble_of;
 use index_paths::NODE_BUCKETS;
-use journal_audit::document_store::Head;
-use journal_audit::log_audit::Log;
 use kept_cells::KeptCells;
+use log_audit::Log;
 use sha2::{Digest, Sha256};
 use tamper_rules::MISSING_PATH;
 

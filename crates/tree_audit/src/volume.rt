@@ -4,8 +4,8 @@ ghost use Rattle.stored_documents.specs.Volumes.{IsVolume};
 ghost use Rattle.kept_cells.specs.Kept.{image_of};
 
 use cell_types::{Geometry, RecordCell};
-use journal_audit::log_audit::record_at;
 use kept_cells::KeptCells;
+use log_audit::record_at;
 
 /// Whether cell 0 states this volume. Whoever judges documents has to know: a document stands on the volume that cell 0
 /// states.

@@ -7,8 +7,8 @@ use cell_types::Refusal;
 use commit_record::volume_of;
 use kept_cells::keep_cells;
 use progress::{Meter, Silent};
+use recovery_engine::settle;
 use std::alloc::Global;
-use tiling_audit::recovery_engine::settle;
 use worm_device::Device;
 
 /// Settles the volume, reads each cell of the device once, in rising order, and checks each rule at each written cell.

@@ -9,21 +9,17 @@ ghost use Rattle.pointer_audit.specs.tree_audit.Nodes.{AreNodes};
 ghost use Rattle.volume_audit.specs.Judging.{Passes, Refuses};
 
 use cell_types::{Evidence, Geometry, Refusal};
+use journal_audit::{first_broken_document, first_broken_journal, first_broken_target};
 use kept_cells::KeptCells;
+use list_audit::{ListBlock, first_broken_entry};
+use log_audit::Log;
 use pointer_audit::first_broken_pointer;
-use pointer_audit::tree_audit::{
-    LevelNode, first_broken_bucket, first_broken_child, first_broken_path,
-};
-use posting_audit::list_audit::{ListBlock, first_broken_entry};
 use posting_audit::{first_broken_posting, first_broken_trail};
 use progress::Meter;
 use std::alloc::Global;
 use stray_audit::first_stray;
-use stray_audit::journal_audit::{
-    first_broken_document, first_broken_journal, first_broken_target,
-};
 use tiling_audit::first_broken_tiling;
-use tiling_audit::log_audit::Log;
+use tree_audit::{LevelNode, first_broken_bucket, first_broken_child, first_broken_path};
 
 /// Ends the audit with what was found, if something was.
 fn refuse(found: Option<Evidence>) -> Result<(), Refusal>

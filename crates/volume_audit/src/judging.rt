@@ -15,11 +15,11 @@ use crate::checks::{
 use crate::report::{AuditReport, report_of};
 use cell_types::{Geometry, Refusal};
 use kept_cells::KeptCells;
-use pointer_audit::tree_audit::{LevelNode, nodes_of};
-use posting_audit::list_audit::{ListBlock, blocks_of};
+use list_audit::{ListBlock, blocks_of};
+use log_audit::{Log, check_log};
 use progress::Meter;
 use std::alloc::Global;
-use tiling_audit::log_audit::{Log, check_log};
+use tree_audit::{LevelNode, nodes_of};
 
 /// The numbers of the volume whose cells are kept, or the least rule that is broken at its least cell.
 pub(crate) fn judge<M: Meter>(

@@ -8,7 +8,7 @@ ghost use Rattle.volume_audit.specs.Reports.{IsReport};
 
 use cell_types::Geometry;
 use kept_cells::KeptCells;
-use tiling_audit::log_audit::{EndedSlot, Log};
+use log_audit::{EndedSlot, Log};
 
 /// What an audit found of a sound volume.
 #[derive(Clone, Copy, Debug, PartialEq, Eq)]

@@ -4,12 +4,12 @@ ghost use Rattle.volume_commands.specs.Auditing.{DoesAudit, count_text, report_t
 ghost use Rattle.volume_commands.specs.Ports.{ports_of};
 
 use crate::outcome::Outcome;
-use command_laws::volume_audit::{AuditReport, audit_metered};
 use command_line::put_text;
 use host_ports::{Sink, Source};
 use itoa::Buffer;
 use progress::Meter;
 use std::alloc::{AllocError, Global};
+use volume_audit::{AuditReport, audit_metered};
 use worm_device::Device;
 
 /// Audits the volume, and puts out how many slots and cells it has. The text is made before its first byte goes out.

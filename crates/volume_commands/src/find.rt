@@ -11,9 +11,9 @@ use cell_types::Refusal;
 use command_line::{push_count_line, push_document_line, put_text};
 use commit_record::volume_of;
 use host_ports::{Sink, Source};
+use record_query::{Match, find};
 use std::alloc::{AllocError, Global};
 use stored_documents::{WordRule, rule_of};
-use time_index::record_query::{Match, find};
 use word_reader::{Term, WordFault, single_term};
 use worm_device::Device;
 

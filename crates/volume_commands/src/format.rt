@@ -5,9 +5,9 @@ ghost use Rattle.volume_commands.specs.Formatting.{DoesFormat};
 ghost use Rattle.volume_commands.specs.Ports.{ports_of};
 
 use crate::outcome::Outcome;
-use command_laws::ingest_engine::format_volume;
 use command_line::put_text;
 use host_ports::{Sink, Source};
+use ingest_engine::format_volume;
 use worm_device::Device;
 
 /// Makes the device a volume of so many slots and lists, and of this version, and says so.

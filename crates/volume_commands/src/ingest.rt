@@ -29,7 +29,7 @@ pub fn ingest_body<D: Device, S: Source, K: Sink>(
         return Err(Refusal::BadIdentifier);
     }
     let body = take_body(alloc, source, MAX_BODY_BYTES)?;
-    let slot = command_laws::ingest_engine::ingest(alloc, device, id, stamp, &body)?;
+    let slot = ingest_engine::ingest(alloc, device, id, stamp, &body)?;
     // No memory is taken any more: the document is sure.
     put_slot_line(sink, "acknowledged ", slot, "\n")?;
     Ok(())

@@ -6,7 +6,7 @@ use crate::outcome::Outcome;
 use cell_types::Refusal;
 use document_store::is_identifier;
 use host_ports::{Sink, Source};
-use time_index::record_query::lookup_into;
+use record_query::lookup_into;
 use worm_device::Device;
 
 /// Puts out the body of the document with this identifier. Takes no memory.

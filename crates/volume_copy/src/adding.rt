@@ -7,7 +7,7 @@ use crate::moved::Moved;
 use crate::refused::{from_source, to_target};
 use crate::stored::read_stored;
 use cell_types::CopyRefusal;
-use command_laws::ingest_engine::ingest;
+use ingest_engine::ingest;
 use progress::{Meter, Work};
 use std::alloc::Global;
 use worm_device::Device;

@@ -4,10 +4,10 @@ ghost use Rattle.volume_copy.specs.Staying.{IsHeldThroughout};
 
 use crate::walking::done_slots;
 use cell_types::{Refusal, Volume};
-use command_laws::volume_audit::audit_metered;
 use progress::Meter;
 use recovery_engine::settle;
 use std::alloc::Global;
+use volume_audit::audit_metered;
 use worm_device::Device;
 
 /// A volume that was audited.

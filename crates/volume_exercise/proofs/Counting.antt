@@ -11,8 +11,8 @@ use Rattle.stored_documents.specs.Words.{HasWord, words_of}
 use Rattle.stored_documents.specs.declared.word_rules.WordRule.TheVariants.{Ascii}
 use Rattle.stored_documents.proofs.Lists.{Rising, one_list}
 use Rattle.stored_documents.proofs.Words.{words_are_one}
-use Rattle.hostile_replay.specs.record_query.Finding.{Rises}
-use Rattle.hostile_replay.specs.record_query.declared.found.Match.{Match}
+use Rattle.replayed_worlds.specs.record_query.Finding.{Rises}
+use Rattle.replayed_worlds.specs.record_query.declared.found.Match.{Match}
 use Rattle.volume_exercise.specs.Telling.{TermsAreWords}
 
 -- a member is the first, or one of the rest

@@ -14,12 +14,12 @@ use Rattle.worm_memory.specs.Memory.{Memory, device_of}
 use Rattle.worm_memory.specs.Worlds.{foreign_writes_in}
 use Rattle.worm_memory.specs.declared.mark.Mark.{Mark}
 use Rattle.script_events.specs.declared.event.Event.{Event}
-use Rattle.hostile_replay.specs.script_replies.declared.reply.Reply.{Reply}
-use Rattle.hostile_replay.specs.replayed_worlds.Headline.{AcknowledgedAreReturned, IsNew}
-use Rattle.hostile_replay.specs.replayed_worlds.Turns.{Turns, layout_on}
-use Rattle.hostile_replay.specs.replayed_worlds.Undisturbed.{IsLeftPlain, IsPlain, PlainIsDone, TurnsAreMarked, events_of}
-use Rattle.hostile_replay.specs.replayed_worlds.Worlds.{AreInTurn, IsWorld, Turn, acknowledged, acknowledged_by}
-use Rattle.hostile_replay.proofs.of_replayed_worlds.Reading.{settled_documents}
+use Rattle.replayed_worlds.specs.script_replies.declared.reply.Reply.{Reply}
+use Rattle.replayed_worlds.specs.Headline.{AcknowledgedAreReturned, IsNew}
+use Rattle.replayed_worlds.specs.Turns.{Turns, layout_on}
+use Rattle.replayed_worlds.specs.Undisturbed.{IsLeftPlain, IsPlain, PlainIsDone, TurnsAreMarked, events_of}
+use Rattle.replayed_worlds.specs.Worlds.{AreInTurn, IsWorld, Turn, acknowledged, acknowledged_by}
+use Rattle.replayed_worlds.proofs.Reading.{settled_documents}
 use Rattle.volume_exercise.specs.Events as events
 use Rattle.volume_exercise.specs.Events.{audit_event, exercise_events, ingest_event, look_up_event, pair_event, single_event}
 use Rattle.volume_exercise.specs.Exercising.{LeavesExercise, ReadsRise, exercise_device, exercise_document, exercise_documents}

@@ -1,10 +1,10 @@
 mod Counted
 mod Counting
-mod Ending
-mod EventsOn
-mod Exercised
+pub mod Ending
+pub mod EventsOn
+pub mod Exercised
 mod Few
-mod Leaving
+pub mod Leaving
 mod Played
 mod Refused
 mod Rowed
@@ -12,8 +12,8 @@ mod Rows
 mod Stocked
 mod Told
 mod Words
-pub use Rattle.hostile_replay.proofs.of_command_laws
-pub use Rattle.hostile_replay.proofs.of_crash_laws
-pub use Rattle.hostile_replay.proofs.of_plan_writer
-pub use Rattle.hostile_replay.proofs.of_settling_laws
-pub use Rattle.hostile_replay.proofs.of_volume_audit
+pub use Rattle.replayed_worlds.proofs.of_command_laws
+pub use Rattle.replayed_worlds.proofs.of_crash_laws
+pub use Rattle.replayed_worlds.proofs.of_plan_writer
+pub use Rattle.replayed_worlds.proofs.of_settling_laws
+pub use Rattle.replayed_worlds.proofs.of_volume_audit

@@ -13,14 +13,14 @@ use Rattle.worm_device.specs.State.{IsDevice}
 use Rattle.worm_device.proofs.Images.{extends_then}
 use Rattle.worm_memory.specs.Memory.{Memory, device_of}
 use Rattle.script_events.specs.declared.event.Event.{Event}
-use Rattle.hostile_replay.specs.script_replies.declared.reply.Reply.{Reply}
-use Rattle.hostile_replay.specs.script_replies.declared.reply.Reply.TheVariants as reply
-use Rattle.hostile_replay.specs.replayed_worlds.Headline.{AcknowledgedAreReturned, IsNew, Returns}
-use Rattle.hostile_replay.specs.replayed_worlds.Turns.{Turns}
-use Rattle.hostile_replay.specs.replayed_worlds.Undisturbed.{IsDoneReply, IsLeftPlain, IsPlain, IsPlainTurn, PlainIsDone, events_of}
-use Rattle.hostile_replay.specs.replayed_worlds.Worlds.{AreInTurn, Turn, acknowledged, acknowledged_by}
-use Rattle.hostile_replay.proofs.of_replayed_worlds.Along.{Goes, along, split}
-use Rattle.hostile_replay.proofs.of_replayed_worlds.Undisturbed.{all_left}
+use Rattle.replayed_worlds.specs.script_replies.declared.reply.Reply.{Reply}
+use Rattle.replayed_worlds.specs.script_replies.declared.reply.Reply.TheVariants as reply
+use Rattle.replayed_worlds.specs.Headline.{AcknowledgedAreReturned, IsNew, Returns}
+use Rattle.replayed_worlds.specs.Turns.{Turns}
+use Rattle.replayed_worlds.specs.Undisturbed.{IsDoneReply, IsLeftPlain, IsPlain, IsPlainTurn, PlainIsDone, events_of}
+use Rattle.replayed_worlds.specs.Worlds.{AreInTurn, Turn, acknowledged, acknowledged_by}
+use Rattle.replayed_worlds.proofs.Along.{Goes, along, split}
+use Rattle.replayed_worlds.proofs.Undisturbed.{all_left}
 use Rattle.volume_exercise.specs.Tallies.{first_refusal}
 
 abbrev pub event_of : Turn → Event

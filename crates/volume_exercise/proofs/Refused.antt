@@ -22,17 +22,17 @@ use Rattle.worm_device.specs.State.{DeviceState, IsDevice}
 use Rattle.worm_device.proofs.Counting.{rose_or_still}
 use Rattle.document_store.proofs.Holding.{held_stands}
 use Rattle.index_paths.specs.Postings.{ArePostings, AreTags}
-use Rattle.hostile_replay.specs.recovery_engine.Settling.{HasSettled}
-use Rattle.hostile_replay.specs.recovery_engine.declared.settling.Ready.{Ready}
-use Rattle.hostile_replay.proofs.of_plan_writer.PutFrom.{volume_2}
-use Rattle.hostile_replay.proofs.of_settling_laws.LookedAt.{looked_ends}
-use Rattle.hostile_replay.proofs.of_crash_laws.WellPlanned as planned
-use Rattle.hostile_replay.specs.ingest_engine.Ingesting.{HasNoRoom, HasNoSlot, IngestEnds, IsTaken, IsTooMany, TakesNoSuchStamp}
-use Rattle.hostile_replay.proofs.of_ingest_engine.CrashedIngests.{ready_layout}
-use Rattle.hostile_replay.specs.command_laws.Begins.{BeginsSteady}
-use Rattle.hostile_replay.proofs.of_command_laws.HeldAnswers.{stands_among}
-use Rattle.hostile_replay.proofs.of_command_laws.WholeLogs.{no_blank_cell, no_other_cell, no_other_size}
-use Rattle.hostile_replay.proofs.of_replayed_worlds.Reading.{settled_documents}
+use Rattle.replayed_worlds.specs.script_replies.recovery_engine.Settling.{HasSettled}
+use Rattle.replayed_worlds.specs.script_replies.recovery_engine.declared.settling.Ready.{Ready}
+use Rattle.replayed_worlds.proofs.of_plan_writer.PutFrom.{volume_2}
+use Rattle.replayed_worlds.proofs.of_settling_laws.LookedAt.{looked_ends}
+use Rattle.replayed_worlds.proofs.of_crash_laws.WellPlanned as planned
+use Rattle.replayed_worlds.specs.ingest_engine.Ingesting.{HasNoRoom, HasNoSlot, IngestEnds, IsTaken, IsTooMany, TakesNoSuchStamp}
+use Rattle.replayed_worlds.proofs.of_ingest_engine.CrashedIngests.{ready_layout}
+use Rattle.replayed_worlds.specs.command_laws.Begins.{BeginsSteady}
+use Rattle.replayed_worlds.proofs.of_command_laws.HeldAnswers.{stands_among}
+use Rattle.replayed_worlds.proofs.of_command_laws.WholeLogs.{no_blank_cell, no_other_cell, no_other_size}
+use Rattle.replayed_worlds.proofs.Reading.{settled_documents}
 use Rattle.volume_exercise.specs.Documents.{body_of, identifier_of}
 use Rattle.volume_exercise.specs.Refusing.{IsOfExercise}
 use Rattle.volume_exercise.proofs.Few.{few_cells, few_postings, few_tags, same_identifier}

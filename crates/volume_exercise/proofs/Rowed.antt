@@ -14,20 +14,20 @@ use Rattle.document_store.specs.tamper_rules.Settling.{Held}
 use Rattle.document_store.proofs.of_tamper_rules.GivenUp.{one_layout}
 use Rattle.worm_device.specs.State.{DeviceState}
 use Rattle.worm_memory.specs.Memory.{Memory, device_of}
-use Rattle.hostile_replay.specs.ingest_engine.Ingesting.{document_in}
-use Rattle.hostile_replay.specs.record_query.Finding.{HasTerms}
-use Rattle.hostile_replay.specs.record_query.declared.found.Match.{Match}
-use Rattle.hostile_replay.specs.volume_audit.declared.report.AuditReport.{AuditReport}
-use Rattle.hostile_replay.specs.command_laws.Telling.{AreMatchesOf}
+use Rattle.replayed_worlds.specs.ingest_engine.Ingesting.{document_in}
+use Rattle.replayed_worlds.specs.record_query.Finding.{HasTerms}
+use Rattle.replayed_worlds.specs.record_query.declared.found.Match.{Match}
+use Rattle.replayed_worlds.specs.volume_audit.declared.report.AuditReport.{AuditReport}
+use Rattle.replayed_worlds.specs.command_laws.Telling.{AreMatchesOf}
 use Rattle.script_events.specs.declared.event.Event.{Event}
 use Rattle.script_events.specs.declared.event.Event.TheVariants as event
-use Rattle.hostile_replay.specs.script_replies.declared.reply.Reply.{Reply}
-use Rattle.hostile_replay.specs.script_replies.declared.reply.Reply.TheVariants as reply
-use Rattle.hostile_replay.specs.replayed_worlds.Headline.{Returns}
-use Rattle.hostile_replay.specs.replayed_worlds.Steadily.{TellsHeld}
-use Rattle.hostile_replay.specs.replayed_worlds.Turns.{Turns}
-use Rattle.hostile_replay.specs.replayed_worlds.Undisturbed.{IsDoneReply}
-use Rattle.hostile_replay.specs.replayed_worlds.Worlds.{Turn, acknowledged, acknowledged_by}
+use Rattle.replayed_worlds.specs.script_replies.declared.reply.Reply.{Reply}
+use Rattle.replayed_worlds.specs.script_replies.declared.reply.Reply.TheVariants as reply
+use Rattle.replayed_worlds.specs.Headline.{Returns}
+use Rattle.replayed_worlds.specs.Steadily.{TellsHeld}
+use Rattle.replayed_worlds.specs.Turns.{Turns}
+use Rattle.replayed_worlds.specs.Undisturbed.{IsDoneReply}
+use Rattle.replayed_worlds.specs.Worlds.{Turn, acknowledged, acknowledged_by}
 use Rattle.volume_exercise.specs.Documents.{body_of, identifier_of}
 use Rattle.volume_exercise.specs.Events.{audit_event, ingest_event, look_up_event, no_schedule}
 use Rattle.volume_exercise.specs.Tallies.{is_acknowledged, matches_in, returned, returned_from, sound_line}

@@ -15,30 +15,30 @@ use Rattle.document_store.proofs.of_tamper_rules.Settled.{one_horizon}
 use Rattle.index_paths.specs.Postings.{ArePostings, ListedPosting}
 use Rattle.worm_device.specs.Counts.{IsStill}
 use Rattle.worm_device.specs.State.{DeviceState, IsDevice}
-use Rattle.hostile_replay.specs.phase_writer.Putting.{IsInFirst, IsPut}
-use Rattle.hostile_replay.specs.recovery_engine.Settling.{HasSettled}
-use Rattle.hostile_replay.specs.recovery_engine.declared.settling.Ready.{Ready}
-use Rattle.hostile_replay.specs.plan_writer.Planned.{INGEST_PHASES, ingest_phases, reserved_by}
-use Rattle.hostile_replay.specs.plan_writer.PuttingPlans.{PutsPlan}
-use Rattle.hostile_replay.specs.plan_writer.declared.plan.Plan.{Plan}
-use Rattle.hostile_replay.proofs.of_plan_writer.PutFrom as from
-use Rattle.hostile_replay.specs.ingest_laws.Filling.{IsFilled, IsWellPlanned}
-use Rattle.hostile_replay.proofs.of_ingest_laws.Filled.{edge_is, old_edge}
-use Rattle.hostile_replay.proofs.of_ingest_laws.Ingests.{next_horizon}
-use Rattle.hostile_replay.proofs.of_ingest_laws.PlanSettled.{plan_is_settled}
-use Rattle.hostile_replay.specs.ingest_engine.Ingesting as ingesting
-use Rattle.hostile_replay.specs.ingest_engine.Ingesting.{ComesTo, IsIngested, IsPlanFor}
-use Rattle.hostile_replay.proofs.of_ingest_engine.CrashedIngests.{ready_layout}
-use Rattle.hostile_replay.specs.settling_laws.Steadiness.{IsSteady}
-use Rattle.hostile_replay.proofs.of_settling_laws.LeftWhole.{held_unmoved, settling_keeps}
-use Rattle.hostile_replay.proofs.of_settling_laws.LookedAt.{looked_ends, looking_keeps}
-use Rattle.hostile_replay.specs.crash_laws.Steadiness.{HasOneMore}
-use Rattle.hostile_replay.proofs.of_crash_laws.AddsOne.{put_whole}
-use Rattle.hostile_replay.proofs.of_crash_laws.PutPlans.{still_looked, still_put, sure, tells_looked, well_made}
-use Rattle.hostile_replay.proofs.of_crash_laws.ReserveCells.{one_slot}
-use Rattle.hostile_replay.proofs.of_crash_laws.WellPlanned.{plan_of}
-use Rattle.hostile_replay.specs.command_laws.Begins.{BeginsSteady}
-use Rattle.hostile_replay.proofs.of_replayed_worlds.Reading.{not_held}
+use Rattle.replayed_worlds.specs.plan_writer.phase_writer.Putting.{IsInFirst, IsPut}
+use Rattle.replayed_worlds.specs.script_replies.recovery_engine.Settling.{HasSettled}
+use Rattle.replayed_worlds.specs.script_replies.recovery_engine.declared.settling.Ready.{Ready}
+use Rattle.replayed_worlds.specs.plan_writer.Planned.{INGEST_PHASES, ingest_phases, reserved_by}
+use Rattle.replayed_worlds.specs.plan_writer.PuttingPlans.{PutsPlan}
+use Rattle.replayed_worlds.specs.plan_writer.declared.plan.Plan.{Plan}
+use Rattle.replayed_worlds.proofs.of_plan_writer.PutFrom as from
+use Rattle.replayed_worlds.specs.ingest_laws.Filling.{IsFilled, IsWellPlanned}
+use Rattle.replayed_worlds.proofs.of_ingest_laws.Filled.{edge_is, old_edge}
+use Rattle.replayed_worlds.proofs.of_ingest_laws.Ingests.{next_horizon}
+use Rattle.replayed_worlds.proofs.of_ingest_laws.PlanSettled.{plan_is_settled}
+use Rattle.replayed_worlds.specs.ingest_engine.Ingesting as ingesting
+use Rattle.replayed_worlds.specs.ingest_engine.Ingesting.{ComesTo, IsIngested, IsPlanFor}
+use Rattle.replayed_worlds.proofs.of_ingest_engine.CrashedIngests.{ready_layout}
+use Rattle.replayed_worlds.specs.settling_laws.Steadiness.{IsSteady}
+use Rattle.replayed_worlds.proofs.of_settling_laws.LeftWhole.{held_unmoved, settling_keeps}
+use Rattle.replayed_worlds.proofs.of_settling_laws.LookedAt.{looked_ends, looking_keeps}
+use Rattle.replayed_worlds.specs.crash_laws.Steadiness.{HasOneMore}
+use Rattle.replayed_worlds.proofs.of_crash_laws.AddsOne.{put_whole}
+use Rattle.replayed_worlds.proofs.of_crash_laws.PutPlans.{still_looked, still_put, sure, tells_looked, well_made}
+use Rattle.replayed_worlds.proofs.of_crash_laws.ReserveCells.{one_slot}
+use Rattle.replayed_worlds.proofs.of_crash_laws.WellPlanned.{plan_of}
+use Rattle.replayed_worlds.specs.command_laws.Begins.{BeginsSteady}
+use Rattle.replayed_worlds.proofs.Reading.{not_held}
 
 -- The horizon is one slot further, and the edge by so many cells: those of the document, and at most 258 for each of its
 -- postings and 34 for its bucket.

@@ -10,8 +10,8 @@ use Rattle.worm_memory.specs.Memory.{Memory, device_of}
 use Rattle.worm_memory.specs.Plans.{no_plan}
 use Rattle.worm_memory.specs.Worlds.{foreign_writes_in}
 use Rattle.worm_memory.specs.declared.mark.Mark.{Mark}
-use Rattle.hostile_replay.specs.script_replies.declared.reply.Reply.{Reply}
-use Rattle.hostile_replay.specs.replayed_worlds.Worlds.{IsWorld}
+use Rattle.replayed_worlds.specs.script_replies.declared.reply.Reply.{Reply}
+use Rattle.replayed_worlds.specs.Worlds.{IsWorld}
 use Rattle.volume_exercise.specs.Events.{exercise_events}
 use Rattle.volume_exercise.specs.Documents.{body_of, identifier_of, up_to}
 use Rattle.volume_exercise.specs.Refusing.{IsOfExercise}

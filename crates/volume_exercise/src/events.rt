@@ -15,7 +15,7 @@ use stored_documents::WordRule;
 use word_reader::{Term, WordFault, single_term};
 
 /// The events of the exercise with so many documents, in order.
-pub(crate) fn exercise_events(alloc: Global, documents: u32) -> Result<Vec<Event>, AllocError>
+pub fn exercise_events(alloc: Global, documents: u32) -> Result<Vec<Event>, AllocError>
     requires { documents ≤ MAX_DOCUMENTS }
     ensures { IfOk result (λ events. events.items ≡ exercise_events documents) }
 {

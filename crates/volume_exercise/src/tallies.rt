@@ -7,7 +7,7 @@ ghost use Rattle.command_line.specs.declared.words.TheConstants.{MAX_DOCUMENTS};
 use crate::documents::body;
 use crate::limits::DISTINCT_WORDS;
 use cell_types::Refusal;
-use hostile_replay::script_replies::Reply;
+use script_replies::Reply;
 use std::alloc::{AllocError, Global};
 
 /// What the replies come to.
@@ -24,7 +24,7 @@ struct Tally {
 }
 
 /// Why the first event that was refused was, if one was.
-pub(crate) fn first_refusal(replies: &[Reply]) -> Option<Refusal>
+pub fn first_refusal(replies: &[Reply]) -> Option<Refusal>
     ensures { result ≡ first_refusal replies.now }
 {
     for reply in replies {
@@ -36,11 +36,7 @@ pub(crate) fn first_refusal(replies: &[Reply]) -> Option<Refusal>
 }
 
 /// The lines of the exercise with so many documents, by the replies to all of its events.
-pub(crate) fn text_of(
-    alloc: Global,
-    documents: u32,
-    replies: &[Reply],
-) -> Result<String, AllocError>
+pub fn text_of(alloc: Global, documents: u32, replies: &[Reply]) -> Result<String, AllocError>
     requires few { documents ≤ MAX_DOCUMENTS }
     requires all { length replies.now ≡ 2 * documents + 401 }
     ensures { IfOk result (λ text. string_bytes text ≡ counted_text documents replies.now) }

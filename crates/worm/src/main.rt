@@ -36,12 +36,12 @@
 mod terminal;
 
 use cell_types::{CopyRefusal, Refusal};
-use file_top::copy_top::run_two_over_files;
-use file_top::record_top::run;
+use copy_top::run_two_over_files;
 use file_top::run_over_file;
 use host_files::{FileDevice, Hold, OsFile, Pages};
 use host_ports::{StdSink, StdSource};
 use progress::MeteredFile;
+use record_top::run;
 use std::alloc::Global;
 use std::io::Stderr;
 use std::os::unix::fs::{FileExt, MetadataExt};

@@ -3,7 +3,7 @@ use Rattle.std.proofs.Common.{refl, subst}
 use Rattle.worm_memory.specs.Device.{memory_of}
 use Rattle.worm_memory.specs.Memory.{Memory}
 use Rattle.volume_exercise.specs.Exercising.{ExerciseEnds, exercise_device, unmade}
-use Rattle.record_top.proofs.exercise.exercise_volume.Goals as goal
+use Rattle.record_top.proofs.exercising.exercise_volume.Goals as goal
 
 pub returns-in_default : goal.returns-in_default
 returns-in_default g c = record {

@@ -1,17 +1,41 @@
-//! The exercise.
+//! The command `exercise`.
 ghost use Rattle.std.specs.Prelude.{◌≡◌, ◌≤◌};
-ghost use Rattle.worm_memory.specs.Device.{memory_of};
-ghost use Rattle.volume_exercise.specs.Exercising.{ExerciseEnds, exercise_device};
 ghost use Rattle.command_line.specs.declared.words.TheConstants.{MAX_DOCUMENTS};
+ghost use Rattle.record_top.specs.Exercising.{DoesExercise};
+ghost use Rattle.volume_commands.specs.Ports.{ports_of};
+ghost use Rattle.volume_exercise.specs.Exercising.{ExerciseEnds, exercise_device};
+ghost use Rattle.worm_memory.specs.Device.{memory_of};
 
-use crate::events::exercise_events;
-use crate::tallies::{first_refusal, text_of};
 use cell_types::Refusal;
-use host_ports::{Sink, put_all};
+use host_ports::{Sink, Source, put_all};
 use hostile_replay::replay;
-use hostile_replay::replayed_worlds::{acknowledged_are_returned, plain_is_done, turns_are_marked};
+use replayed_worlds::{acknowledged_are_returned, plain_is_done, turns_are_marked};
 use std::alloc::Global;
+use volume_commands::Outcome;
+use volume_exercise::{BASE_CELLS, CELLS_PER_DOCUMENT, exercise_events, first_refusal, text_of};
+use worm_device::Device;
 use worm_memory::{MemoryDevice, the_count_is_recorded};
+
+/// Does the exercise with so many documents, on a device in memory of its own. The device that is handed in is left alone.
+pub fn exercise_volume<D: Device, S: Source, K: Sink>(
+    alloc: Global,
+    documents: u32,
+    _device: &mut D,
+    _source: &mut S,
+    sink: &mut K,
+) -> Outcome
+    requires some { 1 ≤ documents }
+    requires most { documents ≤ MAX_DOCUMENTS }
+    ensures { DoesExercise documents
+        (ports_of (D.state _device.old) (S.state _source.old) (K.state sink.old))
+        (ports_of (D.state _device.new) (S.state _source.new) (K.state sink.new)) result }
+{
+    let Ok(mut device) = MemoryDevice::new(alloc, BASE_CELLS + CELLS_PER_DOCUMENT * documents)
+    else {
+        return Err(Refusal::NoMemory);
+    };
+    exercise(alloc, documents, &mut device, sink)
+}
 
 /// Does the exercise with so many documents on this new device, and puts its lines into the sink. The text is made before
 /// its first byte goes out.

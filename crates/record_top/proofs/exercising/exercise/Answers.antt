@@ -3,17 +3,17 @@ use Rattle.std.proofs.Common.{List, ap, length, refl, subst, sym, ◌∙◌, ℕ
 use Rattle.host_ports.specs.Sinks.{Gets, PutsPart}
 use Rattle.script_events.specs.Events.{AreEventsOn}
 use Rattle.script_events.specs.declared.event.Event.{Event}
-use Rattle.hostile_replay.specs.script_replies.declared.reply.Reply.{Reply}
+use Rattle.script_replies.specs.declared.reply.Reply.{Reply}
 use Rattle.worm_memory.specs.Device.{memory_of}
 use Rattle.worm_memory.specs.Memory.{Memory}
-use Rattle.hostile_replay.specs.replayed_worlds.Worlds.{IsWorld}
+use Rattle.replayed_worlds.specs.Worlds.{IsWorld}
 use Rattle.volume_exercise.specs.Exercising.{refused, told, unmade, untold}
 use Rattle.volume_exercise.specs.Tallies.{counted_text, first_refusal}
 use Rattle.volume_exercise.proofs.EventsOn.{exercise_events_on}
 use Rattle.volume_exercise.proofs.Ending.{exercise_refused, exercise_untroubled}
 use Rattle.volume_exercise.proofs.Exercised.{replies_count}
 use Rattle.volume_exercise.proofs.Leaving.{exercise_whole}
-use Rattle.volume_exercise.proofs.exercising.exercise.Goals as goal
+use Rattle.record_top.proofs.exercising.exercise.Goals as goal
 
 pub replay-requires-clause-cells : goal.replay-requires-clause-cells
 replay-requires-clause-cells g c = omega (arith, c.requires.most, ap (λ (m : Memory). m.cells) c.requires.new)
