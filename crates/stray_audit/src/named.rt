@@ -56,7 +56,8 @@ pub(crate) fn named_cells(
 /// Adds the cells that a slot's journal names.
 fn push_targets(kept: &KeptCells, stored: &StoredSlot, cells: &mut Vec<u32>) -> Result<(), NoMemory>
     requires cells { HasCells stored.now }
-    ensures { OnOk result (AddsTargets (image_of kept.now) stored.now stored.now.journal cells.old.items cells.new.items) }
+    ensures { OnOk result (AddsTargets (image_of kept.now) stored.now stored.now.journal cells.old.items
+        cells.new.items) }
 {
     let first = stored.journal_at();
     for place in 0..stored.journal {

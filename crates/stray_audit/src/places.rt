@@ -24,7 +24,8 @@ pub(crate) fn first_unexpected(
     requires met { IsMetAll geometry.now (image_of kept.now) ReserveCells }
     requires count { count_of kept.now ≡ geometry.now.cells }
     requires named { AreNamed geometry.now (image_of kept.now) named.now }
-    ensures { FindsPart geometry.now (image_of kept.now) StrayCells (IsExpected geometry.now (image_of kept.now)) result }
+    ensures { FindsPart geometry.now (image_of kept.now) StrayCells (IsExpected geometry.now (image_of kept.now))
+        result }
 {
     for place in 0..kept.written() {
         let Some(row) = kept.written_at(place) else {
