@@ -27,5 +27,3 @@ mod queries;
 mod replaying;
 
 pub use replaying::replay;
-pub use script_events::{Event, Schedule, Script, Timed, read_script};
-pub use script_replies::Reply;

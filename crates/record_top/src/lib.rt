@@ -32,4 +32,4 @@ mod replay;
 
 pub use command::{run, run_metered};
 pub use exercising::exercise;
-pub use volume_commands::{Outcome, receipts_are_ready};
+pub use volume_commands::Outcome;

@@ -3,8 +3,8 @@ ghost use Rattle.std.specs.Prelude.{◌≡◌, ◌≤◌, IfOk};
 ghost use Rattle.script_events.specs.Events.{IsInLimits};
 
 use cell_types::Refusal;
-use hostile_replay::{Script, read_script, replay};
-use script_events::scripts_are_in_limits;
+use hostile_replay::replay;
+use script_events::{Script, read_script, scripts_are_in_limits};
 use script_replies::text_of_replies;
 use std::alloc::Global;
 use std::test::Fail;
