@@ -1,17 +1,12 @@
 //! Every cut of an ingest and of `recover`, with crashes that keep each subset of what was not sure: settled again, the
 //! volume is that of a run without a cut, cell by cell.
+use crate::decoder::{State, digits_at, state_of_slot};
+use crate::volume::{begin, formatted, outcome_of, unsure};
 use cell_types::Refusal;
 use std::alloc::Global;
 use std::test::Fail;
-use test_volumes::{
-    State, begin, digits_at, formatted, holds, ingest, outcome_of, state_of_slot, unsure,
-    volume_with,
-};
 use worm_device::Device;
 use worm_memory::{MemoryDevice, Moment};
-
-/// How many slots the volume of many documents has.
-const SLOTS: u32 = 40;
 
 /// How many subsets six cells have. No cut here leaves more than six that are not sure.
 const SUBSETS: u32 = 64;
@@ -205,19 +200,6 @@ fn cut_recover(
         return Ok(None);
     }
     Ok(Some(device))
-}
-
-#[test]
-fn forty_documents_go_into_forty_slots(rt: HostRuntime) -> Result<(), Fail> {
-    let alloc = rt.alloc();
-    let mut device = volume_with(alloc, SLOTS, SLOTS)?;
-    for i in 0..SLOTS {
-        assert!(rt; holds(alloc, &mut device, i, i)?, "{i}");
-    }
-    begin(&mut device)?;
-    let (outcome, _) = ingest(alloc, &mut device, SLOTS)?;
-    assert_eq!(rt; outcome, Err(Refusal::SlotsFull));
-    Ok(())
 }
 
 #[test]

@@ -1,4 +1,5 @@
-//! A line of each kind. What is expected was written by hand.
+//! A line of each kind of reply but a format, a crash and a slot that is completed: those have theirs in the rows
+//! `scripts.rows` of `worked_rows`. What is expected was written by hand.
 use cell_types::{Cell, Evidence, Refusal};
 use document_store::Text;
 use record_query::Match;
@@ -8,7 +9,6 @@ use script_replies::{Reply, text_of_replies};
 use std::alloc::{AllocError, Global};
 use std::test::Fail;
 use volume_audit::AuditReport;
-use worm_memory::Crash;
 
 /// The bytes 04, thirteen zeros, and a last one.
 fn cell(last: u8) -> Option<Cell> {
@@ -39,24 +39,7 @@ fn prints(alloc: Global, replies: &[Reply], expected: &str) -> Result<bool, Fail
     Ok(text.as_str() == expected)
 }
 
-/// An ingest is cut before its journal is applied; a crash leaves one of two postings; settling completes the slot.
-#[test]
-fn a_cut_ingest_is_told(rt: HostRuntime) -> Result<(), Fail> {
-    let alloc = rt.alloc();
-    let replies = [
-        Reply::Formatted,
-        Reply::Refused(Refusal::DeviceFault),
-        Reply::Crashed(Crash { kept: 1, unsure: 2 }),
-        Reply::Settled(Step::Completed(0)),
-        Reply::Found(matches(alloc, &[0])?),
-    ];
-    let expected =
-        "1 0 formatted\n2 5 refused\n3 0 kept 1 of 2\n4 0 slot 0 completed\n5 0 found 0\n";
-    assert!(rt; prints(alloc, &replies, expected)?);
-    Ok(())
-}
-
-/// The other kinds, more than nine of them, so that a number has two digits.
+/// There are more than nine, so that a number has two digits.
 #[test]
 fn each_kind_has_its_line(rt: HostRuntime) -> Result<(), Fail> {
     let alloc = rt.alloc();

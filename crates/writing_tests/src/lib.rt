@@ -1,7 +1,6 @@
-//! Tests of what writes a volume: settling what a crash has left, and a plan that is carried out, cell by cell.
+//! Tests of what writes a volume: a plan that is carried out, cell by cell. What settling writes are the rows `settling.rows`
+//! of `worked_rows`.
 #![tactic(auto)]
 
 #[cfg(test)]
 mod plans;
-#[cfg(test)]
-mod settling;

@@ -1,0 +1,194 @@
+//! Which rows of a text agree.
+//!
+//! Before any line but those that tell of an answer and of changes, nothing of the answer may be left: what a row does not
+//! tell of, it denies.
+ghost use Rattle.cell_types.specs.declared.geometry.TheConstants.{MAX_CELLS};
+
+use crate::lines::written_out;
+use crate::steps::{Step, step_of};
+use crate::world::World;
+use cell_types::{Cell, MAX_CELLS};
+use std::alloc::{AllocError, Global};
+use worm_device::Device;
+
+/// How many rows there are, and what is said of those that do not agree.
+#[derive(Drop)]
+pub struct Tally {
+    pub rows: usize,
+    pub wrong: Vec<String>,
+}
+
+/// Carries out the rows of a text.
+pub fn judge(alloc: Global, text: &str) -> Result<Tally, AllocError> {
+    let lines = written_out(alloc, text)?;
+    let mut rows: usize = 0;
+    let mut wrong = Vec::new(alloc);
+    let mut row = Row::new(alloc);
+    for line in &lines {
+        if let Some(name) = line.text.as_str().strip_prefix("row ") {
+            rows = rows.saturating_add(1);
+            push(&mut wrong, row.begin(alloc, name)?)?;
+        } else {
+            row.carry_out(alloc, line.number, line.text.as_str())?;
+        }
+    }
+    push(&mut wrong, row.begin(alloc, "")?)?;
+    Ok(Tally { rows, wrong })
+}
+
+/// Puts a line behind these, if there is one.
+fn push(wrong: &mut Vec<String>, line: Option<String>) -> Result<(), AllocError> {
+    if let Some(line) = line {
+        wrong.push(line)?;
+    }
+    Ok(())
+}
+
+/// A row that is carried out.
+#[derive(Drop)]
+struct Row {
+    name: String,
+    world: Option<World>,
+    /// The first line that is not so.
+    wrong: Option<String>,
+    /// What `save` kept: how many cells a device had, and those that were written.
+    cells: u32,
+    saved: Vec<(u32, Cell)>,
+}
+
+impl Row {
+    fn new(alloc: Global) -> Row {
+        Row {
+            name: String::new(alloc),
+            world: None,
+            wrong: None,
+            cells: 0,
+            saved: Vec::new(alloc),
+        }
+    }
+
+    /// Begins a row of this name, and says what was wrong with the one before.
+    fn begin(&mut self, alloc: Global, name: &str) -> Result<Option<String>, AllocError> {
+        if self.wrong.is_none() && self.has_more() {
+            self.wrong = Some(self.told(alloc, "there is more")?);
+        }
+        self.name = String::from_str(alloc, name)?;
+        self.world = None;
+        Ok(self.wrong.take())
+    }
+
+    /// Whether something of the last answer was not told.
+    fn has_more(&self) -> bool {
+        match &self.world {
+            Some(world) => world.has_more(),
+            None => false,
+        }
+    }
+
+    /// What is said of the row: what is not so, and what is left of the last answer.
+    fn told(&self, alloc: Global, what: &str) -> Result<String, AllocError> {
+        let name = self.name.as_str();
+        match &self.world {
+            Some(world) => {
+                let left = world.left(alloc)?;
+                format!(in alloc; "{name}: {what} ({left})")
+            }
+            None => format!(in alloc; "{name}: {what}"),
+        }
+    }
+
+    /// Carries out a line, unless an earlier one was not so.
+    fn carry_out(&mut self, alloc: Global, number: usize, text: &str) -> Result<(), AllocError> {
+        if self.wrong.is_some() {
+            return Ok(());
+        }
+        let is_so = match step_of(text) {
+            Some(step) => self.is_so(alloc, step)?,
+            None => false,
+        };
+        if !is_so {
+            let line = format!(in alloc; "line {number}: {text}")?;
+            self.wrong = Some(self.told(alloc, line.as_str())?);
+        }
+        Ok(())
+    }
+
+    /// Whether a line is so.
+    fn is_so(&mut self, alloc: Global, step: Step<'_>) -> Result<bool, AllocError> {
+        match step {
+            Step::Device(cells) => return self.begin_device(alloc, cells),
+            Step::Saved => return self.begin_saved(alloc),
+            _ => {}
+        }
+        let Some(world) = &mut self.world else {
+            return Ok(false);
+        };
+        match step {
+            Step::Answer(answer) => return world.is_answered(alloc, answer),
+            Step::Changed(change) => return Ok(world.next_change() == change),
+            _ => {}
+        }
+        if world.has_more() {
+            return Ok(false);
+        }
+        if let Step::Save = step {
+            self.cells = world.device.cells();
+            save(world, &mut self.saved)?;
+            return Ok(true);
+        }
+        carries_out(alloc, world, step)
+    }
+
+    /// Begins a blank device.
+    fn begin_device(&mut self, alloc: Global, cells: u32) -> Result<bool, AllocError> {
+        if cells == 0 || cells > MAX_CELLS || self.has_more() {
+            return Ok(false);
+        }
+        self.world = Some(World::new(alloc, cells)?);
+        Ok(true)
+    }
+
+    /// Begins a device with the cells that were saved.
+    fn begin_saved(&mut self, alloc: Global) -> Result<bool, AllocError> {
+        if self.cells == 0 || self.cells > MAX_CELLS || self.has_more() {
+            return Ok(false);
+        }
+        let mut world = World::new(alloc, self.cells)?;
+        for &(at, value) in &self.saved {
+            let _ = world.write_foreign(at, value)?;
+        }
+        self.world = Some(world);
+        Ok(true)
+    }
+}
+
+/// Keeps the written cells of a device.
+fn save(world: &mut World, saved: &mut Vec<(u32, Cell)>) -> Result<(), AllocError> {
+    saved.clear();
+    for at in 0..world.device.cells() {
+        if let Some(value) = world.found(at) {
+            saved.push((at, value))?;
+        }
+    }
+    Ok(())
+}
+
+/// Whether a line is so that asks for something of a device without an answer.
+fn carries_out(alloc: Global, world: &mut World, step: Step<'_>) -> Result<bool, AllocError> {
+    match step {
+        Step::Room(changes) => world.room = changes,
+        Step::Put(at, value) => return world.write_foreign(at, value),
+        Step::Give(bytes) => bytes.push_onto(alloc, &mut world.given)?,
+        Step::Plan(plan) => world.plans.push(plan)?,
+        Step::Command { words, times } => return world.carry_out(alloc, words, times),
+        Step::Cell(at, value) => return Ok(world.found(at) == Some(value)),
+        Step::Blank(from, to) => return Ok(world.are_blank(from, to)),
+        Step::Written(count) => return Ok(world.written() == count),
+        Step::Crash { keep, kept, unsure } => {
+            return Ok(world.crash(alloc, keep)? == Some((kept, unsure)));
+        }
+        Step::Nothing => {}
+        _ => return Ok(false),
+    }
+    Ok(true)
+}
