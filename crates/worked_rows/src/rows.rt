@@ -103,7 +103,7 @@ impl Row {
             return Ok(());
         }
         let is_so = match step_of(text) {
-            Some(step) => self.is_so(alloc, step)?,
+            Some(step) => self.is_so(alloc, &step)?,
             None => false,
         };
         if !is_so {
@@ -114,9 +114,9 @@ impl Row {
     }
 
     /// Whether a line is so.
-    fn is_so(&mut self, alloc: Global, step: Step<'_>) -> Result<bool, AllocError> {
+    fn is_so(&mut self, alloc: Global, step: &Step<'_>) -> Result<bool, AllocError> {
         match step {
-            Step::Device(cells) => return self.begin_device(alloc, cells),
+            Step::Device(cells) => return self.begin_device(alloc, *cells),
             Step::Saved => return self.begin_saved(alloc),
             _ => {}
         }
@@ -125,7 +125,7 @@ impl Row {
         };
         match step {
             Step::Answer(answer) => return world.is_answered(alloc, answer),
-            Step::Changed(change) => return Ok(world.next_change() == change),
+            Step::Changed(change) => return Ok(world.next_change() == *change),
             _ => {}
         }
         if world.has_more() {
@@ -174,18 +174,18 @@ fn save(world: &mut World, saved: &mut Vec<(u32, Cell)>) -> Result<(), AllocErro
 }
 
 /// Whether a line is so that asks for something of a device without an answer.
-fn carries_out(alloc: Global, world: &mut World, step: Step<'_>) -> Result<bool, AllocError> {
+fn carries_out(alloc: Global, world: &mut World, step: &Step<'_>) -> Result<bool, AllocError> {
     match step {
-        Step::Room(changes) => world.room = changes,
-        Step::Put(at, value) => return world.write_foreign(at, value),
+        Step::Room(changes) => world.room = *changes,
+        Step::Put(at, value) => return world.write_foreign(*at, *value),
         Step::Give(bytes) => bytes.push_onto(alloc, &mut world.given)?,
-        Step::Plan(plan) => world.plans.push(plan)?,
-        Step::Command { words, times } => return world.carry_out(alloc, words, times),
-        Step::Cell(at, value) => return Ok(world.found(at) == Some(value)),
-        Step::Blank(from, to) => return Ok(world.are_blank(from, to)),
-        Step::Written(count) => return Ok(world.written() == count),
+        Step::Plan(plan) => world.plans.push(*plan)?,
+        Step::Command { words, times } => return world.carry_out(alloc, words, *times),
+        Step::Cell(at, value) => return Ok(world.found(*at) == Some(*value)),
+        Step::Blank(from, to) => return Ok(world.are_blank(*from, *to)),
+        Step::Written(count) => return Ok(world.written() == *count),
         Step::Crash { keep, kept, unsure } => {
-            return Ok(world.crash(alloc, keep)? == Some((kept, unsure)));
+            return Ok(world.crash(alloc, keep)? == Some((*kept, *unsure)));
         }
         Step::Nothing => {}
         _ => return Ok(false),

@@ -182,7 +182,7 @@ impl World {
     }
 
     /// Whether the answer goes on so, and counts that as told.
-    pub fn is_answered(&mut self, alloc: Global, answer: Answer<'_>) -> Result<bool, AllocError> {
+    pub fn is_answered(&mut self, alloc: Global, answer: &Answer<'_>) -> Result<bool, AllocError> {
         match answer {
             Answer::PutsOut(bytes) => self.puts_out(alloc, bytes),
             Answer::PutsPartOf(line) => {
@@ -193,14 +193,14 @@ impl World {
             }
             Answer::Refuses(line) => {
                 let refused = self.refused.take();
-                Ok(refused.is_some_and(|it| it.as_str() == line))
+                Ok(refused.is_some_and(|it| it.as_str() == *line))
             }
             Answer::IsOneOf(answers) => self.is_one_of(alloc, answers),
         }
     }
 
     /// Whether what was put out goes on with these bytes.
-    fn puts_out(&mut self, alloc: Global, bytes: Bytes<'_>) -> Result<bool, AllocError> {
+    fn puts_out(&mut self, alloc: Global, bytes: &Bytes<'_>) -> Result<bool, AllocError> {
         let mut wanted = Vec::new(alloc);
         bytes.push_onto(alloc, &mut wanted)?;
         let is_so = self.rest().starts_with(&wanted);
