@@ -1,11 +1,11 @@
 //! Which rows of a text agree.
 //!
 //! Before any line but those that tell of an answer and of changes, nothing of the answer may be left: what a row does not
-//! tell of, it denies.
+//! tell of, it denies. Nor may a row end before the command for which it gives or plans something, or without a device.
 ghost use Rattle.cell_types.specs.declared.geometry.TheConstants.{MAX_CELLS};
 
 use crate::lines::written_out;
-use crate::steps::{Step, step_of};
+use crate::steps::{Act, Step, step_of};
 use crate::world::World;
 use cell_types::{Cell, MAX_CELLS};
 use std::alloc::{AllocError, Global};
@@ -44,6 +44,13 @@ fn push(wrong: &mut Vec<String>, line: Option<String>) -> Result<(), AllocError>
     Ok(())
 }
 
+/// The cells of a device that `save` kept: how many it had, and those that were written.
+#[derive(Drop)]
+struct Saved {
+    cells: u32,
+    written: Vec<(u32, Cell)>,
+}
+
 /// A row that is carried out.
 #[derive(Drop)]
 struct Row {
@@ -51,9 +58,7 @@ struct Row {
     world: Option<World>,
     /// The first line that is not so.
     wrong: Option<String>,
-    /// What `save` kept: how many cells a device had, and those that were written.
-    cells: u32,
-    saved: Vec<(u32, Cell)>,
+    saved: Option<Saved>,
 }
 
 impl Row {
@@ -62,8 +67,7 @@ impl Row {
             name: String::new(alloc),
             world: None,
             wrong: None,
-            cells: 0,
-            saved: Vec::new(alloc),
+            saved: None,
         }
     }
 
@@ -72,15 +76,18 @@ impl Row {
         if self.wrong.is_none() && self.has_more() {
             self.wrong = Some(self.told(alloc, "there is more")?);
         }
+        if self.wrong.is_none() && self.world.is_none() && !self.name.is_empty() {
+            self.wrong = Some(self.told(alloc, "there is no device")?);
+        }
         self.name = String::from_str(alloc, name)?;
         self.world = None;
         Ok(self.wrong.take())
     }
 
-    /// Whether something of the last answer was not told.
+    /// Whether something of the last answer was not told, or something is given and planned for no command.
     fn has_more(&self) -> bool {
         match &self.world {
-            Some(world) => world.has_more(),
+            Some(world) => world.has_more() || world.is_waiting(),
             None => false,
         }
     }
@@ -116,6 +123,7 @@ impl Row {
     /// Whether a line is so.
     fn is_so(&mut self, alloc: Global, step: &Step<'_>) -> Result<bool, AllocError> {
         match step {
+            Step::Nothing => return Ok(true),
             Step::Device(cells) => return self.begin_device(alloc, *cells),
             Step::Saved => return self.begin_saved(alloc),
             _ => {}
@@ -124,19 +132,16 @@ impl Row {
             return Ok(false);
         };
         match step {
-            Step::Answer(answer) => return world.is_answered(alloc, answer),
-            Step::Changed(change) => return Ok(world.next_change() == *change),
-            _ => {}
+            Step::Answer(answer) => world.is_answered(alloc, answer),
+            Step::Changed(change) => Ok(world.next_change() == *change),
+            _ if world.has_more() => Ok(false),
+            Step::Act(act) => is_done(alloc, world, act),
+            // `Save`: the others are answered above.
+            _ => {
+                self.saved = Some(saved_of(alloc, world)?);
+                Ok(true)
+            }
         }
-        if world.has_more() {
-            return Ok(false);
-        }
-        if let Step::Save = step {
-            self.cells = world.device.cells();
-            save(world, &mut self.saved)?;
-            return Ok(true);
-        }
-        carries_out(alloc, world, step)
     }
 
     /// Begins a blank device.
@@ -150,11 +155,17 @@ impl Row {
 
     /// Begins a device with the cells that were saved.
     fn begin_saved(&mut self, alloc: Global) -> Result<bool, AllocError> {
-        if self.cells == 0 || self.cells > MAX_CELLS || self.has_more() {
+        if self.has_more() {
             return Ok(false);
         }
-        let mut world = World::new(alloc, self.cells)?;
-        for &(at, value) in &self.saved {
+        let Some(saved) = &self.saved else {
+            return Ok(false);
+        };
+        if saved.cells == 0 || saved.cells > MAX_CELLS {
+            return Ok(false);
+        }
+        let mut world = World::new(alloc, saved.cells)?;
+        for &(at, value) in &saved.written {
             let _ = world.write_foreign(at, value)?;
         }
         self.world = Some(world);
@@ -162,33 +173,32 @@ impl Row {
     }
 }
 
-/// Keeps the written cells of a device.
-fn save(world: &mut World, saved: &mut Vec<(u32, Cell)>) -> Result<(), AllocError> {
-    saved.clear();
-    for at in 0..world.device.cells() {
+/// The cells of a device.
+fn saved_of(alloc: Global, world: &mut World) -> Result<Saved, AllocError> {
+    let mut written = Vec::new(alloc);
+    let cells = world.device.cells();
+    for at in 0..cells {
         if let Some(value) = world.found(at) {
-            saved.push((at, value))?;
+            written.push((at, value))?;
         }
     }
-    Ok(())
+    Ok(Saved { cells, written })
 }
 
-/// Whether a line is so that asks for something of a device without an answer.
-fn carries_out(alloc: Global, world: &mut World, step: &Step<'_>) -> Result<bool, AllocError> {
-    match step {
-        Step::Room(changes) => world.room = *changes,
-        Step::Put(at, value) => return world.write_foreign(*at, *value),
-        Step::Give(bytes) => bytes.push_onto(alloc, &mut world.given)?,
-        Step::Plan(plan) => world.plans.push(*plan)?,
-        Step::Command { words, times } => return world.carry_out(alloc, words, *times),
-        Step::Cell(at, value) => return Ok(world.found(*at) == Some(*value)),
-        Step::Blank(from, to) => return Ok(world.are_blank(*from, *to)),
-        Step::Written(count) => return Ok(world.written() == *count),
-        Step::Crash { keep, kept, unsure } => {
+/// Does what a line asks for, and says whether it is so.
+fn is_done(alloc: Global, world: &mut World, act: &Act<'_>) -> Result<bool, AllocError> {
+    match act {
+        Act::Room(changes) => world.room = *changes,
+        Act::Put(at, value) => return world.write_foreign(*at, *value),
+        Act::Give(bytes) => bytes.push_onto(alloc, &mut world.given)?,
+        Act::Plan(plan) => world.plans.push(*plan)?,
+        Act::Command { words, times } => return world.carry_out(alloc, words, *times),
+        Act::Cell(at, value) => return Ok(world.found(*at) == Some(*value)),
+        Act::Blank(from, to) => return Ok(world.are_blank(*from, *to)),
+        Act::Written(count) => return Ok(world.written() == *count),
+        Act::Crash { keep, kept, unsure } => {
             return Ok(world.crash(alloc, keep)? == Some((*kept, *unsure)));
         }
-        Step::Nothing => {}
-        _ => return Ok(false),
     }
     Ok(true)
 }

@@ -16,6 +16,19 @@ pub enum Step<'a> {
     Save,
     /// A device with just the cells that were kept.
     Saved,
+    /// What the command answered.
+    Answer(Answer<'a>),
+    /// The next change that it made to the device, or that there is none.
+    Changed(Option<Change>),
+    /// Something else of the device at hand, once all of the last answer was told.
+    Act(Act<'a>),
+    /// A line that is not to be carried out.
+    Nothing,
+}
+
+/// What is done with the device at hand, or looked for on it.
+#[derive(Clone, Copy)]
+pub enum Act<'a> {
     /// Room for so many changes before each command.
     Room(u32),
     /// That somebody else writes a blank cell.
@@ -29,10 +42,6 @@ pub enum Step<'a> {
         words: &'a str,
         times: u32,
     },
-    /// What the command answered.
-    Answer(Answer<'a>),
-    /// The next change that it made to the device, or that there is none.
-    Changed(Option<Change>),
     /// What stands in a cell.
     Cell(u32, Cell),
     /// That cells are blank, from one number to another.
@@ -45,8 +54,6 @@ pub enum Step<'a> {
         kept: u32,
         unsure: u32,
     },
-    /// A line that is not to be carried out.
-    Nothing,
 }
 
 /// Bytes as a line has them.
@@ -123,51 +130,51 @@ fn plain_step_of(text: &str) -> Option<Step<'_>> {
         "device" => Some(Step::Device(number(rest)?)),
         "save" if rest.is_empty() => Some(Step::Save),
         "saved" if rest.is_empty() => Some(Step::Saved),
-        "room" => Some(Step::Room(number(rest)?)),
-        "$" => Some(Step::Command {
-            words: rest,
-            times: 1,
-        }),
-        "$*" => {
-            let (times, words) = counted(rest)?;
-            Some(Step::Command { words, times })
-        }
-        "+" => changed(rest),
-        "put" | "cell" => {
-            let (at, cell) = address_and_cell(rest)?;
-            Some(if word == "put" {
-                Step::Put(at, cell)
-            } else {
-                Step::Cell(at, cell)
-            })
-        }
-        "blank" => {
-            let (from, to) = two_numbers(rest)?;
-            Some(Step::Blank(from, to))
-        }
-        "written" => Some(Step::Written(number(rest)?)),
-        "crash" => crash(rest),
-        _ => given_or_told(word, rest),
-    }
-}
-
-/// A line of what a command is given, of what befalls it, or of what it answers.
-fn given_or_told<'a>(word: &str, rest: &'a str) -> Option<Step<'a>> {
-    if let Some(plan) = plan_of(word, rest) {
-        return Some(Step::Plan(plan));
-    }
-    if let Some(mark) = word.strip_prefix('<') {
-        return Some(Step::Give(bytes_of(mark, rest)?));
-    }
-    match word {
         ">~" => Some(Step::Answer(Answer::PutsPartOf(rest))),
         "!" => Some(Step::Answer(Answer::Refuses(rest))),
         "=" => Some(Step::Answer(Answer::IsOneOf(rest))),
-        _ => {
-            let bytes = bytes_of(word.strip_prefix('>')?, rest)?;
-            Some(Step::Answer(Answer::PutsOut(bytes)))
+        "+" => changed(rest),
+        "room" => Some(Step::Act(Act::Room(number(rest)?))),
+        "blank" => {
+            let (from, to) = two_numbers(rest)?;
+            Some(Step::Act(Act::Blank(from, to)))
         }
+        "written" => Some(Step::Act(Act::Written(number(rest)?))),
+        "crash" => crash(rest),
+        "put" | "cell" => about_cell(word, rest),
+        "$" | "$*" => command(word, rest),
+        _ => bytes_or_plan(word, rest),
     }
+}
+
+/// A cell that is written, or looked at.
+fn about_cell<'a>(word: &str, rest: &'a str) -> Option<Step<'a>> {
+    let (at, cell) = address_and_cell(rest)?;
+    if word == "put" {
+        return Some(Step::Act(Act::Put(at, cell)));
+    }
+    Some(Step::Act(Act::Cell(at, cell)))
+}
+
+/// A command.
+fn command<'a>(word: &str, rest: &'a str) -> Option<Step<'a>> {
+    let (times, words) = if word == "$" {
+        (1, rest)
+    } else {
+        counted(rest)?
+    };
+    Some(Step::Act(Act::Command { words, times }))
+}
+
+/// Bytes that a command is given or puts out, or what befalls it.
+fn bytes_or_plan<'a>(word: &str, rest: &'a str) -> Option<Step<'a>> {
+    if let Some(mark) = word.strip_prefix('>') {
+        return Some(Step::Answer(Answer::PutsOut(bytes_of(mark, rest)?)));
+    }
+    if let Some(mark) = word.strip_prefix('<') {
+        return Some(Step::Act(Act::Give(bytes_of(mark, rest)?)));
+    }
+    Some(Step::Act(Act::Plan(plan_of(word, rest)?)))
 }
 
 /// The bytes of a line whose word has this mark behind its arrow.
@@ -234,9 +241,6 @@ fn crash(rest: &str) -> Option<Step<'_>> {
         let _ = number(at)?;
     }
     let (kept, unsure) = counts.split_once(" of ")?;
-    Some(Step::Crash {
-        keep,
-        kept: number(kept)?,
-        unsure: number(unsure)?,
-    })
+    let (kept, unsure) = (number(kept)?, number(unsure)?);
+    Some(Step::Act(Act::Crash { keep, kept, unsure }))
 }

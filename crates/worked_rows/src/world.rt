@@ -181,6 +181,11 @@ impl World {
         !self.rest().is_empty() || self.refused.is_some()
     }
 
+    /// Whether something is given or planned for a next command.
+    pub fn is_waiting(&self) -> bool {
+        !self.given.is_empty() || !self.plans.is_empty()
+    }
+
     /// Whether the answer goes on so, and counts that as told.
     pub fn is_answered(&mut self, alloc: Global, answer: &Answer<'_>) -> Result<bool, AllocError> {
         match answer {
