@@ -14,7 +14,7 @@ pub enum State {
 }
 
 /// The bytes of a cell, zeros where it is blank or not on the device.
-pub fn bytes_at(device: &mut MemoryDevice, at: u32) -> [u8; 16] {
+fn bytes_at(device: &mut MemoryDevice, at: u32) -> [u8; 16] {
     if at >= device.cells() {
         return [0; 16];
     }

@@ -16,7 +16,7 @@ const CHANGES: u32 = 200;
 const SINK_BYTES: u32 = 4_096;
 
 /// The words of a command, between bars.
-pub fn words_of(alloc: Global, text: &str) -> Result<Vec<String>, Fail> {
+fn words_of(alloc: Global, text: &str) -> Result<Vec<String>, Fail> {
     let mut all = Vec::new(alloc);
     for word in text.split('|') {
         all.push(String::from_str(alloc, word)?)?;
@@ -25,14 +25,14 @@ pub fn words_of(alloc: Global, text: &str) -> Result<Vec<String>, Fail> {
 }
 
 /// A source of these bytes.
-pub fn source_of(alloc: Global, body: &[u8]) -> Result<MemorySource, Fail> {
+fn source_of(alloc: Global, body: &[u8]) -> Result<MemorySource, Fail> {
     let mut bytes = Vec::new(alloc);
     bytes.extend_from_slice(body)?;
     Ok(MemorySource::new(bytes))
 }
 
 /// A sink with room for some lines.
-pub fn sink(alloc: Global) -> Result<MemorySink, Fail> {
+fn sink(alloc: Global) -> Result<MemorySink, Fail> {
     let mut sink = MemorySink::new(alloc);
     sink.reserve(SINK_BYTES)?;
     Ok(sink)

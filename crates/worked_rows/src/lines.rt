@@ -1,7 +1,7 @@
 //! The lines of a file of rows, with each loop and each named piece written out.
 //!
-//! The lines between `for FROM TO` and `end` come once for each number, both included; in them `{n}` is the number, `{n3}` its
-//! digits up to the third, and `{x}` its eight hexadecimal ones. Those between `let NAME` and `end` come wherever `with NAME`
+//! The lines between `for FROM TO` and `end` come once for each number, both included; in them `{n}` is the number, `{n3}` the
+//! same in three digits, and `{x}` in eight hexadecimal ones. Those between `let NAME` and `end` come wherever `with NAME`
 //! stands behind them, in a loop and in another piece too. Blank lines, and those that begin with `--`, are left out.
 //!
 //! A line of these that cannot be what it says comes as it is, and so fails its row: a block in a block, one that is never

@@ -215,9 +215,11 @@ impl World {
         Ok(is_so)
     }
 
-    /// Whether the whole answer is one of these, between which there is `or`. One that put out a `/` is none.
+    /// Whether the whole answer is one of these, between which there is `or`. None is one of which something was told
+    /// already, or that `left` does not tell from every other.
     fn is_one_of(&mut self, alloc: Global, answers: &str) -> Result<bool, AllocError> {
-        if self.put.as_slice().contains(&b'/') {
+        let is_plain = |byte: &u8| byte.is_ascii() && *byte != b'/' && *byte != b'!';
+        if self.read > 0 || !self.put.iter().all(is_plain) {
             return Ok(false);
         }
         let found = self.left(alloc)?;
