@@ -5,8 +5,8 @@ use Rattle.std.proofs.lemmas.Grind.{common_steps}
 use Rattle.std.proofs.lemmas.Option.{gets}
 use Rattle.std.proofs.lemmas.List.{drop-drop}
 use Rattle.cell_types.specs.Contents.{content_bytes}
-use Rattle.stored_documents.specs.Documents.{content_at}
-use Rattle.stored_documents.specs.Slots.{cells_for}
+use Rattle.volume_meaning.specs.Documents.{content_at}
+use Rattle.volume_meaning.specs.Slots.{cells_for}
 use Rattle.append_file.specs.StoredCells.{AddsCellsOf, AreCellsOf}
 
 -- the cells are the first ones of these stored bytes, and rest is what they leave

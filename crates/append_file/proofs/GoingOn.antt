@@ -8,8 +8,8 @@ use Rattle.std.specs.Prelude.{IsTrue, Option, None, Result, Ok, Err, unwrap_or}
 use Rattle.cell_types.specs.Bytes.{AreBytes}
 use Rattle.cell_types.specs.Contents.{content_bytes}
 use Rattle.cell_types.specs.declared.held_bytes.Content.{Content}
-use Rattle.stored_documents.specs.Documents.{content_at}
-use Rattle.stored_documents.specs.Slots.{cells_for}
+use Rattle.volume_meaning.specs.Documents.{content_at}
+use Rattle.volume_meaning.specs.Slots.{cells_for}
 use Rattle.worm_device.specs.Views.{ViewState, Viewed}
 use Rattle.append_file.specs.Pieces.{IsBrokenAt, IsPiece, PieceEnds, held_bytes}
 use Rattle.append_file.specs.Reading.{ByteEnds, HasBroken, IsFront, IsPosition, HasRead, NextEnds, ended, left_over, one_given, first_given}

@@ -12,8 +12,8 @@ use Rattle.cell_types.specs.Contents.{content_bytes}
 use Rattle.cell_types.specs.Image.{Image, Extends}
 use Rattle.cell_types.proofs.ContentCells.{full_cell}
 use Rattle.cell_types.specs.declared.held_bytes.Content.{Content}
-use Rattle.stored_documents.specs.Documents.{content_at}
-use Rattle.stored_documents.specs.Slots.{cells_for}
+use Rattle.volume_meaning.specs.Documents.{content_at}
+use Rattle.volume_meaning.specs.Slots.{cells_for}
 use Rattle.worm_device.specs.ReadRows.{IsFoundBetween, ViewReadsRow}
 use Rattle.worm_device.specs.Views.{ViewState, Viewed}
 use Rattle.append_file.specs.Pieces.{HoldsPiece, IsNoPiece, held_bytes}

@@ -1,15 +1,14 @@
 -- What the cells of a whole part spell.
-use Rattle.std.proofs.Common.{◌≡◌, ◌<◌, ◌≤◌, ◌+◌, ◌*◌, min, ℕ, List, [], ◌∷◌, ◌++◌, length, take, drop, Some, refl, sym, ap, ◌∙◌, subst, arith}
+use Rattle.std.proofs.Common.{◌≡◌, ◌<◌, ◌≤◌, ◌+◌, ◌*◌, min, ℕ, List, [], ◌∷◌, ◌++◌, length, take, drop, Some, refl, sym, ap, ◌∙◌, subst, arith, inl, inr, zero, suc}
 use Rattle.std.proofs.lemmas.List.{append-nil, get_or-drop, get_or-take, length-take, length-take-le, length-drop, length-append, take_all, take-append-drop, take-take, drop_all, drop-drop}
 use Rattle.std.proofs.Math.ListN.{get_or-eq_default}
 use Rattle.std.proofs.lemmas.Bool.{cases_lt}
-use Rattle.std.proofs.Common.{inl, inr, zero, suc}
 use Rattle.std.specs.Prelude.{IsTrue}
 use Rattle.cell_types.specs.Bytes.{AreBytes}
 use Rattle.cell_types.proofs.ContentCells.{contents_one}
 use Rattle.cell_types.specs.Image.{Image}
-use Rattle.stored_documents.specs.Documents.{content_at, Spells}
-use Rattle.stored_documents.specs.Slots.{cells_for}
+use Rattle.volume_meaning.specs.Documents.{content_at, Spells}
+use Rattle.volume_meaning.specs.Slots.{cells_for}
 use Rattle.worm_device.specs.Views.{ViewState, Viewed}
 use Rattle.append_file.proofs.GoingOn.{content_stays}
 use Rattle.std.proofs.Math.Seq.{take-append_seam}

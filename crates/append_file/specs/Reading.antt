@@ -3,8 +3,8 @@ use Rattle.std.specs.Prelude.{◌≡◌, ◌<◌, ◌≤◌, ◌+◌, ◌*◌, m
 use Rattle.cell_types.specs.Bytes.{AreBytes}
 use Rattle.cell_types.specs.Image.{Image}
 use Rattle.cell_types.specs.declared.held_bytes.Content.{Content}
-use Rattle.stored_documents.specs.Documents.{content_at}
-use Rattle.stored_documents.specs.Slots.{cells_for}
+use Rattle.volume_meaning.specs.Documents.{content_at}
+use Rattle.volume_meaning.specs.Slots.{cells_for}
 use Rattle.worm_device.specs.Counts.{Rose}
 use Rattle.worm_device.specs.Views.{ViewState}
 use Rattle.append_file.specs.Pieces.{held_bytes, IsBrokenAt}

@@ -3,7 +3,7 @@
 use Rattle.std.specs.Prelude.{◌≡◌, ◌<◌, ◌+◌, ◌-◌, ◌*◌, min, ℕ, List, ◌++◌, length, slice_get, take, Option, Some, Result, Ok, Err, IsTrue}
 use Rattle.cell_types.specs.Bytes.{AreBytes}
 use Rattle.cell_types.specs.Contents.{content_bytes}
-use Rattle.stored_documents.specs.Documents.{content_at}
+use Rattle.volume_meaning.specs.Documents.{content_at}
 use Rattle.worm_device.specs.Counts.{Rose}
 use Rattle.worm_device.specs.Views.{ViewState}
 use Rattle.append_file.specs.Pieces.{IsNoPiece, IsPiece}

@@ -1,7 +1,7 @@
 -- The content cells that bytes are stored in.
 use Rattle.std.specs.Prelude.{◌≡◌, ◌<◌, ℕ, List, ◌++◌, length, slice_get, Some}
-use Rattle.stored_documents.specs.Documents.{content_at}
-use Rattle.stored_documents.specs.Slots.{cells_for}
+use Rattle.volume_meaning.specs.Documents.{content_at}
+use Rattle.volume_meaning.specs.Slots.{cells_for}
 
 -- the cells are the content cells of these bytes, in order
 pub record AreCellsOf (bytes : List ℕ) (cells : List (List ℕ)) : Type 0 where

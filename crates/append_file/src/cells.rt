@@ -1,7 +1,7 @@
 //! The content cells that bytes are stored in.
 ghost use Rattle.std.specs.Prelude.{◌≡◌, IfOk, OnOk};
 ghost use Rattle.append_file.specs.StoredCells.{AddsCellsOf, AreCellsOf};
-ghost use Rattle.stored_documents.specs.Slots as slots;
+ghost use Rattle.volume_meaning.specs.Slots as slots;
 
 use cell_types::{Cell, NoMemory, content};
 use std::alloc::{AllocError, Global};

@@ -17,7 +17,7 @@
 //! place asks for, is `Broken`; a read that failed is a `ReadFault`, and a count of faults rose. After either a reader
 //! gives nothing more. What was given is the front of what the cells spell, on every image.
 //!
-//! Reading takes no memory. Stands on `stored_documents` for the words, on `worm_device` for views, and on `cell_types`
+//! Reading takes no memory. Stands on `volume_meaning` for the words, on `worm_device` for views, and on `cell_types`
 //! for content cells. Begin with `position.rt`; `specs/Reading.antt` says what was read.
 #![tactic(auto)]
 

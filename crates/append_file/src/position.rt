@@ -1,7 +1,7 @@
 //! How far a document part was read.
 ghost use Rattle.std.specs.Prelude.{◌≡◌, ◌<◌, ◌≤◌, ◌+◌, [], slice_index, take};
 ghost use Rattle.append_file.specs.Reading.{ByteEnds, NextRowEnds, HasRead, IsPosition, NextEnds, at_start, ended, ended_behind, first_given, left_over, one_given, rest_given, row_given};
-ghost use Rattle.stored_documents.specs.Slots as slots;
+ghost use Rattle.volume_meaning.specs.Slots as slots;
 ghost use Rattle.worm_device.specs.Views.{ViewState, Viewed};
 
 use crate::cells_for;

@@ -1,7 +1,7 @@
 //! A reader of a document part.
 ghost use Rattle.std.specs.Prelude.{◌≡◌, ◌≤◌, ◌+◌};
 ghost use Rattle.append_file.specs.Reading.{IsPosition, NextEnds, at_start};
-ghost use Rattle.stored_documents.specs.Slots.{cells_for};
+ghost use Rattle.volume_meaning.specs.Slots.{cells_for};
 ghost use Rattle.worm_device.specs.Views.{Viewed};
 
 use crate::piece::ContentFault;

@@ -3,7 +3,7 @@ ghost use Rattle.std.specs.Prelude.{◌≡◌, ◌<◌, ◌≤◌, ◌+◌, ◌*
 ghost use Rattle.append_file.specs.Pieces.{IsNoPiece};
 ghost use Rattle.append_file.specs.Rows.{HasNoPiece, HoldsRow, PutsPiece, RowReadEnds};
 ghost use Rattle.append_file.specs.declared.row.TheConstants.{ROW_BYTES, ROW_CELLS};
-ghost use Rattle.stored_documents.specs.Slots as slots;
+ghost use Rattle.volume_meaning.specs.Slots as slots;
 ghost use Rattle.worm_device.specs.Views.{Viewed};
 
 use crate::CONTENT_BYTES;

@@ -1,6 +1,6 @@
 //! What an audit shows of how far it is.
 use crate::cells::{Written, device_with};
-use progress::{Meter, Work};
+use host_ports::{Meter, Work};
 use std::test::Fail;
 use volume_audit::{AuditReport, audit_metered};
 

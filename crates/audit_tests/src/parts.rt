@@ -1,13 +1,11 @@
 //! What parts of an audit answer: written cells over several chunks, the log, blocks, nodes and tilings.
 use crate::cells::{Written, device_with};
 use cell_types::{Cell, Geometry};
-use journal_audit::first_broken;
-use kept_cells::{Shown, keep_cells};
 use list_audit::{ListBlock, blocks_of};
-use log_audit::{check_log, owner_of};
+use log_audit::{Shown, check_log, keep_cells, owner_of};
+use slot_audit::{first_broken, first_broken_tiling};
 use std::alloc::Global;
 use std::test::Fail;
-use tiling_audit::first_broken_tiling;
 use tree_audit::{LevelNode, nodes_of};
 use worm_device::{Device, View};
 use worm_memory::MemoryDevice;

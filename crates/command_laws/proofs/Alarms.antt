@@ -6,10 +6,10 @@ use Rattle.cell_types.specs.declared.refusal.Refusal.{Refusal}
 use Rattle.cell_types.specs.declared.refusal.Refusal.TheVariants.{Tampered}
 use Rattle.worm_device.specs.Counts.{IsStill}
 use Rattle.worm_device.specs.State.{DeviceState, IsDevice}
-use Rattle.volume_audit.specs.commit_record.Licences.{IsLicensed}
-use Rattle.record_query.specs.recovery_engine.Settling.{Settles, SettlesFirst, settled, settling}
-use Rattle.crash_laws.specs.settling_laws.Steadiness.{IsSteady}
-use Rattle.crash_laws.proofs.of_settling_laws.Alarms.{looked_unbroken, settling_named}
+use Rattle.commit_record.specs.Licences.{IsLicensed}
+use Rattle.recovery_engine.specs.Settling.{Settles, SettlesFirst, settled, settling}
+use Rattle.crash_laws.specs.SettlingSteadiness.{IsSteady}
+use Rattle.crash_laws.proofs.SettlingAlarms.{looked_unbroken, settling_named}
 use Rattle.command_laws.proofs.Results.{one_refusal}
 
 module _ (old new : DeviceState) (device : IsDevice old) (tells : IsTrue old.tells)

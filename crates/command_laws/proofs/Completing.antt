@@ -10,37 +10,36 @@ use Rattle.cell_types.specs.declared.refusal.Evidence.{Evidence}
 use Rattle.cell_types.specs.declared.refusal.Refusal.{Refusal}
 use Rattle.cell_types.specs.declared.refusal.Refusal.TheVariants as refusals
 use Rattle.host_ports.specs.Sinks.{SinkState}
-use Rattle.stored_documents.specs.Documents.{Stands}
-use Rattle.stored_documents.specs.Slots.{IsEdge, IsHorizon}
-use Rattle.stored_documents.specs.Volumes.{IsVolume}
-use Rattle.stored_documents.proofs.Extending.{volume_on, written_on}
-use Rattle.volume_audit.specs.tamper_rules.Settling.{IsSettled}
-use Rattle.volume_audit.proofs.of_tamper_rules.GivenUp.{one_layout}
-use Rattle.volume_audit.proofs.of_tamper_rules.Settled.{taken_to}
-use Rattle.index_paths.specs.Postings.{AreTags}
-use Rattle.index_paths.proofs.Tags.{tags_one}
-use Rattle.record_query.specs.ingest_laws.Needs.{IsNeed}
+use Rattle.volume_meaning.specs.Documents.{Stands}
+use Rattle.volume_meaning.specs.Slots.{IsEdge, IsHorizon, IsStampFor}
+use Rattle.volume_meaning.specs.Volumes.{IsVolume}
+use Rattle.volume_meaning.proofs.Extending.{volume_on, written_on}
+use Rattle.tamper_rules.specs.Settling.{IsSettled}
+use Rattle.tamper_rules.proofs.GivenUp.{one_layout}
+use Rattle.tamper_rules.proofs.Settled.{taken_to}
+use Rattle.volume_meaning.specs.Postings.{AreTags}
+use Rattle.volume_meaning.proofs.Tags.{tags_one}
+use Rattle.ingest_laws.specs.Needs.{IsNeed}
 use Rattle.worm_device.specs.Calls.{Called}
 use Rattle.worm_device.specs.Counts.{IsStill}
 use Rattle.worm_device.specs.State.{DeviceState, IsDevice}
 use Rattle.worm_device.proofs.Counting.{rose_or_still, still_first, still_second}
-use Rattle.volume_audit.specs.commit_record.Licences.{IsLicensed}
-use Rattle.volume_audit.proofs.of_document_store.Holding.{held_stands}
-use Rattle.record_query.specs.recovery_engine.Settling.{HasSettled, IsSettlingRule, Settles, SettlesFirst}
-use Rattle.record_query.specs.recovery_engine.declared.settling.Ready.{Ready}
-use Rattle.crash_laws.proofs.of_settling_laws.Alarms.{looked_unbroken, settling_named}
-use Rattle.crash_laws.proofs.of_settling_laws.LookedAt.{looked_ends}
+use Rattle.commit_record.specs.Licences.{IsLicensed}
+use Rattle.document_store.proofs.Holding.{held_stands}
+use Rattle.recovery_engine.specs.Settling.{HasSettled, IsSettlingRule, Settles, SettlesFirst}
+use Rattle.recovery_engine.specs.declared.settling.Ready.{Ready}
+use Rattle.crash_laws.proofs.SettlingAlarms.{looked_unbroken, settling_named}
+use Rattle.crash_laws.proofs.LookedAt.{looked_ends}
 use Rattle.crash_laws.proofs.WellPlanned as planned
-use Rattle.crash_laws.specs.identifier_lookup.Walks.{IsPassedWhole}
-use Rattle.crash_laws.proofs.of_plan_writer.PutFrom.{volume_2}
-use Rattle.crash_laws.specs.ingest_engine.Formats.{FormatEnds}
-use Rattle.stored_documents.specs.Slots.{IsStampFor}
-use Rattle.crash_laws.specs.jump_insertion.Evidence.{IsPastStamps}
-use Rattle.crash_laws.specs.ingest_plan.Planning.{IsLater}
-use Rattle.crash_laws.specs.ingest_engine.Ingesting.{HasFullPath, HasLaterStamp, HasNoRoom, HasNoSlot, HasSlot, IngestEnds, IsNamed, IsTaken, IsTooMany, StampEnds, TakesNoSuchStamp, by_plan, by_settling, in_index}
-use Rattle.crash_laws.specs.ingest_engine.Stamps.{IsStampBelow}
-use Rattle.crash_laws.proofs.of_ingest_engine.Named.{is_horizon, slot_still}
-use Rattle.crash_laws.proofs.of_ingest_engine.CrashedIngests.{ready_layout, settled_unused}
+use Rattle.identifier_lookup.specs.Walks.{IsPassedWhole}
+use Rattle.plan_writer.proofs.PutFrom.{volume_2}
+use Rattle.ingest_engine.specs.Formats.{FormatEnds}
+use Rattle.jump_insertion.specs.Evidence.{IsPastStamps}
+use Rattle.ingest_plan.specs.Planning.{IsLater}
+use Rattle.ingest_engine.specs.Ingesting.{HasFullPath, HasLaterStamp, HasNoRoom, HasNoSlot, HasSlot, IngestEnds, IsNamed, IsTaken, IsTooMany, StampEnds, TakesNoSuchStamp, by_plan, by_settling, in_index}
+use Rattle.ingest_engine.specs.Stamps.{IsStampBelow}
+use Rattle.ingest_engine.proofs.Named.{is_horizon, slot_still}
+use Rattle.ingest_engine.proofs.CrashedIngests.{ready_layout, settled_unused}
 use Rattle.record_query.specs.Finding.{FindEnds}
 use Rattle.record_query.specs.LookingUp.{LookUpEnds}
 use Rattle.record_query.specs.declared.found.Found.{Found}

@@ -6,19 +6,19 @@ use Rattle.cell_types.specs.Image.{Image, Between, ChangesOnly, Extends}
 use Rattle.cell_types.specs.Layout.{IsLayout, Layout}
 use Rattle.cell_types.specs.declared.refusal.Refusal.{Refusal}
 use Rattle.cell_types.specs.declared.refusal.Refusal.TheVariants as refusals
-use Rattle.stored_documents.specs.Documents.{AreDocuments, Document}
-use Rattle.stored_documents.specs.Volumes.{IsVolume}
-use Rattle.volume_audit.specs.tamper_rules.Settling.{After, Held, Settled, Sound, none, nothing, of_after}
-use Rattle.volume_audit.proofs.of_tamper_rules.Images.{look, same_image}
-use Rattle.volume_audit.proofs.of_tamper_rules.SettledLaws.{formatted}
+use Rattle.volume_meaning.specs.Documents.{AreDocuments, Document}
+use Rattle.volume_meaning.specs.Volumes.{IsVolume}
+use Rattle.tamper_rules.specs.Settling.{After, Held, Settled, Sound, none, nothing, of_after}
+use Rattle.tamper_rules.proofs.Images.{look, same_image}
+use Rattle.tamper_rules.proofs.SettledLaws.{formatted}
 use Rattle.worm_device.specs.Calls.{Called}
 use Rattle.worm_device.specs.Counts.{IsStill}
 use Rattle.worm_device.specs.State.{DeviceState, IsDevice}
 use Rattle.worm_device.proofs.Elapsing.{elapses_of}
 use Rattle.worm_device.proofs.Images.{extends_self, extends_then}
-use Rattle.crash_laws.specs.settling_laws.Steadiness.{IsLeftWhole, IsSteady, StaysSteady}
-use Rattle.crash_laws.proofs.of_settling_laws.LeftWhole.{held_unmoved, left_between, not_blank, stays_steady}
-use Rattle.crash_laws.specs.ingest_engine.Formats.{FormatEnds, volume_cell}
+use Rattle.crash_laws.specs.SettlingSteadiness.{IsLeftWhole, IsSteady, StaysSteady}
+use Rattle.crash_laws.proofs.LeftWhole.{held_unmoved, left_between, not_blank, stays_steady}
+use Rattle.ingest_engine.specs.Formats.{FormatEnds, volume_cell}
 use Rattle.command_laws.specs.Begins.{BeginsSteady}
 use Rattle.command_laws.specs.Telling.{IsFormatted, LeavesHeld}
 

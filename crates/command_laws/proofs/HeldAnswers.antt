@@ -5,17 +5,17 @@ use Rattle.cell_types.specs.Image.{Image}
 use Rattle.cell_types.specs.Layout.{Layout}
 use Rattle.cell_types.specs.declared.refusal.Refusal.{Refusal}
 use Rattle.cell_types.specs.declared.refusal.Refusal.TheVariants as refusals
-use Rattle.stored_documents.specs.Documents.{AreDocuments, Document, Stands}
-use Rattle.index_paths.specs.Keeping.{Kept}
-use Rattle.volume_audit.proofs.of_tamper_rules.GivenUp.{one_layout}
-use Rattle.volume_audit.proofs.of_tamper_rules.Keeps.{keeps_all}
-use Rattle.volume_audit.proofs.of_tamper_rules.Settled.{taken_below, written}
-use Rattle.volume_audit.specs.tamper_rules.Settling.{Held, Settled}
+use Rattle.volume_meaning.specs.Documents.{AreDocuments, Document, Stands}
+use Rattle.volume_meaning.specs.Keeping.{Kept}
+use Rattle.tamper_rules.proofs.GivenUp.{one_layout}
+use Rattle.tamper_rules.proofs.Keeps.{keeps_all}
+use Rattle.tamper_rules.proofs.Settled.{taken_below, written}
+use Rattle.tamper_rules.specs.Settling.{Held, Settled}
 use Rattle.worm_device.specs.State.{DeviceState, IsDevice}
-use Rattle.record_query.specs.recovery_engine.Settling.{HasSettled, Settles, SettlesFirst, settled, settling}
-use Rattle.record_query.specs.recovery_engine.declared.settling.Ready.{Ready}
-use Rattle.crash_laws.proofs.of_settling_laws.LeftWhole.{documents_after}
-use Rattle.crash_laws.proofs.of_settling_laws.LookedAt.{looked_ends, looked_sound}
+use Rattle.recovery_engine.specs.Settling.{HasSettled, Settles, SettlesFirst, settled, settling}
+use Rattle.recovery_engine.specs.declared.settling.Ready.{Ready}
+use Rattle.crash_laws.proofs.LeftWhole.{documents_after}
+use Rattle.crash_laws.proofs.LookedAt.{looked_ends, looked_sound}
 use Rattle.record_query.specs.Finding.{Finds}
 use Rattle.record_query.specs.LookingUp.{IsAbsent, NoneHas}
 use Rattle.record_query.specs.declared.found.Match.{Match}

@@ -1,14 +1,14 @@
 -- One row of calls that add no document after another.
 use Rattle.std.proofs.Common.{ℕ, List, sym, inl, inr, ⊎_elim, subst, arith}
 use Rattle.cell_types.specs.Image.{Image}
-use Rattle.stored_documents.specs.Documents.{Document}
-use Rattle.volume_audit.specs.tamper_rules.Settling.{Held, IsBlankOrSound}
+use Rattle.volume_meaning.specs.Documents.{Document}
+use Rattle.tamper_rules.specs.Settling.{Held, IsBlankOrSound}
 use Rattle.worm_device.specs.Calls.{Called}
 use Rattle.worm_device.specs.State.{DeviceState, IsDevice, LeftSince}
 use Rattle.worm_device.proofs.Elapsing.{elapses_of}
 use Rattle.worm_device.proofs.Images.{extends_self}
-use Rattle.crash_laws.specs.settling_laws.Steadiness.{HoldsOneOf, IsLeftWhole, IsSteady}
-use Rattle.crash_laws.proofs.of_settling_laws.LeftWhole.{whole_from}
+use Rattle.crash_laws.specs.SettlingSteadiness.{HoldsOneOf, IsLeftWhole, IsSteady}
+use Rattle.crash_laws.proofs.LeftWhole.{whole_from}
 use Rattle.command_laws.specs.Telling.{LeavesHeld}
 
 module _ {a b : DeviceState} (device : IsDevice a) (called : Called a b) (steady : IsSteady a) (device_b : IsDevice b)

@@ -3,16 +3,16 @@ use Rattle.std.proofs.Common.{◌≡◌, ℕ, List, sym, subst}
 use Rattle.std.specs.Prelude.{IsTrue}
 use Rattle.cell_types.specs.Image.{Image, IsUnchanged}
 use Rattle.cell_types.specs.Layout.{Layout}
-use Rattle.stored_documents.specs.Documents.{Document}
-use Rattle.stored_documents.proofs.Extending.{volume_on}
-use Rattle.stored_documents.specs.Volumes.{IsVolume}
-use Rattle.volume_audit.specs.tamper_rules.Settling.{Held}
-use Rattle.volume_audit.proofs.of_tamper_rules.Images.{same_image}
+use Rattle.volume_meaning.specs.Documents.{Document}
+use Rattle.volume_meaning.proofs.Extending.{volume_on}
+use Rattle.volume_meaning.specs.Volumes.{IsVolume}
+use Rattle.tamper_rules.specs.Settling.{Held}
+use Rattle.tamper_rules.proofs.Images.{same_image}
 use Rattle.worm_device.specs.Calls.{Called}
 use Rattle.worm_device.specs.Counts.{IsStill}
 use Rattle.worm_device.specs.State.{DeviceState, IsDevice}
 use Rattle.worm_device.proofs.Counting.{still_first, still_second}
-use Rattle.crash_laws.specs.settling_laws.Steadiness.{StaysSteady}
+use Rattle.crash_laws.specs.SettlingSteadiness.{StaysSteady}
 use Rattle.command_laws.specs.Begins.{BeginsSteady}
 use Rattle.command_laws.specs.Telling.{LeavesHeld}
 use Rattle.command_laws.specs.WholeLogs.{HasSteadyVolume}

@@ -2,12 +2,12 @@
 -- nobody else writes.
 use Rattle.std.proofs.Common.{ℕ, Result, Err, sym, subst}
 use Rattle.cell_types.specs.declared.refusal.Refusal.{Refusal}
-use Rattle.volume_audit.specs.tamper_rules.Settling.{Held}
+use Rattle.tamper_rules.specs.Settling.{Held}
 use Rattle.worm_device.specs.State.{DeviceState, IsDevice}
-use Rattle.record_query.specs.recovery_engine.Settling.{Settles, SettlesFirst, settled, settling}
-use Rattle.record_query.specs.recovery_engine.declared.settling.Ready.{Ready}
-use Rattle.crash_laws.proofs.of_settling_laws.LeftWhole.{settling_keeps, settling_left, stays_steady}
-use Rattle.crash_laws.proofs.of_settling_laws.LookedAt.{looking_keeps, looking_steady}
+use Rattle.recovery_engine.specs.Settling.{Settles, SettlesFirst, settled, settling}
+use Rattle.recovery_engine.specs.declared.settling.Ready.{Ready}
+use Rattle.crash_laws.proofs.LeftWhole.{settling_keeps, settling_left, stays_steady}
+use Rattle.crash_laws.proofs.LookedAt.{looking_keeps, looking_steady}
 use Rattle.command_laws.specs.Begins.{BeginsSteady}
 use Rattle.command_laws.specs.Telling.{LeavesHeld}
 

@@ -7,15 +7,15 @@ use Rattle.cell_types.specs.declared.refusal.Evidence.{Evidence}
 use Rattle.cell_types.specs.declared.refusal.Refusal.{Refusal}
 use Rattle.cell_types.specs.declared.refusal.Refusal.TheVariants as refusals
 use Rattle.cell_types.specs.Records.{IsRecordCell}
-use Rattle.stored_documents.specs.Volumes.{Holds, IsVolume, volume_record}
-use Rattle.stored_documents.proofs.Extending.{volume_on}
-use Rattle.volume_audit.proofs.of_tamper_rules.GivenUp.{one_layout}
+use Rattle.volume_meaning.specs.Volumes.{Holds, IsVolume, volume_record}
+use Rattle.volume_meaning.proofs.Extending.{volume_on}
+use Rattle.tamper_rules.proofs.GivenUp.{one_layout}
 use Rattle.worm_device.specs.Calls.{Called}
 use Rattle.worm_device.specs.State.{DeviceState}
 use Rattle.worm_device.proofs.Counting.{rose_or_still}
-use Rattle.volume_audit.specs.commit_record.Opening.{IsNoVolumeCell}
-use Rattle.record_query.specs.recovery_engine.Settling.{IsFound, IsSettlingRule, SettleEnds}
-use Rattle.crash_laws.specs.settling_laws.Steadiness.{IsSteady}
+use Rattle.commit_record.specs.Opening.{IsNoVolumeCell}
+use Rattle.recovery_engine.specs.Settling.{IsFound, IsSettlingRule, SettleEnds}
+use Rattle.crash_laws.specs.SettlingSteadiness.{IsSteady}
 use Rattle.command_laws.specs.WholeLogs.{HasSteadyVolume, HasWholeLog, IsUntampered, steady, unbroken}
 
 some_is : (a b : List ℕ) → Some a ≡ Some b → a ≡ b

@@ -1,16 +1,16 @@
 -- When a document can be stored, and a device formatted.
 use Rattle.std.specs.Prelude.{None, Option, ◌≡◌, ◌≤◌, ◌+◌, ℕ, List, IsTrue}
 use Rattle.cell_types.specs.Layout.{IsLayout, Layout}
-use Rattle.stored_documents.specs.Documents.{Stands}
-use Rattle.stored_documents.specs.Slots.{IsEdge, IsHorizon, IsStampFor, IsUnused}
-use Rattle.stored_documents.specs.Volumes.{IsVolume}
-use Rattle.index_paths.specs.Postings.{HasPostings}
-use Rattle.volume_audit.specs.tamper_rules.Settling.{Sound}
-use Rattle.record_query.specs.ingest_laws.Needs.{IsNeed}
-use Rattle.crash_laws.specs.ingest_plan.Planning.{IsLater}
+use Rattle.volume_meaning.specs.Documents.{Stands}
+use Rattle.volume_meaning.specs.Slots.{IsEdge, IsHorizon, IsStampFor, IsUnused}
+use Rattle.volume_meaning.specs.Volumes.{IsVolume}
+use Rattle.volume_meaning.specs.Postings.{HasPostings}
+use Rattle.tamper_rules.specs.Settling.{Sound}
+use Rattle.ingest_laws.specs.Needs.{IsNeed}
+use Rattle.ingest_plan.specs.Planning.{IsLater}
 use Rattle.worm_device.specs.Counts.{IsStill}
 use Rattle.worm_device.specs.State.{DeviceState}
-use Rattle.crash_laws.specs.identifier_lookup.Walks.{IsPassedWhole}
+use Rattle.identifier_lookup.specs.Walks.{IsPassedWhole}
 
 -- What stands is a sound volume, and a stamp is given exactly where its documents are stamped. In what settling makes of
 -- it the stamp is past those of the done slots, no document has the identifier, and its path is not full. No list gets

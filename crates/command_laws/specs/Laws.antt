@@ -3,13 +3,13 @@ use Rattle.std.specs.Prelude.{◌≡◌, ℕ, List, Result, Ok}
 use Rattle.std.specs.Global.{Vec}
 use Rattle.cell_types.specs.Layout.{Layout}
 use Rattle.cell_types.specs.declared.refusal.Refusal.{Refusal}
-use Rattle.stored_documents.specs.Documents.{AreDocuments, Document}
-use Rattle.volume_audit.specs.tamper_rules.Settling.{Held}
+use Rattle.volume_meaning.specs.Documents.{AreDocuments, Document}
+use Rattle.tamper_rules.specs.Settling.{Held}
 use Rattle.worm_device.specs.State.{DeviceState, IsDevice}
 use Rattle.host_ports.specs.Sinks.{SinkState}
-use Rattle.record_query.specs.recovery_engine.Settling.{Settles}
-use Rattle.record_query.specs.recovery_engine.declared.settling.Ready.{Ready}
-use Rattle.crash_laws.specs.ingest_engine.Formats.{Formats}
+use Rattle.recovery_engine.specs.Settling.{Settles}
+use Rattle.recovery_engine.specs.declared.settling.Ready.{Ready}
+use Rattle.ingest_engine.specs.Formats.{Formats}
 use Rattle.record_query.specs.Finding.{Searches}
 use Rattle.record_query.specs.LookingUp.{LooksUp}
 use Rattle.record_query.specs.declared.found.Found.{Found}

@@ -1,9 +1,9 @@
 -- What a command from a steady device on leaves, where nobody else writes, and what a query tells.
 use Rattle.std.specs.Prelude.{◌≡◌, ℕ, List, [], length, Contains}
-use Rattle.stored_documents.specs.Documents.{AreDocuments, Document}
-use Rattle.volume_audit.specs.tamper_rules.Settling.{Held, Settled}
+use Rattle.volume_meaning.specs.Documents.{AreDocuments, Document}
+use Rattle.tamper_rules.specs.Settling.{Held, Settled}
 use Rattle.worm_device.specs.State.{DeviceState}
-use Rattle.crash_laws.specs.settling_laws.Steadiness.{StaysSteady}
+use Rattle.crash_laws.specs.SettlingSteadiness.{StaysSteady}
 use Rattle.record_query.specs.Finding.{HasMatch, HasTerms, Rises}
 use Rattle.record_query.specs.declared.found.Match.{Match}
 

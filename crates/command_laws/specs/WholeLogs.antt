@@ -1,11 +1,11 @@
 -- A volume on which nothing hinders a command that reads and writes its log.
 use Rattle.std.specs.Prelude.{ℕ, IsTrue}
 use Rattle.cell_types.specs.Layout.{Layout}
-use Rattle.stored_documents.specs.Volumes.{IsVolume}
-use Rattle.volume_audit.specs.tamper_rules.Rules.{IsBroken}
+use Rattle.volume_meaning.specs.Volumes.{IsVolume}
+use Rattle.tamper_rules.specs.Rules.{IsBroken}
 use Rattle.worm_device.specs.Counts.{IsStill}
 use Rattle.worm_device.specs.State.{DeviceState}
-use Rattle.crash_laws.specs.settling_laws.Steadiness.{IsSteady}
+use Rattle.crash_laws.specs.SettlingSteadiness.{IsSteady}
 
 -- Nothing can be named as evidence: whatever a crash leaves of the device is blank or sound, as each command leaves it
 -- where nobody else writes; or, whoever has written, none of the rules that are looked at is broken at any cell.

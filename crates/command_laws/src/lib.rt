@@ -8,12 +8,11 @@
 //!     each                                    names no tampering, and is refused for a cause that stands
 //!
 //! Ingests are in `crash_laws`. There is no code here, only laws. They speak of states of the device alone: a program that
-//! reads its words and puts out lines (`record_top`), and a replay of events on a device in memory (`replayed_worlds`),
+//! reads its words and puts out lines (`record_top`), and a replay of events on a device in memory (`hostile_replay`),
 //! stand on them alike.
 //!
-//! Stands on `crash_laws` and `settling_laws`, which say what a crash leaves, and on the engines: `ingest_engine`,
-//! `record_query`, `volume_audit`. It passes the specifications and lemmas of all of these on, so that those of a crate of
-//! commands name this one alone. Begin with specs/Telling.antt; specs/Laws.antt has the laws' sentences.
+//! Stands on `crash_laws`, which says what a crash leaves, and on the engines: `ingest_engine`,
+//! `record_query`, `volume_audit`. Begin with specs/Telling.antt; specs/Laws.antt has the laws' sentences.
 #![tactic(auto)]
 
 mod laws;

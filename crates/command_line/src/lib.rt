@@ -16,8 +16,8 @@
 //! A further command is one case in each relation of specs/Requests.antt, its words in specs/Asking.antt, and a reader in
 //! `words.rt`.
 //!
-//! Stands on `cell_types` and `host_ports`, and knows nothing of volumes. `record_top` carries out what is asked for, and
-//! `copy_top` a command over two devices. Begin with `words.rt`; specs/Requests.antt says which commands there are.
+//! Stands on `cell_types` and `host_ports`, and knows nothing of volumes. `record_top` carries out what is asked for, of
+//! one device or of two. Begin with `words.rt`; specs/Requests.antt says which commands there are.
 #![tactic(auto)]
 
 mod laws;

@@ -5,9 +5,9 @@ use Rattle.cell_types.specs.Image.{Image}
 use Rattle.cell_types.specs.Layout.{Layout, reserve_at, outcome_at, spare_at}
 use Rattle.cell_types.specs.declared.record_cell.RecordCell.{RecordCell}
 use Rattle.cell_types.specs.declared.record_cell.RecordCell.TheVariants as records
-use Rattle.stored_documents.specs.Slots.{IsStamped}
-use Rattle.stored_documents.specs.Volumes.{Holds, IsVolume, IsWritten}
-use Rattle.stored_documents.proofs.Holding.{one_record_holds}
+use Rattle.volume_meaning.specs.Slots.{IsStamped}
+use Rattle.volume_meaning.specs.Volumes.{Holds, IsVolume, IsWritten}
+use Rattle.volume_meaning.proofs.Holding.{one_record_holds}
 use Rattle.tamper_rules.specs.Rules.{Rule, IsBroken, IsMet, IsPlace, ReserveCells, OutcomeCells, DoneCells, number_of}
 use Rattle.commit_record.specs.Laws.{NoStateBreaksARule}
 use Rattle.commit_record.specs.States.{IsNoState, LacksStamp, reserves_none, ends_unreserved, ends_wrongly, ends_unstamped, done_unreserved, done_unended, done_abandoned, done_wrongly}

@@ -7,9 +7,9 @@ use Rattle.cell_types.specs.Image.{Image, Extends}
 use Rattle.cell_types.specs.Layout.{Layout, spare_at}
 use Rattle.cell_types.specs.Records.{IsRecordCell}
 use Rattle.cell_types.specs.declared.record_cell.RecordCell.{RecordCell}
-use Rattle.stored_documents.specs.Volumes.{Holds}
-use Rattle.stored_documents.proofs.Extending.{blank_before}
-use Rattle.stored_documents.proofs.Holding.{one_record_holds, some_is}
+use Rattle.volume_meaning.specs.Volumes.{Holds}
+use Rattle.volume_meaning.proofs.Extending.{blank_before}
+use Rattle.volume_meaning.proofs.Holding.{one_record_holds, some_is}
 use Rattle.worm_device.specs.Looks.{IsSeen}
 use Rattle.commit_record.specs.SlotCells.{SeenStamp, cell_of}
 use Rattle.worm_device.specs.declared.looks.Found.{Found}

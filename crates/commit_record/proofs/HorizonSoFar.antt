@@ -5,8 +5,8 @@ use Rattle.std.proofs.lemmas.Option.{none-some}
 use Rattle.std.specs.Prelude.{IsNone, IsTrue, Ok}
 use Rattle.cell_types.specs.Image.{Image, Extends}
 use Rattle.cell_types.specs.Layout.{Layout, reserve_at}
-use Rattle.stored_documents.specs.Volumes.{IsWritten}
-use Rattle.stored_documents.proofs.Extending.{blank_before}
+use Rattle.volume_meaning.specs.Volumes.{IsWritten}
+use Rattle.volume_meaning.proofs.Extending.{blank_before}
 use Rattle.worm_device.specs.Views.{ViewState, Viewed, ViewReads}
 use Rattle.worm_device.proofs.Resting.{viewed_then}
 use Rattle.commit_record.specs.LogEnds.{IsLastReserve, IsLogEnd}

@@ -2,10 +2,10 @@
 use Rattle.std.proofs.Common.{◌≡◌, ℕ, refl, subst, arith}
 use Rattle.cell_types.specs.Image.{Image}
 use Rattle.cell_types.specs.Layout.{Layout, reserve_at, outcome_at, done_at}
-use Rattle.stored_documents.specs.Slots.{Commits, Reserves}
-use Rattle.stored_documents.specs.Volumes.{IsWritten}
-use Rattle.stored_documents.proofs.Holding.{one_record_holds}
-use Rattle.stored_documents.proofs.OneDocument.{reserves, commits}
+use Rattle.volume_meaning.specs.Slots.{Commits, Reserves}
+use Rattle.volume_meaning.specs.Volumes.{IsWritten}
+use Rattle.volume_meaning.proofs.Holding.{one_record_holds}
+use Rattle.volume_meaning.proofs.OneDocument.{reserves, commits}
 use Rattle.commit_record.specs.Laws.{StatesAreOne}
 use Rattle.commit_record.specs.States.{IsState, IsNoState, reserves_none, ends_unreserved, ends_wrongly, ends_unstamped, done_unreserved, done_unended, done_abandoned, done_wrongly}
 use Rattle.commit_record.specs.declared.slot.SlotState.{SlotState}

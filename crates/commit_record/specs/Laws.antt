@@ -2,7 +2,7 @@
 use Rattle.std.specs.Prelude.{◌≡◌, ◌<◌, ℕ}
 use Rattle.cell_types.specs.Image.{Image}
 use Rattle.cell_types.specs.Layout.{Layout}
-use Rattle.stored_documents.specs.Volumes.{IsVolume, IsWritten}
+use Rattle.volume_meaning.specs.Volumes.{IsVolume, IsWritten}
 use Rattle.tamper_rules.specs.Rules.{IsBroken}
 use Rattle.commit_record.specs.States.{IsNoState, IsState}
 use Rattle.commit_record.specs.declared.slot.SlotState.{SlotState}

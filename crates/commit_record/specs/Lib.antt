@@ -7,4 +7,3 @@ pub mod Reservations
 pub mod Stamps
 pub mod States
 pub mod SlotCells
-pub use Rattle.tamper_rules.specs as tamper_rules

@@ -2,8 +2,8 @@
 use Rattle.std.specs.Prelude.{◌≡◌, ◌≤◌, ◌+◌, ◌-◌, ◌↔◌, ℕ, List, Option, Result, Ok, Err, IsNone, IsTrue}
 use Rattle.cell_types.specs.Image.{Image}
 use Rattle.cell_types.specs.Layout.{Layout, reserve_at}
-use Rattle.stored_documents.specs.Slots.{IsHorizon}
-use Rattle.stored_documents.specs.Volumes.{IsWritten}
+use Rattle.volume_meaning.specs.Slots.{IsHorizon}
+use Rattle.volume_meaning.specs.Volumes.{IsWritten}
 use Rattle.worm_device.specs.Counts.{Rose}
 use Rattle.worm_device.specs.Views.{ViewState}
 use Rattle.worm_device.specs.declared.device.Failed.{Failed}

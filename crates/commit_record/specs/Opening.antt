@@ -5,7 +5,7 @@ use Rattle.cell_types.specs.Records.{IsRecordCell}
 use Rattle.cell_types.specs.declared.geometry.Volume.{Volume}
 use Rattle.cell_types.specs.declared.refusal.Refusal.{Refusal}
 use Rattle.cell_types.specs.declared.refusal.Refusal.TheVariants as refusals
-use Rattle.stored_documents.specs.Volumes.{Holds, IsVolume, volume_record}
+use Rattle.volume_meaning.specs.Volumes.{Holds, IsVolume, volume_record}
 use Rattle.worm_device.specs.Counts.{Rose}
 use Rattle.worm_device.specs.Views.{ViewState}
 use Rattle.commit_record.specs.declared.opening.OpenRefusal.{OpenRefusal}

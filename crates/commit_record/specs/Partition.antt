@@ -1,8 +1,8 @@
 -- The three parts of a slot's cells: its blocks, its document and its journal.
 use Rattle.std.specs.Prelude.{◌≤◌, ◌+◌, ◌-◌, ℕ, Option, Some, None, ⊤}
 use Rattle.cell_types.specs.declared.geometry.TheConstants.{MAX_CELLS}
-use Rattle.stored_documents.specs.Documents.{document_at}
-use Rattle.stored_documents.specs.Slots.{cells_for}
+use Rattle.volume_meaning.specs.Documents.{document_at}
+use Rattle.volume_meaning.specs.Slots.{cells_for}
 use Rattle.tamper_rules.specs.Journals.{journal_at}
 use Rattle.commit_record.specs.declared.slot.SlotState.{SlotState}
 use Rattle.commit_record.specs.declared.slot.SlotState.TheVariants.{Unused, Reserved, Abandoned, Committed, Done}

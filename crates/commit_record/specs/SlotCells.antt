@@ -6,7 +6,7 @@ use Rattle.cell_types.specs.declared.geometry.TheConstants.{STAMPED_VERSION}
 use Rattle.cell_types.specs.declared.record_cell.RecordCell.{RecordCell}
 use Rattle.cell_types.specs.declared.record_cell.RecordCell.TheVariants.{Stamp}
 use Rattle.cell_types.specs.declared.refusal.Evidence.{Evidence}
-use Rattle.stored_documents.specs.Slots.{Commits, Reserves}
+use Rattle.volume_meaning.specs.Slots.{Commits, Reserves}
 use Rattle.tamper_rules.specs.Rules.{IsPlaceOf}
 use Rattle.worm_device.specs.Counts.{Rose}
 use Rattle.worm_device.specs.Looks.{IsSeen}

@@ -8,8 +8,8 @@ use Rattle.cell_types.specs.declared.record_cell.RecordCell.TheVariants as recor
 use Rattle.cell_types.specs.declared.refusal.Evidence.{Evidence}
 use Rattle.cell_types.specs.declared.refusal.Fault.{Fault}
 use Rattle.cell_types.specs.declared.refusal.Fault.TheVariants.{Tampered, Failed}
-use Rattle.stored_documents.specs.Slots.{cells_for, Reserves, Abandons, Commits, HasStamp, IsUnused, IsReserved, IsAbandoned, IsCommitted, IsDone}
-use Rattle.stored_documents.specs.Volumes.{Holds, IsVolume}
+use Rattle.volume_meaning.specs.Slots.{cells_for, Reserves, Abandons, Commits, HasStamp, IsUnused, IsReserved, IsAbandoned, IsCommitted, IsDone}
+use Rattle.volume_meaning.specs.Volumes.{Holds, IsVolume}
 use Rattle.tamper_rules.specs.Rules.{IsPlaceOf, IsBroken}
 use Rattle.tamper_rules.specs.declared.numbers.TheConstants.{RESERVE_CELL, OUTCOME_CELL, DONE_CELL}
 use Rattle.worm_device.specs.Counts.{Rose, IsStill}

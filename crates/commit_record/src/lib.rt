@@ -42,7 +42,7 @@
 //! goes on from there: it makes one read less, and never finds the slot unused, whatever the device answers. Nothing
 //! takes memory.
 //!
-//! Stands on `stored_documents` and `tamper_rules` for the words, and on `worm_device` for views. Begin with `slot.rt`;
+//! Stands on `volume_meaning` and `tamper_rules` for the words, and on `worm_device` for views. Begin with `slot.rt`;
 //! `specs/States.antt` says what its answers mean.
 #![tactic(auto)]
 

@@ -3,7 +3,7 @@ ghost use Rattle.std.specs.Prelude.{◌≡◌, ◌<◌, ◌≤◌, ◌+◌, ◌�
 ghost use Rattle.cell_types.specs.Layout.{done_at, outcome_at, pool_at, reserve_at};
 ghost use Rattle.cell_types.specs.declared.geometry.TheConstants.{MAX_CELLS};
 ghost use Rattle.cell_types.specs.declared.record_cell.RecordCell.TheVariants.{Reserve, Stamp};
-ghost use Rattle.stored_documents.specs.Slots.{cells_for};
+ghost use Rattle.volume_meaning.specs.Slots.{cells_for};
 ghost use Rattle.tamper_rules.specs.declared.numbers.TheConstants.{DONE_CELL};
 ghost use Rattle.worm_device.specs.Looks.{IsOfCell};
 ghost use Rattle.commit_record.specs.Reservations.{reservation_of};

@@ -1,7 +1,7 @@
 //! The parts of a slot, by its state.
 ghost use Rattle.std.specs.Prelude.{◌≡◌};
 ghost use Rattle.commit_record.specs.Partition.{HasRoom, parts_of};
-ghost use Rattle.stored_documents.specs.Slots.{cells_for};
+ghost use Rattle.volume_meaning.specs.Slots.{cells_for};
 
 use crate::partition::Parts;
 use crate::slot::SlotState;

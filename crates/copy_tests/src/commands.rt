@@ -1,7 +1,7 @@
 //! The command `copy`, by `run_two`: what is put out, and which words are no copy.
 use crate::volumes::{begin, blank, small_volume};
-use copy_top::run_two;
 use host_ports::MemorySink;
+use record_top::run_two;
 use std::alloc::Global;
 use std::test::Fail;
 use worm_memory::MemoryDevice;

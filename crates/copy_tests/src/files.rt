@@ -1,10 +1,8 @@
 //! Commands over a file in memory, each call of which fails in turn. What is expected was written by hand.
 use cell_types::{Cell, Evidence, Refusal};
-use file_top::run_over_file;
 use host_files::{FileDevice, Leaving, MemoryFile, Pages};
-use host_ports::{MemorySink, MemorySource};
-use progress::Silent;
-use record_top::Outcome;
+use host_ports::{MemorySink, MemorySource, Silent};
+use record_top::{Outcome, run_over_file};
 use std::alloc::Global;
 use std::test::Fail;
 

@@ -4,7 +4,7 @@ use document_store::is_identifier;
 use ingest_engine::{format_volume, ingest};
 use std::alloc::Global;
 use std::test::Fail;
-use stored_documents::MAX_BODY_BYTES;
+use volume_meaning::MAX_BODY_BYTES;
 use worm_memory::MemoryDevice;
 
 /// A device with room for what is done here.

@@ -5,36 +5,36 @@ use Rattle.std.proofs.lemmas.Option.{none-some}
 use Rattle.std.proofs.lemmas.Bool.{cases_lt}
 use Rattle.cell_types.specs.Image.{Between, Extends, Image}
 use Rattle.cell_types.specs.Layout.{Layout, done_at, outcome_at, reserve_at}
-use Rattle.stored_documents.specs.Documents.{AreDocuments, Stands}
-use Rattle.stored_documents.specs.Slots.{IsStampOf}
-use Rattle.stored_documents.specs.Volumes.{IsVolume}
-use Rattle.stored_documents.proofs.Extending.{volume_on}
-use Rattle.ingest_engine.specs.tamper_rules.Rules as Rules
-use Rattle.ingest_engine.specs.tamper_rules.Rules.{DoneRule, OutcomeRule}
-use Rattle.ingest_engine.specs.tamper_rules.Settling.{IsSettled}
-use Rattle.ingest_engine.proofs.of_tamper_rules.GivenUp.{one_layout}
-use Rattle.ingest_engine.proofs.of_tamper_rules.Images.{look, same_both}
-use Rattle.ingest_engine.specs.ingest_laws.Filling.{IsWellPlanned}
-use Rattle.ingest_engine.specs.ingest_laws.Ingesting.{Phase, Row}
-use Rattle.ingest_engine.proofs.of_ingest_laws.PlanAdds.{adds_one}
-use Rattle.ingest_engine.proofs.of_ingest_laws.PlanSettled.{plan_is_settled}
+use Rattle.volume_meaning.specs.Documents.{AreDocuments, Stands}
+use Rattle.volume_meaning.specs.Slots.{IsStampOf}
+use Rattle.volume_meaning.specs.Volumes.{IsVolume}
+use Rattle.volume_meaning.proofs.Extending.{volume_on}
+use Rattle.tamper_rules.specs.Rules as Rules
+use Rattle.tamper_rules.specs.Rules.{DoneRule, OutcomeRule}
+use Rattle.tamper_rules.specs.Settling.{IsSettled}
+use Rattle.tamper_rules.proofs.GivenUp.{one_layout}
+use Rattle.tamper_rules.proofs.Images.{look, same_both}
+use Rattle.ingest_laws.specs.Filling.{IsWellPlanned}
+use Rattle.ingest_laws.specs.Ingesting.{Phase, Row}
+use Rattle.ingest_laws.proofs.PlanAdds.{adds_one}
+use Rattle.ingest_laws.proofs.PlanSettled.{plan_is_settled}
 use Rattle.worm_device.specs.Counts.{IsStill}
 use Rattle.worm_device.specs.State.{DeviceState, IsDevice, LeftSince}
 use Rattle.worm_device.proofs.Counting.{still_first, still_second}
 use Rattle.worm_device.proofs.Images.{extends_self}
-use Rattle.ingest_engine.specs.phase_writer.declared.put.Put.{Put}
-use Rattle.ingest_engine.specs.phase_writer.Putting.{AreStanding, IsInFirst, IsPut, LeavesPhases}
-use Rattle.settling_laws.specs.recovery_engine.Ending.{done_put}
-use Rattle.settling_laws.specs.recovery_engine.Settling.{HasSettled}
-use Rattle.settling_laws.specs.recovery_engine.declared.settling.Ready.{Ready}
-use Rattle.ingest_engine.specs.plan_writer.Planned.{INGEST_PHASES, PlansDocument, Suits, ingest_phases}
-use Rattle.ingest_engine.specs.plan_writer.PuttingPlans.{PutsPlan}
-use Rattle.ingest_engine.specs.plan_writer.declared.plan.Plan.{Plan}
-use Rattle.ingest_engine.proofs.of_plan_writer.LogCells.{done_in}
-use Rattle.ingest_engine.proofs.of_plan_writer.PutFrom as from
+use Rattle.recovery_engine.specs.declared.put.Put.{Put}
+use Rattle.recovery_engine.specs.Putting.{AreStanding, IsInFirst, IsPut, LeavesPhases}
+use Rattle.recovery_engine.specs.Ending.{done_put}
+use Rattle.recovery_engine.specs.Settling.{HasSettled}
+use Rattle.recovery_engine.specs.declared.settling.Ready.{Ready}
+use Rattle.plan_writer.specs.Planned.{INGEST_PHASES, PlansDocument, Suits, ingest_phases}
+use Rattle.plan_writer.specs.PuttingPlans.{PutsPlan}
+use Rattle.plan_writer.specs.declared.plan.Plan.{Plan}
+use Rattle.plan_writer.proofs.LogCells.{done_in}
+use Rattle.plan_writer.proofs.PutFrom as from
 use Rattle.ingest_engine.specs.Ingesting as ingesting
 use Rattle.ingest_engine.specs.Ingesting.{ComesTo, IsIngested, IsPlanFor, document_in}
-use Rattle.settling_laws.specs.Steadiness.{IsSteady}
+use Rattle.crash_laws.specs.SettlingSteadiness.{IsSteady}
 use Rattle.crash_laws.specs.Steadiness.{HasOneMore}
 use Rattle.crash_laws.proofs.PlanPhases.{most_order, put_row, row_put}
 use Rattle.crash_laws.proofs.PutPlans.{documents_now, sound, still_looked, still_put, sure, tells_looked, well_made}

@@ -3,12 +3,12 @@ use Rattle.std.specs.Prelude.{ℕ, List, IsTrue, Option}
 use Rattle.cell_types.specs.declared.refusal.Evidence.{Evidence}
 use Rattle.worm_device.specs.Counts.{IsStill}
 use Rattle.worm_device.specs.State.{DeviceState, IsDevice}
-use Rattle.ingest_engine.specs.commit_record.Licences.{IsLicensed}
-use Rattle.settling_laws.specs.recovery_engine.declared.settling.Ready.{Ready}
+use Rattle.commit_record.specs.Licences.{IsLicensed}
+use Rattle.recovery_engine.specs.declared.settling.Ready.{Ready}
 use Rattle.ingest_engine.specs.Ingesting.{HasSlot, IsNamed, by_plan, by_settling, in_index}
 use Rattle.ingest_engine.proofs.Named.{slot_still}
-use Rattle.settling_laws.specs.Steadiness.{IsSteady}
-use Rattle.settling_laws.proofs.Alarms.{looked_unbroken, settling_named}
+use Rattle.crash_laws.specs.SettlingSteadiness.{IsSteady}
+use Rattle.crash_laws.proofs.SettlingAlarms.{looked_unbroken, settling_named}
 
 module _ (old new : DeviceState) (e : Evidence) (device : IsDevice old) (device_new : IsDevice new)
     (tells : IsTrue old.tells) (still : IsStill old.foreign_writes new.foreign_writes) (steady : IsSteady old) where

@@ -6,24 +6,24 @@ use Rattle.cell_types.specs.Layout.{Layout}
 use Rattle.cell_types.specs.Records.{IsRecordCell}
 use Rattle.cell_types.specs.declared.refusal.Refusal.{Refusal}
 use Rattle.cell_types.specs.declared.refusal.Refusal.TheVariants as refusals
-use Rattle.stored_documents.specs.Documents.{Document}
-use Rattle.stored_documents.specs.Volumes.{IsVolume, volume_record}
-use Rattle.stored_documents.proofs.Extending.{volume_on}
-use Rattle.stored_documents.proofs.Holding.{some_is}
-use Rattle.ingest_engine.specs.tamper_rules.Settling.{Held}
-use Rattle.ingest_engine.proofs.of_tamper_rules.GivenUp.{one_layout}
+use Rattle.volume_meaning.specs.Documents.{Document}
+use Rattle.volume_meaning.specs.Volumes.{IsVolume, volume_record}
+use Rattle.volume_meaning.proofs.Extending.{volume_on}
+use Rattle.volume_meaning.proofs.Holding.{some_is}
+use Rattle.tamper_rules.specs.Settling.{Held}
+use Rattle.tamper_rules.proofs.GivenUp.{one_layout}
 use Rattle.worm_device.specs.Calls.{Called}
 use Rattle.worm_device.specs.Counts.{IsStill}
 use Rattle.worm_device.specs.State.{DeviceState, IsDevice}
 use Rattle.worm_device.proofs.Counting.{still_first}
-use Rattle.settling_laws.specs.recovery_engine.Settling.{HasSettled}
-use Rattle.settling_laws.specs.recovery_engine.declared.settling.Ready.{Ready}
-use Rattle.ingest_engine.proofs.of_plan_writer.PutFrom as from
+use Rattle.recovery_engine.specs.Settling.{HasSettled}
+use Rattle.recovery_engine.specs.declared.settling.Ready.{Ready}
+use Rattle.plan_writer.proofs.PutFrom as from
 use Rattle.ingest_engine.specs.Ingesting as ingesting
 use Rattle.ingest_engine.specs.Ingesting.{ComesTo, IngestEnds, Ingests, put, settled, settling}
-use Rattle.settling_laws.specs.Steadiness.{IsSteady}
-use Rattle.settling_laws.proofs.LeftWhole.{held_unmoved, settling_keeps}
-use Rattle.settling_laws.proofs.LookedAt.{looking_keeps}
+use Rattle.crash_laws.specs.SettlingSteadiness.{IsSteady}
+use Rattle.crash_laws.proofs.LeftWhole.{held_unmoved, settling_keeps}
+use Rattle.crash_laws.proofs.LookedAt.{looking_keeps}
 use Rattle.crash_laws.proofs.Alarms.{none_named}
 
 module _ (id : List ℕ) (stamp : Option ℕ) (body : List ℕ) (old new : DeviceState) (called : Called old new) (device : IsDevice old)

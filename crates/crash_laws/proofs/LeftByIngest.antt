@@ -2,9 +2,9 @@
 -- them.
 use Rattle.std.proofs.Common.{◌≡◌, ◌≤◌, ◌<◌, ℕ, List, inl, inr, ⊎_elim, sym, subst, arith, Option}
 use Rattle.cell_types.specs.Image.{Image, Between}
-use Rattle.ingest_engine.specs.tamper_rules.Settling.{IsBlankOrSound}
+use Rattle.tamper_rules.specs.Settling.{IsBlankOrSound}
 use Rattle.worm_device.specs.State.{DeviceState, LeftSince}
-use Rattle.settling_laws.specs.Steadiness.{IsLeftWhole, IsSteady, StaysSteady}
+use Rattle.crash_laws.specs.SettlingSteadiness.{IsLeftWhole, IsSteady, StaysSteady}
 use Rattle.crash_laws.specs.Steadiness.{CrashesLeaveIngest, IsLeftByIngest, StaysSteadyBy}
 
 module _ (id : List ℕ) (stamp : Option ℕ) (body : List ℕ) (old new : DeviceState) where

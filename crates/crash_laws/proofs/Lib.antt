@@ -1,13 +1,16 @@
 pub mod AddsOne
 pub mod Alarms
+pub mod EndedAs
 pub mod Kept
 pub mod LeftByIngest
+pub mod LeftWhole
+pub mod LookedAt
 pub mod PlanPhases
+pub mod PutCells
 pub mod PutPlans
 pub mod ReserveCells
+pub mod SettlingAlarms
+pub mod SoundRules
 mod StampLeft
 pub mod Steady
 pub mod WellPlanned
-pub use Rattle.ingest_engine.proofs as of_ingest_engine
-pub use Rattle.ingest_engine.proofs.of_plan_writer
-pub use Rattle.settling_laws.proofs as of_settling_laws

@@ -7,23 +7,23 @@ use Rattle.cell_types.specs.Records.{IsRecordCell, record_bytes}
 use Rattle.cell_types.specs.declared.record_cell.RecordCell.{RecordCell}
 use Rattle.cell_types.specs.declared.record_cell.RecordCell.TheVariants as records
 use Rattle.cell_types.proofs.OneRecord.{address_in}
-use Rattle.stored_documents.specs.Documents.{content_at, document_at, stored_bytes}
-use Rattle.stored_documents.specs.Slots.{cells_for}
-use Rattle.stored_documents.specs.Volumes.{Holds}
-use Rattle.stored_documents.proofs.Holding.{some_is}
-use Rattle.stored_documents.proofs.Stamps.{stands_given}
-use Rattle.ingest_engine.specs.tamper_rules.Journals.{journal_at}
-use Rattle.ingest_engine.specs.tamper_rules.Settling.{RecordRow}
-use Rattle.ingest_engine.specs.tamper_rules.declared.numbers.TheConstants.{STRAY_CELL}
-use Rattle.ingest_engine.specs.ingest_laws.Filling.{IsWellPlanned}
-use Rattle.ingest_engine.specs.ingest_laws.Ingesting.{Phase, Reserving, Storing, Committing, Applying, Finishing, order_of, ContentRow, CopyRow, StoredRow, Row, IsLeftIn}
-use Rattle.ingest_engine.specs.phase_writer.declared.put.Blame.TheVariants as blames
-use Rattle.ingest_engine.specs.phase_writer.declared.put.Put.{Put}
-use Rattle.ingest_engine.specs.phase_writer.Putting.{AreStanding, ChangesBy, IsInFirst, IsInRow, IsPut}
-use Rattle.settling_laws.specs.recovery_engine.Ending.{done_put}
-use Rattle.settling_laws.specs.recovery_engine.Entries.{target_of}
-use Rattle.ingest_engine.specs.plan_writer.Planned.{IsPooledPut, IsStampPut, PlansDocument, Suits, commit_put, document_from, ingest_phases, journal_from, reserve_put, reserved_by, stamp_put}
-use Rattle.ingest_engine.specs.plan_writer.declared.plan.Plan.{Plan}
+use Rattle.volume_meaning.specs.Documents.{content_at, document_at, stored_bytes}
+use Rattle.volume_meaning.specs.Slots.{cells_for}
+use Rattle.volume_meaning.specs.Volumes.{Holds}
+use Rattle.volume_meaning.proofs.Holding.{some_is}
+use Rattle.volume_meaning.proofs.Stamps.{stands_given}
+use Rattle.tamper_rules.specs.Journals.{journal_at}
+use Rattle.tamper_rules.specs.Settling.{RecordRow}
+use Rattle.tamper_rules.specs.declared.numbers.TheConstants.{STRAY_CELL}
+use Rattle.ingest_laws.specs.Filling.{IsWellPlanned}
+use Rattle.ingest_laws.specs.Ingesting.{Phase, Reserving, Storing, Committing, Applying, Finishing, order_of, ContentRow, CopyRow, StoredRow, Row, IsLeftIn}
+use Rattle.recovery_engine.specs.declared.put.Blame.TheVariants as blames
+use Rattle.recovery_engine.specs.declared.put.Put.{Put}
+use Rattle.recovery_engine.specs.Putting.{AreStanding, ChangesBy, IsInFirst, IsInRow, IsPut}
+use Rattle.recovery_engine.specs.Ending.{done_put}
+use Rattle.recovery_engine.specs.Entries.{target_of}
+use Rattle.plan_writer.specs.Planned.{IsPooledPut, IsStampPut, PlansDocument, Suits, commit_put, document_from, ingest_phases, journal_from, reserve_put, reserved_by, stamp_put}
+use Rattle.plan_writer.specs.declared.plan.Plan.{Plan}
 use Rattle.crash_laws.proofs.WellPlanned.{plan_of}
 
 -- a put of this record's cell is a row of it

@@ -3,32 +3,32 @@ use Rattle.std.proofs.Common.{◌≡◌, ◌<◌, ℕ, List, [], ◌∷◌, ◌+
 use Rattle.std.specs.Prelude.{IsTrue}
 use Rattle.cell_types.specs.Image.{Image, Extends}
 use Rattle.cell_types.specs.Layout.{Layout, outcome_at}
-use Rattle.stored_documents.specs.Slots.{IsStampFor, IsStampOf}
-use Rattle.stored_documents.specs.Volumes.{IsVolume}
-use Rattle.stored_documents.proofs.Extending.{volume_on}
-use Rattle.stored_documents.specs.Documents.{AreDocuments, Document}
-use Rattle.ingest_engine.specs.tamper_rules.Settling.{Held, Sound}
-use Rattle.ingest_engine.proofs.of_tamper_rules.GivenUp.{one_layout}
-use Rattle.ingest_engine.proofs.of_tamper_rules.Images.{look}
-use Rattle.ingest_engine.specs.ingest_laws.Filling.{IsWellPlanned}
-use Rattle.ingest_engine.proofs.of_ingest_laws.PlanAdds.{adds_one}
-use Rattle.ingest_engine.proofs.of_ingest_laws.PlanLeaves.{plan_leaves_sound}
+use Rattle.volume_meaning.specs.Slots.{IsStampFor, IsStampOf}
+use Rattle.volume_meaning.specs.Volumes.{IsVolume}
+use Rattle.volume_meaning.proofs.Extending.{volume_on}
+use Rattle.volume_meaning.specs.Documents.{AreDocuments, Document}
+use Rattle.tamper_rules.specs.Settling.{Held, Sound}
+use Rattle.tamper_rules.proofs.GivenUp.{one_layout}
+use Rattle.tamper_rules.proofs.Images.{look}
+use Rattle.ingest_laws.specs.Filling.{IsWellPlanned}
+use Rattle.ingest_laws.proofs.PlanAdds.{adds_one}
+use Rattle.ingest_laws.proofs.PlanLeaves.{plan_leaves_sound}
 use Rattle.worm_device.specs.Calls.{Called}
 use Rattle.worm_device.specs.Counts.{IsStill}
 use Rattle.worm_device.specs.State.{DeviceState, IsDevice, LeftSince}
 use Rattle.worm_device.proofs.Counting.{still_first, still_second}
 use Rattle.worm_device.proofs.Elapsing.{elapses_of}
-use Rattle.ingest_engine.specs.phase_writer.Putting.{LeavesPhases}
-use Rattle.settling_laws.specs.recovery_engine.Settling.{HasSettled}
-use Rattle.settling_laws.specs.recovery_engine.declared.settling.Ready.{Ready}
-use Rattle.ingest_engine.specs.plan_writer.Planned.{INGEST_PHASES, ingest_phases}
-use Rattle.ingest_engine.specs.plan_writer.PuttingPlans.{PutsPlan}
-use Rattle.ingest_engine.specs.plan_writer.declared.plan.Plan.{Plan}
-use Rattle.ingest_engine.proofs.of_plan_writer.PutFrom as from
+use Rattle.recovery_engine.specs.Putting.{LeavesPhases}
+use Rattle.recovery_engine.specs.Settling.{HasSettled}
+use Rattle.recovery_engine.specs.declared.settling.Ready.{Ready}
+use Rattle.plan_writer.specs.Planned.{INGEST_PHASES, ingest_phases}
+use Rattle.plan_writer.specs.PuttingPlans.{PutsPlan}
+use Rattle.plan_writer.specs.declared.plan.Plan.{Plan}
+use Rattle.plan_writer.proofs.PutFrom as from
 use Rattle.ingest_engine.specs.Ingesting.{IsPlanFor, document_in}
-use Rattle.settling_laws.specs.Steadiness.{EndsAs, IsLeftWhole, IsSteady}
-use Rattle.settling_laws.proofs.LeftWhole.{documents_after}
-use Rattle.settling_laws.proofs.LookedAt.{crashes_looked}
+use Rattle.crash_laws.specs.SettlingSteadiness.{EndsAs, IsLeftWhole, IsSteady}
+use Rattle.crash_laws.proofs.LeftWhole.{documents_after}
+use Rattle.crash_laws.proofs.LookedAt.{crashes_looked}
 use Rattle.crash_laws.specs.Steadiness.{CrashesLeaveIngest, IsLeftByIngest}
 use Rattle.crash_laws.proofs.LeftByIngest.{of_whole}
 use Rattle.crash_laws.proofs.PlanPhases.{left_in}

@@ -4,27 +4,27 @@ use Rattle.std.specs.Prelude.{IsTrue, Result}
 use Rattle.cell_types.specs.Image.{Extends, Image}
 use Rattle.cell_types.specs.Layout.{Layout, reserve_at, lists_at}
 use Rattle.cell_types.specs.declared.refusal.Refusal.{Refusal}
-use Rattle.stored_documents.specs.Documents.{document_at}
-use Rattle.stored_documents.specs.Volumes.{IsVolume}
-use Rattle.stored_documents.proofs.Extending.{volume_on}
-use Rattle.ingest_engine.specs.tamper_rules.Journals.{journal_at}
-use Rattle.ingest_engine.proofs.of_tamper_rules.GivenUp.{one_layout}
+use Rattle.volume_meaning.specs.Documents.{document_at}
+use Rattle.volume_meaning.specs.Volumes.{IsVolume}
+use Rattle.volume_meaning.proofs.Extending.{volume_on}
+use Rattle.tamper_rules.specs.Journals.{journal_at}
+use Rattle.tamper_rules.proofs.GivenUp.{one_layout}
 use Rattle.worm_device.specs.Counts.{IsStill}
 use Rattle.worm_device.specs.State.{DeviceState}
-use Rattle.ingest_engine.specs.phase_writer.declared.put.Put.{Put}
-use Rattle.ingest_engine.specs.phase_writer.Putting.{IsInFirst, IsPut}
-use Rattle.ingest_engine.specs.commit_record.declared.slot.SlotState.{SlotState}
-use Rattle.ingest_engine.specs.commit_record.declared.slot.SlotState.TheVariants.{Unused, Reserved, Abandoned, Committed, Done}
-use Rattle.settling_laws.specs.recovery_engine.Ending.{abandon_put, done_put, end_phases}
-use Rattle.settling_laws.specs.recovery_engine.Journal.{IsEntryPut}
-use Rattle.settling_laws.specs.recovery_engine.Settling.{IsEnding, Settles, settle_plan}
-use Rattle.settling_laws.specs.recovery_engine.declared.settling.Ready.{Ready}
-use Rattle.settling_laws.proofs.of_recovery_engine.Rising.{entries_from}
-use Rattle.ingest_engine.specs.plan_writer.Planned.{IsPooledPut, IsStampPut, Suits, ingest_phases}
-use Rattle.ingest_engine.specs.plan_writer.declared.plan.Plan.{Plan}
-use Rattle.ingest_engine.proofs.of_plan_writer.LogCells.{pooled_from, stamp_at}
-use Rattle.ingest_engine.proofs.of_plan_writer.Targets.{asked_from}
-use Rattle.settling_laws.proofs.LeftWhole.{ends_none}
+use Rattle.recovery_engine.specs.declared.put.Put.{Put}
+use Rattle.recovery_engine.specs.Putting.{IsInFirst, IsPut}
+use Rattle.commit_record.specs.declared.slot.SlotState.{SlotState}
+use Rattle.commit_record.specs.declared.slot.SlotState.TheVariants.{Unused, Reserved, Abandoned, Committed, Done}
+use Rattle.recovery_engine.specs.Ending.{abandon_put, done_put, end_phases}
+use Rattle.recovery_engine.specs.Journal.{IsEntryPut}
+use Rattle.recovery_engine.specs.Settling.{IsEnding, Settles, settle_plan}
+use Rattle.recovery_engine.specs.declared.settling.Ready.{Ready}
+use Rattle.recovery_engine.proofs.Rising.{entries_from}
+use Rattle.plan_writer.specs.Planned.{IsPooledPut, IsStampPut, Suits, ingest_phases}
+use Rattle.plan_writer.specs.declared.plan.Plan.{Plan}
+use Rattle.plan_writer.proofs.LogCells.{pooled_from, stamp_at}
+use Rattle.plan_writer.proofs.Targets.{asked_from}
+use Rattle.crash_laws.proofs.LeftWhole.{ends_none}
 
 at_of : (a b : Put) → a ≡ b → a.at ≡ b.at
 at_of a b e = ap (λ (x : Put). x.at) e

@@ -3,12 +3,12 @@ use Rattle.std.proofs.Common.{◌≡◌, ◌≤◌, ◌∙◌, ℕ, List, Option
 use Rattle.std.proofs.lemmas.Option.{none-some}
 use Rattle.cell_types.specs.Image.{Image}
 use Rattle.cell_types.specs.Layout.{Layout, outcome_at, spare_at}
-use Rattle.stored_documents.specs.Slots.{IsStampOf}
-use Rattle.ingest_engine.specs.tamper_rules.Rules as Rules
-use Rattle.ingest_engine.specs.tamper_rules.Rules.{OutcomeRule}
-use Rattle.ingest_engine.proofs.of_tamper_rules.Images.{look}
-use Rattle.ingest_engine.specs.ingest_laws.Filling.{IsWellPlanned}
-use Rattle.ingest_engine.specs.ingest_laws.Ingesting.{Applying, Committing, ContentRow, CopyRow, Finishing, IsLeftIn, Phase, Plan, Reserving, Row, Storing, order_of}
+use Rattle.volume_meaning.specs.Slots.{IsStampOf}
+use Rattle.tamper_rules.specs.Rules as Rules
+use Rattle.tamper_rules.specs.Rules.{OutcomeRule}
+use Rattle.tamper_rules.proofs.Images.{look}
+use Rattle.ingest_laws.specs.Filling.{IsWellPlanned}
+use Rattle.ingest_laws.specs.Ingesting.{Applying, Committing, ContentRow, CopyRow, Finishing, IsLeftIn, Phase, Plan, Reserving, Row, Storing, order_of}
 
 module _ {g : Layout} {old after : Image} {p : Plan} (w : IsWellPlanned g old after p) {image : Image} {phase : Phase}
     (l : IsLeftIn p old image phase) where

@@ -4,10 +4,10 @@ use Rattle.std.specs.Prelude.{IsTrue}
 use Rattle.worm_device.specs.Counts.{IsStill}
 use Rattle.worm_device.specs.State.{DeviceState, IsDevice}
 use Rattle.ingest_engine.specs.Ingesting.{ComesTo, nothing, put, settled, settling}
-use Rattle.ingest_engine.proofs.of_plan_writer.PutFrom as from
-use Rattle.settling_laws.specs.Steadiness.{IsSteady}
-use Rattle.settling_laws.proofs.LeftWhole.{settling_left, stays_steady}
-use Rattle.settling_laws.proofs.LookedAt.{looking_steady}
+use Rattle.plan_writer.proofs.PutFrom as from
+use Rattle.crash_laws.specs.SettlingSteadiness.{IsSteady}
+use Rattle.crash_laws.proofs.LeftWhole.{settling_left, stays_steady}
+use Rattle.crash_laws.proofs.LookedAt.{looking_steady}
 use Rattle.crash_laws.specs.Steadiness.{StaysSteadyBy}
 use Rattle.crash_laws.proofs.LeftByIngest.{by_whole, nothing_done, stays_by}
 use Rattle.crash_laws.proofs.PutPlans.{crashes_put}

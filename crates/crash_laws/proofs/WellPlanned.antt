@@ -6,45 +6,45 @@ use Rattle.sha2.specs.Sha256.{sha256}
 use Rattle.cell_types.specs.Bytes.{AreBytes}
 use Rattle.cell_types.specs.Image.{Image}
 use Rattle.cell_types.specs.Layout.{Layout, root_at}
-use Rattle.stored_documents.specs.Documents.{Stands, stored_bytes}
-use Rattle.stored_documents.specs.Slots.{EndsBelow, IsEdge, IsHorizon, IsStampFor, cells_for}
-use Rattle.stored_documents.specs.Volumes.{IsVolume, IsWritten}
-use Rattle.stored_documents.proofs.Extending.{written_on}
-use Rattle.index_paths.specs.HashPaths.{IsPassed, PassedTo}
-use Rattle.index_paths.specs.Keeping.{sought_in}
-use Rattle.index_paths.proofs.Digests.{digest_is_bytes}
-use Rattle.ingest_engine.specs.tamper_rules.Rules.{Paths}
-use Rattle.ingest_engine.specs.tamper_rules.Settling.{IsSettled, Settled, Sound}
-use Rattle.ingest_engine.proofs.of_tamper_rules.GivenUp.{one_layout}
-use Rattle.ingest_engine.proofs.of_tamper_rules.Images.{same_image}
-use Rattle.ingest_engine.specs.ingest_laws.Filling.{IsWellPlanned}
-use Rattle.ingest_engine.specs.ingest_laws.Ingesting as growing
-use Rattle.ingest_engine.specs.ingest_laws.Needs.{IsNeed}
+use Rattle.volume_meaning.specs.Documents.{Stands, stored_bytes}
+use Rattle.volume_meaning.specs.Slots.{EndsBelow, IsEdge, IsHorizon, IsStampFor, cells_for}
+use Rattle.volume_meaning.specs.Volumes.{IsVolume, IsWritten}
+use Rattle.volume_meaning.proofs.Extending.{written_on}
+use Rattle.volume_meaning.specs.HashPaths.{IsPassed, PassedTo}
+use Rattle.volume_meaning.specs.Keeping.{sought_in}
+use Rattle.volume_meaning.proofs.Digests.{digest_is_bytes}
+use Rattle.tamper_rules.specs.Rules.{Paths}
+use Rattle.tamper_rules.specs.Settling.{IsSettled, Settled, Sound}
+use Rattle.tamper_rules.proofs.GivenUp.{one_layout}
+use Rattle.tamper_rules.proofs.Images.{same_image}
+use Rattle.ingest_laws.specs.Filling.{IsWellPlanned}
+use Rattle.ingest_laws.specs.Ingesting as growing
+use Rattle.ingest_laws.specs.Needs.{IsNeed}
 use Rattle.worm_device.specs.Counts.{IsStill}
 use Rattle.worm_device.specs.State.{DeviceState, IsDevice}
 use Rattle.worm_device.specs.Views.{seen_directly}
 use Rattle.worm_device.proofs.Counting.{still_second}
-use Rattle.settling_laws.specs.recovery_engine.Settling.{HasSettled}
-use Rattle.settling_laws.specs.recovery_engine.declared.settling.Ready.{Ready}
-use Rattle.plan_laws.specs.hash_tree.Levels.{node_of}
-use Rattle.plan_laws.specs.hash_tree.Steps.{IsOpenAt}
-use Rattle.plan_laws.specs.hash_tree.declared.level.Level.{Level}
-use Rattle.plan_laws.specs.hash_insertion.Readiness.{PassedDown, blank_in}
+use Rattle.recovery_engine.specs.Settling.{HasSettled}
+use Rattle.recovery_engine.specs.declared.settling.Ready.{Ready}
+use Rattle.hash_tree.specs.Levels.{node_of}
+use Rattle.hash_tree.specs.Steps.{IsOpenAt}
+use Rattle.hash_tree.specs.declared.level.Level.{Level}
+use Rattle.hash_tree.specs.Readiness.{PassedDown, blank_in}
 use Rattle.plan_laws.specs.Standing.{EndsPath, seconds_of}
-use Rattle.ingest_engine.specs.identifier_lookup.Walks.{EndsThere, IsBlankIn, IsPassedAbove, IsPassedUpToPlace, NoneHasTrail}
-use Rattle.plan_laws.specs.ingest_plan.Planning.{IsLater, IsPlanned}
+use Rattle.identifier_lookup.specs.Walks.{EndsThere, IsBlankIn, IsPassedAbove, IsPassedUpToPlace, NoneHasTrail}
+use Rattle.ingest_plan.specs.Planning.{IsLater, IsPlanned}
 use Rattle.plan_laws.specs.Laws.{TakesSlot}
 use Rattle.plan_laws.proofs.Answered.{answered}
 use Rattle.plan_laws.proofs.Needed.{needed}
 use Rattle.plan_laws.proofs.Well.{well}
-use Rattle.ingest_engine.specs.plan_writer.Planned.{PlansDocument, Suits, reserved_by}
-use Rattle.ingest_engine.specs.plan_writer.declared.plan.Plan.{Plan}
-use Rattle.ingest_engine.proofs.of_plan_writer.PutFrom.{ends_2, free_2, volume_2}
-use Rattle.plan_laws.specs.ingest_plan.declared.plan.PlannedIndex.{PlannedIndex}
+use Rattle.plan_writer.specs.Planned.{PlansDocument, Suits, reserved_by}
+use Rattle.plan_writer.specs.declared.plan.Plan.{Plan}
+use Rattle.plan_writer.proofs.PutFrom.{ends_2, free_2, volume_2}
+use Rattle.ingest_plan.specs.declared.plan.PlannedIndex.{PlannedIndex}
 use Rattle.ingest_engine.specs.Indexing.{HasIndex, HasWalked}
 use Rattle.ingest_engine.specs.Ingesting.{need_with}
-use Rattle.settling_laws.specs.Steadiness.{EndsAs, IsSteady}
-use Rattle.settling_laws.proofs.LookedAt.{looked_ends, looked_sound}
+use Rattle.crash_laws.specs.SettlingSteadiness.{EndsAs, IsSteady}
+use Rattle.crash_laws.proofs.LookedAt.{looked_ends, looked_sound}
 
 -- a plan, as the laws of images speak of it
 abbrev pub plan_of : ℕ → Plan → List ℕ → List ℕ → growing.Plan

@@ -3,12 +3,12 @@ use Rattle.std.specs.Prelude.{◌≢◌, ℕ, List, Option, Result, Ok, Err, IsT
 use Rattle.cell_types.specs.declared.refusal.Evidence.{Evidence}
 use Rattle.cell_types.specs.declared.refusal.Refusal.{Refusal}
 use Rattle.cell_types.specs.declared.refusal.Refusal.TheVariants.{DeviceFault, Tampered}
-use Rattle.stored_documents.specs.Documents.{Document}
-use Rattle.ingest_engine.specs.tamper_rules.Settling.{Held}
+use Rattle.volume_meaning.specs.Documents.{Document}
+use Rattle.tamper_rules.specs.Settling.{Held}
 use Rattle.worm_device.specs.Counts.{IsStill}
 use Rattle.worm_device.specs.State.{DeviceState, IsDevice}
 use Rattle.ingest_engine.specs.Ingesting.{Ingests}
-use Rattle.settling_laws.specs.Steadiness.{IsSteady}
+use Rattle.crash_laws.specs.SettlingSteadiness.{IsSteady}
 use Rattle.crash_laws.specs.Steadiness.{HasOneMore, StaysSteadyBy}
 
 -- an ingest leaves whole volumes at every moment, and a steady device, whatever it answers

@@ -2,13 +2,13 @@
 use Rattle.std.specs.Prelude.{◌≤◌, ◌⊎◌, ℕ, List, [], ◌∷◌, ◌++◌, Option}
 use Rattle.cell_types.specs.Image.{Image, IsUnchanged}
 use Rattle.cell_types.specs.Layout.{Layout}
-use Rattle.stored_documents.specs.Documents.{AreDocuments, Document}
-use Rattle.stored_documents.specs.Slots.{IsStampOf}
-use Rattle.stored_documents.specs.Volumes.{IsVolume}
-use Rattle.ingest_engine.specs.tamper_rules.Settling.{Held, IsBlankOrSound, Settled, Sound}
+use Rattle.volume_meaning.specs.Documents.{AreDocuments, Document}
+use Rattle.volume_meaning.specs.Slots.{IsStampOf}
+use Rattle.volume_meaning.specs.Volumes.{IsVolume}
+use Rattle.tamper_rules.specs.Settling.{Held, IsBlankOrSound, Settled, Sound}
 use Rattle.worm_device.specs.State.{DeviceState, LeftSince}
 use Rattle.ingest_engine.specs.Ingesting.{document_in}
-use Rattle.settling_laws.specs.Steadiness.{HoldsOneOf, IsSteady}
+use Rattle.crash_laws.specs.SettlingSteadiness.{HoldsOneOf, IsSteady}
 
 -- the image holds the documents that stood at old, and behind them this one, in some slot, which has this stamp
 pub record HoldsOneMore (id : List ℕ) (stamp : Option ℕ) (body : List ℕ) (old : DeviceState) (image : Image) : Type 0

@@ -18,10 +18,18 @@
 //!
 //! There is no code here, only laws. Stands on `ingest_engine`, which says what an ingest does; on `plan_laws`, by
 //! which what it plans is well made; on `ingest_laws`, by which a well made plan that is cut short leaves a sound
-//! volume; and on `settling_laws`, which says this of settling. It passes the specifications and lemmas of these on, but
-//! for those of `ingest_laws`. Begin with specs/Steadiness.antt; specs/Laws.antt has the laws' sentences.
+//! volume. Begin with `specs/Steadiness.antt`; `specs/Laws.antt` has the laws' sentences.
+//!
+//! What is said of settling alone, on which all of this rests, stands in `settling_laws.rt`: that whatever a crash
+//! leaves of a device, at any moment, settling makes a settled volume of it, with no alarm.
 #![tactic(auto)]
 
 mod laws;
+mod settling_laws;
 
 pub use laws::{ingest_adds_one, ingest_names_none, ingest_stays_steady, refused_ingest_keeps};
+pub use settling_laws::{
+    looking_ends_as, looking_finds_none, looking_stays_steady, settled_was_sound, settling_ends_as,
+    settling_names_none, settling_stays_steady, sound_is_unbroken, sure_is_steady,
+    whole_from_the_start,
+};

@@ -21,6 +21,8 @@ mod memory;
 #[cfg(test)]
 mod memory_callers;
 #[cfg(test)]
+mod meters;
+#[cfg(test)]
 mod port_callers;
 #[cfg(test)]
 mod ports;

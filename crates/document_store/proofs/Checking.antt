@@ -6,7 +6,7 @@ use Rattle.cell_types.specs.Layout.{Layout}
 use Rattle.cell_types.specs.Refusals.{refusal_of_fault}
 use Rattle.cell_types.specs.declared.refusal.Fault.{Fault}
 use Rattle.cell_types.specs.declared.refusal.Fault.TheVariants.{Tampered, Failed}
-use Rattle.stored_documents.specs.Slots.{cells_for}
+use Rattle.volume_meaning.specs.Slots.{cells_for}
 use Rattle.worm_device.specs.Views.{ViewState, Viewed}
 use Rattle.worm_device.proofs.Resting.{viewed_self}
 use Rattle.commit_record.specs.States.{stamp_cells}
@@ -36,7 +36,7 @@ module _ (g : Layout) (n : ℕ) (old mid new : ViewState) (part : Part) (before 
 
   -- it has as many stored bytes as the slot states
   pub bytes_are : IsTrue old.base.tells → (start reserved bytes journal : ℕ)
-      → Rattle.stored_documents.specs.Slots.IsDone g new.image n start reserved bytes journal → bytes ≡ part.bytes
+      → Rattle.volume_meaning.specs.Slots.IsDone g new.image n start reserved bytes journal → bytes ≡ part.bytes
   bytes_are tells start reserved bytes journal done =
       (one_part g new.image n part start reserved bytes journal (part_later tells) done).0
 

@@ -4,14 +4,14 @@ use Rattle.std.proofs.Math.Seq.{take-append_seam, drop-append_seam}
 use Rattle.std.specs.Prelude.{IsTrue}
 use Rattle.cell_types.specs.Image.{Image, Extends}
 use Rattle.cell_types.specs.Layout.{Layout, reserve_at, outcome_at}
-use Rattle.stored_documents.specs.Documents.{Spells, Stands, document_at, stored_bytes}
-use Rattle.stored_documents.specs.Slots.{IsDone, IsDoneSlot}
-use Rattle.stored_documents.specs.Volumes.{IsVolume}
-use Rattle.stored_documents.proofs.Extending.{done_on, spells_on}
-use Rattle.stored_documents.proofs.Holding.{one_record_holds}
-use Rattle.stored_documents.proofs.OneDocument.{commits, reserves}
-use Rattle.commit_record.specs.tamper_rules.Rules.{HasDocument}
-use Rattle.commit_record.proofs.of_tamper_rules.GivenUp.{one_layout}
+use Rattle.volume_meaning.specs.Documents.{Spells, Stands, document_at, stored_bytes}
+use Rattle.volume_meaning.specs.Slots.{IsDone, IsDoneSlot}
+use Rattle.volume_meaning.specs.Volumes.{IsVolume}
+use Rattle.volume_meaning.proofs.Extending.{done_on, spells_on}
+use Rattle.volume_meaning.proofs.Holding.{one_record_holds}
+use Rattle.volume_meaning.proofs.OneDocument.{commits, reserves}
+use Rattle.tamper_rules.specs.Rules.{HasDocument}
+use Rattle.tamper_rules.proofs.GivenUp.{one_layout}
 use Rattle.worm_device.specs.Views.{ViewState, Viewed}
 use Rattle.append_file.proofs.Spelled.{spelled_once}
 use Rattle.document_store.specs.Heads.{IsWhole, SpellsNone}

@@ -6,11 +6,10 @@ use Rattle.cell_types.specs.Layout.{Layout, reserve_at, outcome_at, done_at, spa
 use Rattle.cell_types.specs.declared.refusal.Evidence.{Evidence}
 use Rattle.cell_types.specs.declared.refusal.Fault.{Fault}
 use Rattle.cell_types.specs.declared.refusal.Fault.TheVariants.{Tampered, Failed}
-use Rattle.stored_documents.specs.Slots.{IsDoneSlot}
-use Rattle.stored_documents.proofs.Extending.{blank_before, unused_further, reserved_further, abandoned_further, committed_further, done_on, done_slot_on}
-use Rattle.commit_record.specs.tamper_rules.Rules.{IsPlaceOf}
-use Rattle.commit_record.specs.tamper_rules.Rules.{Documents}
-use Rattle.commit_record.specs.tamper_rules.declared.numbers.TheConstants.{BROKEN_DOCUMENT}
+use Rattle.volume_meaning.specs.Slots.{IsDoneSlot}
+use Rattle.volume_meaning.proofs.Extending.{blank_before, unused_further, reserved_further, abandoned_further, committed_further, done_on, done_slot_on}
+use Rattle.tamper_rules.specs.Rules.{IsPlaceOf, Documents}
+use Rattle.tamper_rules.specs.declared.numbers.TheConstants.{BROKEN_DOCUMENT}
 use Rattle.worm_device.specs.Views.{ViewState, Viewed}
 use Rattle.worm_device.proofs.Counting.{still_second}
 use Rattle.worm_device.proofs.Images.{extends_self}

@@ -7,9 +7,9 @@ use Rattle.std.proofs.lemmas.Bool.{cases_lt}
 use Rattle.std.specs.Prelude.{IsTrue}
 use Rattle.cell_types.specs.Bytes.{AreBytes}
 use Rattle.cell_types.specs.Image.{Image}
-use Rattle.stored_documents.specs.Documents.{IsIdentifier, IsBody, stored_bytes}
-use Rattle.stored_documents.specs.declared.limits.TheConstants.{MAX_IDENTIFIER_BYTES, MAX_BODY_BYTES}
-use Rattle.commit_record.specs.tamper_rules.Rules.{HasDocument}
+use Rattle.volume_meaning.specs.Documents.{IsIdentifier, IsBody, stored_bytes}
+use Rattle.volume_meaning.specs.declared.limits.TheConstants.{MAX_IDENTIFIER_BYTES, MAX_BODY_BYTES}
+use Rattle.tamper_rules.specs.Rules.{HasDocument}
 use Rattle.worm_device.specs.Views.{ViewState}
 use Rattle.append_file.specs.Reading.{HasRead, HasBroken}
 use Rattle.append_file.specs.declared.position.Position.{Position}

@@ -4,7 +4,7 @@ use Rattle.std.proofs.Math.ListN.{set}
 use Rattle.std.proofs.Math.Seq.{drop-append_seam, take-append-add}
 use Rattle.std.proofs.lemmas.List.{append_assoc, append-nil, length-append, length-drop, length-set, length-take, length-take-le, take_all, take_more_set, take-take}
 use Rattle.std.specs.Prelude.{IsTrue}
-use Rattle.stored_documents.specs.Documents.{stored_bytes}
+use Rattle.volume_meaning.specs.Documents.{stored_bytes}
 use Rattle.host_ports.specs.Sinks.{Gets, PutsPart, SinkState}
 use Rattle.host_ports.proofs.Pieces.{gets_nothing, gets_then}
 use Rattle.worm_device.specs.Counts.{Rose}

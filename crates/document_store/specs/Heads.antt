@@ -1,9 +1,9 @@
 -- The stored bytes of a document, as they are read: a length, the identifier, the body.
 use Rattle.std.specs.Prelude.{◌≡◌, ◌≤◌, ◌+◌, ℕ, List, ◌∷◌, length, take, Result, Ok, Err, IsTrue}
 use Rattle.cell_types.specs.Image.{Image}
-use Rattle.stored_documents.specs.Documents.{IsBody, IsIdentifier, Spells, stored_bytes}
-use Rattle.stored_documents.specs.declared.limits.TheConstants.{MAX_BODY_BYTES, MAX_IDENTIFIER_BYTES}
-use Rattle.commit_record.specs.tamper_rules.Rules.{HasDocument}
+use Rattle.volume_meaning.specs.Documents.{IsBody, IsIdentifier, Spells, stored_bytes}
+use Rattle.volume_meaning.specs.declared.limits.TheConstants.{MAX_BODY_BYTES, MAX_IDENTIFIER_BYTES}
+use Rattle.tamper_rules.specs.Rules.{HasDocument}
 use Rattle.worm_device.specs.Counts.{Rose}
 use Rattle.worm_device.specs.Views.{ViewState}
 use Rattle.append_file.specs.Reading.{IsPosition, HasRead}

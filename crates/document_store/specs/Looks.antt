@@ -12,11 +12,11 @@ use Rattle.cell_types.specs.declared.refusal.Fault.{Fault}
 use Rattle.cell_types.specs.declared.refusal.Fault.TheVariants as faults
 use Rattle.cell_types.specs.declared.refusal.Refusal.{Refusal}
 use Rattle.cell_types.specs.declared.refusal.Refusal.TheVariants as refusals
-use Rattle.stored_documents.specs.Documents.{document_at}
-use Rattle.stored_documents.specs.declared.limits.TheConstants.{MAX_IDENTIFIER_BYTES}
-use Rattle.stored_documents.specs.Slots.{IsDone, IsDoneSlot, cells_for}
-use Rattle.commit_record.specs.tamper_rules.Rules.{IsPlaceOf}
-use Rattle.commit_record.specs.tamper_rules.declared.numbers.TheConstants.{BROKEN_DOCUMENT}
+use Rattle.volume_meaning.specs.Documents.{document_at}
+use Rattle.volume_meaning.specs.declared.limits.TheConstants.{MAX_IDENTIFIER_BYTES}
+use Rattle.volume_meaning.specs.Slots.{IsDone, IsDoneSlot, cells_for}
+use Rattle.tamper_rules.specs.Rules.{IsPlaceOf}
+use Rattle.tamper_rules.specs.declared.numbers.TheConstants.{BROKEN_DOCUMENT}
 use Rattle.host_ports.specs.Sinks.{Gets, SinkState}
 use Rattle.worm_device.specs.Counts.{Rose}
 use Rattle.worm_device.specs.Views.{ViewState}

@@ -2,9 +2,9 @@
 use Rattle.std.specs.Prelude.{◌≡◌, ◌↔◌, ℕ, List, length}
 use Rattle.cell_types.specs.Image.{Image, Extends}
 use Rattle.cell_types.specs.Layout.{Layout}
-use Rattle.stored_documents.specs.Documents.{IsBody, IsIdentifier, Spells, Stands, document_at, stored_bytes}
-use Rattle.stored_documents.specs.Slots.{IsDone}
-use Rattle.stored_documents.specs.Volumes.{IsVolume}
+use Rattle.volume_meaning.specs.Documents.{IsBody, IsIdentifier, Spells, Stands, document_at, stored_bytes}
+use Rattle.volume_meaning.specs.Slots.{IsDone}
+use Rattle.volume_meaning.specs.Volumes.{IsVolume}
 
 -- Slot n is done, and its cells spell this document. On a volume of this layout it stands, then.
 pub record HoldsDocument (g : Layout) (image : Image) (n : ℕ) (id body : List ℕ) : Type 0 where

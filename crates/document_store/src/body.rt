@@ -1,6 +1,6 @@
 //! The body of a document, put into a sink.
 ghost use Rattle.std.specs.Prelude.{◌≡◌, ◌<◌, ◌≤◌, IsTrue};
-ghost use Rattle.stored_documents.specs.Slots.{IsDoneSlot};
+ghost use Rattle.volume_meaning.specs.Slots.{IsDoneSlot};
 ghost use Rattle.worm_device.specs.Views.{Viewed};
 ghost use Rattle.document_store.specs.Looks.{BodyEnds, ReadsTwice};
 ghost use Rattle.document_store.specs.Putting.{body_fault_of};

@@ -1,6 +1,6 @@
 //! Whether the document of a slot is whole.
 ghost use Rattle.std.specs.Prelude.{◌<◌, ◌≤◌, IsTrue};
-ghost use Rattle.stored_documents.specs.Slots.{IsDoneSlot};
+ghost use Rattle.volume_meaning.specs.Slots.{IsDoneSlot};
 ghost use Rattle.worm_device.specs.Views.{Viewed};
 ghost use Rattle.document_store.specs.Looks.{CheckEnds, ReadsOnce};
 

@@ -1,6 +1,6 @@
 //! The stored bytes of a document: a length, the identifier, the body.
 ghost use Rattle.std.specs.Prelude.{◌≡◌, ◌≤◌, ◌+◌, [], IfOk, length};
-ghost use Rattle.stored_documents.specs.Slots.{cells_for};
+ghost use Rattle.volume_meaning.specs.Slots.{cells_for};
 ghost use Rattle.worm_device.specs.Views.{Viewed};
 ghost use Rattle.append_file.specs.Reading.{IsPosition, HasRead};
 ghost use Rattle.document_store.specs.Heads.{DocumentEnds, HeadEnds, IsHead, SkipEnds, id_of};
@@ -8,7 +8,7 @@ ghost use Rattle.document_store.specs.Heads.{DocumentEnds, HeadEnds, IsHead, Ski
 use crate::text::Text;
 use append_file::{ContentFault, Position, read_byte};
 use std::alloc::{AllocError, Global};
-use stored_documents::{MAX_BODY_BYTES, MAX_IDENTIFIER_BYTES};
+use volume_meaning::{MAX_BODY_BYTES, MAX_IDENTIFIER_BYTES};
 use worm_device::View;
 
 /// What stands before the body, and how many bytes the body has.

@@ -1,14 +1,14 @@
 //! Identifiers, and which one the document of a slot has.
 ghost use Rattle.std.specs.Prelude.{◌<◌, ◌≤◌, ◌+◌, ◌↔◌, IsTrue};
-ghost use Rattle.stored_documents.specs.Documents.{IsIdentifier};
-ghost use Rattle.stored_documents.specs.Slots.{IsDoneSlot, cells_for};
+ghost use Rattle.volume_meaning.specs.Documents.{IsIdentifier};
+ghost use Rattle.volume_meaning.specs.Slots.{IsDoneSlot, cells_for};
 ghost use Rattle.worm_device.specs.Views.{Viewed};
 ghost use Rattle.document_store.specs.Looks.{IdentifierEnds, IsPartOf, IsStated, ReadsOnce, SameEnds};
 
 use crate::part::{Part, done_head, done_part, read_part};
 use cell_types::{Fault, Geometry, Refusal, Volume};
 use std::alloc::Global;
-use stored_documents::MAX_IDENTIFIER_BYTES;
+use volume_meaning::MAX_IDENTIFIER_BYTES;
 use worm_device::View;
 
 /// Whether the bytes are an identifier: 1 to 200 of them, each a printing ASCII character and no space.

@@ -1,6 +1,6 @@
 //! Where the document of a slot lies, and what names it where it is broken.
 ghost use Rattle.std.specs.Prelude.{◌≡◌, ◌<◌, ◌≤◌, ◌+◌, IsTrue};
-ghost use Rattle.stored_documents.specs.Slots.{IsDoneSlot, cells_for};
+ghost use Rattle.volume_meaning.specs.Slots.{IsDoneSlot, cells_for};
 ghost use Rattle.worm_device.specs.Views.{Viewed};
 ghost use Rattle.commit_record.specs.States.{stamp_cells};
 ghost use Rattle.document_store.specs.Looks.{DoneHeadEnds, DonePartEnds, IsPartOf, IsStated, PartEnds, ReadEnds, ReadsOnce, commit_breach};

@@ -1,6 +1,6 @@
 //! The body of a part, read and put out piece by piece.
 ghost use Rattle.std.specs.Prelude.{◌≡◌, ◌≤◌, ◌+◌, length};
-ghost use Rattle.stored_documents.specs.Slots.{cells_for};
+ghost use Rattle.volume_meaning.specs.Slots.{cells_for};
 ghost use Rattle.worm_device.specs.Views.{Viewed};
 ghost use Rattle.append_file.specs.Reading.{IsPosition};
 ghost use Rattle.document_store.specs.Heads.{IsHead};

@@ -3,10 +3,10 @@ use Rattle.std.proofs.Common.{ℕ, Option, Some, None, subst}
 use Rattle.std.specs.Prelude.{IsTrue}
 use Rattle.cell_types.specs.Image.{Image, Extends}
 use Rattle.cell_types.specs.Layout.{Layout}
-use Rattle.stored_documents.proofs.Extending.{holds_on}
-use Rattle.index_paths.specs.HashPaths.{Sought}
-use Rattle.index_paths.specs.Nodes.{IsNode, root, under}
-use Rattle.index_paths.proofs.HashTrails.{passed_on, passed_to_on}
+use Rattle.volume_meaning.proofs.Extending.{holds_on}
+use Rattle.volume_meaning.specs.HashPaths.{Sought}
+use Rattle.volume_meaning.specs.Nodes.{IsNode, root, under}
+use Rattle.volume_meaning.proofs.HashTrails.{passed_on, passed_to_on}
 use Rattle.worm_device.specs.Views.{ViewState, Viewed}
 use Rattle.hash_tree.specs.Levels.{IsLed, IsLedWithin, IsPlaced, IsReached}
 use Rattle.hash_tree.specs.Steps.{IsPassedUpTo}

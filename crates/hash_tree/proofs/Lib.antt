@@ -1,7 +1,14 @@
 pub mod CellReads
 pub mod Growing
+pub mod Inserting
+pub mod InsertionLicence
+pub mod InsertionPaths
 pub mod Licence
 pub mod LookingHere
+pub mod Needs
 pub mod OneAnswer
 pub mod Paths
+pub mod Readiness
+pub mod Rooting
+pub mod Trails
 pub mod Walking

@@ -5,8 +5,8 @@ use Rattle.cell_types.specs.Layout.{Layout, LiesIn, Root, pool_at}
 use Rattle.cell_types.specs.Records.{IsRecordCell}
 use Rattle.cell_types.specs.declared.record_cell.RecordCell.TheVariants.{Bucket, Child}
 use Rattle.cell_types.specs.declared.refusal.Evidence.{Evidence}
-use Rattle.stored_documents.proofs.Holding.{some_is}
-use Rattle.index_paths.specs.HashPaths.{nibble}
+use Rattle.volume_meaning.proofs.Holding.{some_is}
+use Rattle.volume_meaning.specs.HashPaths.{nibble}
 use Rattle.tamper_rules.specs.Rules.{Buckets, Children, IsOfPool, IsPlaceOf}
 use Rattle.tamper_rules.specs.declared.numbers.TheConstants.{FAKE_BUCKET, LOST_CHILD}
 use Rattle.hash_tree.specs.Levels.{AreBounds, IsReached, IsWithin, bucket_at, child_at, node_in, node_of}

@@ -4,9 +4,9 @@ use Rattle.std.specs.Prelude.{IsTrue}
 use Rattle.cell_types.specs.Image.{Image, Extends}
 use Rattle.cell_types.specs.Layout.{Layout}
 use Rattle.cell_types.specs.declared.record_cell.RecordCell.TheVariants.{Child}
-use Rattle.stored_documents.specs.Volumes.{Holds}
-use Rattle.stored_documents.proofs.Extending.{holds_on}
-use Rattle.index_paths.specs.HashPaths.{Sought, IsPassed, down, fingerprint_of, nibble}
+use Rattle.volume_meaning.specs.Volumes.{Holds}
+use Rattle.volume_meaning.proofs.Extending.{holds_on}
+use Rattle.volume_meaning.specs.HashPaths.{Sought, IsPassed, down, fingerprint_of, nibble}
 use Rattle.hash_tree.specs.Levels.{bucket_at, level_below, node_of}
 use Rattle.hash_tree.specs.Steps.{ComesTo, here, further, GoesOn, HasNoneLeft, IsPassedUpTo, LeadsBy, PassesBucket}
 use Rattle.hash_tree.specs.declared.level.ChildCell.{ChildCell}

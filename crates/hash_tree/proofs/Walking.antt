@@ -8,10 +8,10 @@ use Rattle.cell_types.specs.declared.record_cell.RecordCell.TheVariants.{Child}
 use Rattle.cell_types.specs.declared.refusal.Evidence.{Evidence}
 use Rattle.cell_types.specs.declared.refusal.Fault.{Fault}
 use Rattle.cell_types.specs.declared.refusal.Fault.TheVariants.{Tampered, Failed}
-use Rattle.stored_documents.specs.Volumes.{Holds}
-use Rattle.stored_documents.proofs.Extending.{holds_on}
-use Rattle.index_paths.specs.HashPaths.{nibble}
-use Rattle.index_paths.specs.Nodes.{under}
+use Rattle.volume_meaning.specs.Volumes.{Holds}
+use Rattle.volume_meaning.proofs.Extending.{holds_on}
+use Rattle.volume_meaning.specs.HashPaths.{nibble}
+use Rattle.volume_meaning.specs.Nodes.{under}
 use Rattle.tamper_rules.specs.declared.numbers.TheConstants.{FAKE_BUCKET, LOST_CHILD}
 use Rattle.worm_device.specs.Views.{IsView, ViewState, Viewed}
 use Rattle.worm_device.proofs.Counting.{rose_from}

@@ -1,5 +1,10 @@
+pub mod Inserting
+pub mod InsertionLaws
 pub mod Laws
 pub mod Levels
 pub mod Licences
 pub mod Looking
+pub mod Naming
+pub mod Readiness
+pub mod Rooting
 pub mod Steps

@@ -4,8 +4,8 @@ use Rattle.cell_types.specs.Image.{Image}
 use Rattle.cell_types.specs.Layout.{Layout}
 use Rattle.cell_types.specs.declared.record_cell.RecordCell.TheVariants.{Child}
 use Rattle.cell_types.specs.declared.refusal.Evidence.{Evidence}
-use Rattle.stored_documents.specs.Slots.{IsEdge}
-use Rattle.stored_documents.specs.Volumes.{Holds, IsVolume}
+use Rattle.volume_meaning.specs.Slots.{IsEdge}
+use Rattle.volume_meaning.specs.Volumes.{Holds, IsVolume}
 use Rattle.tamper_rules.specs.Rules.{IsBroken}
 use Rattle.worm_device.specs.Views.{ViewState}
 use Rattle.hash_tree.specs.Levels.{IsReached}

@@ -7,8 +7,8 @@ use Rattle.cell_types.specs.declared.geometry.TheConstants.{MAX_SLOTS}
 use Rattle.cell_types.specs.declared.record_cell.RecordCell.TheVariants.{Bucket, Child}
 use Rattle.cell_types.specs.declared.refusal.Fault.{Fault}
 use Rattle.cell_types.specs.declared.refusal.Fault.TheVariants.{Tampered, Failed}
-use Rattle.stored_documents.specs.Volumes.{Holds}
-use Rattle.index_paths.specs.HashPaths.{fingerprint_of, nibble}
+use Rattle.volume_meaning.specs.Volumes.{Holds}
+use Rattle.volume_meaning.specs.HashPaths.{fingerprint_of, nibble}
 use Rattle.tamper_rules.specs.declared.numbers.TheConstants.{FAKE_BUCKET, LOST_CHILD}
 use Rattle.worm_device.specs.Counts.{Rose}
 use Rattle.worm_device.specs.Views.{ViewState, Viewed}

@@ -8,8 +8,8 @@ use Rattle.cell_types.specs.declared.record_cell.RecordCell.TheVariants.{Bucket,
 use Rattle.cell_types.specs.declared.refusal.Evidence.{Evidence}
 use Rattle.cell_types.specs.declared.refusal.Fault.{Fault}
 use Rattle.cell_types.specs.declared.refusal.Fault.TheVariants.{Tampered, Failed}
-use Rattle.stored_documents.specs.Volumes.{Holds}
-use Rattle.index_paths.specs.HashPaths.{Sought, IsPassed, PassedTo, fingerprint_of}
+use Rattle.volume_meaning.specs.Volumes.{Holds}
+use Rattle.volume_meaning.specs.HashPaths.{Sought, IsPassed, PassedTo, fingerprint_of}
 use Rattle.tamper_rules.specs.Rules.{IsPlaceOf}
 use Rattle.tamper_rules.specs.declared.numbers.TheConstants.{FAKE_BUCKET, LOST_CHILD}
 use Rattle.worm_device.specs.Counts.{Rose}

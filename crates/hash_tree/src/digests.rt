@@ -1,6 +1,6 @@
 //! The parts of a digest.
 ghost use Rattle.std.specs.Prelude.{◌≡◌, ◌<◌, ◌↔◌, IsTrue};
-ghost use Rattle.index_paths.specs.HashPaths.{fingerprint_of, nibble};
+ghost use Rattle.volume_meaning.specs.HashPaths.{fingerprint_of, nibble};
 
 /// Half byte v of a digest, the high half of each byte first.
 pub fn nibble_of(digest: &[u8; 32], v: u8) -> u8

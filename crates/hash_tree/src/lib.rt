@@ -1,4 +1,5 @@
-//! Follows the path of an identifier's digest through the hash tree, and answers its candidates one by one.
+//! The hash tree of identifiers: follows the path of a digest through it and answers the candidates one by one, and
+//! plans the entry of a slot where that path ends.
 //!
 //! A node has 32 cells: 16 buckets, then 16 child cells. At level v, from 0 to 63, the digest's half byte v says which
 //! bucket and which child cell are on the path; the high half of each byte comes first. A bucket holds a slot and the
@@ -18,12 +19,17 @@
 //! **No cell is trusted.** What is no bucket is evidence with rule 11; what is no child cell, or leads out of the pool
 //! or past the edge up to which slots reserve cells, with rule 12.
 //!
-//! A call makes at most two reads a level and takes no memory. Stands on `index_paths` for the path, on `tamper_rules`
-//! for what a broken rule is, and on `worm_device` for views. Begin with `path.rt`; `specs/Steps.antt` says what an
-//! answer means.
+//! **An entry is found.** An insertion reads nothing and writes nothing: it plans a bucket, and where the path ends under
+//! a bucket a new node for it. See `insertion.rt`.
+//!
+//! A step makes at most two reads a level and takes no memory. Stands on `volume_meaning` for the path, on `tamper_rules`
+//! for what a broken rule is, on `worm_device` for views, on `cell_pool` for nodes and planned cells, and on `ingest_laws`
+//! for the tree's shape. Begin with `path.rt`, then `insertion.rt`; `specs/Steps.antt` says what an answer means.
 #![tactic(auto)]
 
 mod digests;
+mod insertion;
+mod insertion_laws;
 mod laws;
 mod level;
 mod looks;
@@ -31,6 +37,8 @@ mod node_cells;
 mod path;
 
 pub use digests::nibble_of;
+pub use insertion::insert;
+pub use insertion_laws::{passed_is_on_path, taken_is_broken};
 pub use laws::a_step_has_one_answer;
 pub use level::{ChildCell, Level};
 pub use path::{Open, PathStep, next_candidate};

@@ -8,8 +8,8 @@ use crate::level::{ChildCell, Level};
 use crate::looks::{HeldBucket, Here};
 use crate::path::Open;
 use cell_types::{Fault, RecordCell, Volume, breach};
-use index_paths::NODE_BUCKETS;
 use tamper_rules::{FAKE_BUCKET, LOST_CHILD};
+use volume_meaning::NODE_BUCKETS;
 use worm_device::{View, record_at};
 
 /// A digest has 64 half bytes.

@@ -7,11 +7,11 @@ pub mod PageSets
 pub mod PlacesLeft
 pub mod PlacesMade
 pub mod PlacesPut
+pub mod Reading
 pub mod RowAsked
 pub mod RowBytes
 pub mod RowCells
 pub mod RowPieces
-pub mod Reading
 pub mod Standing
 pub mod Stores
 pub mod Syncing

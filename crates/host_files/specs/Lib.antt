@@ -4,8 +4,9 @@ pub mod Device
 pub mod File
 pub mod Memory
 pub mod MemoryFile
-pub mod Over
+pub mod Metered
 pub mod OsFile
+pub mod Over
 pub mod Pages
 pub mod Proper
 pub mod Rows

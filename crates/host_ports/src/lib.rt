@@ -24,6 +24,7 @@
 #![tactic(auto)]
 
 mod memory;
+mod meter;
 mod schedule;
 mod sink;
 mod source;
@@ -31,6 +32,7 @@ mod standard;
 mod whole;
 
 pub use memory::{MemorySink, MemorySource};
+pub use meter::{Meter, Silent, Work};
 pub use sink::Sink;
 pub use source::Source;
 pub use standard::{StdSink, StdSource};

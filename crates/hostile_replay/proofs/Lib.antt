@@ -1,11 +1,15 @@
+pub mod Along
+mod Complete
+mod Evident
+mod Exact
+mod HeldIngests
+mod LastDocuments
 mod LookingUp
+mod OfWords
 mod Playing
+pub mod Reading
+mod Returned
 mod Rows
-pub use Rattle.replayed_worlds.proofs.of_command_laws
-pub use Rattle.replayed_worlds.proofs.of_crash_laws
-pub use Rattle.replayed_worlds.proofs.of_ingest_engine
-pub use Rattle.replayed_worlds.proofs.of_ingest_laws
-pub use Rattle.replayed_worlds.proofs.of_plan_writer
-pub use Rattle.replayed_worlds.proofs as of_replayed_worlds
-pub use Rattle.replayed_worlds.proofs.of_settling_laws
-pub use Rattle.replayed_worlds.proofs.of_volume_audit
+mod Standing
+pub mod Undisturbed
+mod Whole

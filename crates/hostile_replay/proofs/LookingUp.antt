@@ -4,8 +4,8 @@ use Rattle.cell_types.specs.declared.refusal.Refusal.{Refusal}
 use Rattle.cell_types.specs.declared.refusal.Refusal.TheVariants as refusals
 use Rattle.host_ports.specs.Sinks.{SinkState}
 use Rattle.worm_device.specs.State.{DeviceState}
-use Rattle.replayed_worlds.specs.record_query.LookingUp.{LooksUp}
-use Rattle.replayed_worlds.specs.Turns.{LookUpRefused}
+use Rattle.record_query.specs.LookingUp.{LooksUp}
+use Rattle.hostile_replay.specs.Turns.{LookUpRefused}
 use Rattle.hostile_replay.specs.Sinks.{without_sink}
 
 told_of : (refused : Refusal) → ((without_sink refused ≡ refused) × (refused ≡ refusals.SinkFault → ⊥))

@@ -10,15 +10,15 @@ use Rattle.worm_memory.specs.declared.memory_device.MemoryDevice.{MemoryDevice}
 use Rattle.host_ports.specs.Sinks.{SinkState}
 use Rattle.recovery_engine.specs.Settling.{Settles}
 use Rattle.recovery_engine.specs.declared.settling.Ready.{Ready}
-use Rattle.replayed_worlds.specs.ingest_engine.Ingesting.{Ingests}
-use Rattle.replayed_worlds.specs.record_query.Finding.{Searches}
-use Rattle.replayed_worlds.specs.record_query.LookingUp.{LooksUp}
-use Rattle.replayed_worlds.specs.record_query.declared.found.Found.{Found}
-use Rattle.replayed_worlds.specs.record_query.declared.found.Match.{Match}
+use Rattle.ingest_engine.specs.Ingesting.{Ingests}
+use Rattle.record_query.specs.Finding.{Searches}
+use Rattle.record_query.specs.LookingUp.{LooksUp}
+use Rattle.record_query.specs.declared.found.Found.{Found}
+use Rattle.record_query.specs.declared.found.Match.{Match}
 use Rattle.script_events.specs.declared.event.Schedule.{Schedule}
-use Rattle.replayed_worlds.specs.script_replies.declared.reply.Reply.TheVariants as reply
-use Rattle.replayed_worlds.specs.begun_commands.Beginnings.{begun_with}
-use Rattle.replayed_worlds.specs.Turns.{CarriesOut, FindAnswers, GoesByPlan, IngestAnswers, LookUpAnswers, RecoverAnswers}
+use Rattle.script_replies.specs.declared.reply.Reply.TheVariants as reply
+use Rattle.script_replies.specs.Beginnings.{begun_with}
+use Rattle.hostile_replay.specs.Turns.{CarriesOut, FindAnswers, GoesByPlan, IngestAnswers, LookUpAnswers, RecoverAnswers}
 use Rattle.hostile_replay.specs.Sinks.{without_sink}
 use Rattle.hostile_replay.proofs.LookingUp.{look_up_refused}
 

@@ -5,10 +5,10 @@ use Rattle.worm_device.specs.State.{IsDevice}
 use Rattle.worm_memory.specs.Memory.{Memory, device_of}
 use Rattle.script_events.specs.declared.event.Event.{Event}
 use Rattle.script_events.specs.declared.event.Event.TheVariants as event
-use Rattle.replayed_worlds.specs.script_replies.declared.reply.Reply.{Reply}
-use Rattle.replayed_worlds.specs.script_replies.declared.reply.Reply.TheVariants as reply
-use Rattle.replayed_worlds.specs.Turns.{Turns}
-use Rattle.replayed_worlds.specs.Worlds.{AreInTurn, IsWorld, Turn}
+use Rattle.script_replies.specs.declared.reply.Reply.{Reply}
+use Rattle.script_replies.specs.declared.reply.Reply.TheVariants as reply
+use Rattle.hostile_replay.specs.Turns.{Turns}
+use Rattle.hostile_replay.specs.Worlds.{AreInTurn, IsWorld, Turn}
 
 -- a world of the events so far, on a device of as many cells
 pub record IsSoFar (events : List Event) (replies : List Reply) (from to : Memory) : Type 0 where

@@ -4,8 +4,8 @@ use Rattle.cell_types.specs.declared.refusal.NoMemory.{NoMemory}
 use Rattle.worm_memory.specs.Device.{memory_of}
 use Rattle.worm_memory.specs.declared.memory_device.MemoryDevice.{MemoryDevice}
 use Rattle.script_events.specs.declared.event.Event.{Event}
-use Rattle.replayed_worlds.specs.script_replies.declared.reply.Reply.{Reply}
-use Rattle.replayed_worlds.specs.Turns.{Turns}
+use Rattle.script_replies.specs.declared.reply.Reply.{Reply}
+use Rattle.hostile_replay.specs.Turns.{Turns}
 
 -- the event does what it says and is answered so, unless the replay itself finds no memory
 abbrev pub Plays : Event → MemoryDevice → MemoryDevice → Result Reply NoMemory → Type 0

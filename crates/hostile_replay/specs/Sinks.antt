@@ -3,8 +3,8 @@ use Rattle.cell_types.specs.declared.refusal.Refusal.{Refusal}
 use Rattle.cell_types.specs.declared.refusal.Refusal.TheVariants as refusals
 use Rattle.worm_device.specs.declared.device.Written.{Written}
 use Rattle.worm_device.specs.declared.device.Written.TheVariants as written
-use Rattle.replayed_worlds.specs.script_replies.declared.reply.Reply.{Reply}
-use Rattle.replayed_worlds.specs.script_replies.declared.reply.Reply.TheVariants as reply
+use Rattle.script_replies.specs.declared.reply.Reply.{Reply}
+use Rattle.script_replies.specs.declared.reply.Reply.TheVariants as reply
 
 -- the refusal that a look-up into memory is answered: a sink without room is want of memory
 abbrev pub without_sink : Refusal → Refusal

@@ -2,14 +2,13 @@
 ghost use Rattle.std.specs.Prelude.{◌≡◌, ◌≤◌, ◌<◌, IfOk};
 ghost use Rattle.worm_memory.specs.Device.{memory_of};
 ghost use Rattle.script_events.specs.declared.event.Event.TheVariants as event;
-ghost use Rattle.replayed_worlds.specs.begun_commands.declared.beginning.TheConstants.{MAX_REPLAYED_CELLS};
-ghost use Rattle.replayed_worlds.specs.Turns.{CrashAnswers};
+ghost use Rattle.script_replies.specs.declared.beginning.TheConstants.{MAX_REPLAYED_CELLS};
+ghost use Rattle.hostile_replay.specs.Turns.{CrashAnswers};
 ghost use Rattle.hostile_replay.specs.Plays.{Plays};
 ghost use Rattle.hostile_replay.specs.Sinks.{reply_of_foreign};
 
-use begun_commands::begin_by_hand;
 use cell_types::{Cell, NoMemory};
-use script_replies::Reply;
+use script_replies::{Reply, begin_by_hand};
 use worm_device::Written;
 use worm_memory::MemoryDevice;
 

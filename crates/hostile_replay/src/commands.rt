@@ -1,20 +1,19 @@
 //! Commands of a script, carried out on a device in memory: each is begun with the event's plan.
 ghost use Rattle.std.specs.Prelude.{◌≡◌, ◌≤◌, IfOk};
 ghost use Rattle.cell_types.specs.declared.geometry.TheConstants.{FIRST_VERSION, NEWEST_VERSION};
-ghost use Rattle.stored_documents.specs.Documents.{IsBody, IsIdentifier};
+ghost use Rattle.volume_meaning.specs.Documents.{IsBody, IsIdentifier};
 ghost use Rattle.worm_memory.specs.Device.{memory_of};
 ghost use Rattle.script_events.specs.Events.{IsPlanOn};
 ghost use Rattle.script_events.specs.declared.event.Event.TheVariants as event;
-ghost use Rattle.replayed_worlds.specs.begun_commands.declared.beginning.TheConstants.{MAX_REPLAYED_CELLS};
+ghost use Rattle.script_replies.specs.declared.beginning.TheConstants.{MAX_REPLAYED_CELLS};
 ghost use Rattle.hostile_replay.specs.Plays.{Plays};
 
-use begun_commands::begin_with;
 use cell_types::NoMemory;
 use document_store::Text;
 use ingest_engine::{format_volume, ingest};
 use recovery_engine::settle;
 use script_events::Schedule;
-use script_replies::Reply;
+use script_replies::{Reply, begin_with};
 use std::alloc::Global;
 use volume_audit::audit;
 use worm_memory::{MemoryDevice, a_plan_is_kept};

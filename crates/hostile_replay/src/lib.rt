@@ -13,17 +13,25 @@
 //! the event's plan, and then the engine's own call is made, the one that a program makes on a real device. The device
 //! carries the plan out, so the engine meets its faults and foreign writes wherever they fall.
 //!
-//! At Ok the replies are those of a world (`IsWorld` of `replayed_worlds`), so all that is promised of worlds holds of them.
-//! The only refusal is want of memory for the replay itself; a command that finds none is answered so, and the replay goes
-//! on.
+//! At Ok the replies are those of a world (`IsWorld`), so all that is promised of worlds holds of them. The only refusal is
+//! want of memory for the replay itself; a command that finds none is answered so, and the replay goes on.
 //!
-//! Stands on `replayed_worlds`, and on the engines. It passes their specifications and lemmas on. Begin with
-//! `replaying.rt`; `commands.rt` has a function an event.
+//! What is promised of every list of commands, crashes at any moment and foreign writes into blank cells, is said in
+//! `laws.rt`, with specs/Headline.antt as its page.
+//!
+//! Stands on the engines, on `command_laws` and on `script_replies`. Begin with `replaying.rt`; `commands.rt` has a
+//! function an event.
 #![tactic(auto)]
 
 mod by_hand;
 mod commands;
+mod laws;
 mod queries;
 mod replaying;
 
+pub use laws::{
+    acknowledged_are_returned, commands_are_whole, commands_complete, headline, ingests_are_held,
+    none_is_of_words, plain_is_done, returned_stand, tampering_is_evident, told_is_exact,
+    turns_are_marked, unshared_is_alone,
+};
 pub use replaying::replay;

@@ -3,19 +3,18 @@ ghost use Rattle.std.specs.Prelude.{◌≡◌, ◌≤◌, IfOk, List, ℕ, lengt
 ghost use Rattle.worm_memory.specs.Device.{memory_of};
 ghost use Rattle.script_events.specs.Events.{IsPlanOn};
 ghost use Rattle.script_events.specs.declared.event.Event.TheVariants as event;
-ghost use Rattle.replayed_worlds.specs.begun_commands.declared.beginning.TheConstants.{MAX_REPLAYED_CELLS};
+ghost use Rattle.script_replies.specs.declared.beginning.TheConstants.{MAX_REPLAYED_CELLS};
 ghost use Rattle.hostile_replay.specs.Plays.{Plays};
 ghost use Rattle.hostile_replay.specs.Sinks.{without_sink};
 
-use begun_commands::begin_with;
 use cell_types::{NoMemory, Refusal};
 use document_store::Text;
 use host_ports::MemorySink;
 use record_query::{find, lookup_into};
 use script_events::{Schedule, Sequence};
-use script_replies::Reply;
+use script_replies::{Reply, begin_with};
 use std::alloc::Global;
-use stored_documents::MAX_BODY_BYTES;
+use volume_meaning::MAX_BODY_BYTES;
 use word_reader::Term;
 use worm_memory::{MemoryDevice, a_plan_is_kept};
 

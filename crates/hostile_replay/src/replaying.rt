@@ -3,8 +3,8 @@ ghost use Rattle.std.specs.Prelude.{◌≡◌, ◌≤◌, IfOk};
 ghost use Rattle.worm_device.specs.State.{IsDevice};
 ghost use Rattle.worm_memory.specs.Device.{memory_of};
 ghost use Rattle.script_events.specs.Events.{AreEventsOn, IsEventOn};
-ghost use Rattle.replayed_worlds.specs.begun_commands.declared.beginning.TheConstants.{MAX_REPLAYED_CELLS};
-ghost use Rattle.replayed_worlds.specs.Worlds.{IsWorld};
+ghost use Rattle.script_replies.specs.declared.beginning.TheConstants.{MAX_REPLAYED_CELLS};
+ghost use Rattle.hostile_replay.specs.Worlds.{IsWorld};
 ghost use Rattle.hostile_replay.specs.Plays.{Plays};
 
 use crate::by_hand::{play_crash, play_foreign};

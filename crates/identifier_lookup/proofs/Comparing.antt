@@ -4,11 +4,11 @@ use Rattle.std.specs.Prelude.{IsTrue}
 use Rattle.cell_types.specs.Layout.{Layout}
 use Rattle.cell_types.specs.declared.refusal.Fault.{Fault}
 use Rattle.cell_types.specs.declared.refusal.Fault.TheVariants.{Tampered, Failed}
-use Rattle.stored_documents.specs.Slots.{cells_for}
-use Rattle.stored_documents.proofs.Extending.{done_on}
+use Rattle.volume_meaning.specs.Slots.{cells_for}
+use Rattle.volume_meaning.proofs.Extending.{done_on}
 use Rattle.worm_device.specs.Views.{ViewState, Viewed}
 use Rattle.worm_device.proofs.Resting.{viewed_self, viewed_then}
-use Rattle.document_store.specs.commit_record.States.{stamp_cells}
+use Rattle.commit_record.specs.States.{stamp_cells}
 use Rattle.document_store.specs.Looks.{IsPartOf, PartEnds, SameEnds}
 use Rattle.document_store.specs.declared.part.Part.{Part}
 use Rattle.document_store.proofs.Checking.{part_of_own, same_then}

@@ -6,12 +6,12 @@ use Rattle.sha2.specs.Sha256.{sha256}
 use Rattle.cell_types.specs.Image.{Image, Extends}
 use Rattle.cell_types.specs.Layout.{Layout, root_at, pool_at}
 use Rattle.cell_types.specs.declared.record_cell.RecordCell.TheVariants.{Bucket}
-use Rattle.stored_documents.specs.Volumes.{Holds, IsVolume}
-use Rattle.stored_documents.proofs.Extending.{done_on, holds_on}
-use Rattle.index_paths.specs.HashPaths.{PassedTo, Sought, at_root, down, fingerprint_of, nibble}
-use Rattle.index_paths.specs.Nodes as nodes
-use Rattle.index_paths.specs.Nodes.{IsOnPath}
-use Rattle.document_store.proofs.of_tamper_rules.GoingOn.{on_path_on}
+use Rattle.volume_meaning.specs.Volumes.{Holds, IsVolume}
+use Rattle.volume_meaning.proofs.Extending.{done_on, holds_on}
+use Rattle.volume_meaning.specs.HashPaths.{PassedTo, Sought, at_root, down, fingerprint_of, nibble}
+use Rattle.volume_meaning.specs.Nodes as nodes
+use Rattle.volume_meaning.specs.Nodes.{IsOnPath}
+use Rattle.tamper_rules.proofs.GoingOn.{on_path_on}
 use Rattle.worm_device.specs.Views.{ViewState, Viewed}
 use Rattle.identifier_lookup.specs.Costs.{AreCellsOf, CompareCosts, Comparison, Fall, HasDocumentCells, IsComparison, WalkCosts, cells_in}
 

@@ -8,14 +8,14 @@ use Rattle.cell_types.specs.declared.record_cell.RecordCell.TheVariants.{Bucket}
 use Rattle.cell_types.specs.declared.refusal.Evidence.{Evidence}
 use Rattle.cell_types.specs.declared.refusal.Fault.{Fault}
 use Rattle.cell_types.specs.declared.refusal.Fault.TheVariants.{Tampered, Failed}
-use Rattle.stored_documents.specs.Volumes.{Holds, IsVolume}
-use Rattle.stored_documents.proofs.Extending.{holds_on, stands_on, volume_on}
-use Rattle.index_paths.specs.HashPaths.{HashTrail, IsPassed, PassedTo, Sought, at_root, fingerprint_of, nibble}
-use Rattle.index_paths.specs.Keeping.{sought_in}
-use Rattle.index_paths.specs.Nodes as nodes
-use Rattle.index_paths.specs.Nodes.{IsOnPath}
-use Rattle.index_paths.proofs.HashTrails.{follows, hash_trail_on, none_at_blank_bucket, none_at_blank_child, none_at_the_end, passed_to_on, the_found_one}
-use Rattle.document_store.proofs.of_tamper_rules.GoingOn.{on_path_on}
+use Rattle.volume_meaning.specs.Volumes.{Holds, IsVolume}
+use Rattle.volume_meaning.proofs.Extending.{holds_on, stands_on, volume_on}
+use Rattle.volume_meaning.specs.HashPaths.{HashTrail, IsPassed, PassedTo, Sought, at_root, fingerprint_of, nibble}
+use Rattle.volume_meaning.specs.Keeping.{sought_in}
+use Rattle.volume_meaning.specs.Nodes as nodes
+use Rattle.volume_meaning.specs.Nodes.{IsOnPath}
+use Rattle.volume_meaning.proofs.HashTrails.{follows, hash_trail_on, none_at_blank_bucket, none_at_blank_child, none_at_the_end, passed_to_on, the_found_one}
+use Rattle.tamper_rules.proofs.GoingOn.{on_path_on}
 use Rattle.worm_device.specs.Views.{ViewState, Viewed}
 use Rattle.worm_device.proofs.Counting.{rose_from}
 use Rattle.worm_device.proofs.Resting.{viewed_self, viewed_then}

@@ -3,4 +3,3 @@ pub mod Costing
 pub mod Finding
 pub mod Licence
 pub mod Loaned
-pub use Rattle.document_store.proofs as of_document_store

@@ -5,19 +5,19 @@ use Rattle.cell_types.specs.Image.{Image, Extends, IsUnchanged}
 use Rattle.cell_types.specs.Layout.{Layout, LiesIn, Root, outcome_at, reserve_at}
 use Rattle.cell_types.specs.declared.record_cell.RecordCell.TheVariants.{Bucket}
 use Rattle.cell_types.specs.declared.refusal.Evidence.{Evidence}
-use Rattle.stored_documents.specs.Documents.{document_at, stored_bytes, Spells}
-use Rattle.stored_documents.specs.Slots.{IsDone, IsDoneSlot, IsHorizon, IsLive, Stores}
-use Rattle.stored_documents.specs.Volumes.{Holds, IsVolume}
-use Rattle.stored_documents.proofs.Extending.{done_slot_on}
-use Rattle.stored_documents.proofs.Holding.{one_record_holds}
-use Rattle.index_paths.specs.HashPaths.{nibble}
-use Rattle.index_paths.proofs.Digests.{digest_is_bytes}
-use Rattle.document_store.specs.tamper_rules.Rules.{Buckets, Documents, HasDocument, IsBroken, IsOfPool}
-use Rattle.document_store.specs.tamper_rules.declared.numbers.TheConstants.{BROKEN_DOCUMENT, DONE_CELL, FAKE_BUCKET, OUTCOME_CELL, RESERVE_CELL}
+use Rattle.volume_meaning.specs.Documents.{document_at, stored_bytes, Spells}
+use Rattle.volume_meaning.specs.Slots.{IsDone, IsDoneSlot, IsHorizon, IsLive, Stores}
+use Rattle.volume_meaning.specs.Volumes.{Holds, IsVolume}
+use Rattle.volume_meaning.proofs.Extending.{done_slot_on}
+use Rattle.volume_meaning.proofs.Holding.{one_record_holds}
+use Rattle.volume_meaning.specs.HashPaths.{nibble}
+use Rattle.volume_meaning.proofs.Digests.{digest_is_bytes}
+use Rattle.tamper_rules.specs.Rules.{Buckets, Documents, HasDocument, IsBroken, IsOfPool}
+use Rattle.tamper_rules.specs.declared.numbers.TheConstants.{BROKEN_DOCUMENT, DONE_CELL, FAKE_BUCKET, OUTCOME_CELL, RESERVE_CELL}
 use Rattle.worm_device.specs.Views.{ViewState, Viewed}
 use Rattle.worm_device.proofs.Counting.{still_second}
 use Rattle.worm_device.proofs.Resting.{rests_of}
-use Rattle.document_store.specs.commit_record.States.{IsNoState, done_abandoned, done_unended, done_unreserved, done_wrongly, ends_unreserved, ends_unstamped, ends_wrongly, reserves_none}
+use Rattle.commit_record.specs.States.{IsNoState, done_abandoned, done_unended, done_unreserved, done_wrongly, ends_unreserved, ends_unstamped, ends_wrongly, reserves_none}
 use Rattle.document_store.specs.Looks.{Names, of_document, of_state}
 use Rattle.document_store.specs.Standing.{HoldsDocument}
 use Rattle.document_store.proofs.Holding.{held_on}

@@ -7,10 +7,10 @@ use Rattle.cell_types.specs.declared.record_cell.RecordCell.TheVariants.{Bucket}
 use Rattle.cell_types.specs.declared.refusal.Evidence.{Evidence}
 use Rattle.cell_types.specs.declared.refusal.Fault.{Fault}
 use Rattle.cell_types.specs.declared.refusal.Fault.TheVariants.{Tampered, Failed}
-use Rattle.index_paths.specs.HashPaths.{fingerprint_of}
-use Rattle.stored_documents.specs.Slots.{IsDoneSlot}
-use Rattle.stored_documents.specs.Volumes.{Holds}
-use Rattle.document_store.specs.tamper_rules.declared.numbers.TheConstants.{FAKE_BUCKET}
+use Rattle.volume_meaning.specs.HashPaths.{fingerprint_of}
+use Rattle.volume_meaning.specs.Slots.{IsDoneSlot}
+use Rattle.volume_meaning.specs.Volumes.{Holds}
+use Rattle.tamper_rules.specs.declared.numbers.TheConstants.{FAKE_BUCKET}
 use Rattle.worm_device.specs.Counts.{Rose}
 use Rattle.worm_device.specs.Views.{ViewState, Viewed}
 use Rattle.document_store.specs.Looks.{IsSame, LookFails}

@@ -4,12 +4,12 @@ use Rattle.sha2.specs.Sha256.{sha256}
 use Rattle.cell_types.specs.Image.{Image}
 use Rattle.cell_types.specs.Layout.{Layout}
 use Rattle.cell_types.specs.declared.record_cell.RecordCell.TheVariants.{Bucket}
-use Rattle.stored_documents.specs.Documents.{Document, stored_bytes}
-use Rattle.stored_documents.specs.Slots.{IsDone, cells_for}
-use Rattle.stored_documents.specs.Volumes.{Holds, IsVolume}
-use Rattle.index_paths.specs.HashPaths.{fingerprint_of, nibble}
-use Rattle.index_paths.specs.Nearness.{IsPathMate}
-use Rattle.index_paths.specs.Nodes.{IsOnPath}
+use Rattle.volume_meaning.specs.Documents.{Document, stored_bytes}
+use Rattle.volume_meaning.specs.Slots.{IsDone, cells_for}
+use Rattle.volume_meaning.specs.Volumes.{Holds, IsVolume}
+use Rattle.volume_meaning.specs.HashPaths.{fingerprint_of, nibble}
+use Rattle.volume_meaning.specs.Nearness.{IsPathMate}
+use Rattle.volume_meaning.specs.Nodes.{IsOnPath}
 use Rattle.worm_device.specs.Views.{ViewState}
 
 -- slot n is done, and its document has so many cells

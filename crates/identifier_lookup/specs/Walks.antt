@@ -7,13 +7,13 @@ use Rattle.cell_types.specs.declared.record_cell.RecordCell.TheVariants.{Bucket}
 use Rattle.cell_types.specs.declared.refusal.Evidence.{Evidence}
 use Rattle.cell_types.specs.declared.refusal.Fault.{Fault}
 use Rattle.cell_types.specs.declared.refusal.Fault.TheVariants.{Tampered, Failed}
-use Rattle.stored_documents.specs.Documents.{Stands}
-use Rattle.stored_documents.specs.Slots.{IsEdge, IsHorizon}
-use Rattle.stored_documents.specs.Volumes.{Holds, IsVolume}
-use Rattle.index_paths.specs.HashPaths.{HashTrail, IsPassed, PassedTo, fingerprint_of, nibble}
-use Rattle.index_paths.specs.Keeping.{sought_in}
-use Rattle.document_store.specs.tamper_rules.Rules.{IsBroken, IsPlaceOf}
-use Rattle.document_store.specs.tamper_rules.declared.numbers.TheConstants.{BROKEN_DOCUMENT, DONE_CELL, OUTCOME_CELL, RESERVE_CELL}
+use Rattle.volume_meaning.specs.Documents.{Stands}
+use Rattle.volume_meaning.specs.Slots.{IsEdge, IsHorizon}
+use Rattle.volume_meaning.specs.Volumes.{Holds, IsVolume}
+use Rattle.volume_meaning.specs.HashPaths.{HashTrail, IsPassed, PassedTo, fingerprint_of, nibble}
+use Rattle.volume_meaning.specs.Keeping.{sought_in}
+use Rattle.tamper_rules.specs.Rules.{IsBroken, IsPlaceOf}
+use Rattle.tamper_rules.specs.declared.numbers.TheConstants.{BROKEN_DOCUMENT, DONE_CELL, OUTCOME_CELL, RESERVE_CELL}
 use Rattle.worm_device.specs.Counts.{IsStill, Rose}
 use Rattle.worm_device.specs.Views.{ViewState, Viewed}
 use Rattle.document_store.specs.Looks.{HoldsIdentifier}

@@ -1,7 +1,7 @@
 //! A bucket that may be that of an identifier.
 ghost use Rattle.std.specs.Prelude.{◌≡◌, ◌<◌, ◌≤◌, IsTrue};
 ghost use Rattle.cell_types.specs.declared.geometry.TheConstants.{MAX_SLOTS};
-ghost use Rattle.document_store.specs.tamper_rules.declared.numbers.TheConstants.{FAKE_BUCKET};
+ghost use Rattle.tamper_rules.specs.declared.numbers.TheConstants.{FAKE_BUCKET};
 ghost use Rattle.identifier_lookup.specs.Candidates.{Compares, HoldsNamed, IsNamedCell};
 
 use cell_types::{Evidence, Fault, RecordCell, Volume, encode};

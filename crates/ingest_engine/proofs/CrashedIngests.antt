@@ -4,23 +4,23 @@ use Rattle.std.specs.Prelude.{IsTrue}
 use Rattle.cell_types.specs.Image.{Image, Extends, Between, IsUnchanged}
 use Rattle.cell_types.specs.Layout.{Layout, IsLayout}
 use Rattle.cell_types.specs.declared.refusal.Refusal.{Refusal}
-use Rattle.stored_documents.specs.Slots.{IsUnused}
-use Rattle.stored_documents.specs.Volumes.{IsVolume}
-use Rattle.stored_documents.proofs.Extending.{volume_on}
-use Rattle.commit_record.proofs.of_tamper_rules.GivenUp.{one_layout}
+use Rattle.volume_meaning.specs.Slots.{IsUnused}
+use Rattle.volume_meaning.specs.Volumes.{IsVolume}
+use Rattle.volume_meaning.proofs.Extending.{volume_on}
+use Rattle.tamper_rules.proofs.GivenUp.{one_layout}
 use Rattle.worm_device.specs.Calls.{Called}
 use Rattle.worm_device.specs.Counts.{IsStill}
 use Rattle.worm_device.specs.State.{DeviceState, LeftSince}
 use Rattle.worm_device.proofs.Counting.{still_first, still_second}
 use Rattle.worm_device.proofs.Elapsing.{called_then, elapses_of}
-use Rattle.plan_writer.specs.phase_writer.Putting.{IsInFirst, LeavesPhases}
-use Rattle.plan_writer.specs.phase_writer.declared.put.Put.{Put}
+use Rattle.recovery_engine.specs.Putting.{IsInFirst, LeavesPhases}
+use Rattle.recovery_engine.specs.declared.put.Put.{Put}
 use Rattle.commit_record.specs.States.{IsState}
 use Rattle.commit_record.specs.declared.slot.SlotState.{SlotState}
 use Rattle.commit_record.specs.declared.slot.SlotState.TheVariants.{Unused, Reserved, Abandoned, Committed, Done}
-use Rattle.plan_writer.specs.recovery_engine.Ending.{end_phases, IsFirstEnd, IsLastEnd}
-use Rattle.plan_writer.specs.recovery_engine.Settling.{EndsByPhases, HasSettled, IsEnding, Settles, settle_plan}
-use Rattle.plan_writer.specs.recovery_engine.declared.settling.Ready.{Ready}
+use Rattle.recovery_engine.specs.Ending.{end_phases, IsFirstEnd, IsLastEnd}
+use Rattle.recovery_engine.specs.Settling.{EndsByPhases, HasSettled, IsEnding, Settles, settle_plan}
+use Rattle.recovery_engine.specs.declared.settling.Ready.{Ready}
 use Rattle.plan_writer.specs.CrashLaws.{CrashesLeaveWholeSlots, IsWholeOrUncommitted}
 use Rattle.plan_writer.specs.Planned.{INGEST_PHASES, PlansDocument, Suits, ingest_phases}
 use Rattle.plan_writer.specs.PuttingPlans.{PutsPlan}

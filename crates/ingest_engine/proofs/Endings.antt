@@ -7,21 +7,21 @@ use Rattle.cell_types.specs.declared.refusal.Fault.{Fault}
 use Rattle.cell_types.specs.declared.refusal.Fault.TheVariants as faults
 use Rattle.cell_types.specs.declared.refusal.Refusal.{Refusal}
 use Rattle.cell_types.specs.declared.refusal.Refusal.TheVariants.{DeviceFault, Duplicate, Full, NoMemory, NotAVolume, NotFormatted, PathFull, SlotsFull, StampNeeded, StampTooEarly, StampUnused, Tampered, TooManyTerms, WrongSize}
-use Rattle.stored_documents.specs.Volumes.{IsVolume}
+use Rattle.volume_meaning.specs.Volumes.{IsVolume}
 use Rattle.worm_device.specs.Calls.{Called}
 use Rattle.worm_device.specs.Counts.{Rose}
 use Rattle.worm_device.specs.State.{DeviceState, IsDevice}
 use Rattle.worm_device.proofs.Elapsing.{called_self, called_then}
-use Rattle.stored_documents.proofs.Extending.{volume_on}
-use Rattle.plan_writer.specs.recovery_engine.Settling.{HasSettled, SettleEnds, Settles}
-use Rattle.plan_writer.specs.recovery_engine.declared.settling.Ready.{Ready}
-use Rattle.plan_writer.proofs.of_phase_writer.Phasing.{false_true}
+use Rattle.volume_meaning.proofs.Extending.{volume_on}
+use Rattle.recovery_engine.specs.Settling.{HasSettled, SettleEnds, Settles}
+use Rattle.recovery_engine.specs.declared.settling.Ready.{Ready}
+use Rattle.recovery_engine.proofs.Phasing.{false_true}
 use Rattle.plan_writer.specs.CrashLaws.{CrashesLeaveWholeSlots}
 use Rattle.plan_writer.specs.PuttingPlans.{PlanEnds, PutsPlan}
 use Rattle.plan_writer.specs.declared.plan.Plan.{Plan}
 use Rattle.ingest_plan.specs.declared.plan.PlannedIndex.{PlannedIndex}
 use Rattle.ingest_engine.specs.Indexing.{PlanForEnds, PlansFor}
-use Rattle.stored_documents.specs.Slots.{IsStampFor}
+use Rattle.volume_meaning.specs.Slots.{IsStampFor}
 use Rattle.ingest_engine.specs.Ingesting.{ComesTo, IngestEnds, Ingests, IsPlanFor, PutUnfailed, RoomEnds, SlotsEnd, StampEnds, by_settling, need_with}
 use Rattle.ingest_engine.proofs.CrashedIngests.{crashed}
 use Rattle.ingest_engine.proofs.FullLogs.{has_no_slot, has_slot, last_free}

@@ -3,12 +3,12 @@ use Rattle.std.proofs.Common.{◌≡◌, ◌<◌, ◌-◌, ℕ, List, Option, So
 use Rattle.std.specs.Prelude.{IsTrue}
 use Rattle.cell_types.specs.Image.{Image}
 use Rattle.cell_types.specs.Layout.{reserve_at}
-use Rattle.stored_documents.specs.Slots.{IsStampFor}
-use Rattle.stored_documents.specs.Volumes.{IsWritten}
-use Rattle.stored_documents.proofs.Extending.{written_on}
+use Rattle.volume_meaning.specs.Slots.{IsStampFor}
+use Rattle.volume_meaning.specs.Volumes.{IsWritten}
+use Rattle.volume_meaning.proofs.Extending.{written_on}
 use Rattle.worm_device.specs.State.{DeviceState}
-use Rattle.plan_writer.specs.recovery_engine.Settling.{HasSettled}
-use Rattle.plan_writer.specs.recovery_engine.declared.settling.Ready.{Ready}
+use Rattle.recovery_engine.specs.Settling.{HasSettled}
+use Rattle.recovery_engine.specs.declared.settling.Ready.{Ready}
 use Rattle.ingest_engine.specs.Ingesting.{HasNoSlot, HasSlot, IsLastFree}
 
 -- a cell that is not written is blank

@@ -7,8 +7,8 @@ use Rattle.std.proofs.lemmas.Grind.{common_steps}
 use Rattle.std.proofs.lemmas.List.{drop-append-le, take-append-le, take-append-drop, length-take-le}
 use Rattle.std.proofs.lemmas.Option.{gets}
 use Rattle.cell_types.specs.Contents.{content_bytes}
-use Rattle.stored_documents.specs.Documents.{content_at, stored_bytes}
-use Rattle.stored_documents.specs.Slots.{cells_for}
+use Rattle.volume_meaning.specs.Documents.{content_at, stored_bytes}
+use Rattle.volume_meaning.specs.Slots.{cells_for}
 use Rattle.append_file.specs.StoredCells.{AddsCellsOf, AreCellsOf}
 
 get_first : (xs ys : List (List ℕ)) (k : ℕ) → k < length xs → slice_get (xs ++ ys) k ≡ slice_get xs k

@@ -4,16 +4,16 @@ use Rattle.std.specs.Prelude.{slice_get, Contains, IsTrue}
 use Rattle.std.proofs.lemmas.List.Elements.{Contains-append_cases}
 use Rattle.cell_types.specs.Image.{Image, Extends}
 use Rattle.cell_types.specs.Layout.{IsLayout, Layout, root_at}
-use Rattle.stored_documents.specs.Documents.{Document, Stands}
-use Rattle.stored_documents.specs.Volumes.{IsVolume}
-use Rattle.stored_documents.specs.Slots.{IsStampOf}
-use Rattle.stored_documents.proofs.Extending.{done_slot_on, holds_on, volume_on}
-use Rattle.index_paths.specs.HashPaths.{IsPassed, PassedTo}
-use Rattle.index_paths.specs.Keeping.{IsKept, Kept, sought_in}
-use Rattle.index_paths.proofs.HashTrails.{passed_on, passed_to_on}
-use Rattle.index_paths.proofs.KeepingLaws.{is_kept_on}
-use Rattle.commit_record.proofs.of_tamper_rules.DocumentLists.{only_one}
-use Rattle.commit_record.proofs.of_tamper_rules.GivenUp.{one_layout}
+use Rattle.volume_meaning.specs.Documents.{Document, Stands}
+use Rattle.volume_meaning.specs.Volumes.{IsVolume}
+use Rattle.volume_meaning.specs.Slots.{IsStampOf}
+use Rattle.volume_meaning.proofs.Extending.{done_slot_on, holds_on, volume_on}
+use Rattle.volume_meaning.specs.HashPaths.{IsPassed, PassedTo}
+use Rattle.volume_meaning.specs.Keeping.{IsKept, Kept, sought_in}
+use Rattle.volume_meaning.proofs.HashTrails.{passed_on, passed_to_on}
+use Rattle.volume_meaning.proofs.KeepingLaws.{is_kept_on}
+use Rattle.tamper_rules.proofs.DocumentLists.{only_one}
+use Rattle.tamper_rules.proofs.GivenUp.{one_layout}
 use Rattle.worm_device.specs.Calls.{Called}
 use Rattle.worm_device.specs.State.{DeviceState}
 use Rattle.worm_device.specs.Views.{seen_directly}
@@ -21,8 +21,8 @@ use Rattle.worm_device.proofs.Images.{extends_then}
 use Rattle.hash_tree.specs.Levels.{node_of}
 use Rattle.hash_tree.specs.Steps.{IsOpenAt}
 use Rattle.hash_tree.specs.declared.level.Level.{Level}
-use Rattle.ingest_plan.specs.hash_insertion.Readiness.{PassedDown}
-use Rattle.plan_writer.specs.recovery_engine.declared.settling.Ready.{Ready}
+use Rattle.hash_tree.specs.Readiness.{PassedDown}
+use Rattle.recovery_engine.specs.declared.settling.Ready.{Ready}
 use Rattle.identifier_lookup.specs.Walks.{EndsThere, IsPassedAbove, IsPassedUpToPlace}
 use Rattle.plan_writer.specs.Planned.{reserved_by}
 use Rattle.plan_writer.specs.PuttingPlans.{IsCarriedOut}

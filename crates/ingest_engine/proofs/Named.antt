@@ -6,18 +6,18 @@ use Rattle.std.proofs.lemmas.Option.{slice_get_within}
 use Rattle.cell_types.specs.Image.{Image}
 use Rattle.cell_types.specs.Layout.{IsLayout}
 use Rattle.cell_types.specs.declared.refusal.Evidence.{Evidence}
-use Rattle.stored_documents.specs.Slots.{IsEdge, IsHorizon, IsStampFor, cells_for}
-use Rattle.stored_documents.proofs.Extending.{written_on}
-use Rattle.stored_documents.proofs.Holding.{some_is}
+use Rattle.volume_meaning.specs.Slots.{IsEdge, IsHorizon, IsStampFor, cells_for}
+use Rattle.volume_meaning.proofs.Extending.{written_on}
+use Rattle.volume_meaning.proofs.Holding.{some_is}
 use Rattle.worm_device.specs.Calls.{Called}
 use Rattle.worm_device.specs.Counts.{IsStill}
 use Rattle.worm_device.specs.State.{DeviceState}
 use Rattle.worm_device.proofs.Counting.{still_first, still_second}
 use Rattle.worm_device.proofs.Elapsing.{called_then}
-use Rattle.ingest_plan.specs.hash_insertion.Readiness.{blank_in, blank_of}
-use Rattle.plan_writer.specs.recovery_engine.Entries.{target_of}
-use Rattle.plan_writer.specs.recovery_engine.Settling.{HasSettled}
-use Rattle.plan_writer.specs.recovery_engine.declared.settling.Ready.{Ready}
+use Rattle.hash_tree.specs.Readiness.{blank_in, blank_of}
+use Rattle.recovery_engine.specs.Entries.{target_of}
+use Rattle.recovery_engine.specs.Settling.{HasSettled}
+use Rattle.recovery_engine.specs.declared.settling.Ready.{Ready}
 use Rattle.identifier_lookup.specs.Walks.{IsBlankIn}
 use Rattle.plan_writer.specs.Blank.{IsOfSlot}
 use Rattle.plan_writer.specs.Planned.{reserved_by}

@@ -10,20 +10,20 @@ use Rattle.cell_types.specs.declared.refusal.Fault.TheVariants as faults
 use Rattle.cell_types.specs.declared.refusal.Refusal.{Refusal}
 use Rattle.cell_types.specs.declared.refusal.Refusal.TheVariants.{StampTooEarly}
 use Rattle.cell_types.specs.Refusals.{refusal_of_fault}
-use Rattle.stored_documents.specs.Slots.{HasStamp, IsDoneSlot}
-use Rattle.stored_documents.proofs.Extending.{done_slot_on, holds_on}
-use Rattle.stored_documents.proofs.Holding.{one_record_holds}
+use Rattle.volume_meaning.specs.Slots.{HasStamp, IsDoneSlot}
+use Rattle.volume_meaning.proofs.Extending.{done_slot_on, holds_on}
+use Rattle.volume_meaning.proofs.Holding.{one_record_holds}
 use Rattle.worm_device.specs.State.{DeviceState}
 use Rattle.worm_device.specs.Views.{Viewed, ViewState, seen_directly}
 use Rattle.worm_device.proofs.Counting.{still_second}
 use Rattle.worm_device.proofs.Elapsing.{called_self}
 use Rattle.worm_device.proofs.Resting.{rests_of, viewed_self, viewed_then}
 use Rattle.commit_record.specs.Stamps.{IsStampOrNone, ReadsStamp}
-use Rattle.identifier_lookup.specs.document_store.Looks.{LookFails, PartEnds}
-use Rattle.identifier_lookup.specs.document_store.declared.part.Part.{Part}
+use Rattle.document_store.specs.Looks.{LookFails, PartEnds}
+use Rattle.document_store.specs.declared.part.Part.{Part}
 use Rattle.identifier_lookup.specs.Walks.{WalkFails}
 use Rattle.identifier_lookup.proofs.Licence.{names_licensed}
-use Rattle.plan_writer.specs.recovery_engine.declared.settling.Ready.{Ready}
+use Rattle.recovery_engine.specs.declared.settling.Ready.{Ready}
 use Rattle.ingest_engine.specs.Indexing.{LooksPast, PastEnds, ReadsOnDevice}
 use Rattle.ingest_engine.specs.Stamps.{AddsStamp, AreUpTo, IsOneBelow, IsUpTo, PastLast, ReadsStamps, StampsEnd, StampsSoFar}
 

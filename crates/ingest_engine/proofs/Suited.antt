@@ -6,12 +6,12 @@ use Rattle.std.proofs.lemmas.Option.{none-some, slice_get-get_or}
 use Rattle.cell_types.specs.Layout.{IsLayout, Layout, pool_at, lists_at}
 use Rattle.cell_types.specs.Records.{IsRecordCell}
 use Rattle.cell_types.proofs.OneRecord.{address_in}
-use Rattle.stored_documents.specs.Documents.{IsBody, IsIdentifier}
-use Rattle.stored_documents.specs.Slots.{IsStampFor, cells_for}
+use Rattle.volume_meaning.specs.Documents.{IsBody, IsIdentifier}
+use Rattle.volume_meaning.specs.Slots.{IsStampFor, cells_for}
 use Rattle.worm_device.specs.State.{DeviceState}
 use Rattle.hash_tree.specs.declared.level.Level.{Level}
 use Rattle.hash_tree.specs.declared.path.Open.{Open}
-use Rattle.plan_writer.specs.recovery_engine.Entries.{AreEntries, IsFit, target_of}
+use Rattle.recovery_engine.specs.Entries.{AreEntries, IsFit, target_of}
 use Rattle.plan_writer.specs.Planned.{PlansDocument, Suits, document_from, journal_from, laid}
 use Rattle.plan_writer.specs.declared.plan.Plan.{Plan}
 use Rattle.ingest_plan.specs.Planning.{IsPlanned}

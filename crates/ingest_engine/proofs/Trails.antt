@@ -1,8 +1,8 @@
 -- Hash trails from one state of a device to a later one.
 use Rattle.std.proofs.Common.{ℕ, List, sym, subst}
 use Rattle.cell_types.specs.Layout.{Layout}
-use Rattle.stored_documents.proofs.Extending.{stands_on}
-use Rattle.index_paths.proofs.HashTrails.{hash_trail_on}
+use Rattle.volume_meaning.proofs.Extending.{stands_on}
+use Rattle.volume_meaning.proofs.HashTrails.{hash_trail_on}
 use Rattle.worm_device.specs.Calls.{Called}
 use Rattle.worm_device.specs.State.{DeviceState}
 use Rattle.identifier_lookup.specs.Walks.{HasTrail, NoneHasTrail}

@@ -4,19 +4,19 @@ use Rattle.std.proofs.lemmas.Option.{none-some}
 use Rattle.cell_types.specs.Image.{Image, Extends}
 use Rattle.cell_types.specs.Layout.{Layout, reserve_at, outcome_at, done_at, spare_at, lists_at}
 use Rattle.cell_types.specs.declared.record_cell.RecordCell.{RecordCell}
-use Rattle.stored_documents.specs.Documents.{document_at}
-use Rattle.stored_documents.specs.Slots.{IsUnused}
-use Rattle.stored_documents.specs.Volumes.{Holds}
-use Rattle.stored_documents.proofs.Extending.{blank_before}
-use Rattle.commit_record.specs.tamper_rules.Journals.{journal_at}
-use Rattle.plan_writer.specs.phase_writer.Putting.{ChangesBy, IsInFirst, IsPut}
-use Rattle.plan_writer.specs.phase_writer.declared.put.Put.{Put}
+use Rattle.volume_meaning.specs.Documents.{document_at}
+use Rattle.volume_meaning.specs.Slots.{IsUnused}
+use Rattle.volume_meaning.specs.Volumes.{Holds}
+use Rattle.volume_meaning.proofs.Extending.{blank_before}
+use Rattle.tamper_rules.specs.Journals.{journal_at}
+use Rattle.recovery_engine.specs.Putting.{ChangesBy, IsInFirst, IsPut}
+use Rattle.recovery_engine.specs.declared.put.Put.{Put}
 use Rattle.commit_record.specs.States.{IsState}
 use Rattle.commit_record.specs.declared.slot.SlotState.{SlotState}
 use Rattle.commit_record.specs.declared.slot.SlotState.TheVariants.{Unused, Reserved, Abandoned, Committed, Done}
-use Rattle.plan_writer.specs.recovery_engine.Ending.{HasJournal, IsFirstEnd, IsLastEnd}
-use Rattle.plan_writer.specs.recovery_engine.Settling.{settle_plan}
-use Rattle.plan_writer.proofs.of_recovery_engine.Rising.{entries_from}
+use Rattle.recovery_engine.specs.Ending.{HasJournal, IsFirstEnd, IsLastEnd}
+use Rattle.recovery_engine.specs.Settling.{settle_plan}
+use Rattle.recovery_engine.proofs.Rising.{entries_from}
 use Rattle.plan_writer.specs.CrashLaws.{IsWholeOrUncommitted}
 use Rattle.plan_writer.specs.Planned.{IsPooledPut, IsStampPut, Suits, ingest_phases}
 use Rattle.plan_writer.specs.declared.plan.Plan.{Plan}

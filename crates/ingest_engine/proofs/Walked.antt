@@ -16,15 +16,15 @@ use Rattle.worm_device.proofs.Elapsing.{called_then}
 use Rattle.worm_device.proofs.Resting.{rests_of}
 use Rattle.hash_tree.specs.Levels.{IsLedWithin}
 use Rattle.hash_tree.proofs.Growing.{led_within_on}
-use Rattle.plan_writer.specs.recovery_engine.declared.settling.Ready.{Ready}
+use Rattle.recovery_engine.specs.declared.settling.Ready.{Ready}
 use Rattle.identifier_lookup.proofs.Loaned.{any_loan}
-use Rattle.stored_documents.proofs.Extending.{volume_on}
-use Rattle.stored_documents.specs.Volumes.{IsVolume}
+use Rattle.volume_meaning.proofs.Extending.{volume_on}
+use Rattle.volume_meaning.specs.Volumes.{IsVolume}
 use Rattle.identifier_lookup.specs.Walks.{WalkEnds}
 use Rattle.identifier_lookup.specs.declared.answers.Walk.{Walk}
 use Rattle.identifier_lookup.specs.declared.answers.Walk.TheVariants as walks
 use Rattle.ingest_plan.specs.Planning.{IsLater, PlanEnds, PlansIndex}
-use Rattle.commit_record.proofs.of_tamper_rules.Images.{same_image}
+use Rattle.tamper_rules.proofs.Images.{same_image}
 use Rattle.ingest_plan.specs.declared.plan.PlannedIndex.{PlannedIndex}
 use Rattle.ingest_engine.specs.Indexing.{EndsPath, IsPast, LooksPast, PastEnds, PathEnds, PlanForEnds, PlansFor, WalksDevice, WalksOn}
 use Rattle.ingest_engine.proofs.Trails.{has_trail_on, none_before}

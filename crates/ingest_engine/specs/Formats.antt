@@ -5,7 +5,7 @@ use Rattle.cell_types.specs.Layout.{Layout, IsLayout}
 use Rattle.cell_types.specs.Records.{record_bytes}
 use Rattle.cell_types.specs.declared.refusal.Refusal.{Refusal}
 use Rattle.cell_types.specs.declared.refusal.Refusal.TheVariants.{DeviceFault, NotBlank, TooSmall}
-use Rattle.stored_documents.specs.Volumes.{volume_record}
+use Rattle.volume_meaning.specs.Volumes.{volume_record}
 use Rattle.worm_device.specs.Calls.{Called}
 use Rattle.worm_device.specs.Counts.{Rose, IsStill}
 use Rattle.worm_device.specs.State.{DeviceState}

@@ -6,18 +6,18 @@ use Rattle.cell_types.specs.declared.refusal.Evidence.{Evidence}
 use Rattle.cell_types.specs.declared.refusal.Fault.{Fault}
 use Rattle.cell_types.specs.declared.refusal.Refusal.{Refusal}
 use Rattle.cell_types.specs.declared.refusal.Refusal.TheVariants.{DeviceFault, Duplicate, NoMemory, PathFull, StampTooEarly, Tampered, TooManyTerms}
-use Rattle.stored_documents.specs.Slots.{IsEdge, IsHorizon}
-use Rattle.stored_documents.specs.Volumes.{IsVolume}
-use Rattle.index_paths.specs.Postings.{HasPostings}
-use Rattle.commit_record.specs.tamper_rules.Rules.{IsBroken, IsPlaceOf}
-use Rattle.ingest_plan.specs.term_tags.Listing.{GetsTooMany}
+use Rattle.volume_meaning.specs.Slots.{IsEdge, IsHorizon}
+use Rattle.volume_meaning.specs.Volumes.{IsVolume}
+use Rattle.volume_meaning.specs.Postings.{HasPostings}
+use Rattle.tamper_rules.specs.Rules.{IsBroken, IsPlaceOf}
+use Rattle.term_tags.specs.Listing.{GetsTooMany}
 use Rattle.worm_device.specs.Calls.{Called}
 use Rattle.worm_device.specs.Counts.{IsStill, Rose}
 use Rattle.worm_device.specs.State.{DeviceState}
 use Rattle.worm_device.specs.Views.{seen_directly}
 use Rattle.hash_tree.specs.declared.level.Level.{Level}
 use Rattle.hash_tree.specs.declared.path.Open.{Open}
-use Rattle.plan_writer.specs.recovery_engine.declared.settling.Ready.{Ready}
+use Rattle.recovery_engine.specs.declared.settling.Ready.{Ready}
 use Rattle.identifier_lookup.specs.Walks.{IsWalkRule, WalkEnds}
 use Rattle.identifier_lookup.specs.declared.answers.Walk.{Walk}
 use Rattle.identifier_lookup.specs.declared.answers.Walk.TheVariants as walks

@@ -6,18 +6,18 @@ use Rattle.cell_types.specs.declared.geometry.TheConstants.{STAMPED_VERSION}
 use Rattle.cell_types.specs.declared.refusal.Evidence.{Evidence}
 use Rattle.cell_types.specs.declared.refusal.Refusal.{Refusal}
 use Rattle.cell_types.specs.declared.refusal.Refusal.TheVariants.{DeviceFault, Duplicate, Full, NoMemory, NotAVolume, NotFormatted, PathFull, SlotsFull, StampNeeded, StampTooEarly, StampUnused, Tampered, TooManyTerms, WrongSize}
-use Rattle.stored_documents.specs.Documents.{Document, Stands, stored_bytes}
-use Rattle.stored_documents.specs.Slots.{IsStampFor, IsStampOf, IsUnused, Reserves, cells_for}
-use Rattle.stored_documents.specs.Volumes.{IsVolume, IsWritten}
-use Rattle.index_paths.specs.Keeping.{IsKept, Kept}
-use Rattle.commit_record.specs.tamper_rules.declared.numbers.TheConstants.{STRAY_CELL}
+use Rattle.volume_meaning.specs.Documents.{Document, Stands, stored_bytes}
+use Rattle.volume_meaning.specs.Slots.{IsStampFor, IsStampOf, IsUnused, Reserves, cells_for}
+use Rattle.volume_meaning.specs.Volumes.{IsVolume, IsWritten}
+use Rattle.volume_meaning.specs.Keeping.{IsKept, Kept}
+use Rattle.tamper_rules.specs.declared.numbers.TheConstants.{STRAY_CELL}
 use Rattle.worm_device.specs.Calls.{Called}
 use Rattle.worm_device.specs.Counts.{Rose, IsStill}
 use Rattle.worm_device.specs.State.{DeviceState, IsDevice, LeftSince}
 use Rattle.commit_record.specs.Licences.{IsLicensed}
-use Rattle.identifier_lookup.specs.document_store.Looks.{HoldsIdentifier}
-use Rattle.plan_writer.specs.recovery_engine.Settling.{HasSettled, IsFound, IsSettlingRule, SettleEnds, Settles}
-use Rattle.plan_writer.specs.recovery_engine.declared.settling.Ready.{Ready}
+use Rattle.document_store.specs.Looks.{HoldsIdentifier}
+use Rattle.recovery_engine.specs.Settling.{HasSettled, IsFound, IsSettlingRule, SettleEnds, Settles}
+use Rattle.recovery_engine.specs.declared.settling.Ready.{Ready}
 use Rattle.identifier_lookup.specs.Walks.{HasTrail, IsFirstOnPath, IsPassedWhole, NoneHasTrail}
 use Rattle.plan_writer.specs.Blank.{IsOfSlot}
 use Rattle.plan_writer.specs.CrashLaws.{IsWholeOrUncommitted}

@@ -5,7 +5,7 @@ use Rattle.cell_types.specs.Layout.{Layout}
 use Rattle.cell_types.specs.declared.refusal.Fault.{Fault}
 use Rattle.cell_types.specs.declared.refusal.Refusal.{Refusal}
 use Rattle.cell_types.specs.declared.refusal.Refusal.TheVariants.{StampTooEarly}
-use Rattle.stored_documents.specs.Slots.{HasStamp, IsDoneSlot}
+use Rattle.volume_meaning.specs.Slots.{HasStamp, IsDoneSlot}
 use Rattle.worm_device.specs.Views.{ViewState, Viewed}
 use Rattle.identifier_lookup.specs.Walks.{WalkFails}
 

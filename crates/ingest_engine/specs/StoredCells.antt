@@ -1,7 +1,7 @@
 -- What it means that a document is held as the cells that it is stored in.
 use Rattle.std.specs.Prelude.{◌≡◌, ℕ, List, length}
 use Rattle.append_file.specs.StoredCells.{AreCellsOf}
-use Rattle.stored_documents.specs.Documents.{stored_bytes}
+use Rattle.volume_meaning.specs.Documents.{stored_bytes}
 use Rattle.ingest_engine.specs.declared.document.StoredDocument.{StoredDocument}
 
 -- it holds the document of this identifier and this body

@@ -1,6 +1,6 @@
 //! A document as the cells that it is stored in.
 ghost use Rattle.std.specs.Prelude.{IfOk};
-ghost use Rattle.stored_documents.specs.Documents.{IsBody, IsIdentifier};
+ghost use Rattle.volume_meaning.specs.Documents.{IsBody, IsIdentifier};
 ghost use Rattle.ingest_engine.specs.StoredCells.{IsStoredAs};
 
 use append_file::{CONTENT_BYTES, push_content};

@@ -1,8 +1,8 @@
 //! The index of a document, planned on a settled volume.
 ghost use Rattle.std.specs.Prelude.{◌<◌, ◌≤◌};
-ghost use Rattle.plan_writer.specs.recovery_engine.Settling.{LiesInBounds};
+ghost use Rattle.recovery_engine.specs.Settling.{LiesInBounds};
 ghost use Rattle.ingest_engine.specs.Indexing.{EndsPath, PlansFor, WalksDevice};
-ghost use Rattle.ingest_plan.specs.term_tags.Listing.{MayHaveStamp};
+ghost use Rattle.term_tags.specs.Listing.{MayHaveStamp};
 
 use crate::stamps::look_past;
 use cell_types::{Fault, Refusal};

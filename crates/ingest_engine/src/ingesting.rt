@@ -1,6 +1,6 @@
 //! A document, stored in a free slot with its index.
 ghost use Rattle.std.specs.Prelude.{◌≡◌, ◌≤◌};
-ghost use Rattle.stored_documents.specs.Documents.{IsBody, IsIdentifier};
+ghost use Rattle.volume_meaning.specs.Documents.{IsBody, IsIdentifier};
 ghost use Rattle.ingest_engine.specs.Ingesting.{Ingests, RoomEnds, SlotsEnd, StampEnds};
 
 use crate::document::StoredDocument;

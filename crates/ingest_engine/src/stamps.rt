@@ -1,6 +1,6 @@
 //! Whether the stamp of a document is past those of the volume.
 ghost use Rattle.std.specs.Prelude.{◌≡◌, ◌<◌, ◌≤◌, ◌⊎◌};
-ghost use Rattle.plan_writer.specs.recovery_engine.Settling.{LiesInBounds};
+ghost use Rattle.recovery_engine.specs.Settling.{LiesInBounds};
 ghost use Rattle.ingest_engine.specs.Indexing.{LooksPast, ReadsOnDevice};
 ghost use Rattle.ingest_engine.specs.Stamps.{AddsStamp, IsUpTo, PastLast, ReadsStamps};
 

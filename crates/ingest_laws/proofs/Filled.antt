@@ -6,22 +6,22 @@ use Rattle.cell_types.specs.Image.{Image, Extends}
 use Rattle.cell_types.specs.Layout.{Layout, reserve_at, outcome_at, done_at, spare_at, pool_at, lists_at}
 use Rattle.cell_types.specs.declared.record_cell.RecordCell.{RecordCell}
 use Rattle.cell_types.specs.declared.record_cell.RecordCell.TheVariants.{Reserve, Commit, Abandon}
-use Rattle.stored_documents.specs.Documents.{Stands, stored_bytes, document_at}
+use Rattle.volume_meaning.specs.Documents.{Stands, stored_bytes, document_at}
 use Rattle.ingest_laws.specs.Filling.{blocks_end, IsCopy, IsPlannedCopy, IsFilled}
 use Rattle.ingest_laws.specs.Ingesting.{Plan, Phase, Reserving, Storing, Committing, Applying, Finishing, stored_of, ContentRow, CopyRow, StoredRow, StampRow, AppliedRow, Row, AnyRow}
 use Rattle.tamper_rules.specs.Journals.{journal_at, Copies, IsIndexCell, of_list, of_root, of_slot, IsInOrder, IsNamed}
 use Rattle.tamper_rules.specs.Rules
 use Rattle.tamper_rules.specs.Rules.{ReserveRule, OutcomeRule, DoneRule, DocumentRule, HasDocument, JournalRule, RedoneRule, BlankRule, IsTrueStamp, IsDoneIndexCell, HasJump, HasChild, IsSize, Tile, TilingRule}
-use Rattle.stored_documents.specs.Slots.{cells_for, Reserves, Commits, Stores, IsAbandonedSlot, IsDoneSlot, IsDone, HasEnded, IsHorizon, EndsBelow, IsEdge}
-use Rattle.stored_documents.specs.Volumes.{Holds, IsWritten}
-use Rattle.stored_documents.proofs.Extending.{holds_on, written_on, stamped_on, blank_before, volume_on, reserves_on, commits_on, done_on, ends_on, spells_on}
-use Rattle.stored_documents.proofs.Holding.{one_record_holds, some_is}
-use Rattle.stored_documents.proofs.Stamps.{has_stamp, stands_given}
+use Rattle.volume_meaning.specs.Slots.{cells_for, Reserves, Commits, Stores, IsAbandonedSlot, IsDoneSlot, IsDone, HasEnded, IsHorizon, EndsBelow, IsEdge}
+use Rattle.volume_meaning.specs.Volumes.{Holds, IsWritten}
+use Rattle.volume_meaning.proofs.Extending.{holds_on, written_on, stamped_on, blank_before, volume_on, reserves_on, commits_on, done_on, ends_on, spells_on}
+use Rattle.volume_meaning.proofs.Holding.{one_record_holds, some_is}
+use Rattle.volume_meaning.proofs.Stamps.{has_stamp, stands_given}
 use Rattle.tamper_rules.proofs.GivenUp.{no_abandon, one_layout}
 use Rattle.tamper_rules.proofs.GoingOn.{copies_on, copies_back, one_copy, named_on}
 use Rattle.tamper_rules.proofs.Images.{look}
 use Rattle.ingest_laws.proofs.Ingests.{IsLogCell, is_reserve, is_outcome, is_done, is_spare}
-use Rattle.stored_documents.proofs.OneDocument.{reserves, commits}
+use Rattle.volume_meaning.proofs.OneDocument.{reserves, commits}
 use Rattle.tamper_rules.proofs.Settled.{written, taken_below, taken_to, below_horizon, ends_before, edge_horizon, one_end}
 use Rattle.tamper_rules.proofs.SettlingGoesOn.{behind_log}
 use Rattle.tamper_rules.proofs.Writing.{same_or_not}

@@ -4,7 +4,7 @@ use Rattle.std.proofs.lemmas.Option.{none-some}
 use Rattle.std.proofs.lemmas.Bool.{cases_lt}
 use Rattle.cell_types.specs.Image.{Image}
 use Rattle.cell_types.specs.Layout.{Layout, spare_at, pool_at}
-use Rattle.stored_documents.specs.Documents.{document_at}
+use Rattle.volume_meaning.specs.Documents.{document_at}
 use Rattle.ingest_laws.specs.Ingesting.{Plan, Phase, Reserving, Storing, Committing, Applying, Finishing, order_of, stored_of, ContentRow, CopyRow, StoredRow, StampRow, AppliedRow, Row, IsInPhases, IsIngest, IsLeftIn, LeavesSound}
 use Rattle.tamper_rules.proofs.GoingOn.{one_copy}
 use Rattle.ingest_laws.proofs.Ingests.{slot_reserves, in_order, applied_copies, applied_far, stored_from}

@@ -6,16 +6,16 @@ use Rattle.cell_types.specs.Layout.{Layout, reserve_at, outcome_at, done_at, spa
 use Rattle.cell_types.specs.Records.{IsRecordCell, record_bytes}
 use Rattle.cell_types.specs.declared.record_cell.RecordCell.{RecordCell}
 use Rattle.cell_types.specs.declared.record_cell.RecordCell.TheVariants.{Abandon}
-use Rattle.stored_documents.specs.Documents.{Document, AreDocuments}
+use Rattle.volume_meaning.specs.Documents.{Document, AreDocuments}
 use Rattle.ingest_laws.specs.Ingesting.{Plan, Phase, Reserving, Storing, Committing, Applying, Finishing, order_of, stored_of, StampRow, Row, AnyRow, IsInPhases, IsIngest, LeavesSound}
 use Rattle.tamper_rules.specs.Journals.{journal_at, Copies, IsIndexCell, of_list, of_root, of_slot, IsInOrder}
 use Rattle.tamper_rules.specs.Rules
 use Rattle.tamper_rules.specs.Rules.{BlankRule, IsTrueStamp}
 use Rattle.tamper_rules.specs.Settling.{Settled, IsOneHorizon, JournalRow, DoneRow, After, nothing, abandoned, completed, of_after}
-use Rattle.stored_documents.specs.Slots.{Reserves, Commits, Stores, IsDone, IsHorizon}
-use Rattle.stored_documents.specs.Volumes.{Holds, IsWritten}
-use Rattle.stored_documents.proofs.Extending.{volume_on, written_on, blank_before, reserves_on, document_on}
-use Rattle.stored_documents.proofs.Holding.{some_is}
+use Rattle.volume_meaning.specs.Slots.{Reserves, Commits, Stores, IsDone, IsHorizon}
+use Rattle.volume_meaning.specs.Volumes.{Holds, IsWritten}
+use Rattle.volume_meaning.proofs.Extending.{volume_on, written_on, blank_before, reserves_on, document_on}
+use Rattle.volume_meaning.proofs.Holding.{some_is}
 use Rattle.tamper_rules.proofs.GivenUp.{stands_inside, IsGivenUp, IsOf, of_reserve, of_outcome, of_spare, of_range}
 use Rattle.tamper_rules.proofs.GivenUpRules.{given_up_is_settled, given_up_stands}
 use Rattle.tamper_rules.proofs.GoingOn.{copies_on, copies_back}

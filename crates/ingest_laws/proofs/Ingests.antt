@@ -9,13 +9,13 @@ use Rattle.ingest_laws.specs.Ingesting.{Plan, Phase, Reserving, Storing, Committ
 use Rattle.tamper_rules.specs.Journals.{journal_at, Copies, IsInOrder}
 use Rattle.tamper_rules.specs.Rules
 use Rattle.tamper_rules.specs.Rules.{ReserveRule, OutcomeRule, DoneRule, JournalRule, RedoneRule}
-use Rattle.stored_documents.specs.Slots.{cells_for, Reserves, Commits, Stores, IsDone, IsHorizon, EndsBelow}
-use Rattle.stored_documents.specs.Volumes.{IsWritten}
-use Rattle.stored_documents.proofs.Holding.{one_record_holds}
+use Rattle.volume_meaning.specs.Slots.{cells_for, Reserves, Commits, Stores, IsDone, IsHorizon, EndsBelow}
+use Rattle.volume_meaning.specs.Volumes.{IsWritten}
+use Rattle.volume_meaning.proofs.Holding.{one_record_holds}
 use Rattle.tamper_rules.proofs.GivenUp.{no_abandon}
 use Rattle.tamper_rules.proofs.GoingOn.{one_copy}
 use Rattle.tamper_rules.proofs.Images.{look}
-use Rattle.stored_documents.proofs.OneDocument.{reserves, commits}
+use Rattle.volume_meaning.proofs.OneDocument.{reserves, commits}
 use Rattle.tamper_rules.proofs.Settled.{taken_below}
 use Rattle.tamper_rules.proofs.SettlingGoesOn.{behind_log}
 

@@ -13,4 +13,3 @@ pub mod SettledShapes
 pub mod SettledTrails
 pub mod TrailEnds
 pub mod TreeShapes
-pub use Rattle.tamper_rules.proofs as of_tamper_rules

@@ -4,14 +4,14 @@ use Rattle.std.proofs.lemmas.Option.{none-some}
 use Rattle.cell_types.specs.Image.{Image, Extends}
 use Rattle.cell_types.specs.declared.record_cell.RecordCell.{RecordCell}
 use Rattle.cell_types.specs.declared.record_cell.RecordCell.TheVariants.{Jump}
-use Rattle.index_paths.specs.Blocks.{PostingFields, posting_record, InFront, IsFull, InSpan, pointer_at, Leads, arrived, onwards}
+use Rattle.volume_meaning.specs.Blocks.{PostingFields, posting_record, InFront, IsFull, InSpan, pointer_at, Leads, arrived, onwards}
 use Rattle.ingest_laws.specs.ListShapes.{PointsWell, IsWellListed, Adds, IsNewBlock}
-use Rattle.index_paths.specs.Nodes.{AreApart}
+use Rattle.volume_meaning.specs.Nodes.{AreApart}
 use Rattle.tamper_rules.specs.Rules.{HoldsInOrder}
-use Rattle.stored_documents.specs.Volumes.{Holds, IsWritten}
-use Rattle.stored_documents.proofs.Extending.{holds_on}
-use Rattle.stored_documents.proofs.Holding.{one_record_holds}
-use Rattle.index_paths.proofs.Fronts.{front_on}
+use Rattle.volume_meaning.specs.Volumes.{Holds, IsWritten}
+use Rattle.volume_meaning.proofs.Extending.{holds_on}
+use Rattle.volume_meaning.proofs.Holding.{one_record_holds}
+use Rattle.volume_meaning.proofs.Fronts.{front_on}
 use Rattle.tamper_rules.proofs.GivenUp.{jumps, leads_further}
 use Rattle.tamper_rules.proofs.Writing.{same_or_not}
 

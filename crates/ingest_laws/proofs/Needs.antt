@@ -2,8 +2,8 @@
 use Rattle.std.proofs.Common.{◌≤◌, ◌*◌, ℕ, List, length, arith}
 use Rattle.cell_types.specs.Image.{Image}
 use Rattle.cell_types.specs.Layout.{Layout}
-use Rattle.index_paths.specs.Blocks.{PostingFields}
-use Rattle.index_paths.specs.Postings.{ListedPosting}
+use Rattle.volume_meaning.specs.Blocks.{PostingFields}
+use Rattle.volume_meaning.specs.Postings.{ListedPosting}
 use Rattle.ingest_laws.specs.Needs.{PostingCosts, in_block, in_tail, in_new_block, PostingsCost, none, one, BucketCosts, in_bucket, in_new_node, NeedIsBounded}
 
 posting_costs : {from head : ℕ} {p : PostingFields} {old new : Image} {next to cost : ℕ}

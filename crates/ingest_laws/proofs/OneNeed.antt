@@ -7,16 +7,16 @@ use Rattle.cell_types.specs.Image.{Image}
 use Rattle.cell_types.specs.Layout.{Layout, root_at}
 use Rattle.cell_types.specs.declared.record_cell.RecordCell.{RecordCell}
 use Rattle.cell_types.specs.declared.record_cell.RecordCell.TheVariants.{Jump}
-use Rattle.stored_documents.specs.Volumes.{Holds, IsWritten}
-use Rattle.stored_documents.proofs.Holding.{one_record_holds}
-use Rattle.index_paths.specs.Blocks.{PostingFields, posting_record, InFront, IsFull, InSpan, pointer_at, at_the_start, behind}
-use Rattle.index_paths.specs.HashPaths.{IsPassed, LeadsDown, PassedTo, Sought, at_root, down, nibble}
-use Rattle.index_paths.specs.Keeping.{sought_in}
-use Rattle.index_paths.specs.Postings.{ListedPosting}
-use Rattle.index_paths.proofs.Fronts.{one_place}
-use Rattle.index_paths.proofs.HashTrails.{one_child}
-use Rattle.index_paths.proofs.OnePostings.{one_rows}
-use Rattle.index_paths.proofs.Spans.{apart}
+use Rattle.volume_meaning.specs.Volumes.{Holds, IsWritten}
+use Rattle.volume_meaning.proofs.Holding.{one_record_holds}
+use Rattle.volume_meaning.specs.Blocks.{PostingFields, posting_record, InFront, IsFull, InSpan, pointer_at, at_the_start, behind}
+use Rattle.volume_meaning.specs.HashPaths.{IsPassed, LeadsDown, PassedTo, Sought, at_root, down, nibble}
+use Rattle.volume_meaning.specs.Keeping.{sought_in}
+use Rattle.volume_meaning.specs.Postings.{ListedPosting}
+use Rattle.volume_meaning.proofs.Fronts.{one_place}
+use Rattle.volume_meaning.proofs.HashTrails.{one_child}
+use Rattle.volume_meaning.proofs.OnePostings.{one_rows}
+use Rattle.volume_meaning.proofs.Spans.{apart}
 use Rattle.tamper_rules.proofs.GivenUp.{jumps}
 use Rattle.tamper_rules.proofs.Images.{same_image}
 use Rattle.tamper_rules.proofs.Settled.{one_edge}

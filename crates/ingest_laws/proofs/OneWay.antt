@@ -1,28 +1,24 @@
 -- A node is reached in one way.
-use Rattle.std.proofs.Common.{◌≡◌, ◌<◌, ◌+◌, ◌*◌, ◌/◌, ◌%◌, ⊎_elim, ℕ, List, refl, sym, ◌∙◌, subst, ap, arith, length, slice_index}
+use Rattle.std.proofs.Common.{◌≡◌, ◌<◌, ◌+◌, ◌*◌, ◌/◌, ◌%◌, ⊎_elim, ℕ, List, refl, sym, ◌∙◌, subst, ap, arith, length, slice_index, ext_get_or}
 use Rattle.cell_types.specs.Bytes.{AreBytes}
 use Rattle.cell_types.specs.Image.{Image}
-use Rattle.cell_types.specs.Layout.{Layout}
-use Rattle.cell_types.specs.declared.record_cell.RecordCell.TheVariants.{Child}
-use Rattle.std.proofs.Common.{ext_get_or}
+use Rattle.cell_types.specs.Layout.{Layout, IsLayout}
+use Rattle.cell_types.specs.declared.record_cell.RecordCell.TheVariants.{Child, Bucket}
 use Rattle.sha2.specs.Sha256.{sha256}
 use Rattle.sha2.proofs.Facts256.{length-sha256}
-use Rattle.cell_types.specs.Layout.{IsLayout}
-use Rattle.cell_types.specs.declared.record_cell.RecordCell.TheVariants.{Bucket}
-use Rattle.stored_documents.specs.Documents.{Stands}
+use Rattle.volume_meaning.specs.Documents.{Stands}
 use Rattle.tamper_rules.specs.Rules
 use Rattle.tamper_rules.specs.Rules.{BucketRule, IsTrueBucket}
 use Rattle.tamper_rules.specs.Settling.{IsSettled}
-use Rattle.stored_documents.specs.Volumes.{IsWritten}
+use Rattle.volume_meaning.specs.Volumes.{IsWritten, Holds}
 use Rattle.tamper_rules.proofs.Settled.{some_horizon, some_edge}
 use Rattle.ingest_laws.proofs.SettledShapes.{settled_rooted}
 use Rattle.ingest_laws.proofs.TreeShapes.{one_level}
-use Rattle.index_paths.proofs.Digests.{digest_is_bytes}
-use Rattle.index_paths.specs.HashPaths.{nibble, fingerprint_of}
-use Rattle.index_paths.specs.Nodes.{IsNode, IsOnPath}
-use Rattle.index_paths.specs.Nodes
+use Rattle.volume_meaning.proofs.Digests.{digest_is_bytes}
+use Rattle.volume_meaning.specs.HashPaths.{nibble, fingerprint_of}
+use Rattle.volume_meaning.specs.Nodes.{IsNode, IsOnPath}
+use Rattle.volume_meaning.specs.Nodes
 use Rattle.ingest_laws.specs.TreeShapes.{IsWellRooted}
-use Rattle.stored_documents.specs.Volumes.{Holds}
 use Rattle.tamper_rules.proofs.Writing.{same_or_not}
 
 nibble_low : (d : List ℕ) → AreBytes d → (v : ℕ) → nibble d v < 16

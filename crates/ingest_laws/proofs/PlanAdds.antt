@@ -4,13 +4,13 @@ use Rattle.std.specs.Prelude.{Contains}
 use Rattle.std.proofs.lemmas.List.Elements.{Contains-append_left, Contains-append_right, Contains-append_cases}
 use Rattle.cell_types.specs.Image.{Image}
 use Rattle.cell_types.specs.Layout.{Layout}
-use Rattle.stored_documents.specs.Documents.{Document, IsDocument, AreDocuments, Stands}
+use Rattle.volume_meaning.specs.Documents.{Document, IsDocument, AreDocuments, Stands}
 use Rattle.ingest_laws.specs.Filling.{IsWellPlanned}
 use Rattle.ingest_laws.specs.Ingesting.{Plan}
-use Rattle.stored_documents.proofs.Extending.{document_on}
+use Rattle.volume_meaning.proofs.Extending.{document_on}
 use Rattle.ingest_laws.proofs.Filled.{keeps, stands_back}
-use Rattle.index_paths.proofs.KeepingLaws.{documents}
-use Rattle.stored_documents.proofs.OneDocument.{one_document}
+use Rattle.volume_meaning.proofs.KeepingLaws.{documents}
+use Rattle.volume_meaning.proofs.OneDocument.{one_document}
 use Rattle.ingest_laws.proofs.PlanSettled.{plan_is_settled, mine_live}
 use Rattle.tamper_rules.proofs.Settled.{written, taken_below, below_horizon}
 use Rattle.tamper_rules.proofs.Writing.{same_or_not}

@@ -5,34 +5,34 @@ use Rattle.sha2.specs.Sha256.{sha256}
 use Rattle.cell_types.specs.Image.{Image}
 use Rattle.cell_types.specs.Layout.{Layout, done_at, list_at, pool_at, lists_at}
 use Rattle.cell_types.specs.declared.record_cell.RecordCell.TheVariants.{Jump, Child}
-use Rattle.index_paths.specs.Blocks.{PostingFields, posting_record, InFront, at_the_start, behind, pointer_at, Leads}
-use Rattle.stored_documents.specs.Documents.{Stands, document_at}
+use Rattle.volume_meaning.specs.Blocks.{PostingFields, posting_record, InFront, at_the_start, behind, pointer_at, Leads}
+use Rattle.volume_meaning.specs.Documents.{Stands, document_at}
 use Rattle.ingest_laws.specs.Filling.{blocks_end, IsFilled, IsWellPlanned}
-use Rattle.index_paths.specs.HashPaths.{fingerprint_of}
+use Rattle.volume_meaning.specs.HashPaths.{fingerprint_of}
 use Rattle.ingest_laws.specs.Ingesting.{Plan, Phase, Reserving, Storing, Committing, Applying, Finishing, Row, AnyRow, AppliedRow, stored_of}
 use Rattle.tamper_rules.specs.Journals.{journal_at, LiesInBlocks}
 use Rattle.ingest_laws.specs.ListShapes.{PointsWell}
-use Rattle.index_paths.specs.Nodes.{IsBlockOf, IsNode, under}
+use Rattle.volume_meaning.specs.Nodes.{IsBlockOf, IsNode, under}
 use Rattle.ingest_laws.specs.TreeShapes.{ChildWell}
 use Rattle.tamper_rules.specs.Rules
 use Rattle.tamper_rules.specs.Rules.{Rule, IsMet, EntryRule, IsTruePosting, PostingRule, PointerRule, IsTrueBucket, BucketRule, LeadsDownWell, ChildRule, TrailRule, PathRule}
 use Rattle.tamper_rules.specs.Settling.{IsSettled}
-use Rattle.stored_documents.specs.Slots.{Stores, IsLive}
-use Rattle.stored_documents.specs.Volumes.{Holds, IsWritten}
-use Rattle.stored_documents.proofs.Extending.{holds_on, written_on, volume_on, live_on, stands_on}
+use Rattle.volume_meaning.specs.Slots.{Stores, IsLive}
+use Rattle.volume_meaning.specs.Volumes.{Holds, IsWritten}
+use Rattle.volume_meaning.proofs.Extending.{holds_on, written_on, volume_on, live_on, stands_on}
 use Rattle.ingest_laws.proofs.Filled.{free, keeps, mine, edge_is, stands_back, all_ended, old_low, blocks_from, blocks_to, stored_from, entry_copies, applied_entry, stores_on', rule_1, rule_2, rule_3, rule_4, rule_5, rule_6, rule_7, rule_15}
-use Rattle.stored_documents.proofs.Holding.{one_record_holds}
+use Rattle.volume_meaning.proofs.Holding.{one_record_holds}
 use Rattle.tamper_rules.proofs.FullFronts.{full_ends}
-use Rattle.stored_documents.proofs.Stamps.{stamp_on}
+use Rattle.volume_meaning.proofs.Stamps.{stamp_on}
 use Rattle.tamper_rules.proofs.GivenUp.{children, leads_further}
 use Rattle.tamper_rules.proofs.GoingOn.{on_path_on}
 use Rattle.ingest_laws.proofs.TreeShapes.{node_place}
-use Rattle.index_paths.proofs.HashTrails.{hash_trail_on}
+use Rattle.volume_meaning.proofs.HashTrails.{hash_trail_on}
 use Rattle.tamper_rules.proofs.Images.{look}
 use Rattle.ingest_laws.proofs.ListShapes.{back}
-use Rattle.stored_documents.proofs.OneDocument.{one_document}
+use Rattle.volume_meaning.proofs.OneDocument.{one_document}
 use Rattle.tamper_rules.proofs.Settled.{taken_to}
-use Rattle.index_paths.proofs.Trails.{trail_on}
+use Rattle.volume_meaning.proofs.Trails.{trail_on}
 use Rattle.tamper_rules.proofs.Writing.{same_or_not}
 
 -- each place up to one in the front is written

@@ -4,16 +4,16 @@ use Rattle.std.proofs.lemmas.Bool.{cases_order}
 use Rattle.cell_types.specs.Image.{Image}
 use Rattle.cell_types.specs.Layout.{Layout, all_lists, IsLayout, list_at, pool_at}
 use Rattle.cell_types.specs.declared.record_cell.RecordCell.TheVariants.{Jump, Child}
-use Rattle.index_paths.specs.Blocks.{Leads, arrived, onwards, pointer_at}
+use Rattle.volume_meaning.specs.Blocks.{Leads, arrived, onwards, pointer_at}
 use Rattle.ingest_laws.specs.ListShapes.{IsWellListed}
-use Rattle.index_paths.specs.Nodes.{IsBlockOf, IsNode, root, under, AreApart}
+use Rattle.volume_meaning.specs.Nodes.{IsBlockOf, IsNode, root, under, AreApart}
 use Rattle.tamper_rules.specs.Rules
 use Rattle.tamper_rules.specs.Rules.{EntryRule, PointerRule, LeadsWell, ChildRule, LeadsDownWell}
 use Rattle.tamper_rules.specs.Settling.{IsSettled}
-use Rattle.stored_documents.specs.Slots.{Reserves, IsEdge}
+use Rattle.volume_meaning.specs.Slots.{Reserves, IsEdge}
 use Rattle.ingest_laws.specs.TreeShapes.{IsWellRooted}
-use Rattle.stored_documents.specs.Volumes.{Holds, IsWritten}
-use Rattle.stored_documents.proofs.Holding.{one_record_holds}
+use Rattle.volume_meaning.specs.Volumes.{Holds, IsWritten}
+use Rattle.volume_meaning.proofs.Holding.{one_record_holds}
 use Rattle.tamper_rules.proofs.FullFronts.{ends_full}
 use Rattle.tamper_rules.proofs.GivenUp.{jumps, children, leads_further}
 use Rattle.tamper_rules.proofs.Images.{look}

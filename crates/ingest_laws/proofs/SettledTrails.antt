@@ -3,13 +3,13 @@ use Rattle.std.proofs.Common.{◌≡◌, ◌<◌, ◌≤◌, ◌+◌, ℕ, Optio
 use Rattle.cell_types.specs.Image.{Image}
 use Rattle.cell_types.specs.Layout.{Layout, done_at, list_at, pool_at}
 use Rattle.cell_types.specs.declared.record_cell.RecordCell.TheVariants.{Jump}
-use Rattle.stored_documents.specs.Slots.{IsEdge}
-use Rattle.stored_documents.specs.Volumes.{Holds}
-use Rattle.stored_documents.proofs.Holding.{one_record_holds}
-use Rattle.index_paths.specs.Blocks.{PostingFields, posting_record, Trail, here, on, arrived, pointer_at}
-use Rattle.stored_documents.proofs.Stamps.{one}
-use Rattle.index_paths.specs.Nodes.{IsBlockOf}
-use Rattle.index_paths.specs.Postings.{IsPostingOf}
+use Rattle.volume_meaning.specs.Slots.{IsEdge}
+use Rattle.volume_meaning.specs.Volumes.{Holds}
+use Rattle.volume_meaning.proofs.Holding.{one_record_holds}
+use Rattle.volume_meaning.specs.Blocks.{PostingFields, posting_record, Trail, here, on, arrived, pointer_at}
+use Rattle.volume_meaning.proofs.Stamps.{one}
+use Rattle.volume_meaning.specs.Nodes.{IsBlockOf}
+use Rattle.volume_meaning.specs.Postings.{IsPostingOf}
 use Rattle.tamper_rules.specs.Rules
 use Rattle.tamper_rules.specs.Rules.{IsTruePosting, LeadsWell, PointerRule, PostingRule, TrailRule}
 use Rattle.tamper_rules.specs.Settling.{IsSettled}

@@ -2,9 +2,9 @@
 use Rattle.std.proofs.Common.{◌≡◌, ◌<◌, ◌+◌, ⊎_elim, ℕ, refl, sym, subst, arith, ◌∙◌}
 use Rattle.std.proofs.lemmas.Bool.{cases_lt}
 use Rattle.cell_types.specs.Image.{Image}
-use Rattle.index_paths.specs.Blocks.{PostingFields, InFront, Hop, Trail, here, on}
-use Rattle.index_paths.proofs.Fronts.{rises}
-use Rattle.index_paths.proofs.Trails.{not_both, one_target}
+use Rattle.volume_meaning.specs.Blocks.{PostingFields, InFront, Hop, Trail, here, on}
+use Rattle.volume_meaning.proofs.Fronts.{rises}
+use Rattle.volume_meaning.proofs.Trails.{not_both, one_target}
 use Rattle.ingest_laws.specs.Needs.{TrailTo, at_end, through}
 
 -- each trail ends at some block

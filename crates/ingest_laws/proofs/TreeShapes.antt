@@ -6,11 +6,11 @@ use Rattle.cell_types.specs.Layout.{Layout, root_at, pool_at}
 use Rattle.cell_types.specs.declared.record_cell.RecordCell.{RecordCell}
 use Rattle.cell_types.specs.declared.record_cell.RecordCell.TheVariants.{Child}
 use Rattle.ingest_laws.specs.ListShapes.{Adds}
-use Rattle.index_paths.specs.Nodes.{IsNode, root, under, AreApart}
+use Rattle.volume_meaning.specs.Nodes.{IsNode, root, under, AreApart}
 use Rattle.ingest_laws.specs.TreeShapes.{ChildWell, IsWellRooted}
-use Rattle.stored_documents.specs.Volumes.{Holds, IsWritten}
-use Rattle.stored_documents.proofs.Extending.{holds_on, written_on}
-use Rattle.stored_documents.proofs.Holding.{one_record_holds}
+use Rattle.volume_meaning.specs.Volumes.{Holds, IsWritten}
+use Rattle.volume_meaning.proofs.Extending.{holds_on, written_on}
+use Rattle.volume_meaning.proofs.Holding.{one_record_holds}
 use Rattle.tamper_rules.proofs.GivenUp.{children}
 use Rattle.ingest_laws.proofs.ListShapes.{adds_extends, written_back, holds_back}
 use Rattle.tamper_rules.proofs.Writing.{same_or_not}

@@ -6,20 +6,20 @@ use Rattle.cell_types.specs.Layout.{Layout, outcome_at, done_at, all_lists, list
 use Rattle.cell_types.specs.Records.{IsRecordCell}
 use Rattle.cell_types.specs.declared.record_cell.RecordCell.{RecordCell}
 use Rattle.cell_types.specs.declared.record_cell.RecordCell.TheVariants.{Commit, Done, Bucket, Child}
-use Rattle.index_paths.specs.Blocks.{PostingFields, posting_record, Trail}
-use Rattle.stored_documents.specs.Documents.{Document, AreDocuments, IsIdentifier, IsBody, Stands, document_at}
-use Rattle.index_paths.specs.HashPaths.{HashTrail, fingerprint_of, nibble}
-use Rattle.index_paths.specs.Keeping.{sought_in}
+use Rattle.volume_meaning.specs.Blocks.{PostingFields, posting_record, Trail}
+use Rattle.volume_meaning.specs.Documents.{Document, AreDocuments, IsIdentifier, IsBody, Stands, document_at}
+use Rattle.volume_meaning.specs.HashPaths.{HashTrail, fingerprint_of, nibble}
+use Rattle.volume_meaning.specs.Keeping.{sought_in}
 use Rattle.ingest_laws.specs.ListShapes.{IsWellListed}
-use Rattle.index_paths.specs.Nodes.{IsBlockOf, IsNode, IsOnPath, AreApart}
+use Rattle.volume_meaning.specs.Nodes.{IsBlockOf, IsNode, IsOnPath, AreApart}
 use Rattle.ingest_laws.specs.TreeShapes.{IsWellRooted}
-use Rattle.index_paths.specs.Postings.{IsPostingOf, HasPostings}
+use Rattle.volume_meaning.specs.Postings.{IsPostingOf, HasPostings}
 use Rattle.ingest_laws.specs.Ingesting.{Plan, Phase, stored_of, AnyRow, IsLeftIn, LeavesSound}
 use Rattle.tamper_rules.specs.Journals.{IsIndexRecord, IsIndexCell, LiesInBlocks}
 use Rattle.tamper_rules.specs.Rules.{TilingRule}
 use Rattle.tamper_rules.specs.Settling.{IsSettled, IsWith}
-use Rattle.stored_documents.specs.Slots.{cells_for, Reserves, IsDoneSlot, IsHorizon, EndsBelow, HasStamp, IsStampOf}
-use Rattle.stored_documents.specs.Volumes.{Holds, IsWritten, IsVolume}
+use Rattle.volume_meaning.specs.Slots.{cells_for, Reserves, IsDoneSlot, IsHorizon, EndsBelow, HasStamp, IsStampOf}
+use Rattle.volume_meaning.specs.Volumes.{Holds, IsWritten, IsVolume}
 
 -- where a plan's block part ends and its document begins
 abbrev pub blocks_end : Plan → ℕ

@@ -5,11 +5,11 @@ use Rattle.cell_types.specs.Layout.{Layout, reserve_at, outcome_at, done_at, spa
 use Rattle.cell_types.specs.Records.{IsRecordCell}
 use Rattle.cell_types.specs.declared.record_cell.RecordCell.{RecordCell}
 use Rattle.cell_types.specs.declared.record_cell.RecordCell.TheVariants.{Reserve, Commit, Done, Stamp}
-use Rattle.stored_documents.specs.Documents.{Document, AreDocuments, stored_bytes, content_at, document_at}
+use Rattle.volume_meaning.specs.Documents.{Document, AreDocuments, stored_bytes, content_at, document_at}
 use Rattle.tamper_rules.specs.Journals.{journal_at, IsIndexRecord}
 use Rattle.tamper_rules.specs.Settling.{IsSettled, IsWith, RecordRow, DoneRow, Sound, Held}
-use Rattle.stored_documents.specs.Slots.{cells_for, IsHorizon}
-use Rattle.stored_documents.specs.Volumes.{Holds, IsVolume, IsWritten}
+use Rattle.volume_meaning.specs.Slots.{cells_for, IsHorizon}
+use Rattle.volume_meaning.specs.Volumes.{Holds, IsVolume, IsWritten}
 
 -- What an ingest is to write: a document into a slot, which reserves these cells, and the cells of its journal; on a volume
 -- of stamped documents its stamp.

@@ -4,4 +4,3 @@ pub mod ListShapes
 pub mod Needs
 pub mod SettledShapes
 pub mod TreeShapes
-pub use Rattle.tamper_rules.specs as tamper_rules

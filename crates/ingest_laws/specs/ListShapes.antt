@@ -3,10 +3,10 @@
 use Rattle.std.specs.Prelude.{◌≡◌, ◌≢◌, ◌<◌, ◌≤◌, ◌+◌, ◌⊎◌, ℕ, None}
 use Rattle.cell_types.specs.Image.{Image, Extends}
 use Rattle.cell_types.specs.declared.record_cell.RecordCell.TheVariants.{Jump}
-use Rattle.index_paths.specs.Blocks.{PostingFields, posting_record, InFront, IsFull, InSpan, pointer_at, Leads}
-use Rattle.index_paths.specs.Nodes.{AreApart}
+use Rattle.volume_meaning.specs.Blocks.{PostingFields, posting_record, InFront, IsFull, InSpan, pointer_at, Leads}
+use Rattle.volume_meaning.specs.Nodes.{AreApart}
 use Rattle.tamper_rules.specs.Rules.{HoldsInOrder}
-use Rattle.stored_documents.specs.Volumes.{Holds, IsWritten}
+use Rattle.volume_meaning.specs.Volumes.{Holds, IsWritten}
 
 -- The pointer of a level and a digit leads well within its list: the block is full, the target's cells lie in the
 -- range, and its front has a key of the pointer's span.

@@ -7,14 +7,14 @@ use Rattle.std.specs.Prelude.{◌≡◌, ◌<◌, ◌≤◌, ◌+◌, ◌*◌, �
 use Rattle.cell_types.specs.Image.{Image}
 use Rattle.cell_types.specs.Layout.{Layout, list_at, root_at, pool_at}
 use Rattle.cell_types.specs.declared.record_cell.RecordCell.TheVariants.{Jump}
-use Rattle.stored_documents.specs.Documents.{stored_bytes}
-use Rattle.stored_documents.specs.Slots.{cells_for, IsEdge}
-use Rattle.stored_documents.specs.Volumes.{Holds, IsWritten}
+use Rattle.volume_meaning.specs.Documents.{stored_bytes}
+use Rattle.volume_meaning.specs.Slots.{cells_for, IsEdge}
+use Rattle.volume_meaning.specs.Volumes.{Holds, IsWritten}
 use Rattle.tamper_rules.specs.Settling.{IsSettled}
-use Rattle.index_paths.specs.Blocks.{PostingFields, posting_record, Hop, InFront, IsFull, InSpan, pointer_at, Trail}
-use Rattle.index_paths.specs.HashPaths.{IsPassed, PassedTo, nibble}
-use Rattle.index_paths.specs.Keeping.{sought_in}
-use Rattle.index_paths.specs.Postings.{ListedPosting, ArePostings}
+use Rattle.volume_meaning.specs.Blocks.{PostingFields, posting_record, Hop, InFront, IsFull, InSpan, pointer_at, Trail}
+use Rattle.volume_meaning.specs.HashPaths.{IsPassed, PassedTo, nibble}
+use Rattle.volume_meaning.specs.Keeping.{sought_in}
+use Rattle.volume_meaning.specs.Postings.{ListedPosting, ArePostings}
 use Rattle.ingest_laws.specs.ListShapes.{Adds}
 
 -- this is the first blank entry place of the block

@@ -3,16 +3,16 @@ use Rattle.std.specs.Prelude.{◌≡◌, ◌<◌, ◌+◌, ℕ, List}
 use Rattle.sha2.specs.Sha256.{sha256}
 use Rattle.cell_types.specs.Bytes.{AreBytes}
 use Rattle.cell_types.specs.declared.record_cell.RecordCell.TheVariants.{Bucket}
-use Rattle.stored_documents.specs.Documents.{Stands}
-use Rattle.index_paths.specs.HashPaths.{nibble, fingerprint_of}
-use Rattle.stored_documents.specs.Volumes.{Holds, IsWritten}
+use Rattle.volume_meaning.specs.Documents.{Stands}
+use Rattle.volume_meaning.specs.HashPaths.{nibble, fingerprint_of}
+use Rattle.volume_meaning.specs.Volumes.{Holds, IsWritten}
 use Rattle.cell_types.specs.Image.{Image}
 use Rattle.cell_types.specs.Layout.{Layout, IsLayout, all_lists, list_at, pool_at}
 use Rattle.ingest_laws.specs.ListShapes.{IsWellListed}
-use Rattle.index_paths.specs.Blocks.{PostingFields, posting_record, Trail}
-use Rattle.index_paths.specs.Nodes.{IsBlockOf, IsNode, IsOnPath}
+use Rattle.volume_meaning.specs.Blocks.{PostingFields, posting_record, Trail}
+use Rattle.volume_meaning.specs.Nodes.{IsBlockOf, IsNode, IsOnPath}
 use Rattle.tamper_rules.specs.Settling.{IsSettled}
-use Rattle.stored_documents.specs.Slots.{IsEdge}
+use Rattle.volume_meaning.specs.Slots.{IsEdge}
 use Rattle.ingest_laws.specs.TreeShapes.{IsWellRooted}
 
 -- each list of a settled image has its shape, with the edge as the end of its room

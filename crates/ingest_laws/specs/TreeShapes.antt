@@ -5,8 +5,8 @@ use Rattle.cell_types.specs.Image.{Image, Extends}
 use Rattle.cell_types.specs.Layout.{Layout, pool_at}
 use Rattle.cell_types.specs.declared.record_cell.RecordCell.TheVariants.{Child}
 use Rattle.ingest_laws.specs.ListShapes.{Adds}
-use Rattle.index_paths.specs.Nodes.{IsNode, AreApart}
-use Rattle.stored_documents.specs.Volumes.{Holds, IsWritten}
+use Rattle.volume_meaning.specs.Nodes.{IsNode, AreApart}
+use Rattle.volume_meaning.specs.Volumes.{Holds, IsWritten}
 
 -- A child cell leads well within the tree: its bucket is written, its node is at a level below 63, and the target's cells
 -- lie in the pool up to here.

@@ -6,21 +6,21 @@ use Rattle.std.proofs.lemmas.Option.{none-some}
 use Rattle.cell_types.specs.Image.{Image}
 use Rattle.cell_types.specs.declared.record_cell.RecordCell.{RecordCell}
 use Rattle.cell_types.specs.declared.record_cell.RecordCell.TheVariants.{Bucket, Child}
-use Rattle.stored_documents.specs.Volumes.{Holds, IsWritten}
-use Rattle.stored_documents.proofs.Holding.{one_record_holds}
-use Rattle.index_paths.specs.Blocks.{PostingFields, pointer_at}
+use Rattle.volume_meaning.specs.Volumes.{Holds, IsWritten}
+use Rattle.volume_meaning.proofs.Holding.{one_record_holds}
+use Rattle.volume_meaning.specs.Blocks.{PostingFields, pointer_at}
 use Rattle.cell_pool.specs.declared.pool.Pool.{Pool}
-use Rattle.hash_insertion.specs.hash_tree.declared.level.Level.{Level}
-use Rattle.hash_insertion.specs.hash_tree.declared.path.Open.{Open}
+use Rattle.hash_tree.specs.declared.level.Level.{Level}
+use Rattle.hash_tree.specs.declared.path.Open.{Open}
 use Rattle.cell_types.specs.Layout.{Layout}
 use Rattle.worm_device.specs.Counts.{IsStill}
 use Rattle.worm_device.specs.Views.{ViewState}
 use Rattle.jump_insertion.specs.Growing.{PutsTwo, Grows, in_block, in_tail, in_new_block}
 use Rattle.jump_insertion.specs.Inserting as lists
 use Rattle.jump_insertion.specs.Inserting.{PlansEntry}
-use Rattle.hash_insertion.specs.Inserting as trees
-use Rattle.hash_insertion.specs.Inserting.{PlansBucket}
-use Rattle.hash_insertion.specs.Readiness.{cost_in, cost_of}
+use Rattle.hash_tree.specs.Inserting as trees
+use Rattle.hash_tree.specs.Inserting.{PlansBucket}
+use Rattle.hash_tree.specs.Readiness.{cost_in, cost_of}
 use Rattle.ingest_plan.specs.Counts.{HasCells, PlansAtCost, PlansOneOrTwoEach}
 
 -- so many numbers have this: these are all of them, and each is named once

@@ -9,21 +9,21 @@ use Rattle.cell_types.specs.Layout.{Layout, pool_at}
 use Rattle.cell_types.specs.declared.refusal.Fault.TheVariants as faults
 use Rattle.cell_types.specs.declared.refusal.Refusal.{Refusal}
 use Rattle.cell_types.specs.declared.refusal.Refusal.TheVariants as refusals
-use Rattle.index_paths.specs.Keeping.{sought_in}
-use Rattle.index_paths.specs.Postings.{ArePostings, ListedPosting}
-use Rattle.index_paths.proofs.Trails.{trail_wider}
-use Rattle.planned_cells.specs.Faults.{refusal_of_growth}
-use Rattle.planned_cells.specs.declared.fault.GrowthFault.{GrowthFault}
-use Rattle.planned_cells.specs.declared.fault.GrowthFault.TheVariants as growth
+use Rattle.volume_meaning.specs.Keeping.{sought_in}
+use Rattle.volume_meaning.specs.Postings.{ArePostings, ListedPosting}
+use Rattle.volume_meaning.proofs.Trails.{trail_wider}
+use Rattle.cell_pool.specs.Faults.{refusal_of_growth}
+use Rattle.cell_pool.specs.declared.fault.GrowthFault.{GrowthFault}
+use Rattle.cell_pool.specs.declared.fault.GrowthFault.TheVariants as growth
 use Rattle.worm_device.specs.Calls.{Called}
-use Rattle.jump_insertion.proofs.of_tamper_rules.Images.{same_image}
+use Rattle.tamper_rules.proofs.Images.{same_image}
 use Rattle.worm_device.specs.Counts.{IsStill}
 use Rattle.worm_device.specs.Overlays.{over}
 use Rattle.worm_device.specs.State.{DeviceState}
 use Rattle.worm_device.specs.Views.{IsView, ViewState}
-use Rattle.hash_insertion.specs.hash_tree.declared.level.Level.{Level}
-use Rattle.hash_insertion.specs.hash_tree.declared.path.Open.{Open}
-use Rattle.hash_insertion.specs.Readiness.{blank_of}
+use Rattle.hash_tree.specs.declared.level.Level.{Level}
+use Rattle.hash_tree.specs.declared.path.Open.{Open}
+use Rattle.hash_tree.specs.Readiness.{blank_of}
 use Rattle.ingest_plan.specs.Counts.{HasCells}
 use Rattle.ingest_plan.specs.Indexes.{IndexEnds, IndexStandsAtCost, Indexes, IsIndexed}
 use Rattle.ingest_plan.specs.Journal.{IsJournal}

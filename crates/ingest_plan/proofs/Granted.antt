@@ -8,7 +8,7 @@ use Rattle.worm_device.specs.Counts.{IsStill}
 use Rattle.worm_device.specs.State.{DeviceState}
 use Rattle.worm_device.proofs.Counting.{still_first, still_second}
 use Rattle.worm_device.proofs.Images.{unchanged_then}
-use Rattle.stored_documents.proofs.Extending.{holds_on}
+use Rattle.volume_meaning.proofs.Extending.{holds_on}
 use Rattle.cell_pool.specs.Grants.{Grant, Tile}
 use Rattle.ingest_plan.specs.Granting.{GivesWhatIsLedTo, IsLedTo, to_block, to_node}
 

@@ -2,29 +2,28 @@
 use Rattle.std.proofs.Common.{◌≡◌, ◌≢◌, ◌<◌, ◌≤◌, ◌+◌, ⊎_elim, ℕ, List, Option, Some, None, Result, Ok, Err, refl, ap, sym, subst, arith, ◌∙◌}
 use Rattle.std.specs.Prelude.{IsTrue, length}
 use Rattle.std.proofs.lemmas.Bool.{cases_eq}
-use Rattle.std.proofs.lemmas.Option.{none-some}
-use Rattle.std.proofs.lemmas.Option.{slice_get_within}
+use Rattle.std.proofs.lemmas.Option.{none-some, slice_get_within}
 use Rattle.cell_types.specs.Image.{Image, Extends}
 use Rattle.cell_types.specs.Layout.{Layout, pool_at, root_at, lists_at}
 use Rattle.cell_types.specs.Records.{IsRecordCell}
 use Rattle.cell_types.specs.declared.record_cell.RecordCell.{RecordCell}
 use Rattle.cell_types.specs.declared.record_cell.RecordCell.TheVariants.{Jump, Child}
 use Rattle.cell_types.specs.declared.refusal.Fault.TheVariants as faults
-use Rattle.index_paths.specs.Blocks.{posting_record}
-use Rattle.index_paths.specs.HashPaths.{nibble}
-use Rattle.index_paths.specs.Postings.{ListedPosting}
-use Rattle.index_paths.proofs.Trails.{trail_on}
-use Rattle.stored_documents.specs.Volumes.{Holds}
-use Rattle.jump_insertion.specs.tamper_rules.Journals.{IsIndexRecord}
+use Rattle.volume_meaning.specs.Blocks.{posting_record}
+use Rattle.volume_meaning.specs.HashPaths.{nibble}
+use Rattle.volume_meaning.specs.Postings.{ListedPosting}
+use Rattle.volume_meaning.proofs.Trails.{trail_on}
+use Rattle.volume_meaning.specs.Volumes.{Holds}
+use Rattle.tamper_rules.specs.Journals.{IsIndexRecord}
 use Rattle.cell_pool.specs.declared.pool.Pool.{Pool}
-use Rattle.hash_insertion.specs.hash_tree.Levels.{IsLed, IsWithin, bucket_at, child_at, node_of}
-use Rattle.hash_insertion.specs.hash_tree.Steps.{IsOpenOf}
-use Rattle.hash_insertion.specs.hash_tree.declared.level.ChildCell.{ChildCell}
-use Rattle.hash_insertion.specs.hash_tree.declared.level.Level.{Level}
-use Rattle.hash_insertion.specs.hash_tree.declared.path.Open.{Open}
-use Rattle.planned_cells.specs.Records.{HoldsPlanned}
-use Rattle.planned_cells.specs.declared.fault.GrowthFault.{GrowthFault}
-use Rattle.planned_cells.specs.declared.fault.GrowthFault.TheVariants.{Fault, NoMemory}
+use Rattle.hash_tree.specs.Levels.{IsLed, IsWithin, bucket_at, child_at, node_of}
+use Rattle.hash_tree.specs.Steps.{IsOpenOf}
+use Rattle.hash_tree.specs.declared.level.ChildCell.{ChildCell}
+use Rattle.hash_tree.specs.declared.level.Level.{Level}
+use Rattle.hash_tree.specs.declared.path.Open.{Open}
+use Rattle.cell_pool.specs.Records.{HoldsPlanned}
+use Rattle.cell_pool.specs.declared.fault.GrowthFault.{GrowthFault}
+use Rattle.cell_pool.specs.declared.fault.GrowthFault.TheVariants.{Fault, NoMemory}
 use Rattle.worm_device.proofs.Covering.{planned_show}
 use Rattle.worm_device.proofs.Images.{extends_self, extends_then}
 use Rattle.worm_device.specs.Calls.{Called}
@@ -33,9 +32,9 @@ use Rattle.worm_device.specs.Overlays.{over, PlansNothing}
 use Rattle.worm_device.specs.State.{DeviceState}
 use Rattle.worm_device.specs.Views.{IsView, ViewState}
 use Rattle.worm_device.specs.declared.owner.Owner.{Owner}
-use Rattle.hash_insertion.specs.Inserting.{InsertsEntry, IsInserted, IsTaken, PlansBucket, alone, with_node}
-use Rattle.hash_insertion.specs.Readiness.{IsReady, blank_in, blank_of, cost_of, owner_in}
-use Rattle.hash_insertion.specs.Rooting.{IsRooted, IsRootedBefore}
+use Rattle.hash_tree.specs.Inserting.{InsertsEntry, IsInserted, IsTaken, PlansBucket, alone, with_node}
+use Rattle.hash_tree.specs.Readiness.{IsReady, blank_in, blank_of, cost_of, owner_in}
+use Rattle.hash_tree.specs.Rooting.{IsRooted, IsRootedBefore}
 use Rattle.ingest_plan.specs.Granting.{GivesWhatIsLedTo, to_node}
 use Rattle.ingest_plan.specs.Indexes.{IndexEnds, IndexStandsAtCost, Indexes, IsIndexCell, IsIndexed, in_list, in_tree}
 use Rattle.ingest_plan.specs.Rows.{AreInOrder, AreInserted, InsertsRow, IsRowCell, of_posting, of_pointer, LiesInLists, in_first, in_pool}
@@ -47,13 +46,13 @@ use Rattle.ingest_plan.proofs.Licensing.{licensable}
 
 -- a place of a level lies in the level's node
 place_within : (g : Layout) (level : Level) (bucket : ℕ) (child : Option ℕ) → nibble level.digest level.number < 16
-    → Rattle.hash_insertion.specs.hash_tree.Steps.IsOpenAt g level bucket child
+    → Rattle.hash_tree.specs.Steps.IsOpenAt g level bucket child
     → (node_of g level ≤ blank_in bucket child) × (blank_in bucket child < node_of g level + 32)
 place_within g level bucket None half at = (omega (arith, at), omega (arith, at, half))
 place_within g level bucket (Some child) half at = (omega (arith, at.1), omega (arith, at.1, half))
 
 root_node : (g : Layout) (level : Level) → level.led_by ≡ None → node_of g level ≡ root_at g
-root_node g level first = ap (λ (led : Option ChildCell). Rattle.hash_insertion.specs.hash_tree.Levels.node_in g led) first
+root_node g level first = ap (λ (led : Option ChildCell). Rattle.hash_tree.specs.Levels.node_in g led) first
 
 led_on : (old new : Image) (led : Option ChildCell) → Extends old new → IsLed old led → IsLed new led
 led_on old new None e is = tt
@@ -135,7 +134,7 @@ module _ (g : Layout) (n : ℕ) (rows : List ListedPosting) (level : Level) (pla
       by_led None is = omega (arith, root_node g level is)
       by_led (Some child) is =
           let w : IsWithin g old.fresh (Some child) = subst (λ (l : Option ChildCell). IsWithin g old.fresh l) is within in
-          let same : node_of g level ≡ child.target = ap (λ (l : Option ChildCell). Rattle.hash_insertion.specs.hash_tree.Levels.node_in g l) is in
+          let same : node_of g level ≡ child.target = ap (λ (l : Option ChildCell). Rattle.hash_tree.specs.Levels.node_in g l) is in
           omega (arith, w.0, same)
 
   module _ (pool rest : Pool) (new : ViewState) (at : ℕ) (inserted : IsInserted g level place n at pool rest mid new)
@@ -238,7 +237,7 @@ module _ (g : Layout) (n : ℕ) (rows : List ListedPosting) (level : Level) (pla
         bucket_place : place.child ≡ None → blank_of place ≡ bucket_at g level
         bucket_place none =
             ap (λ (c : Option ℕ). blank_in place.bucket c) none
-            ∙ subst (λ (c : Option ℕ). Rattle.hash_insertion.specs.hash_tree.Steps.IsOpenAt g level place.bucket c) none open_at
+            ∙ subst (λ (c : Option ℕ). Rattle.hash_tree.specs.Steps.IsOpenAt g level place.bucket c) none open_at
     blank_now view (with_node child is_child child_is less leads at_is holds others small below takes) tells blank cell
         value is = ⊎_elim
         (λ (here : cell ≡ child).
@@ -298,7 +297,7 @@ module _ (g : Layout) (n : ℕ) (rows : List ListedPosting) (level : Level) (pla
           let all = planned_show mid image view lower_there (extends_then (kept_now inserted.plans) has_planned) in
           record {
             at = stands.at;
-            trail = Rattle.index_paths.proofs.Trails.trail_wider (pool_at g) rest.next (omega arith) further
+            trail = Rattle.volume_meaning.proofs.Trails.trail_wider (pool_at g) rest.next (omega arith) further
                 (trail_on all stands.trail);
           };
       path = inserted.trail;

@@ -5,24 +5,24 @@ use Rattle.std.proofs.lemmas.Bool.{cases_eq}
 use Rattle.cell_types.specs.Image.{Image, IsUnchanged}
 use Rattle.cell_types.specs.Layout.{Layout}
 use Rattle.cell_types.specs.declared.refusal.Evidence.{Evidence}
-use Rattle.stored_documents.specs.Slots.{IsEdge, IsHorizon}
-use Rattle.stored_documents.specs.Volumes.{IsVolume}
-use Rattle.jump_insertion.specs.tamper_rules.Rules.{Children, IsBroken, IsPlaceOf}
-use Rattle.jump_insertion.specs.tamper_rules.declared.numbers.TheConstants.{FAKE_POSTING}
-use Rattle.index_paths.specs.Postings.{HasPostings, ListedPosting}
+use Rattle.volume_meaning.specs.Slots.{IsEdge, IsHorizon}
+use Rattle.volume_meaning.specs.Volumes.{IsVolume}
+use Rattle.tamper_rules.specs.Rules.{Children, IsBroken, IsPlaceOf}
+use Rattle.tamper_rules.specs.declared.numbers.TheConstants.{FAKE_POSTING}
+use Rattle.volume_meaning.specs.Postings.{HasPostings, ListedPosting}
 use Rattle.worm_device.specs.Counts.{IsStill}
 use Rattle.worm_device.specs.State.{DeviceState}
 use Rattle.worm_device.specs.Views.{IsView, ViewState}
 use Rattle.worm_device.specs.declared.owner.Owner.{Owner}
-use Rattle.hash_insertion.specs.hash_tree.Levels.{IsChildPlace, IsLedWithin}
-use Rattle.hash_insertion.specs.hash_tree.declared.level.ChildCell.{ChildCell}
-use Rattle.hash_insertion.specs.hash_tree.declared.level.Level.{Level}
-use Rattle.hash_insertion.specs.hash_tree.declared.path.Open.{Open}
+use Rattle.hash_tree.specs.Levels.{IsChildPlace, IsLedWithin}
+use Rattle.hash_tree.specs.declared.level.ChildCell.{ChildCell}
+use Rattle.hash_tree.specs.declared.level.Level.{Level}
+use Rattle.hash_tree.specs.declared.path.Open.{Open}
 use Rattle.jump_insertion.specs.Evidence.{AreInTheirPlaces, IsInItsPlace, IsLicensedBelow, IsPastSlots, NothingBelowPlans, ShowsBelow, bad_entry, bad_pointer, late, of_list, of_new, of_tree}
 use Rattle.jump_insertion.proofs.Licence.{licensed}
-use Rattle.hash_insertion.specs.Inserting.{IsTaken}
-use Rattle.hash_insertion.specs.Laws.{LiesByOwner, in_block, in_new, in_node}
-use Rattle.hash_insertion.proofs.Licence as tree
+use Rattle.hash_tree.specs.Inserting.{IsTaken}
+use Rattle.hash_tree.specs.InsertionLaws.{LiesByOwner, in_block, in_new, in_node}
+use Rattle.hash_tree.proofs.InsertionLicence as tree
 use Rattle.ingest_plan.specs.Indexes.{IsNamed, in_list, in_tree}
 use Rattle.ingest_plan.specs.Rows.{AreInOrder}
 use Rattle.ingest_plan.specs.Over.{NamesBelow}

@@ -4,15 +4,15 @@ use Rattle.std.specs.Prelude.{IsTrue}
 use Rattle.std.proofs.lemmas.Option.{none-some}
 use Rattle.cell_types.specs.Image.{Extends}
 use Rattle.cell_types.specs.Layout.{Layout, list_at, pool_at, all_lists}
-use Rattle.index_paths.specs.Blocks.{PostingFields}
-use Rattle.index_paths.specs.Postings.{ListedPosting}
+use Rattle.volume_meaning.specs.Blocks.{PostingFields}
+use Rattle.volume_meaning.specs.Postings.{ListedPosting}
 use Rattle.worm_device.specs.Views.{IsView, ViewState}
 use Rattle.worm_device.specs.declared.owner.Owner.{Owner}
 use Rattle.jump_insertion.specs.Evidence.{AreInTheirPlaces, IsInItsPlace, of_list, of_new, of_tree}
 use Rattle.jump_insertion.specs.Inserting.{PlansEntry}
 use Rattle.jump_insertion.specs.Readiness.{IsReady}
 use Rattle.jump_insertion.proofs.Licence.{block_on, reached_in_place}
-use Rattle.hash_insertion.proofs.Rooting.{node_on}
+use Rattle.hash_tree.proofs.Rooting.{node_on}
 use Rattle.ingest_plan.specs.Licensing.{IsLicensable}
 use Rattle.ingest_plan.specs.Rows.{AreInserted}
 use Rattle.ingest_plan.proofs.Others.{IsOwned, anew, as_before, owned_in}

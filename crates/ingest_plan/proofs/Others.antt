@@ -5,7 +5,7 @@ use Rattle.std.proofs.lemmas.Option.{none-some}
 use Rattle.cell_types.specs.Records.{IsRecordCell}
 use Rattle.cell_types.specs.declared.record_cell.RecordCell.{RecordCell}
 use Rattle.cell_types.specs.declared.record_cell.RecordCell.TheVariants.{Jump}
-use Rattle.index_paths.specs.Blocks.{PostingFields, posting_record}
+use Rattle.volume_meaning.specs.Blocks.{PostingFields, posting_record}
 use Rattle.worm_device.specs.Counts.{IsStill}
 use Rattle.worm_device.specs.Views.{ViewState}
 use Rattle.worm_device.specs.declared.owner.Owner.{Owner}

@@ -4,13 +4,13 @@ use Rattle.std.specs.Prelude.{length, slice_get}
 use Rattle.std.proofs.Math.ListN.{get_or}
 use Rattle.std.proofs.lemmas.Bool.{cases_lt}
 use Rattle.std.proofs.lemmas.Option.{slice_get_within, slice_get-get_or}
-use Rattle.index_paths.proofs.OnePostings.{keys_fit}
-use Rattle.index_paths.proofs.Tags.{tags_one}
-use Rattle.index_paths.specs.Postings.{ArePostings, IsWordPosting, ListedPosting, time_posting}
-use Rattle.index_paths.specs.Blocks.{PostingFields}
+use Rattle.volume_meaning.proofs.OnePostings.{keys_fit}
+use Rattle.volume_meaning.proofs.Tags.{tags_one}
+use Rattle.volume_meaning.specs.Postings.{ArePostings, IsWordPosting, ListedPosting, time_posting}
+use Rattle.volume_meaning.specs.Blocks.{PostingFields}
 use Rattle.cell_types.specs.Image.{Image}
 use Rattle.cell_types.specs.Layout.{Layout}
-use Rattle.stored_documents.specs.Words.{AreWords, rule_of}
+use Rattle.volume_meaning.specs.Words.{AreWords, rule_of}
 use Rattle.term_tags.specs.Listing.{GivesListed, MayHaveStamp}
 use Rattle.jump_insertion.specs.Evidence.{IsPastSlots, IsPastStamps}
 use Rattle.ingest_plan.specs.Planning.{IsLater}

@@ -7,16 +7,16 @@ use Rattle.cell_types.specs.Image.{Image, Extends}
 use Rattle.cell_types.specs.Layout.{Layout, list_at, pool_at, all_lists}
 use Rattle.cell_types.specs.declared.refusal.Fault.TheVariants as faults
 use Rattle.cell_types.specs.declared.record_cell.RecordCell.TheVariants.{Jump}
-use Rattle.index_paths.specs.Postings.{ComesBefore, ListedPosting}
-use Rattle.index_paths.proofs.Trails.{trail_on, trail_wider}
-use Rattle.stored_documents.specs.Volumes.{Holds}
+use Rattle.volume_meaning.specs.Postings.{ComesBefore, ListedPosting}
+use Rattle.volume_meaning.proofs.Trails.{trail_on, trail_wider}
+use Rattle.volume_meaning.specs.Volumes.{Holds}
 use Rattle.cell_pool.specs.Grants.{TakesFront}
 use Rattle.cell_pool.specs.declared.pool.Pool.{Pool}
-use Rattle.jump_insertion.specs.jump_block.Entries.{cell_of}
-use Rattle.jump_insertion.specs.jump_block.declared.held_entry.Entry.{Entry}
-use Rattle.planned_cells.specs.declared.fault.GrowthFault.{GrowthFault}
-use Rattle.planned_cells.specs.declared.fault.GrowthFault.TheVariants.{Fault, NoMemory}
-use Rattle.jump_insertion.specs.ingest_laws.ListShapes.{IsWellListed}
+use Rattle.jump_block.specs.Entries.{cell_of}
+use Rattle.jump_block.specs.declared.held_entry.Entry.{Entry}
+use Rattle.cell_pool.specs.declared.fault.GrowthFault.{GrowthFault}
+use Rattle.cell_pool.specs.declared.fault.GrowthFault.TheVariants.{Fault, NoMemory}
+use Rattle.ingest_laws.specs.ListShapes.{IsWellListed}
 use Rattle.worm_device.specs.Counts.{IsStill}
 use Rattle.worm_device.proofs.Counting.{still_first, still_second}
 use Rattle.worm_device.proofs.Elapsing.{called_self, called_then}
@@ -174,7 +174,7 @@ module _ (g : Layout) (rows : List ListedPosting) (i : ℕ) (first pool later : 
       (cases_eq j i)
     where
       planned_posting : PlansEntry (list_at g p.list) (pool_at g) pool.next later.next p.posting (cell_of e) mid new
-          → Holds new.planned (cell_of e) (Rattle.index_paths.specs.Blocks.posting_record p.posting)
+          → Holds new.planned (cell_of e) (Rattle.volume_meaning.specs.Blocks.posting_record p.posting)
       planned_posting (alone one rest same) = one.held
       planned_posting (with_pointer pointer target one other apart rest taken) = one.held
 

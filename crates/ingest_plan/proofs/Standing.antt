@@ -8,12 +8,12 @@ use Rattle.cell_types.specs.Image.{Image, Extends}
 use Rattle.cell_types.specs.Layout.{Layout, list_at, pool_at, all_lists}
 use Rattle.cell_types.specs.Records.{IsRecordCell}
 use Rattle.cell_types.specs.declared.record_cell.RecordCell.{RecordCell}
-use Rattle.stored_documents.specs.Volumes.{Holds}
-use Rattle.index_paths.specs.Blocks.{Leads}
-use Rattle.index_paths.specs.Nodes.{AreApart}
-use Rattle.index_paths.specs.Postings.{ListedPosting}
-use Rattle.jump_insertion.specs.ingest_laws.ListShapes.{IsWellListed}
-use Rattle.jump_insertion.specs.ingest_laws.Needs.{PostingCosts, PostingsCost, none, one}
+use Rattle.volume_meaning.specs.Volumes.{Holds}
+use Rattle.volume_meaning.specs.Blocks.{Leads}
+use Rattle.volume_meaning.specs.Nodes.{AreApart}
+use Rattle.volume_meaning.specs.Postings.{ListedPosting}
+use Rattle.ingest_laws.specs.ListShapes.{IsWellListed}
+use Rattle.ingest_laws.specs.Needs.{PostingCosts, PostingsCost, none, one}
 use Rattle.worm_device.proofs.Images.{extends_self, extends_then}
 use Rattle.jump_insertion.specs.Costs.{HaveTrails, HaveKeysBelow}
 use Rattle.jump_insertion.specs.Growing.{Grows}

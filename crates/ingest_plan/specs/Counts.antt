@@ -1,7 +1,7 @@
 -- How many cells are planned.
 use Rattle.std.specs.Prelude.{◌≡◌, ◌<◌, ◌≤◌, ◌+◌, ◌*◌, ◌-◌, ℕ, List, length, slice_get, Some}
 use Rattle.cell_types.specs.Image.{Image}
-use Rattle.stored_documents.specs.Volumes.{IsWritten}
+use Rattle.volume_meaning.specs.Volumes.{IsWritten}
 
 -- The image has so many written cells: these are all of them, and each is named once.
 pub record HasCells (image : Image) (count : ℕ) : Type 0 where

@@ -2,7 +2,7 @@
 use Rattle.std.specs.Prelude.{◌≡◌, ℕ, List, slice_get, Some}
 use Rattle.cell_types.specs.Image.{Image}
 use Rattle.cell_types.specs.declared.record_cell.RecordCell.TheVariants.{Jump, Child}
-use Rattle.stored_documents.specs.Volumes.{Holds}
+use Rattle.volume_meaning.specs.Volumes.{Holds}
 use Rattle.cell_pool.specs.Grants.{Grant, Tile}
 
 -- the grant is a block to which a planned pointer leads, or a node to which a planned child cell leads

@@ -6,20 +6,20 @@ use Rattle.cell_types.specs.Records.{IsRecordCell}
 use Rattle.cell_types.specs.declared.record_cell.RecordCell.{RecordCell}
 use Rattle.cell_types.specs.declared.refusal.Evidence.{Evidence}
 use Rattle.cell_types.specs.declared.refusal.Fault.TheVariants.{Tampered, Failed}
-use Rattle.index_paths.specs.Blocks.{Trail}
-use Rattle.index_paths.specs.Postings.{ListedPosting}
-use Rattle.jump_insertion.specs.tamper_rules.Journals.{IsIndexRecord}
+use Rattle.volume_meaning.specs.Blocks.{Trail}
+use Rattle.volume_meaning.specs.Postings.{ListedPosting}
+use Rattle.tamper_rules.specs.Journals.{IsIndexRecord}
 use Rattle.worm_device.specs.Calls.{Called}
 use Rattle.worm_device.specs.Counts.{IsStill, Rose}
 use Rattle.worm_device.specs.Overlays.{over}
 use Rattle.worm_device.specs.Views.{ViewState}
-use Rattle.planned_cells.specs.declared.fault.GrowthFault.{GrowthFault}
-use Rattle.planned_cells.specs.declared.fault.GrowthFault.TheVariants.{Fault, NoMemory}
-use Rattle.hash_insertion.specs.hash_tree.declared.level.Level.{Level}
-use Rattle.hash_insertion.specs.hash_tree.declared.path.Open.{Open}
+use Rattle.cell_pool.specs.declared.fault.GrowthFault.{GrowthFault}
+use Rattle.cell_pool.specs.declared.fault.GrowthFault.TheVariants.{Fault, NoMemory}
+use Rattle.hash_tree.specs.declared.level.Level.{Level}
+use Rattle.hash_tree.specs.declared.path.Open.{Open}
 use Rattle.jump_insertion.specs.Evidence.{ShowsBelow}
-use Rattle.hash_insertion.specs.Inserting as tree
-use Rattle.hash_insertion.specs.Readiness.{blank_of, cost_of}
+use Rattle.hash_tree.specs.Inserting as tree
+use Rattle.hash_tree.specs.Readiness.{blank_of, cost_of}
 use Rattle.ingest_plan.specs.Counts.{HasCells, PlansOneOrTwoEach}
 use Rattle.ingest_plan.specs.Granting.{GivesWhatIsLedTo}
 use Rattle.ingest_plan.specs.Licensing.{IsLicensable}

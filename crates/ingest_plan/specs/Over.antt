@@ -5,12 +5,12 @@ use Rattle.cell_types.specs.Layout.{Layout}
 use Rattle.cell_types.specs.declared.refusal.Evidence.{Evidence}
 use Rattle.cell_types.specs.declared.refusal.Refusal.{Refusal}
 use Rattle.cell_types.specs.declared.refusal.Refusal.TheVariants.{DeviceFault, NoMemory, Tampered}
-use Rattle.index_paths.specs.Postings.{ListedPosting}
+use Rattle.volume_meaning.specs.Postings.{ListedPosting}
 use Rattle.worm_device.specs.Calls.{Called}
 use Rattle.worm_device.specs.Counts.{IsStill, Rose}
 use Rattle.worm_device.specs.Views.{IsView, ViewState}
-use Rattle.hash_insertion.specs.hash_tree.declared.level.Level.{Level}
-use Rattle.hash_insertion.specs.hash_tree.declared.path.Open.{Open}
+use Rattle.hash_tree.specs.declared.level.Level.{Level}
+use Rattle.hash_tree.specs.declared.path.Open.{Open}
 use Rattle.ingest_plan.specs.Indexes.{IsIndexed, IsNamed}
 use Rattle.ingest_plan.specs.Licensing.{IsLicensable}
 use Rattle.ingest_plan.specs.Planning.{IsJournalBefore}

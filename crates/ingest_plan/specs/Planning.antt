@@ -6,23 +6,23 @@ use Rattle.cell_types.specs.Layout.{Layout}
 use Rattle.cell_types.specs.declared.refusal.Evidence.{Evidence}
 use Rattle.cell_types.specs.declared.refusal.Refusal.{Refusal}
 use Rattle.cell_types.specs.declared.refusal.Refusal.TheVariants.{DeviceFault, NoMemory, Tampered, TooManyTerms}
-use Rattle.stored_documents.specs.Documents.{Stands}
-use Rattle.stored_documents.specs.Slots.{IsEdge, IsHorizon, IsStampOf}
-use Rattle.stored_documents.specs.Volumes.{IsVolume}
-use Rattle.index_paths.specs.Keeping.{IsKept, sought_in}
-use Rattle.index_paths.specs.Postings.{ArePostings, HasPostings, ListedPosting}
-use Rattle.jump_insertion.specs.tamper_rules.Rules.{IsBroken, IsPlaceOf}
-use Rattle.jump_insertion.specs.tamper_rules.declared.numbers.TheConstants.{BLOCK_OUT_OF_ORDER, FAKE_POSTING, LOST_POINTER, LOST_CHILD}
+use Rattle.volume_meaning.specs.Documents.{Stands}
+use Rattle.volume_meaning.specs.Slots.{IsEdge, IsHorizon, IsStampOf}
+use Rattle.volume_meaning.specs.Volumes.{IsVolume}
+use Rattle.volume_meaning.specs.Keeping.{IsKept, sought_in}
+use Rattle.volume_meaning.specs.Postings.{ArePostings, HasPostings, ListedPosting}
+use Rattle.tamper_rules.specs.Rules.{IsBroken, IsPlaceOf}
+use Rattle.tamper_rules.specs.declared.numbers.TheConstants.{BLOCK_OUT_OF_ORDER, FAKE_POSTING, LOST_POINTER, LOST_CHILD}
 use Rattle.term_tags.specs.Listing.{GetsTooMany}
 use Rattle.worm_device.specs.Calls.{Called}
 use Rattle.worm_device.specs.Counts.{IsStill, Rose}
 use Rattle.worm_device.specs.Overlays.{over}
 use Rattle.worm_device.specs.State.{DeviceState}
 use Rattle.jump_insertion.specs.Evidence.{IsPastStamps}
-use Rattle.hash_insertion.specs.hash_tree.Levels.{IsLedWithin}
-use Rattle.hash_insertion.specs.hash_tree.declared.level.Level.{Level}
-use Rattle.hash_insertion.specs.hash_tree.declared.path.Open.{Open}
-use Rattle.hash_insertion.specs.Readiness.{PassedDown, blank_of, cost_of}
+use Rattle.hash_tree.specs.Levels.{IsLedWithin}
+use Rattle.hash_tree.specs.declared.level.Level.{Level}
+use Rattle.hash_tree.specs.declared.path.Open.{Open}
+use Rattle.hash_tree.specs.Readiness.{PassedDown, blank_of, cost_of}
 use Rattle.ingest_plan.specs.Granting.{GivesWhatIsLedTo}
 use Rattle.ingest_plan.specs.Indexes.{IsIndexCell}
 use Rattle.ingest_plan.specs.Journal.{IsJournal}

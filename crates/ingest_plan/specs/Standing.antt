@@ -4,17 +4,17 @@ use Rattle.cell_types.specs.Image.{Image, Extends}
 use Rattle.cell_types.specs.Layout.{Layout, list_at, pool_at, all_lists}
 use Rattle.cell_types.specs.Records.{IsRecordCell}
 use Rattle.cell_types.specs.declared.record_cell.RecordCell.TheVariants.{Jump}
-use Rattle.index_paths.specs.Blocks.{Leads, pointer_at, posting_record}
-use Rattle.index_paths.specs.Nodes.{AreApart}
-use Rattle.index_paths.specs.Postings.{ListedPosting}
-use Rattle.jump_insertion.specs.ingest_laws.ListShapes.{IsWellListed}
-use Rattle.jump_insertion.specs.ingest_laws.Needs.{PostingsCost}
-use Rattle.hash_insertion.specs.hash_tree.declared.level.Level.{Level}
-use Rattle.hash_insertion.specs.hash_tree.declared.path.Open.{Open}
+use Rattle.volume_meaning.specs.Blocks.{Leads, pointer_at, posting_record}
+use Rattle.volume_meaning.specs.Nodes.{AreApart}
+use Rattle.volume_meaning.specs.Postings.{ListedPosting}
+use Rattle.ingest_laws.specs.ListShapes.{IsWellListed}
+use Rattle.ingest_laws.specs.Needs.{PostingsCost}
+use Rattle.hash_tree.specs.declared.level.Level.{Level}
+use Rattle.hash_tree.specs.declared.path.Open.{Open}
 use Rattle.jump_insertion.specs.Costs.{HaveTrails, HaveKeysBelow}
 use Rattle.jump_insertion.specs.Others.{ListsAreApart}
-use Rattle.hash_insertion.specs.Inserting.{TakesItsNeed}
-use Rattle.hash_insertion.specs.Rooting.{IsRooted, IsRootedBefore}
+use Rattle.hash_tree.specs.Inserting.{TakesItsNeed}
+use Rattle.hash_tree.specs.Rooting.{IsRooted, IsRootedBefore}
 
 -- Each list of the volume has its shape, with blocks before this cell, and its postings have trails and keys below the
 -- list's bound; and no block of a list meets one of another.

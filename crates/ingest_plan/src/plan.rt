@@ -3,8 +3,8 @@ ghost use Rattle.std.specs.Prelude.{◌≡◌, ◌<◌, ◌≤◌, ◌+◌, ◌*
 ghost use Rattle.cell_types.specs.Layout.{pool_at};
 ghost use Rattle.cell_types.specs.declared.geometry.TheConstants.{MAX_CELLS, MAX_SLOTS};
 ghost use Rattle.term_tags.specs.Listing.{MayHaveStamp};
-ghost use Rattle.hash_insertion.specs.hash_tree.Levels.{IsLed, IsWithin};
-ghost use Rattle.hash_insertion.specs.hash_tree.Steps.{IsOpenOf};
+ghost use Rattle.hash_tree.specs.Levels.{IsLed, IsWithin};
+ghost use Rattle.hash_tree.specs.Steps.{IsOpenOf};
 ghost use Rattle.ingest_plan.specs.Rows.{AreInOrder};
 ghost use Rattle.ingest_plan.specs.Over.{PlansOver};
 ghost use Rattle.ingest_plan.specs.Planning.{PlansIndex};
@@ -15,8 +15,8 @@ use cell_pool::Pool;
 use cell_types::{Cell, Refusal, Volume};
 use hash_tree::{Level, Open};
 use std::alloc::Global;
-use stored_documents::rule_of;
 use term_tags::{ListedPosting, document_postings};
+use volume_meaning::rule_of;
 use word_reader::words;
 use worm_device::{Device, Direct, Overlay, PlannedCells, View};
 

@@ -7,11 +7,10 @@ ghost use Rattle.jump_insertion.specs.Inserting.{InsertsPosting};
 ghost use Rattle.jump_insertion.specs.Readiness.{IsReady};
 ghost use Rattle.worm_device.specs.Overlays.{of_overlay};
 
-use cell_pool::Pool;
+use cell_pool::{GrowthFault, Pool};
 use cell_types::Geometry;
 use jump_block::Entry;
 use jump_insertion::{NewEntry, insert};
-use planned_cells::GrowthFault;
 use term_tags::ListedPosting;
 use worm_device::{Overlay, View};
 

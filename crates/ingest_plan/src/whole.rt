@@ -3,17 +3,16 @@ ghost use Rattle.std.specs.Prelude.{◌≡◌, ◌<◌, ◌≤◌, ◌+◌, ◌*
 ghost use Rattle.cell_pool.specs.Grants.{room_of};
 ghost use Rattle.cell_types.specs.Layout.{pool_at};
 ghost use Rattle.cell_types.specs.declared.geometry.TheConstants.{MAX_SLOTS};
-ghost use Rattle.hash_insertion.specs.hash_tree.Levels.{IsLed, IsWithin};
-ghost use Rattle.hash_insertion.specs.hash_tree.Steps.{IsOpenOf};
+ghost use Rattle.hash_tree.specs.Levels.{IsLed, IsWithin};
+ghost use Rattle.hash_tree.specs.Steps.{IsOpenOf};
 ghost use Rattle.ingest_plan.specs.Indexes.{Indexes};
 ghost use Rattle.ingest_plan.specs.Rows.{AreInOrder};
 ghost use Rattle.worm_device.specs.Overlays.{of_overlay};
 
 use crate::rows::insert_postings;
-use cell_pool::Pool;
+use cell_pool::{GrowthFault, Pool};
 use cell_types::Volume;
 use hash_tree::{Level, Open, nibble_of};
-use planned_cells::GrowthFault;
 use term_tags::ListedPosting;
 use worm_device::{Overlay, View};
 
@@ -49,6 +48,6 @@ pub fn insert_document<V: View>(
     // Known of a half byte once it is asked for: it is below 16.
     let _half = nibble_of(&level.digest, level.number);
     insert_postings(overlay, pool, &volume.geometry, rows)?;
-    hash_insertion::insert(overlay, pool, volume, place, level, slot)?;
+    hash_tree::insert(overlay, pool, volume, place, level, slot)?;
     Ok(())
 }

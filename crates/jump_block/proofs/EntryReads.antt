@@ -4,7 +4,7 @@ use Rattle.cell_types.specs.declared.record_cell.RecordCell.TheVariants.{Jump}
 use Rattle.cell_types.specs.declared.refusal.Fault.{Fault}
 use Rattle.cell_types.specs.declared.refusal.Fault.TheVariants.{Tampered, Failed}
 use Rattle.cell_types.specs.Records.{IsRecordCell}
-use Rattle.index_paths.specs.Blocks.{posting_record}
+use Rattle.volume_meaning.specs.Blocks.{posting_record}
 use Rattle.worm_device.specs.Looks.{ReadsRecord}
 use Rattle.worm_device.specs.Views.{ViewState}
 use Rattle.jump_block.specs.Entries.{ReadsEntry}

@@ -3,9 +3,9 @@ use Rattle.std.proofs.Common.{◌≡◌, ◌<◌, ◌≤◌, ◌+◌, ◌-◌, �
 use Rattle.std.proofs.lemmas.Bool.{cases_lt}
 use Rattle.std.proofs.Math.Nat.{pow-succ'}
 use Rattle.cell_types.specs.Image.{Image, Extends}
-use Rattle.stored_documents.specs.Volumes.{Holds}
-use Rattle.index_paths.specs.Blocks.{PostingFields, posting_record, InFront, at_the_start, behind}
-use Rattle.index_paths.proofs.Fronts.{front_on, front_holds, one_posting}
+use Rattle.volume_meaning.specs.Volumes.{Holds}
+use Rattle.volume_meaning.specs.Blocks.{PostingFields, posting_record, InFront, at_the_start, behind}
+use Rattle.volume_meaning.proofs.Fronts.{front_on, front_holds, one_posting}
 use Rattle.jump_block.specs.Entries.{posting_of}
 use Rattle.jump_block.specs.Fronts.{AreBelow, EndsWith, HasKeyAt}
 use Rattle.jump_block.specs.Keeping.{AreKept}

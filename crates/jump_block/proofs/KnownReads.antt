@@ -5,10 +5,10 @@ use Rattle.std.proofs.lemmas.Option.{none-some}
 use Rattle.cell_types.specs.Image.{Image}
 use Rattle.cell_types.specs.declared.refusal.Fault.{Fault}
 use Rattle.cell_types.specs.declared.refusal.Fault.TheVariants.{Tampered, Failed}
-use Rattle.stored_documents.proofs.Holding.{some_is}
+use Rattle.volume_meaning.proofs.Holding.{some_is}
 use Rattle.cell_types.specs.Records.{IsRecordCell}
-use Rattle.index_paths.specs.Blocks.{PostingFields, posting_record, InFront}
-use Rattle.index_paths.proofs.Fronts.{one_place}
+use Rattle.volume_meaning.specs.Blocks.{PostingFields, posting_record, InFront}
+use Rattle.volume_meaning.proofs.Fronts.{one_place}
 use Rattle.worm_device.specs.Views.{ViewState, Viewed}
 use Rattle.worm_device.proofs.Resting.{viewed_then}
 use Rattle.jump_block.specs.Entries.{IsNoPosting, ReadsEntry, posting_of}

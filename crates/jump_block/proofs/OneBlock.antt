@@ -7,10 +7,10 @@ use Rattle.cell_types.specs.Image.{Image}
 use Rattle.cell_types.specs.Layout.{Layout, FirstBlock, LiesIn, list_at, pool_at, all_lists}
 use Rattle.cell_types.specs.Records.{IsRecordCell}
 use Rattle.cell_types.specs.declared.record_cell.RecordCell.TheVariants.{Jump}
-use Rattle.stored_documents.specs.Volumes.{Holds}
-use Rattle.stored_documents.proofs.Holding.{some_is}
-use Rattle.index_paths.specs.Blocks.{PostingFields, posting_record, InFront, InSpan, Leads, arrived, onwards}
-use Rattle.index_paths.proofs.Fronts.{front_holds, one_posting, rises_or_same}
+use Rattle.volume_meaning.specs.Volumes.{Holds}
+use Rattle.volume_meaning.proofs.Holding.{some_is}
+use Rattle.volume_meaning.specs.Blocks.{PostingFields, posting_record, InFront, InSpan, Leads, arrived, onwards}
+use Rattle.volume_meaning.proofs.Fronts.{front_holds, one_posting, rises_or_same}
 use Rattle.tamper_rules.specs.Rules.{HoldsInOrder, IsOfPool}
 use Rattle.jump_block.specs.Fronts.{IsBadEntry, no_posting, does_not_rise}
 use Rattle.jump_block.specs.Pointing.{HasFull}

@@ -3,8 +3,8 @@ use Rattle.std.specs.Prelude.{◌≡◌, ◌<◌, ◌≤◌, ◌+◌, ◌%◌, �
 use Rattle.cell_types.specs.Image.{Image}
 use Rattle.cell_types.specs.declared.refusal.Fault.{Fault}
 use Rattle.cell_types.specs.declared.refusal.Fault.TheVariants.{Tampered, Failed}
-use Rattle.stored_documents.specs.Volumes.{Holds}
-use Rattle.index_paths.specs.Blocks.{PostingFields, posting_record, InFront}
+use Rattle.volume_meaning.specs.Volumes.{Holds}
+use Rattle.volume_meaning.specs.Blocks.{PostingFields, posting_record, InFront}
 use Rattle.tamper_rules.specs.declared.numbers.TheConstants.{BLOCK_OUT_OF_ORDER}
 use Rattle.worm_device.specs.Counts.{Rose}
 use Rattle.worm_device.specs.Views.{ViewState, Viewed}

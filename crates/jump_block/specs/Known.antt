@@ -2,7 +2,7 @@
 use Rattle.std.specs.Prelude.{◌≡◌, ◌<◌, ◌≤◌, ◌+◌, ℕ, Option, Some, None, Result, Ok, Err, IsTrue}
 use Rattle.cell_types.specs.Image.{Image}
 use Rattle.cell_types.specs.declared.refusal.Fault.{Fault}
-use Rattle.index_paths.specs.Blocks.{PostingFields, InFront}
+use Rattle.volume_meaning.specs.Blocks.{PostingFields, InFront}
 use Rattle.worm_device.specs.Views.{ViewState, Viewed}
 use Rattle.jump_block.specs.Fronts.{AreBelow, HasKeyAt, FirstEnds}
 use Rattle.jump_block.specs.declared.known_front.Front.{Front}

@@ -5,4 +5,3 @@ pub mod Known
 pub mod Pointers
 pub mod Pointing
 pub mod Spans
-pub use Rattle.tamper_rules.specs as tamper_rules

@@ -5,8 +5,8 @@ use Rattle.cell_types.specs.Records.{record_bytes}
 use Rattle.cell_types.specs.declared.record_cell.RecordCell.TheVariants.{Jump}
 use Rattle.cell_types.specs.declared.refusal.Fault.{Fault}
 use Rattle.cell_types.specs.declared.refusal.Fault.TheVariants.{Tampered, Failed}
-use Rattle.stored_documents.specs.Volumes.{Holds}
-use Rattle.index_paths.specs.Blocks.{PostingFields, InFront, pointer_at}
+use Rattle.volume_meaning.specs.Volumes.{Holds}
+use Rattle.volume_meaning.specs.Blocks.{PostingFields, InFront, pointer_at}
 use Rattle.tamper_rules.specs.declared.numbers.TheConstants.{LOST_POINTER}
 use Rattle.jump_block.specs.Fronts.{HasKeyAt}
 

@@ -1,6 +1,6 @@
 //! A block of whose front some places are known already.
 ghost use Rattle.std.specs.Prelude.{◌<◌, ◌≤◌, ◌+◌, IsTrue};
-ghost use Rattle.index_paths.specs.declared.blocks.TheConstants.{BLOCK_CELLS, ENTRY_PLACES};
+ghost use Rattle.volume_meaning.specs.declared.blocks.TheConstants.{BLOCK_CELLS, ENTRY_PLACES};
 ghost use Rattle.jump_block.specs.Known.{Bisects, FindsFromKnown, IsKnown};
 
 use crate::fronts::read_on;

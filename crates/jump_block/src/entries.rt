@@ -1,6 +1,6 @@
 //! One entry of a block.
 ghost use Rattle.std.specs.Prelude.{◌<◌, ◌≤◌, ◌+◌};
-ghost use Rattle.index_paths.specs.declared.blocks.TheConstants.{BLOCK_CELLS, ENTRY_PLACES};
+ghost use Rattle.volume_meaning.specs.declared.blocks.TheConstants.{BLOCK_CELLS, ENTRY_PLACES};
 ghost use Rattle.jump_block.specs.Entries.{ReadsEntry};
 
 use crate::Entry;

@@ -1,13 +1,13 @@
 //! The front of a block, read from its first place or from a known one on.
 ghost use Rattle.std.specs.Prelude.{◌≤◌, ◌+◌, IsTrue};
-ghost use Rattle.index_paths.specs.declared.blocks.TheConstants.{BLOCK_CELLS, ENTRY_PLACES};
+ghost use Rattle.volume_meaning.specs.declared.blocks.TheConstants.{BLOCK_CELLS, ENTRY_PLACES};
 ghost use Rattle.jump_block.specs.Fronts.{FindsFirst};
 ghost use Rattle.jump_block.specs.Known.{IsBelow, IsGreatest, IsKnown, ReadsOn};
 
 use crate::{Front, KnownFront, entry};
 use cell_types::{Fault, breach};
-use index_paths::ENTRY_PLACES;
 use tamper_rules::BLOCK_OUT_OF_ORDER;
+use volume_meaning::ENTRY_PLACES;
 use worm_device::View;
 
 /// The first entry of a block with a key at or past x, or how its front ends that has none. It reads from place 0 on,

@@ -18,7 +18,7 @@ pub struct Entry {
 impl Entry {
     ghost use Rattle.std.specs.Prelude.{◌≡◌, ◌<◌, ◌≤◌, ◌+◌, ◌%◌, ◌^◌};
     ghost use Rattle.cell_types.specs.Records.{record_bytes};
-    ghost use Rattle.index_paths.specs.Blocks.{posting_record};
+    ghost use Rattle.volume_meaning.specs.Blocks.{posting_record};
     ghost use Rattle.jump_block.specs.Entries.{posting_of};
 
     /// The cell that the entry stands in.

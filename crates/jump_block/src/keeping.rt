@@ -1,6 +1,6 @@
 //! A block of whose front some places may be kept.
 ghost use Rattle.std.specs.Prelude.{◌<◌, ◌≤◌, ◌+◌, IsTrue};
-ghost use Rattle.index_paths.specs.declared.blocks.TheConstants.{BLOCK_CELLS};
+ghost use Rattle.volume_meaning.specs.declared.blocks.TheConstants.{BLOCK_CELLS};
 ghost use Rattle.jump_block.specs.Fronts.{FindsFirst};
 ghost use Rattle.jump_block.specs.Keeping.{AreKept, CostsLess};
 

@@ -1,12 +1,12 @@
 //! The fronts that a row of searches keeps.
 ghost use Rattle.std.specs.Prelude.{◌≡◌, ◌<◌, ◌≤◌, ℕ};
 ghost use Rattle.cell_types.specs.Image.{Image};
-ghost use Rattle.index_paths.specs.declared.blocks.TheConstants.{ENTRY_PLACES};
+ghost use Rattle.volume_meaning.specs.declared.blocks.TheConstants.{ENTRY_PLACES};
 ghost use Rattle.jump_block.specs.Keeping.{AreKept, KeepsPlaces};
 ghost use Rattle.jump_block.specs.Known.{IsKnown};
 
 use crate::KnownFront;
-use index_paths::ENTRY_PLACES;
+use volume_meaning::ENTRY_PLACES;
 
 /// How many fronts are kept: one for each block on a walk through eight levels.
 pub const KEPT_FRONTS: usize = 9;

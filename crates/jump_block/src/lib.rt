@@ -20,7 +20,7 @@
 //! blank cells, it stays and can only grow at its end. So a front that was verified once is kept (`KnownFront`), and a
 //! later search in it reads some known places at most, and the places behind its end.
 //!
-//! Stands on `worm_device` (views), `index_paths` (what a front is) and `tamper_rules` (the rules' numbers).
+//! Stands on `worm_device` (views), `volume_meaning` (what a front is) and `tamper_rules` (the rules' numbers).
 //! `jump_index` walks from block to block. Begin with `fronts.rt`; `specs/Fronts.antt` says how a look ends.
 #![tactic(auto)]
 

@@ -1,7 +1,7 @@
 //! One jump pointer of a block.
 ghost use Rattle.std.specs.Prelude.{◌≡◌, ◌<◌, ◌≤◌, ◌+◌, ◌^◌};
-ghost use Rattle.index_paths.specs.declared.blocks.TheConstants.{BLOCK_CELLS};
-ghost use Rattle.index_paths.specs.Blocks.{pointer_at};
+ghost use Rattle.volume_meaning.specs.declared.blocks.TheConstants.{BLOCK_CELLS};
+ghost use Rattle.volume_meaning.specs.Blocks.{pointer_at};
 ghost use Rattle.jump_block.specs.Pointers.{ReadsPointer};
 ghost use Rattle.jump_block.specs.Pointing.{IsPointerEvidence};
 

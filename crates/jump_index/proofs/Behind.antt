@@ -7,10 +7,10 @@ use Rattle.cell_types.specs.declared.record_cell.RecordCell.TheVariants.{Jump}
 use Rattle.cell_types.specs.declared.refusal.Evidence.{Evidence}
 use Rattle.cell_types.specs.declared.refusal.Fault.{Fault}
 use Rattle.cell_types.specs.declared.refusal.Fault.TheVariants.{Tampered, Failed}
-use Rattle.stored_documents.proofs.Extending.{holds_on}
-use Rattle.stored_documents.proofs.Holding.{one_record_holds}
-use Rattle.index_paths.specs.Blocks.{PostingFields, InFront, InSpan, Trail, Leads, arrived, onwards, pointer_at}
-use Rattle.index_paths.proofs.Trails.{trail_on}
+use Rattle.volume_meaning.proofs.Extending.{holds_on}
+use Rattle.volume_meaning.proofs.Holding.{one_record_holds}
+use Rattle.volume_meaning.specs.Blocks.{PostingFields, InFront, InSpan, Trail, Leads, arrived, onwards, pointer_at}
+use Rattle.volume_meaning.proofs.Trails.{trail_on}
 use Rattle.worm_device.specs.Views.{ViewState, Viewed}
 use Rattle.jump_block.specs.Entries.{posting_of}
 use Rattle.jump_block.specs.Fronts.{FirstEnds}
@@ -20,14 +20,13 @@ use Rattle.jump_block.specs.declared.known_front.Front.{Front}
 use Rattle.jump_block.specs.declared.known_front.Front.TheVariants.{At, Open, Full}
 use Rattle.jump_block.specs.declared.spans.Span.{Span}
 use Rattle.jump_block.proofs.Knowing.{key_on}
-use Rattle.jump_block.proofs.OneBlock.{jump_target}
+use Rattle.jump_block.proofs.OneBlock.{jump_target, none_from_blank, full_greatest, of_span}
 use Rattle.jump_index.specs.Evidence.{IsBadPointer, outside, no_key, Shows, bad_entry, bad_pointer, FaultShows}
 use Rattle.jump_block.specs.Pointing.{HasFull, HasPointer, IsPointerPlace, IsPointerEvidence}
 use Rattle.jump_index.specs.Looking.{IsLeast}
 use Rattle.jump_index.specs.Searches.{IsEntry, IsEntryBehind}
 use Rattle.jump_index.specs.declared.bounds.Bounds.{Bounds}
 use Rattle.jump_index.proofs.Passing.{known_less, next_is_least, next_passes_none, goes_through}
-use Rattle.jump_block.proofs.OneBlock.{none_from_blank, full_greatest, of_span}
 
 -- an entry that was found is one
 key_of : Front → ℕ

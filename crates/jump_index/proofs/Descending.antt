@@ -8,10 +8,10 @@ use Rattle.cell_types.specs.declared.record_cell.RecordCell.TheVariants.{Jump}
 use Rattle.cell_types.specs.declared.refusal.Evidence.{Evidence}
 use Rattle.cell_types.specs.declared.refusal.Fault.{Fault}
 use Rattle.cell_types.specs.declared.refusal.Fault.TheVariants.{Tampered, Failed}
-use Rattle.stored_documents.proofs.Extending.{holds_on}
-use Rattle.stored_documents.proofs.Holding.{one_record_holds}
-use Rattle.index_paths.specs.Blocks.{PostingFields, InSpan, Hop, Trail, here, on, onwards, pointer_at}
-use Rattle.index_paths.proofs.Fronts.{front_holds}
+use Rattle.volume_meaning.proofs.Extending.{holds_on}
+use Rattle.volume_meaning.proofs.Holding.{one_record_holds}
+use Rattle.volume_meaning.specs.Blocks.{PostingFields, InSpan, Hop, Trail, here, on, onwards, pointer_at}
+use Rattle.volume_meaning.proofs.Fronts.{front_holds}
 use Rattle.worm_device.specs.Views.{ViewState, Viewed}
 use Rattle.worm_device.proofs.Resting.{viewed_then}
 use Rattle.jump_block.specs.Entries.{cell_of, posting_of}
@@ -20,20 +20,17 @@ use Rattle.jump_block.specs.declared.held_entry.Entry.{Entry}
 use Rattle.jump_block.specs.declared.spans.Span.{Span}
 use Rattle.jump_block.proofs.Counting.{rose_later}
 use Rattle.jump_block.proofs.Knowing.{key_on}
-use Rattle.jump_block.proofs.OneBlock.{level_falls}
+use Rattle.jump_block.proofs.OneBlock.{level_falls, jump_target, in_span, of_span}
 use Rattle.jump_index.specs.Evidence.{no_key, Shows, bad_entry, bad_pointer, FaultShows}
-use Rattle.jump_block.specs.Pointing.{HasFull, HasPointer, IsPointerEvidence}
+use Rattle.jump_block.specs.Pointing.{HasFull, HasPointer, IsPointerEvidence, HasKeyIn}
 use Rattle.jump_index.specs.Looking.{FirstPointer, IsWithin, LooksLater, LooksOn, OnEnds, PassesNone, SearchEnds, SearchesBlock}
-use Rattle.jump_block.specs.Pointing.{HasKeyIn}
 use Rattle.jump_index.specs.Searches.{HasTrail, IsEntryBehind, IsExact, IsFirst}
 use Rattle.jump_index.specs.declared.bounds.Bounds.{Bounds}
 use Rattle.jump_index.specs.declared.looked.Looked.{Looked}
 use Rattle.jump_index.specs.declared.looked.Looked.TheVariants.{Found, Nothing, NoKey}
 use Rattle.jump_index.proofs.Behind.{shows_pointer}
-use Rattle.jump_block.proofs.OneBlock.{jump_target}
 use Rattle.jump_index.proofs.LookingLater.{entry_then, fault_then, trail_then}
 use Rattle.jump_index.proofs.Passing.{goes_through}
-use Rattle.jump_block.proofs.OneBlock.{in_span, of_span}
 
 -- keys have 32 bits
 pub trail_fits : {image : Image} {from to at : ℕ} {p : PostingFields} {block : ℕ} → Trail image from to at p block

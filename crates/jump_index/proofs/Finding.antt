@@ -2,8 +2,8 @@
 use Rattle.std.proofs.Common.{◌≤◌, ◌^◌, ℕ, Some, None, Ok, Err, arith}
 use Rattle.cell_types.specs.declared.refusal.Fault.{Fault}
 use Rattle.cell_types.specs.declared.refusal.Fault.TheVariants.{Tampered, Failed}
-use Rattle.index_paths.specs.Blocks.{PostingFields, here, on}
-use Rattle.index_paths.proofs.Fronts.{front_holds, front_on}
+use Rattle.volume_meaning.specs.Blocks.{PostingFields, here, on}
+use Rattle.volume_meaning.proofs.Fronts.{front_holds, front_on}
 use Rattle.worm_device.specs.Views.{ViewState, Viewed}
 use Rattle.jump_block.specs.declared.held_entry.Entry.{Entry}
 use Rattle.jump_index.specs.Looking.{SearchesBlock}

@@ -7,4 +7,3 @@ pub mod LookingLater
 pub mod Passing
 pub mod PointerReads
 pub mod Telling
-pub use Rattle.jump_block.proofs as of_jump_block

@@ -6,13 +6,13 @@ use Rattle.cell_types.specs.Layout.{Layout, FirstBlock, LiesIn, list_at, pool_at
 use Rattle.cell_types.specs.Records.{IsRecordCell}
 use Rattle.cell_types.specs.declared.record_cell.RecordCell.TheVariants.{Jump}
 use Rattle.cell_types.specs.declared.refusal.Evidence.{Evidence}
-use Rattle.stored_documents.specs.Slots.{IsEdge}
-use Rattle.stored_documents.specs.Volumes.{Holds}
-use Rattle.stored_documents.proofs.Holding.{one_record_holds, some_is}
-use Rattle.index_paths.specs.Blocks.{PostingFields, posting_record, InFront, InSpan, Leads, arrived, onwards, pointer_at}
-use Rattle.index_paths.specs.Nodes.{IsBlockOf}
-use Rattle.index_paths.proofs.Fronts.{front_holds, one_place, one_posting}
-use Rattle.jump_block.specs.tamper_rules.Rules.{Entries, HoldsInOrder, IsOfPool, LeadsWell, Pointers}
+use Rattle.volume_meaning.specs.Slots.{IsEdge}
+use Rattle.volume_meaning.specs.Volumes.{Holds}
+use Rattle.volume_meaning.proofs.Holding.{one_record_holds, some_is}
+use Rattle.volume_meaning.specs.Blocks.{PostingFields, posting_record, InFront, InSpan, Leads, arrived, onwards, pointer_at}
+use Rattle.volume_meaning.specs.Nodes.{IsBlockOf}
+use Rattle.volume_meaning.proofs.Fronts.{front_holds, one_place, one_posting}
+use Rattle.tamper_rules.specs.Rules.{Entries, HoldsInOrder, IsOfPool, LeadsWell, Pointers}
 use Rattle.jump_block.specs.Fronts.{IsBadEntry, no_posting, does_not_rise}
 use Rattle.jump_block.proofs.Knowing.{front_below}
 use Rattle.jump_block.proofs.OneBlock.{in_place, jump_target, leads_wider, not_in_order}

@@ -6,8 +6,8 @@ use Rattle.std.proofs.lemmas.Option.{none-some}
 use Rattle.cell_types.specs.Image.{Image}
 use Rattle.cell_types.specs.declared.refusal.Fault.{Fault}
 use Rattle.cell_types.specs.declared.refusal.Fault.TheVariants.{Tampered, Failed}
-use Rattle.index_paths.specs.Blocks.{PostingFields, InFront, here, arrived}
-use Rattle.index_paths.proofs.Fronts.{front_holds, one_posting, rises_or_same}
+use Rattle.volume_meaning.specs.Blocks.{PostingFields, InFront, here, arrived}
+use Rattle.volume_meaning.proofs.Fronts.{front_holds, one_posting, rises_or_same, front_on}
 use Rattle.worm_device.specs.Views.{ViewState, Viewed}
 use Rattle.worm_device.proofs.Resting.{viewed_then}
 use Rattle.jump_block.specs.Entries.{EntryEnds, ReadsEntry, posting_of}
@@ -16,7 +16,6 @@ use Rattle.jump_block.specs.declared.held_entry.Entry.{Entry}
 use Rattle.jump_block.specs.declared.known_front.Front.TheVariants.{At, Open, Full}
 use Rattle.jump_block.proofs.Counting.{rose_later}
 use Rattle.jump_block.proofs.Knowing.{front_below}
-use Rattle.index_paths.proofs.Fronts.{front_on}
 use Rattle.jump_index.specs.Evidence.{bad_entry}
 use Rattle.jump_index.specs.Looking.{BeforeEnds, EndsBefore, HereEnds, LooksBefore, LooksHere, SearchEnds}
 use Rattle.jump_index.specs.declared.bounds.Bounds.{Bounds}

@@ -6,9 +6,9 @@ use Rattle.std.proofs.lemmas.Option.{none-some}
 use Rattle.std.proofs.Math.Nat.{one-le-pow}
 use Rattle.cell_types.specs.declared.refusal.Fault.{Fault}
 use Rattle.cell_types.specs.declared.refusal.Fault.TheVariants.{Tampered, Failed}
-use Rattle.stored_documents.proofs.Extending.{holds_on}
-use Rattle.index_paths.specs.Blocks.{PostingFields, Trail, arrived, pointer_at}
-use Rattle.index_paths.proofs.Trails.{trail_on}
+use Rattle.volume_meaning.proofs.Extending.{holds_on}
+use Rattle.volume_meaning.specs.Blocks.{PostingFields, Trail, arrived, pointer_at}
+use Rattle.volume_meaning.proofs.Trails.{trail_on}
 use Rattle.worm_device.specs.Views.{ViewState, Viewed}
 use Rattle.worm_device.proofs.Resting.{viewed_then}
 use Rattle.jump_block.specs.Pointers.{ReadsPointer}

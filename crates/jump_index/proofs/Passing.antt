@@ -4,10 +4,10 @@ use Rattle.std.proofs.lemmas.Bool.{cases_lt}
 use Rattle.std.proofs.lemmas.Option.{none-some}
 use Rattle.cell_types.specs.Image.{Image}
 use Rattle.cell_types.specs.declared.record_cell.RecordCell.TheVariants.{Jump}
-use Rattle.stored_documents.specs.Volumes.{Holds}
-use Rattle.index_paths.specs.Blocks.{PostingFields, InFront, InSpan, Trail, here, on, pointer_at}
-use Rattle.index_paths.proofs.Fronts.{front_holds, one_place, rises, rises_or_same}
-use Rattle.index_paths.proofs.Spans.{apart, span_above}
+use Rattle.volume_meaning.specs.Volumes.{Holds}
+use Rattle.volume_meaning.specs.Blocks.{PostingFields, InFront, InSpan, Trail, here, on, pointer_at}
+use Rattle.volume_meaning.proofs.Fronts.{front_holds, one_place, rises, rises_or_same}
+use Rattle.volume_meaning.proofs.Spans.{apart, span_above}
 use Rattle.jump_block.specs.Fronts.{AreBelow}
 use Rattle.jump_block.specs.Spans.{IsSpan}
 use Rattle.jump_block.specs.declared.spans.Span.{Span}

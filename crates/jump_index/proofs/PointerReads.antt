@@ -2,7 +2,7 @@
 use Rattle.std.proofs.Common.{◌<◌, ◌≤◌, ◌+◌, ◌⊎◌, inr, ℕ, Some, Ok, Err, refl, ap, ◌∙◌}
 use Rattle.cell_types.specs.declared.refusal.Fault.{Fault}
 use Rattle.cell_types.specs.declared.refusal.Fault.TheVariants.{Tampered, Failed}
-use Rattle.index_paths.specs.Blocks.{arrived, pointer_at}
+use Rattle.volume_meaning.specs.Blocks.{arrived, pointer_at}
 use Rattle.worm_device.specs.Views.{ViewState}
 use Rattle.jump_block.specs.Pointers.{ReadsPointer}
 use Rattle.jump_block.specs.declared.spans.Span.{Span}

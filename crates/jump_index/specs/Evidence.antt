@@ -6,9 +6,9 @@ use Rattle.cell_types.specs.declared.record_cell.RecordCell.TheVariants.{Jump}
 use Rattle.cell_types.specs.declared.refusal.Evidence.{Evidence}
 use Rattle.cell_types.specs.declared.refusal.Fault.{Fault}
 use Rattle.cell_types.specs.declared.refusal.Fault.TheVariants.{Tampered, Failed}
-use Rattle.stored_documents.specs.Volumes.{Holds}
-use Rattle.index_paths.specs.Blocks.{PostingFields, InFront, InSpan, Leads, pointer_at}
-use Rattle.jump_block.specs.tamper_rules.declared.numbers.TheConstants.{BLOCK_OUT_OF_ORDER, LOST_POINTER}
+use Rattle.volume_meaning.specs.Volumes.{Holds}
+use Rattle.volume_meaning.specs.Blocks.{PostingFields, InFront, InSpan, Leads, pointer_at}
+use Rattle.tamper_rules.specs.declared.numbers.TheConstants.{BLOCK_OUT_OF_ORDER, LOST_POINTER}
 use Rattle.worm_device.specs.Counts.{Rose}
 use Rattle.worm_device.specs.Views.{ViewState}
 use Rattle.jump_block.specs.Fronts.{HasKeyAt, IsBadEntry}

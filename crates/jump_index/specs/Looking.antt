@@ -3,16 +3,15 @@ use Rattle.std.specs.Prelude.{◌≡◌, ◌<◌, ◌≤◌, ◌+◌, ◌*◌, �
 use Rattle.cell_types.specs.Image.{Image}
 use Rattle.cell_types.specs.declared.refusal.Fault.{Fault}
 use Rattle.cell_types.specs.declared.refusal.Fault.TheVariants.{Tampered, Failed}
-use Rattle.jump_block.specs.tamper_rules.declared.numbers.TheConstants.{BLOCK_OUT_OF_ORDER}
-use Rattle.index_paths.specs.Blocks.{PostingFields, InFront, pointer_at}
+use Rattle.tamper_rules.specs.declared.numbers.TheConstants.{BLOCK_OUT_OF_ORDER}
+use Rattle.volume_meaning.specs.Blocks.{PostingFields, InFront, pointer_at}
 use Rattle.worm_device.specs.Counts.{Rose}
 use Rattle.worm_device.specs.Views.{ViewState, Viewed}
 use Rattle.jump_block.specs.Entries.{IsNoPosting}
 use Rattle.jump_block.specs.declared.held_entry.Entry.{Entry}
 use Rattle.jump_block.specs.declared.spans.Span.{Span}
-use Rattle.jump_block.specs.Pointing.{HasKeyIn}
+use Rattle.jump_block.specs.Pointing.{HasKeyIn, HasFull, HasPointer}
 use Rattle.jump_index.specs.Evidence.{FaultShows}
-use Rattle.jump_block.specs.Pointing.{HasFull, HasPointer}
 use Rattle.jump_index.specs.Searches.{HasTrail, IsEntry, IsEntryBehind, IsExact, IsFirst}
 use Rattle.jump_index.specs.declared.bounds.Bounds.{Bounds}
 use Rattle.jump_index.specs.declared.looked.Here.{Here}

@@ -5,10 +5,10 @@ use Rattle.cell_types.specs.Layout.{Layout, list_at, pool_at, all_lists}
 use Rattle.cell_types.specs.declared.refusal.Evidence.{Evidence}
 use Rattle.cell_types.specs.declared.refusal.Fault.{Fault}
 use Rattle.cell_types.specs.declared.refusal.Fault.TheVariants.{Tampered, Failed}
-use Rattle.stored_documents.specs.Slots.{IsEdge}
-use Rattle.stored_documents.specs.Volumes.{IsVolume}
-use Rattle.index_paths.specs.Blocks.{PostingFields, InFront, Leads, Trail}
-use Rattle.jump_block.specs.tamper_rules.Rules.{HasPlace, Rule, IsBroken, IsPlace, number_of}
+use Rattle.volume_meaning.specs.Slots.{IsEdge}
+use Rattle.volume_meaning.specs.Volumes.{IsVolume}
+use Rattle.volume_meaning.specs.Blocks.{PostingFields, InFront, Leads, Trail}
+use Rattle.tamper_rules.specs.Rules.{HasPlace, Rule, IsBroken, IsPlace, number_of}
 use Rattle.worm_device.specs.Counts.{Rose}
 use Rattle.worm_device.specs.Views.{ViewState, Viewed}
 use Rattle.jump_block.specs.Entries.{cell_of, posting_of}

@@ -1,6 +1,6 @@
 //! A look into one block.
 ghost use Rattle.std.specs.Prelude.{◌<◌, ◌≤◌, ◌+◌, IsTrue};
-ghost use Rattle.index_paths.specs.declared.blocks.TheConstants.{BLOCK_CELLS, ENTRY_PLACES};
+ghost use Rattle.volume_meaning.specs.declared.blocks.TheConstants.{BLOCK_CELLS, ENTRY_PLACES};
 ghost use Rattle.jump_block.specs.Keeping.{AreKept};
 ghost use Rattle.jump_index.specs.Looking.{EndsBefore, LooksBefore, LooksHere};
 

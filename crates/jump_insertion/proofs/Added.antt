@@ -5,9 +5,9 @@ use Rattle.std.proofs.lemmas.Option.{none-some}
 use Rattle.cell_types.specs.Image.{Image, Extends}
 use Rattle.cell_types.specs.declared.record_cell.RecordCell.{RecordCell}
 use Rattle.cell_types.specs.declared.record_cell.RecordCell.TheVariants.{Jump}
-use Rattle.stored_documents.specs.Volumes.{Holds}
-use Rattle.stored_documents.proofs.Extending.{holds_on}
-use Rattle.index_paths.specs.Blocks.{PostingFields, posting_record, Leads, arrived, pointer_at}
+use Rattle.volume_meaning.specs.Volumes.{Holds}
+use Rattle.volume_meaning.proofs.Extending.{holds_on}
+use Rattle.volume_meaning.specs.Blocks.{PostingFields, posting_record, Leads, arrived, pointer_at}
 use Rattle.tamper_rules.proofs.GivenUp.{leads_further}
 use Rattle.ingest_laws.proofs.ListShapes.{adds_extends}
 use Rattle.ingest_laws.proofs.SettledShapes.{leads_wider}

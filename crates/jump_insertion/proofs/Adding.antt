@@ -2,7 +2,7 @@
 use Rattle.std.proofs.Common.{◌≡◌, ◌<◌, ◌≤◌, ◌+◌, ℕ, Option, Some, None, Result, Ok, Err, refl, ap, sym, subst, arith, ◌∙◌}
 use Rattle.std.specs.Prelude.{IsTrue}
 use Rattle.cell_types.specs.Image.{Image}
-use Rattle.index_paths.specs.Blocks.{PostingFields, posting_record, InSpan, Leads, pointer_at}
+use Rattle.volume_meaning.specs.Blocks.{PostingFields, posting_record, InSpan, Leads, pointer_at}
 use Rattle.worm_device.specs.Counts.{IsStill}
 use Rattle.worm_device.specs.State.{DeviceState}
 use Rattle.worm_device.specs.Views.{ViewState, Viewed}
@@ -14,7 +14,7 @@ use Rattle.jump_block.specs.declared.known_front.Front.TheVariants.{Open}
 use Rattle.jump_block.specs.declared.spans.Span.{Span}
 use Rattle.jump_block.proofs.Knowing.{key_on}
 use Rattle.jump_block.specs.Pointing.{HasFull, HasPointer}
-use Rattle.planned_cells.specs.declared.fault.GrowthFault.{GrowthFault}
+use Rattle.cell_pool.specs.declared.fault.GrowthFault.{GrowthFault}
 use Rattle.jump_insertion.specs.Growing.{Steps, ends, hops, PutsTwo, Grows, in_block, in_tail, in_new_block, IsLast, IsLastFull}
 use Rattle.jump_insertion.specs.Placing.{GrowEnds}
 use Rattle.jump_insertion.specs.Planning.{PutsRecord, PutsBoth}

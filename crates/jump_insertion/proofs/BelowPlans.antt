@@ -4,9 +4,9 @@ use Rattle.std.proofs.lemmas.Bool.{cases_lt}
 use Rattle.std.proofs.lemmas.Option.{none-some}
 use Rattle.cell_types.specs.Image.{Image}
 use Rattle.cell_types.specs.declared.record_cell.RecordCell.{RecordCell}
-use Rattle.stored_documents.specs.Volumes.{Holds, IsWritten}
-use Rattle.index_paths.specs.Blocks.{PostingFields, posting_record, InFront, at_the_start, behind}
-use Rattle.index_paths.proofs.Fronts.{front_holds, one_place, rises}
+use Rattle.volume_meaning.specs.Volumes.{Holds, IsWritten}
+use Rattle.volume_meaning.specs.Blocks.{PostingFields, posting_record, InFront, at_the_start, behind}
+use Rattle.volume_meaning.proofs.Fronts.{front_holds, one_place, rises}
 use Rattle.tamper_rules.specs.Rules.{EndsFront, HoldsInOrder}
 use Rattle.jump_block.proofs.Knowing.{front_below}
 use Rattle.jump_block.specs.Pointing.{HasFull}

@@ -2,12 +2,12 @@
 use Rattle.std.proofs.Common.{◌≡◌, ◌<◌, ◌≤◌, ◌+◌, ◌-◌, ◌^◌, ⊎_elim, inr, ℕ, refl, ap, sym, subst, arith, ◌∙◌}
 use Rattle.cell_types.specs.Image.{Image}
 use Rattle.cell_types.specs.declared.record_cell.RecordCell.TheVariants.{Jump}
-use Rattle.stored_documents.specs.Volumes.{Holds, IsWritten}
-use Rattle.stored_documents.proofs.Holding.{one_record_holds}
-use Rattle.index_paths.specs.Blocks.{PostingFields, posting_record, InFront, IsFull, InSpan, Hop, Trail, Leads, arrived, pointer_at}
-use Rattle.index_paths.proofs.Fronts.{front_holds, one_place, rises_or_same}
-use Rattle.index_paths.proofs.Spans.{span_above}
-use Rattle.index_paths.proofs.Trails.{one_target}
+use Rattle.volume_meaning.specs.Volumes.{Holds, IsWritten}
+use Rattle.volume_meaning.proofs.Holding.{one_record_holds}
+use Rattle.volume_meaning.specs.Blocks.{PostingFields, posting_record, InFront, IsFull, InSpan, Hop, Trail, Leads, arrived, pointer_at}
+use Rattle.volume_meaning.proofs.Fronts.{front_holds, one_place, rises_or_same}
+use Rattle.volume_meaning.proofs.Spans.{span_above}
+use Rattle.volume_meaning.proofs.Trails.{one_target}
 use Rattle.tamper_rules.proofs.GivenUp.{jumps, leads_further}
 use Rattle.tamper_rules.proofs.Writing.{same_or_not}
 use Rattle.ingest_laws.specs.ListShapes.{IsWellListed, Adds}

@@ -4,11 +4,11 @@ use Rattle.std.proofs.lemmas.Bool.{cases_lt}
 use Rattle.std.proofs.lemmas.Option.{none-some}
 use Rattle.cell_types.specs.Image.{Image}
 use Rattle.cell_types.specs.declared.record_cell.RecordCell.TheVariants.{Jump}
-use Rattle.stored_documents.specs.Volumes.{Holds}
-use Rattle.stored_documents.proofs.Holding.{one_record_holds}
-use Rattle.index_paths.specs.Blocks.{PostingFields, posting_record, InFront, behind, InSpan, Hop, Trail, here, on, Leads, pointer_at}
-use Rattle.index_paths.proofs.Fronts.{front_holds, one_place, one_posting, rises_or_same}
-use Rattle.index_paths.proofs.Spans.{apart, cover, span_above}
+use Rattle.volume_meaning.specs.Volumes.{Holds}
+use Rattle.volume_meaning.proofs.Holding.{one_record_holds}
+use Rattle.volume_meaning.specs.Blocks.{PostingFields, posting_record, InFront, behind, InSpan, Hop, Trail, here, on, Leads, pointer_at}
+use Rattle.volume_meaning.proofs.Fronts.{front_holds, one_place, one_posting, rises_or_same}
+use Rattle.volume_meaning.proofs.Spans.{apart, cover, span_above}
 use Rattle.tamper_rules.specs.Rules.{HoldsInOrder}
 use Rattle.tamper_rules.proofs.GivenUp.{jumps, leads_further}
 use Rattle.tamper_rules.proofs.Images.{look}

@@ -3,9 +3,9 @@ use Rattle.std.proofs.Common.{◌≡◌, ◌≢◌, ◌<◌, ◌≤◌, ◌+◌,
 use Rattle.std.proofs.lemmas.Bool.{cases_eq}
 use Rattle.std.proofs.lemmas.Option.{none-some}
 use Rattle.cell_types.specs.Image.{Image}
-use Rattle.stored_documents.specs.Volumes.{Holds}
-use Rattle.index_paths.specs.Blocks.{PostingFields, posting_record, InFront, at_the_start, behind, Leads, arrived, onwards}
-use Rattle.index_paths.proofs.Fronts.{front_on, front_holds}
+use Rattle.volume_meaning.specs.Volumes.{Holds}
+use Rattle.volume_meaning.specs.Blocks.{PostingFields, posting_record, InFront, at_the_start, behind, Leads, arrived, onwards}
+use Rattle.volume_meaning.proofs.Fronts.{front_on, front_holds}
 use Rattle.tamper_rules.specs.Rules.{HoldsInOrder}
 use Rattle.tamper_rules.proofs.GivenUp.{leads_further}
 use Rattle.ingest_laws.specs.ListShapes.{IsWellListed, Adds, IsNewBlock}

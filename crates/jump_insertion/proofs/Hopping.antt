@@ -7,15 +7,14 @@ use Rattle.cell_types.specs.declared.record_cell.RecordCell.TheVariants.{Jump}
 use Rattle.cell_types.specs.declared.refusal.Evidence.{Evidence}
 use Rattle.cell_types.specs.declared.refusal.Fault.{Fault}
 use Rattle.cell_types.specs.declared.refusal.Fault.TheVariants.{Tampered, Failed}
-use Rattle.stored_documents.specs.Volumes.{Holds}
-use Rattle.stored_documents.proofs.Holding.{one_record_holds}
-use Rattle.index_paths.specs.Blocks.{Leads, pointer_at}
+use Rattle.volume_meaning.specs.Volumes.{Holds}
+use Rattle.volume_meaning.proofs.Holding.{one_record_holds}
+use Rattle.volume_meaning.specs.Blocks.{Leads, pointer_at}
 use Rattle.tamper_rules.proofs.GivenUp.{leads_further}
 use Rattle.worm_device.specs.Views.{ViewState, IsView}
 use Rattle.worm_device.specs.declared.owner.Owner.{Owner}
 use Rattle.jump_block.specs.declared.spans.Span.{Span}
-use Rattle.jump_block.specs.Pointing.{HasFull, HasPointer, IsPointerEvidence}
-use Rattle.jump_block.specs.Pointing.{HasKeyIn}
+use Rattle.jump_block.specs.Pointing.{HasFull, HasPointer, IsPointerEvidence, HasKeyIn}
 use Rattle.jump_block.proofs.OneBlock.{jump_target}
 use Rattle.jump_insertion.specs.Evidence.{IsMet, IsBadHop, outside, meets, ShowsBelow, bad_pointer}
 use Rattle.jump_insertion.specs.Hopping.{IsAt, CheckEnds}

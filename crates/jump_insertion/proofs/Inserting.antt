@@ -1,11 +1,11 @@
 -- What an insertion from the list's first block is for the list.
 use Rattle.std.proofs.Common.{◌≤◌, ◌+◌, ℕ, Some, None, Ok, Err, refl, arith}
 use Rattle.cell_types.specs.declared.refusal.Fault.TheVariants.{Tampered, Failed}
-use Rattle.index_paths.specs.Blocks.{PostingFields, arrived}
+use Rattle.volume_meaning.specs.Blocks.{PostingFields, arrived}
 use Rattle.worm_device.specs.Views.{ViewState, IsView}
 use Rattle.jump_block.specs.declared.held_entry.Entry.{Entry}
-use Rattle.planned_cells.specs.declared.fault.GrowthFault.{GrowthFault}
-use Rattle.planned_cells.specs.declared.fault.GrowthFault.TheVariants.{Fault, NoMemory}
+use Rattle.cell_pool.specs.declared.fault.GrowthFault.{GrowthFault}
+use Rattle.cell_pool.specs.declared.fault.GrowthFault.TheVariants.{Fault, NoMemory}
 use Rattle.jump_insertion.specs.Hopping.{IsAt}
 use Rattle.jump_insertion.specs.Inserting.{InsertsPosting}
 use Rattle.jump_insertion.specs.Placing.{PlacesPosting, GrowEnds, HasPlanned}

@@ -5,13 +5,13 @@ use Rattle.std.proofs.lemmas.Option.{none-some}
 use Rattle.cell_types.specs.Image.{Image, Extends}
 use Rattle.cell_types.specs.declared.record_cell.RecordCell.{RecordCell}
 use Rattle.cell_types.specs.declared.record_cell.RecordCell.TheVariants.{Jump}
-use Rattle.stored_documents.specs.Volumes.{Holds}
-use Rattle.stored_documents.proofs.Extending.{holds_on}
-use Rattle.stored_documents.proofs.Holding.{one_record_holds}
-use Rattle.index_paths.specs.Blocks.{PostingFields, posting_record, InFront, at_the_start, behind, InSpan, Hop, Trail, here, on, Leads, arrived, onwards, pointer_at}
-use Rattle.index_paths.specs.Nodes.{AreApart}
-use Rattle.index_paths.proofs.Fronts.{front_on, one_place, one_posting}
-use Rattle.index_paths.proofs.Trails.{hop_on, hop_wider, trail_on, trail_wider}
+use Rattle.volume_meaning.specs.Volumes.{Holds}
+use Rattle.volume_meaning.proofs.Extending.{holds_on}
+use Rattle.volume_meaning.proofs.Holding.{one_record_holds}
+use Rattle.volume_meaning.specs.Blocks.{PostingFields, posting_record, InFront, at_the_start, behind, InSpan, Hop, Trail, here, on, Leads, arrived, onwards, pointer_at}
+use Rattle.volume_meaning.specs.Nodes.{AreApart}
+use Rattle.volume_meaning.proofs.Fronts.{front_on, one_place, one_posting}
+use Rattle.volume_meaning.proofs.Trails.{hop_on, hop_wider, trail_on, trail_wider}
 use Rattle.tamper_rules.proofs.GivenUp.{jumps, leads_further}
 use Rattle.tamper_rules.proofs.Writing.{same_or_not}
 use Rattle.ingest_laws.specs.ListShapes.{IsWellListed, Adds}

@@ -7,11 +7,11 @@ use Rattle.std.proofs.Math.Nat.{mul-le-mul_right, one-le-pow}
 use Rattle.cell_types.specs.Image.{Image}
 use Rattle.cell_types.specs.declared.record_cell.RecordCell.TheVariants.{Jump}
 use Rattle.cell_types.specs.declared.refusal.Fault.{Fault}
-use Rattle.stored_documents.specs.Volumes.{Holds}
-use Rattle.index_paths.specs.Blocks.{PostingFields, Hop, InFront, InSpan, Trail, here, on, Leads, pointer_at}
-use Rattle.index_paths.proofs.Fronts.{one_place, rises, rises_or_same}
-use Rattle.stored_documents.proofs.Holding.{one_record_holds}
-use Rattle.index_paths.proofs.Spans as spans
+use Rattle.volume_meaning.specs.Volumes.{Holds}
+use Rattle.volume_meaning.specs.Blocks.{PostingFields, Hop, InFront, InSpan, Trail, here, on, Leads, pointer_at}
+use Rattle.volume_meaning.proofs.Fronts.{one_place, rises, rises_or_same}
+use Rattle.volume_meaning.proofs.Holding.{one_record_holds}
+use Rattle.volume_meaning.proofs.Spans as spans
 use Rattle.tamper_rules.proofs.GivenUp.{leads_further}
 use Rattle.ingest_laws.specs.Needs.{at_end, through}
 use Rattle.worm_device.specs.Counts.{IsStill}
@@ -20,8 +20,7 @@ use Rattle.worm_device.proofs.Counting.{still_second}
 use Rattle.jump_block.specs.Spans.{IsSpan}
 use Rattle.jump_block.specs.declared.spans.Span.{Span}
 use Rattle.jump_block.specs.Pointing.{HasFull, HasPointer}
-use Rattle.jump_block.proofs.OneBlock.{jump_target}
-use Rattle.jump_block.proofs.OneBlock.{none_from_blank}
+use Rattle.jump_block.proofs.OneBlock.{jump_target, none_from_blank}
 use Rattle.jump_insertion.specs.Growing.{IsTop, EndsAt, EndsAtFull, IsLast, IsLastFull}
 use Rattle.jump_insertion.specs.Hopping.{BlankFrom, TailLast}
 use Rattle.jump_insertion.specs.declared.entries.Spot.{Spot}

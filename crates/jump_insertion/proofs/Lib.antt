@@ -19,5 +19,3 @@ mod Showing
 mod Tailing
 mod Unshown
 pub mod Untouched
-pub use Rattle.ingest_laws.proofs as of_ingest_laws
-pub use Rattle.tamper_rules.proofs as of_tamper_rules

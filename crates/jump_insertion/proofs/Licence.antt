@@ -7,17 +7,16 @@ use Rattle.cell_types.specs.Layout.{Layout, FirstBlock, LiesIn, list_at, pool_at
 use Rattle.cell_types.specs.Records.{IsRecordCell}
 use Rattle.cell_types.specs.declared.record_cell.RecordCell.TheVariants.{Jump}
 use Rattle.cell_types.specs.declared.refusal.Evidence.{Evidence}
-use Rattle.stored_documents.specs.Slots.{IsEdge, IsHorizon, IsLive, Reserves}
-use Rattle.stored_documents.specs.Volumes.{Holds}
-use Rattle.stored_documents.proofs.Holding.{one_record_holds, some_is}
-use Rattle.stored_documents.proofs.Stamps.{stands_given}
-use Rattle.index_paths.specs.Blocks.{PostingFields, posting_record, InFront, InSpan, Leads, arrived, onwards, pointer_at}
-use Rattle.index_paths.specs.Nodes.{IsBlockOf}
-use Rattle.index_paths.specs.Postings.{IsWordPosting, time_posting}
-use Rattle.index_paths.proofs.Tags.{word_slot}
+use Rattle.volume_meaning.specs.Slots.{IsEdge, IsHorizon, IsLive, Reserves}
+use Rattle.volume_meaning.specs.Volumes.{Holds}
+use Rattle.volume_meaning.proofs.Holding.{one_record_holds, some_is}
+use Rattle.volume_meaning.proofs.Stamps.{stands_given}
+use Rattle.volume_meaning.specs.Blocks.{PostingFields, posting_record, InFront, InSpan, Leads, arrived, onwards, pointer_at}
+use Rattle.volume_meaning.specs.Nodes.{IsBlockOf}
+use Rattle.volume_meaning.specs.Postings.{IsWordPosting, time_posting}
+use Rattle.volume_meaning.proofs.Tags.{word_slot}
 use Rattle.tamper_rules.specs.Rules.{Entries, IsOfPool, IsTruePosting, LeadsWell, Pointers, Postings}
-use Rattle.jump_block.proofs.OneBlock.{jump_target}
-use Rattle.jump_block.proofs.OneBlock.{in_place, leads_wider, not_in_order}
+use Rattle.jump_block.proofs.OneBlock.{jump_target, in_place, leads_wider, not_in_order}
 use Rattle.worm_device.specs.Views.{ViewState, IsView}
 use Rattle.worm_device.specs.declared.owner.Owner.{Owner}
 use Rattle.jump_insertion.specs.Evidence.{StandsBelow, IsMet, IsBadHop, no_jump, outside, no_key, meets, meets_block, ShowsBelow, bad_entry, bad_pointer, late, IsInItsPlace, of_new, of_list, of_tree, AreInTheirPlaces, IsLicensedBelow, IsPastSlots}

@@ -7,9 +7,9 @@ use Rattle.cell_types.specs.declared.record_cell.RecordCell.TheVariants.{Jump}
 use Rattle.cell_types.specs.declared.refusal.Evidence.{Evidence}
 use Rattle.cell_types.specs.declared.refusal.Fault.{Fault}
 use Rattle.cell_types.specs.declared.refusal.Fault.TheVariants.{Tampered, Failed}
-use Rattle.stored_documents.specs.Volumes.{Holds}
-use Rattle.index_paths.specs.Blocks.{PostingFields, posting_record, InFront, Leads, pointer_at}
-use Rattle.index_paths.proofs.Fronts.{front_holds, one_posting, one_place, rises, rises_or_same}
+use Rattle.volume_meaning.specs.Volumes.{Holds}
+use Rattle.volume_meaning.specs.Blocks.{PostingFields, posting_record, InFront, Leads, pointer_at}
+use Rattle.volume_meaning.proofs.Fronts.{front_holds, one_posting, one_place, rises, rises_or_same}
 use Rattle.tamper_rules.specs.declared.numbers.TheConstants.{BLOCK_OUT_OF_ORDER, LOST_POINTER}
 use Rattle.worm_device.specs.Views.{ViewState, Viewed, IsView}
 use Rattle.jump_block.specs.Entries.{posting_of}

@@ -1,9 +1,9 @@
 -- What an insertion leaves of the other lists: their blocks lie outside what it writes.
 use Rattle.std.proofs.Common.{◌≡◌, ◌<◌, ◌≤◌, ◌+◌, ⊎_elim, inl, inr, ℕ, arith}
 use Rattle.cell_types.specs.Image.{Image}
-use Rattle.index_paths.specs.Blocks.{PostingFields, Leads}
-use Rattle.index_paths.specs.Nodes.{AreApart}
-use Rattle.index_paths.proofs.Trails.{trail_on, trail_wider}
+use Rattle.volume_meaning.specs.Blocks.{PostingFields, Leads}
+use Rattle.volume_meaning.specs.Nodes.{AreApart}
+use Rattle.volume_meaning.proofs.Trails.{trail_on, trail_wider}
 use Rattle.ingest_laws.specs.ListShapes.{IsWellListed}
 use Rattle.ingest_laws.proofs.ListShapes.{back, holds_back, listed_back, well_apart, well_wider}
 use Rattle.jump_insertion.specs.Others.{ListsAreApart, StandsAside}

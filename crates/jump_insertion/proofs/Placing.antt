@@ -6,11 +6,11 @@ use Rattle.cell_types.specs.Image.{Image, Extends}
 use Rattle.cell_types.specs.declared.record_cell.RecordCell.TheVariants.{Jump}
 use Rattle.cell_types.specs.declared.refusal.Fault.TheVariants.{Tampered, Failed}
 use Rattle.cell_types.specs.declared.refusal.Fault as fault
-use Rattle.stored_documents.specs.Volumes.{Holds}
-use Rattle.stored_documents.proofs.Extending.{holds_on}
-use Rattle.index_paths.specs.Blocks.{PostingFields, posting_record, InFront, at_the_start, behind, InSpan, Hop, here, on, pointer_at}
-use Rattle.index_paths.specs.Nodes.{AreApart}
-use Rattle.index_paths.proofs.Fronts.{front_on}
+use Rattle.volume_meaning.specs.Volumes.{Holds}
+use Rattle.volume_meaning.proofs.Extending.{holds_on}
+use Rattle.volume_meaning.specs.Blocks.{PostingFields, posting_record, InFront, at_the_start, behind, InSpan, Hop, here, on, pointer_at}
+use Rattle.volume_meaning.specs.Nodes.{AreApart}
+use Rattle.volume_meaning.proofs.Fronts.{front_on}
 use Rattle.worm_device.specs.Views.{ViewState, Viewed, IsView}
 use Rattle.worm_device.specs.declared.owner.Owner.{Owner}
 use Rattle.worm_device.proofs.Elapsing.{called_then}
@@ -21,11 +21,10 @@ use Rattle.jump_block.specs.Spans.{IsSpan}
 use Rattle.jump_block.specs.declared.known_front.Front.TheVariants.{Open}
 use Rattle.jump_block.specs.declared.spans.Span.{Span}
 use Rattle.jump_block.proofs.Knowing.{key_on}
-use Rattle.jump_block.specs.Pointing.{HasFull, HasPointer}
-use Rattle.jump_block.specs.Pointing.{HasKeyIn}
+use Rattle.jump_block.specs.Pointing.{HasFull, HasPointer, HasKeyIn}
 use Rattle.jump_block.proofs.OneBlock.{none_from_blank}
-use Rattle.planned_cells.specs.declared.fault.GrowthFault.{GrowthFault}
-use Rattle.planned_cells.specs.declared.fault.GrowthFault.TheVariants.{Fault, NoMemory}
+use Rattle.cell_pool.specs.declared.fault.GrowthFault.{GrowthFault}
+use Rattle.cell_pool.specs.declared.fault.GrowthFault.TheVariants.{Fault, NoMemory}
 use Rattle.jump_insertion.specs.Hopping.{IsAt, IsSpot, FaultEnds}
 use Rattle.jump_insertion.specs.Placing.{PlacesPosting}
 use Rattle.jump_insertion.specs.Planning.{PutsRecord, PutsBoth}

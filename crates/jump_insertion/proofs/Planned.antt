@@ -4,9 +4,9 @@ use Rattle.std.specs.Prelude.{IsTrue}
 use Rattle.cell_types.specs.Image.{Image}
 use Rattle.cell_types.specs.declared.record_cell.RecordCell.{RecordCell}
 use Rattle.std.proofs.lemmas.Option.{none-some}
-use Rattle.stored_documents.specs.Volumes.{Holds}
-use Rattle.stored_documents.proofs.Extending.{blank_before}
-use Rattle.index_paths.specs.Blocks.{PostingFields, posting_record, pointer_at}
+use Rattle.volume_meaning.specs.Volumes.{Holds}
+use Rattle.volume_meaning.proofs.Extending.{blank_before}
+use Rattle.volume_meaning.specs.Blocks.{PostingFields, posting_record, pointer_at}
 use Rattle.worm_device.specs.State.{DeviceState}
 use Rattle.worm_device.specs.Views.{ViewState, Viewed}
 use Rattle.worm_device.proofs.Counting.{still_first, still_second}
@@ -14,7 +14,7 @@ use Rattle.worm_device.proofs.Resting.{rests_of}
 use Rattle.cell_pool.specs.Grants.{TakesFront}
 use Rattle.cell_pool.specs.declared.pool.Pool.{Pool}
 use Rattle.worm_device.specs.declared.owner.Owner.{Owner}
-use Rattle.planned_cells.specs.declared.fault.GrowthFault.{GrowthFault}
+use Rattle.cell_pool.specs.declared.fault.GrowthFault.{GrowthFault}
 use Rattle.jump_insertion.specs.Inserting.{IsPlannedFor, IsAsPlanned, PlansEntry, alone, with_pointer}
 use Rattle.jump_insertion.specs.Placing.{HasPlanned, PlannedEnds}
 use Rattle.jump_insertion.specs.Planning.{PutsRecord, PlansTwo, PutsBoth}

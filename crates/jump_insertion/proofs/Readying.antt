@@ -3,10 +3,10 @@ use Rattle.std.proofs.Common.{◌≡◌, ◌≢◌, ◌<◌, ◌≤◌, ◌+◌,
 use Rattle.std.proofs.lemmas.Bool.{cases_eq}
 use Rattle.std.proofs.lemmas.Option.{none-some}
 use Rattle.cell_types.specs.Image.{Extends}
-use Rattle.index_paths.specs.Blocks.{Leads}
-use Rattle.index_paths.specs.Nodes.{AreApart}
-use Rattle.index_paths.proofs.Fronts.{front_on}
-use Rattle.stored_documents.proofs.Extending.{holds_on}
+use Rattle.volume_meaning.specs.Blocks.{Leads}
+use Rattle.volume_meaning.specs.Nodes.{AreApart}
+use Rattle.volume_meaning.proofs.Fronts.{front_on}
+use Rattle.volume_meaning.proofs.Extending.{holds_on}
 use Rattle.worm_device.specs.Views.{ViewState, Viewed}
 use Rattle.worm_device.specs.declared.owner.Owner.{Owner}
 use Rattle.jump_block.proofs.Knowing.{key_on}

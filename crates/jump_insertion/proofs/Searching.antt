@@ -5,8 +5,8 @@ use Rattle.std.proofs.lemmas.Bool.{cases_lt}
 use Rattle.cell_types.specs.Image.{Image}
 use Rattle.cell_types.specs.declared.refusal.Fault.{Fault}
 use Rattle.cell_types.specs.declared.refusal.Fault.TheVariants.{Tampered, Failed}
-use Rattle.index_paths.specs.Blocks.{InSpan, pointer_at}
-use Rattle.index_paths.proofs.Spans as spans
+use Rattle.volume_meaning.specs.Blocks.{InSpan, pointer_at}
+use Rattle.volume_meaning.proofs.Spans as spans
 use Rattle.worm_device.specs.Views.{ViewState, Viewed}
 use Rattle.jump_block.specs.Pointers.{ReadsPointer}
 use Rattle.jump_block.specs.Spans.{IsSpan}

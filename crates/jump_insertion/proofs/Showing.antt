@@ -3,9 +3,9 @@ use Rattle.std.proofs.Common.{◌≡◌, ◌≢◌, ◌≤◌, ◌⊎◌, ⊎_el
 use Rattle.std.proofs.lemmas.Bool.{cases_eq}
 use Rattle.std.proofs.lemmas.Option.{none-some}
 use Rattle.cell_types.specs.Image.{Image, Extends, IsUnchanged}
-use Rattle.index_paths.specs.Blocks.{Leads, arrived, onwards}
-use Rattle.index_paths.proofs.Fronts.{front_on}
-use Rattle.stored_documents.proofs.Extending.{holds_on}
+use Rattle.volume_meaning.specs.Blocks.{Leads, arrived, onwards}
+use Rattle.volume_meaning.proofs.Fronts.{front_on}
+use Rattle.volume_meaning.proofs.Extending.{holds_on}
 use Rattle.tamper_rules.proofs.Images.{same_image}
 use Rattle.worm_device.specs.Calls.{Called}
 use Rattle.worm_device.specs.Counts.{IsStill}

@@ -4,8 +4,8 @@ use Rattle.std.specs.Prelude.{IsTrue}
 use Rattle.std.proofs.lemmas.Bool.{cases_lt}
 use Rattle.std.proofs.Math.Nat.{pow-le-pow_right, mul-le-mul_right}
 use Rattle.cell_types.specs.declared.refusal.Fault.{Fault}
-use Rattle.index_paths.specs.Blocks.{Leads, arrived, onwards}
-use Rattle.stored_documents.proofs.Extending.{holds_on}
+use Rattle.volume_meaning.specs.Blocks.{Leads, arrived, onwards}
+use Rattle.volume_meaning.proofs.Extending.{holds_on}
 use Rattle.worm_device.specs.Views.{ViewState, Viewed}
 use Rattle.worm_device.proofs.Resting.{viewed_then}
 use Rattle.jump_block.specs.Spans.{IsSpan}

@@ -5,10 +5,10 @@ use Rattle.cell_types.specs.Records.{IsRecordCell}
 use Rattle.cell_types.specs.declared.record_cell.RecordCell.{RecordCell}
 use Rattle.cell_types.specs.declared.record_cell.RecordCell.TheVariants.{Jump}
 use Rattle.cell_types.specs.declared.refusal.Evidence.{Evidence}
-use Rattle.stored_documents.specs.Volumes.{Holds}
-use Rattle.stored_documents.proofs.Holding.{one_record_holds}
-use Rattle.index_paths.specs.Blocks.{PostingFields, posting_record, InFront, at_the_start, behind, InSpan, Leads, pointer_at}
-use Rattle.index_paths.proofs.Fronts.{front_holds, one_posting, one_place}
+use Rattle.volume_meaning.specs.Volumes.{Holds}
+use Rattle.volume_meaning.proofs.Holding.{one_record_holds}
+use Rattle.volume_meaning.specs.Blocks.{PostingFields, posting_record, InFront, at_the_start, behind, InSpan, Leads, pointer_at}
+use Rattle.volume_meaning.proofs.Fronts.{front_holds, one_posting, one_place}
 use Rattle.tamper_rules.specs.Rules.{HoldsInOrder}
 use Rattle.tamper_rules.proofs.GivenUp.{leads_further}
 use Rattle.ingest_laws.specs.ListShapes.{PointsWell}

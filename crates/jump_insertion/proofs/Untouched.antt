@@ -3,8 +3,8 @@ use Rattle.std.proofs.Common.{◌≡◌, ◌≢◌, ◌<◌, ◌≤◌, ◌+◌,
 use Rattle.std.proofs.lemmas.Bool.{cases_eq}
 use Rattle.std.proofs.lemmas.Option.{none-some}
 use Rattle.cell_types.specs.declared.record_cell.RecordCell.{RecordCell}
-use Rattle.index_paths.specs.Blocks.{PostingFields}
-use Rattle.index_paths.specs.Nodes.{AreApart}
+use Rattle.volume_meaning.specs.Blocks.{PostingFields}
+use Rattle.volume_meaning.specs.Nodes.{AreApart}
 use Rattle.worm_device.specs.Views.{ViewState, IsView}
 use Rattle.worm_device.specs.declared.owner.Owner.{Owner}
 use Rattle.jump_insertion.specs.Inserting.{IsPlannedFor, PlansEntry, alone, with_pointer}

@@ -1,8 +1,8 @@
 -- What inserting a posting costs, and what the list keeps for the next one.
 use Rattle.std.specs.Prelude.{◌<◌, ◌≤◌, ◌+◌, ℕ}
 use Rattle.cell_types.specs.Image.{Image}
-use Rattle.stored_documents.specs.Volumes.{Holds}
-use Rattle.index_paths.specs.Blocks.{PostingFields, posting_record, Leads, Trail}
+use Rattle.volume_meaning.specs.Volumes.{Holds}
+use Rattle.volume_meaning.specs.Blocks.{PostingFields, posting_record, Leads, Trail}
 use Rattle.ingest_laws.specs.ListShapes.{IsWellListed}
 use Rattle.ingest_laws.specs.Needs.{PostingCosts}
 use Rattle.jump_insertion.specs.Growing.{Grows}

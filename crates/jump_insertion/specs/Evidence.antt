@@ -3,16 +3,15 @@ use Rattle.std.specs.Prelude.{◌≡◌, ◌≢◌, ◌<◌, ◌≤◌, ◌+◌,
 use Rattle.cell_types.specs.Image.{Image}
 use Rattle.cell_types.specs.Layout.{Layout, list_at, root_at, pool_at}
 use Rattle.cell_types.specs.declared.refusal.Evidence.{Evidence}
-use Rattle.stored_documents.specs.Slots.{HasStamp, IsDoneSlot, IsEdge, IsHorizon}
-use Rattle.stored_documents.specs.Volumes.{Holds, IsVolume}
-use Rattle.index_paths.specs.Blocks.{PostingFields, posting_record, InFront, InSpan, Leads, pointer_at}
-use Rattle.index_paths.specs.Nodes.{IsBlockOf, IsNode}
-use Rattle.tamper_rules.specs.Rules.{IsBroken}
+use Rattle.volume_meaning.specs.Slots.{HasStamp, IsDoneSlot, IsEdge, IsHorizon}
+use Rattle.volume_meaning.specs.Volumes.{Holds, IsVolume}
+use Rattle.volume_meaning.specs.Blocks.{PostingFields, posting_record, InFront, InSpan, Leads, pointer_at}
+use Rattle.volume_meaning.specs.Nodes.{IsBlockOf, IsNode}
+use Rattle.tamper_rules.specs.Rules.{IsBroken, HasPlace}
 use Rattle.tamper_rules.specs.declared.numbers.TheConstants.{BLOCK_OUT_OF_ORDER, FAKE_POSTING, LOST_POINTER}
 use Rattle.jump_block.specs.Fronts.{IsBadEntry}
 use Rattle.jump_block.specs.Pointers.{IsNoJump}
 use Rattle.jump_block.specs.Pointing.{HasFull, HasPointer, IsPointerPlace}
-use Rattle.tamper_rules.specs.Rules.{HasPlace}
 use Rattle.worm_device.specs.Views.{ViewState}
 use Rattle.worm_device.specs.declared.owner.Owner.{Owner}
 use Rattle.jump_insertion.specs.Readiness.{IsReached}

@@ -1,8 +1,8 @@
 -- What goes on from one insertion to the next.
 use Rattle.std.specs.Prelude.{◌≡◌, ◌≢◌, ◌≤◌, ◌+◌, ℕ, None}
 use Rattle.cell_types.specs.Image.{Image, Extends}
-use Rattle.index_paths.specs.Blocks.{PostingFields, Trail}
-use Rattle.index_paths.specs.Nodes.{AreApart}
+use Rattle.volume_meaning.specs.Blocks.{PostingFields, Trail}
+use Rattle.volume_meaning.specs.Nodes.{AreApart}
 use Rattle.worm_device.specs.Views.{ViewState, IsView}
 use Rattle.jump_insertion.specs.Inserting.{PlansEntry}
 use Rattle.jump_insertion.specs.Readiness.{IsReady, IsUntouched}

@@ -2,8 +2,8 @@
 use Rattle.std.specs.Prelude.{◌≡◌, ◌<◌, ◌≤◌, ◌+◌, ℕ, None}
 use Rattle.cell_types.specs.Image.{Image}
 use Rattle.cell_types.specs.declared.record_cell.RecordCell.TheVariants.{Jump}
-use Rattle.stored_documents.specs.Volumes.{Holds}
-use Rattle.index_paths.specs.Blocks.{PostingFields, posting_record, InFront, IsFull, InSpan, Trail, Leads, pointer_at}
+use Rattle.volume_meaning.specs.Volumes.{Holds}
+use Rattle.volume_meaning.specs.Blocks.{PostingFields, posting_record, InFront, IsFull, InSpan, Trail, Leads, pointer_at}
 use Rattle.ingest_laws.specs.ListShapes.{IsWellListed, Adds}
 use Rattle.ingest_laws.specs.Needs.{TrailTo}
 use Rattle.worm_device.specs.Views.{ViewState}

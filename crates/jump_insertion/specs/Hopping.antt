@@ -4,8 +4,8 @@ use Rattle.cell_types.specs.Image.{Image}
 use Rattle.cell_types.specs.Records.{record_bytes}
 use Rattle.cell_types.specs.declared.refusal.Fault.{Fault}
 use Rattle.cell_types.specs.declared.refusal.Fault.TheVariants.{Tampered, Failed}
-use Rattle.index_paths.specs.Blocks.{PostingFields, posting_record, InSpan, Trail, Leads, pointer_at}
-use Rattle.index_paths.specs.Nodes.{AreApart}
+use Rattle.volume_meaning.specs.Blocks.{PostingFields, posting_record, InSpan, Trail, Leads, pointer_at}
+use Rattle.volume_meaning.specs.Nodes.{AreApart}
 use Rattle.tamper_rules.specs.declared.numbers.TheConstants.{FAKE_POSTING, LOST_POINTER}
 use Rattle.worm_device.specs.Counts.{IsStill, Rose}
 use Rattle.worm_device.specs.Views.{ViewState, Viewed}

@@ -4,13 +4,13 @@ use Rattle.cell_types.specs.Image.{Extends, IsUnchanged}
 use Rattle.cell_types.specs.declared.record_cell.RecordCell.{RecordCell}
 use Rattle.cell_types.specs.declared.record_cell.RecordCell.TheVariants.{Jump}
 use Rattle.cell_types.specs.declared.refusal.Fault.TheVariants.{Tampered, Failed}
-use Rattle.stored_documents.specs.Volumes.{Holds}
-use Rattle.index_paths.specs.Blocks.{PostingFields, posting_record, Trail}
+use Rattle.volume_meaning.specs.Volumes.{Holds}
+use Rattle.volume_meaning.specs.Blocks.{PostingFields, posting_record, Trail}
 use Rattle.ingest_laws.specs.ListShapes.{IsWellListed}
 use Rattle.jump_block.specs.Entries.{cell_of, posting_of}
 use Rattle.jump_block.specs.declared.held_entry.Entry.{Entry}
-use Rattle.planned_cells.specs.declared.fault.GrowthFault.{GrowthFault}
-use Rattle.planned_cells.specs.declared.fault.GrowthFault.TheVariants.{Fault, NoMemory}
+use Rattle.cell_pool.specs.declared.fault.GrowthFault.{GrowthFault}
+use Rattle.cell_pool.specs.declared.fault.GrowthFault.TheVariants.{Fault, NoMemory}
 use Rattle.worm_device.specs.Calls.{Called}
 use Rattle.worm_device.specs.Counts.{IsStill, Rose}
 use Rattle.worm_device.specs.Views.{ViewState, Viewed}

@@ -1,8 +1,8 @@
 -- What an insertion leaves of the other lists.
 use Rattle.std.specs.Prelude.{◌≤◌, ℕ}
 use Rattle.cell_types.specs.Image.{Image}
-use Rattle.index_paths.specs.Blocks.{PostingFields, Leads}
-use Rattle.index_paths.specs.Nodes.{AreApart}
+use Rattle.volume_meaning.specs.Blocks.{PostingFields, Leads}
+use Rattle.volume_meaning.specs.Nodes.{AreApart}
 use Rattle.ingest_laws.specs.ListShapes.{IsWellListed}
 use Rattle.jump_insertion.specs.Costs.{HaveTrails, HaveKeysBelow}
 use Rattle.jump_insertion.specs.Growing.{Grows}

@@ -1,10 +1,10 @@
 -- What an insertion in or behind one block does.
 use Rattle.std.specs.Prelude.{◌≡◌, ◌<◌, ◌≤◌, ◌+◌, ℕ, Option, Some, None, Result, Ok, Err, IsTrue, ⊤}
 use Rattle.cell_types.specs.Image.{Extends, IsUnchanged}
-use Rattle.index_paths.specs.Blocks.{PostingFields, InFront, Trail}
+use Rattle.volume_meaning.specs.Blocks.{PostingFields, InFront, Trail}
 use Rattle.jump_block.specs.Pointing.{HasKeyIn}
-use Rattle.planned_cells.specs.declared.fault.GrowthFault.{GrowthFault}
-use Rattle.planned_cells.specs.declared.fault.GrowthFault.TheVariants.{Fault, NoMemory}
+use Rattle.cell_pool.specs.declared.fault.GrowthFault.{GrowthFault}
+use Rattle.cell_pool.specs.declared.fault.GrowthFault.TheVariants.{Fault, NoMemory}
 use Rattle.worm_device.specs.Calls.{Called}
 use Rattle.worm_device.specs.Counts.{IsStill}
 use Rattle.worm_device.specs.Views.{ViewState, Viewed}

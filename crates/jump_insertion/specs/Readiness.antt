@@ -1,11 +1,10 @@
 -- What may be planned, and for whom, when a posting is inserted into a list.
 use Rattle.std.specs.Prelude.{◌≡◌, ◌<◌, ◌≤◌, ◌+◌, ◌*◌, ◌^◌, ◌⊎◌, ℕ, Some}
 use Rattle.cell_types.specs.declared.record_cell.RecordCell.TheVariants.{Jump}
-use Rattle.stored_documents.specs.Volumes.{Holds}
-use Rattle.index_paths.specs.Blocks.{PostingFields, InFront, Leads, pointer_at}
-use Rattle.index_paths.specs.Nodes.{AreApart}
-use Rattle.jump_block.specs.Pointing.{HasFull, IsPointerPlace}
-use Rattle.jump_block.specs.Pointing.{HasKeyIn}
+use Rattle.volume_meaning.specs.Volumes.{Holds}
+use Rattle.volume_meaning.specs.Blocks.{PostingFields, InFront, Leads, pointer_at}
+use Rattle.volume_meaning.specs.Nodes.{AreApart}
+use Rattle.jump_block.specs.Pointing.{HasFull, IsPointerPlace, HasKeyIn}
 use Rattle.worm_device.specs.Views.{ViewState}
 use Rattle.worm_device.specs.declared.owner.Owner.{Owner}
 

@@ -1,6 +1,6 @@
 //! Hops from block to block of a list that is planned in part, and the list's tail.
 ghost use Rattle.std.specs.Prelude.{◌≡◌, ◌<◌, ◌≤◌, ◌+◌, ◌%◌, ◌^◌, IsTrue};
-ghost use Rattle.index_paths.specs.declared.blocks.TheConstants.{BLOCK_CELLS};
+ghost use Rattle.volume_meaning.specs.declared.blocks.TheConstants.{BLOCK_CELLS};
 ghost use Rattle.worm_device.specs.declared.overlay.TheConstants.{OVERLAY_CELLS};
 ghost use Rattle.jump_block.specs.Pointing.{HasFull, HasPointer};
 ghost use Rattle.worm_device.specs.Overlays.{of_overlay};

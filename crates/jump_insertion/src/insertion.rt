@@ -1,8 +1,8 @@
 //! Inserting a posting.
 ghost use Rattle.std.specs.Prelude.{◌≡◌, ◌<◌, ◌≤◌, ◌+◌, ◌%◌, ◌^◌, ◌⊎◌, ℕ, None, IfNone, IfOk, IsTrue};
 ghost use Rattle.cell_pool.specs.Grants.{TakesFront, room_of};
-ghost use Rattle.index_paths.specs.declared.blocks.TheConstants.{BLOCK_CELLS};
-ghost use Rattle.index_paths.specs.Blocks.{pointer_at};
+ghost use Rattle.volume_meaning.specs.declared.blocks.TheConstants.{BLOCK_CELLS};
+ghost use Rattle.volume_meaning.specs.Blocks.{pointer_at};
 ghost use Rattle.jump_block.specs.Spans.{IsSpan};
 ghost use Rattle.jump_block.specs.Pointing.{HasFull};
 ghost use Rattle.worm_device.specs.Overlays.{of_overlay};
@@ -14,10 +14,9 @@ ghost use Rattle.jump_insertion.specs.Readiness.{IsReady};
 use crate::entries::{FullBlock, ListBlocks, ListWalk, NewEntry, Spot};
 use crate::hops::{check_target, late_posting, tail};
 use crate::puts::{put_both, put_posting};
-use cell_pool::Pool;
-use index_paths::BLOCK_CELLS;
+use cell_pool::{GrowthFault, Pool};
 use jump_block::{Entry, Front, Span, first_at_least, leads_nowhere, pointer, span};
-use planned_cells::GrowthFault;
+use volume_meaning::BLOCK_CELLS;
 use worm_device::{Overlay, Owner, View};
 
 /// Inserts a posting into the list whose first block begins at `head` and whose other blocks lie from `floor` on, the

@@ -26,7 +26,7 @@
 //!
 //! **Not claimed**: that there is memory. Whoever is refused gives up all that was planned.
 //!
-//! Stands on `planned_cells` and `cell_pool`, on `jump_block` for a block and its pointers, and on
+//! Stands on `cell_pool` for blocks and planned cells, on `jump_block` for a block and its pointers, and on
 //! `ingest_laws` for the shape that a list keeps. Begin with `insertion.rt`. `specs/Readiness.antt` says what may be
 //! planned before, `specs/Inserting.antt` what an insertion does, and `readiness.rt` what goes on to the next.
 #![tactic(auto)]

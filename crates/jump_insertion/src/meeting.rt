@@ -1,12 +1,12 @@
 //! Whether a cell that is planned for another is met in a block.
 ghost use Rattle.std.specs.Prelude.{◌≡◌, ◌<◌, ◌≤◌, ◌+◌, ◌^◌, IfNone, IfSome, IsTrue, IsFalse};
-ghost use Rattle.index_paths.specs.declared.blocks.TheConstants.{BLOCK_CELLS};
+ghost use Rattle.volume_meaning.specs.declared.blocks.TheConstants.{BLOCK_CELLS};
 ghost use Rattle.worm_device.specs.Overlays.{of_overlay};
 ghost use Rattle.jump_insertion.specs.Evidence.{IsMet};
 ghost use Rattle.jump_insertion.specs.Meeting.{AreUnowned, LieInBlocks, Meets};
 ghost use Rattle.jump_insertion.specs.Readiness.{IsOwnBlock};
 
-use index_paths::BLOCK_CELLS;
+use volume_meaning::BLOCK_CELLS;
 use worm_device::{Overlay, Owner, View};
 
 /// Whether a planned cell of another owner lies in this block of the list, or in a block of the list that meets it.

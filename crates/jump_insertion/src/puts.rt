@@ -1,17 +1,17 @@
 //! A posting that is planned, and a pointer to its block.
 ghost use Rattle.std.specs.Prelude.{◌<◌, ◌≤◌, ◌+◌, ◌%◌, IfOk, IsSome};
-ghost use Rattle.index_paths.specs.declared.blocks.TheConstants.{BLOCK_CELLS, ENTRY_PLACES};
+ghost use Rattle.volume_meaning.specs.declared.blocks.TheConstants.{BLOCK_CELLS, ENTRY_PLACES};
 ghost use Rattle.cell_types.specs.Records.{IsWellFormed};
 ghost use Rattle.cell_types.specs.declared.record_cell.RecordCell.TheVariants.{Jump};
-ghost use Rattle.index_paths.specs.Blocks.{pointer_at, posting_record};
+ghost use Rattle.volume_meaning.specs.Blocks.{pointer_at, posting_record};
 ghost use Rattle.worm_device.specs.Overlays.{of_overlay};
 ghost use Rattle.jump_insertion.specs.Inserting.{fields_of};
 ghost use Rattle.jump_insertion.specs.Planning.{PutsBoth, PutsRecord};
 
 use crate::entries::{NewEntry, Spot};
+use cell_pool::{GrowthFault, PlanFault, plan_record};
 use cell_types::{RecordCell, breach};
 use jump_block::{Span, pointer_cell};
-use planned_cells::{GrowthFault, PlanFault, plan_record};
 use tamper_rules::BLOCK_OUT_OF_ORDER;
 use worm_device::{OVERLAY_CELLS, Overlay, Owner, View};
 

@@ -1,6 +1,6 @@
 //! The pointers of a full block, from the last to the first.
 ghost use Rattle.std.specs.Prelude.{◌≡◌, ◌<◌, ◌≤◌, ◌+◌, ◌*◌, ◌^◌, ℕ};
-ghost use Rattle.index_paths.specs.declared.blocks.TheConstants.{BLOCK_CELLS};
+ghost use Rattle.volume_meaning.specs.declared.blocks.TheConstants.{BLOCK_CELLS};
 ghost use Rattle.jump_block.specs.Spans.{IsSpan};
 ghost use Rattle.jump_insertion.specs.Hopping.{FindsGreatest};
 

@@ -4,8 +4,8 @@ use Rattle.std.specs.Prelude.{IsTrue, length, slice_get}
 use Rattle.std.proofs.lemmas.Bool.{cases_lt}
 use Rattle.std.proofs.lemmas.Option.{same_Some, slice_get_within}
 use Rattle.cell_types.specs.Layout.{Layout}
-use Rattle.index_paths.specs.Blocks.{PostingFields}
-use Rattle.index_paths.specs.Postings.{ListedPosting}
+use Rattle.volume_meaning.specs.Blocks.{PostingFields}
+use Rattle.volume_meaning.specs.Postings.{ListedPosting}
 use Rattle.worm_device.specs.Views.{ViewState}
 use Rattle.worm_device.proofs.Resting.{viewed_self, viewed_then}
 use Rattle.kept_documents.specs.Postings.{AsksRow, AsksRows, IsTrailed, RowsSoFar}

@@ -4,9 +4,9 @@ use Rattle.std.specs.Prelude.{IsTrue, length}
 use Rattle.cell_types.specs.Layout.{Layout}
 use Rattle.cell_types.specs.declared.refusal.Fault.{Fault}
 use Rattle.cell_types.specs.declared.refusal.Fault.TheVariants as faults
-use Rattle.stored_documents.specs.Volumes.{IsVolume}
-use Rattle.index_paths.specs.Keeping.{IsKept}
-use Rattle.index_paths.proofs.KeepingLaws.{is_kept_on}
+use Rattle.volume_meaning.specs.Volumes.{IsVolume}
+use Rattle.volume_meaning.specs.Keeping.{IsKept}
+use Rattle.volume_meaning.proofs.KeepingLaws.{is_kept_on}
 use Rattle.worm_device.specs.Views.{ViewState, Viewed}
 use Rattle.worm_device.proofs.Resting.{viewed_then}
 use Rattle.jump_block.proofs.Counting as counts

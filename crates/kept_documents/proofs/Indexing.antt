@@ -3,10 +3,10 @@ use Rattle.std.proofs.Common.{◌≡◌, ℕ, List, Bool, true, false, Option, S
 use Rattle.std.specs.Prelude.{IsTrue}
 use Rattle.cell_types.specs.Layout.{Layout, all_lists, root_at}
 use Rattle.cell_types.specs.declared.refusal.Refusal.TheVariants.{TooManyTerms}
-use Rattle.stored_documents.specs.Words.{AreWords, rule_of}
-use Rattle.stored_documents.specs.declared.word_rules.WordRule.{WordRule}
-use Rattle.stored_documents.proofs.Stamps.{one, stamp_on}
-use Rattle.index_paths.specs.Postings.{ArePostings, ListedPosting}
+use Rattle.volume_meaning.specs.Words.{AreWords, rule_of}
+use Rattle.volume_meaning.specs.declared.word_rules.WordRule.{WordRule}
+use Rattle.volume_meaning.proofs.Stamps.{one, stamp_on}
+use Rattle.volume_meaning.specs.Postings.{ArePostings, ListedPosting}
 use Rattle.worm_device.specs.Views.{ViewState, Viewed}
 use Rattle.worm_device.proofs.Resting.{viewed_self, viewed_then}
 use Rattle.jump_block.proofs.Counting as counts

@@ -8,13 +8,13 @@ use Rattle.cell_types.specs.Records.{IsRecordCell}
 use Rattle.cell_types.specs.declared.record_cell.RecordCell.TheVariants.{Jump}
 use Rattle.cell_types.specs.declared.refusal.Fault.{Fault}
 use Rattle.cell_types.specs.declared.refusal.Fault.TheVariants as faults
-use Rattle.stored_documents.specs.Volumes.{Holds}
-use Rattle.stored_documents.proofs.Extending.{holds_on}
-use Rattle.stored_documents.proofs.Holding.{one_record_holds, some_is}
-use Rattle.index_paths.specs.Blocks.{PostingFields, posting_record, InFront, InSpan, Hop, Trail, here, on, pointer_at}
-use Rattle.index_paths.proofs.Fronts.{front_holds, front_on, one_place, one_posting, rises}
-use Rattle.index_paths.proofs.Spans.{apart, span_above}
-use Rattle.index_paths.proofs.Trails.{trail_on}
+use Rattle.volume_meaning.specs.Volumes.{Holds}
+use Rattle.volume_meaning.proofs.Extending.{holds_on}
+use Rattle.volume_meaning.proofs.Holding.{one_record_holds, some_is}
+use Rattle.volume_meaning.specs.Blocks.{PostingFields, posting_record, InFront, InSpan, Hop, Trail, here, on, pointer_at}
+use Rattle.volume_meaning.proofs.Fronts.{front_holds, front_on, one_place, one_posting, rises}
+use Rattle.volume_meaning.proofs.Spans.{apart, span_above}
+use Rattle.volume_meaning.proofs.Trails.{trail_on}
 use Rattle.worm_device.specs.Views.{ViewState, Viewed}
 use Rattle.worm_device.specs.declared.device.Failed.{Failed}
 use Rattle.worm_device.proofs.Resting.{viewed_then}

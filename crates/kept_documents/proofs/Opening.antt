@@ -2,11 +2,11 @@
 use Rattle.std.proofs.Common.{◌≡◌, ℕ, suc, zero, List, Option, Some, None, Result, Ok, Err, ap, sym, subst, arith, ◌∙◌}
 use Rattle.std.specs.Prelude.{IsTrue, [], ◌∷◌, ◌++◌, Contains}
 use Rattle.cell_types.specs.Layout.{Layout}
-use Rattle.stored_documents.specs.Documents.{Document}
-use Rattle.stored_documents.specs.Volumes.{IsVolume}
-use Rattle.commit_record.proofs.of_tamper_rules.GivenUp.{one_layout}
-use Rattle.index_paths.specs.Keeping.{IsKept}
-use Rattle.commit_record.proofs.of_tamper_rules.DocumentLists.{the_one}
+use Rattle.volume_meaning.specs.Documents.{Document}
+use Rattle.volume_meaning.specs.Volumes.{IsVolume}
+use Rattle.tamper_rules.proofs.GivenUp.{one_layout}
+use Rattle.volume_meaning.specs.Keeping.{IsKept}
+use Rattle.tamper_rules.proofs.DocumentLists.{the_one}
 use Rattle.worm_device.specs.Views.{ViewState, Viewed}
 use Rattle.worm_device.proofs.Resting.{viewed_then}
 use Rattle.jump_block.proofs.Counting as counts

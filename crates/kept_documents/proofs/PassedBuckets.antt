@@ -8,13 +8,13 @@ use Rattle.cell_types.specs.declared.record_cell.RecordCell.TheVariants as recor
 use Rattle.cell_types.specs.declared.refusal.Evidence.{Evidence}
 use Rattle.cell_types.specs.declared.refusal.Fault.{Fault}
 use Rattle.cell_types.specs.declared.refusal.Fault.TheVariants as faults
-use Rattle.stored_documents.specs.Documents.{Stands}
-use Rattle.stored_documents.specs.Slots.{IsDoneSlot}
-use Rattle.stored_documents.specs.Volumes.{IsVolume}
-use Rattle.stored_documents.proofs.Extending.{commits_on, holds_on, reserves_on, stands_on, volume_on}
-use Rattle.stored_documents.proofs.Holding.{one_record_holds}
-use Rattle.stored_documents.proofs.OneDocument.{one_document}
-use Rattle.index_paths.specs.HashPaths.{fingerprint_of}
+use Rattle.volume_meaning.specs.Documents.{Stands}
+use Rattle.volume_meaning.specs.Slots.{IsDoneSlot}
+use Rattle.volume_meaning.specs.Volumes.{IsVolume}
+use Rattle.volume_meaning.proofs.Extending.{commits_on, holds_on, reserves_on, stands_on, volume_on}
+use Rattle.volume_meaning.proofs.Holding.{one_record_holds}
+use Rattle.volume_meaning.proofs.OneDocument.{one_document}
+use Rattle.volume_meaning.specs.HashPaths.{fingerprint_of}
 use Rattle.worm_device.specs.Views.{ViewState, Viewed}
 use Rattle.worm_device.specs.declared.device.Failed.{Failed}
 use Rattle.worm_device.proofs.Resting.{viewed_self}

@@ -5,13 +5,13 @@ use Rattle.sha2.specs.Sha256.{sha256}
 use Rattle.cell_types.specs.Image.{Image}
 use Rattle.cell_types.specs.Layout.{Layout, pool_at}
 use Rattle.cell_types.specs.declared.record_cell.RecordCell.TheVariants as records
-use Rattle.stored_documents.specs.Documents.{Stands}
-use Rattle.stored_documents.specs.Volumes.{Holds}
-use Rattle.stored_documents.proofs.Extending.{holds_on}
-use Rattle.stored_documents.proofs.Holding.{one_record_holds}
-use Rattle.index_paths.specs.HashPaths.{HashTrail, IsPassed, LeadsDown, Sought, below, fingerprint_of, here, nibble}
-use Rattle.index_paths.specs.Keeping.{sought_in}
-use Rattle.index_paths.proofs.HashTrails.{hash_trail_on}
+use Rattle.volume_meaning.specs.Documents.{Stands}
+use Rattle.volume_meaning.specs.Volumes.{Holds}
+use Rattle.volume_meaning.proofs.Extending.{holds_on}
+use Rattle.volume_meaning.proofs.Holding.{one_record_holds}
+use Rattle.volume_meaning.specs.HashPaths.{HashTrail, IsPassed, LeadsDown, Sought, below, fingerprint_of, here, nibble}
+use Rattle.volume_meaning.specs.Keeping.{sought_in}
+use Rattle.volume_meaning.proofs.HashTrails.{hash_trail_on}
 use Rattle.worm_device.specs.Views.{ViewState, Viewed}
 use Rattle.worm_device.specs.declared.device.Failed.{Failed}
 use Rattle.worm_device.proofs.Resting.{viewed_then}

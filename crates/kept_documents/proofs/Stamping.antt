@@ -3,8 +3,8 @@ use Rattle.std.proofs.Common.{◌≡◌, ℕ, Option, Some, None, Ok, arith}
 use Rattle.std.specs.Prelude.{IsTrue}
 use Rattle.cell_types.specs.Layout.{Layout}
 use Rattle.cell_types.specs.declared.geometry.TheConstants.{STAMPED_VERSION}
-use Rattle.stored_documents.specs.Slots.{IsStampOf}
-use Rattle.stored_documents.proofs.Extending.{holds_on}
+use Rattle.volume_meaning.specs.Slots.{IsStampOf}
+use Rattle.volume_meaning.proofs.Extending.{holds_on}
 use Rattle.worm_device.specs.Views.{ViewState, Viewed}
 use Rattle.commit_record.specs.Stamps.{StampEnds}
 use Rattle.kept_documents.specs.Stamps.{AsksStamp}

@@ -1,9 +1,9 @@
 -- Whether the index leads to a document, as a call over a view answers it.
 use Rattle.std.specs.Prelude.{ℕ, Bool, true, false, List, Option, Result, Ok, Err, IsTrue, ⊤}
 use Rattle.cell_types.specs.Layout.{Layout, root_at}
-use Rattle.stored_documents.specs.Slots.{IsStampOf}
-use Rattle.stored_documents.specs.Volumes.{IsVolume}
-use Rattle.index_paths.specs.Postings.{HasPostings}
+use Rattle.volume_meaning.specs.Slots.{IsStampOf}
+use Rattle.volume_meaning.specs.Volumes.{IsVolume}
+use Rattle.volume_meaning.specs.Postings.{HasPostings}
 use Rattle.worm_device.specs.Counts.{Rose}
 use Rattle.worm_device.specs.Views.{ViewState, Viewed}
 use Rattle.kept_documents.specs.HashTrails.{HasHashTrail}

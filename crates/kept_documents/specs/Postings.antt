@@ -1,8 +1,8 @@
 -- Whether the postings of a document have their trails, as a call over a view answers it.
 use Rattle.std.specs.Prelude.{◌≡◌, ◌<◌, ℕ, Bool, true, false, List, slice_get, Option, Some, Result, Ok, Err, IsTrue, ⊤}
 use Rattle.cell_types.specs.Layout.{Layout, all_lists, list_at, pool_at}
-use Rattle.index_paths.specs.Blocks.{PostingFields}
-use Rattle.index_paths.specs.Postings.{HasPostings, IsPostingOf, ListedPosting}
+use Rattle.volume_meaning.specs.Blocks.{PostingFields}
+use Rattle.volume_meaning.specs.Postings.{HasPostings, IsPostingOf, ListedPosting}
 use Rattle.worm_device.specs.Counts.{Rose}
 use Rattle.worm_device.specs.Views.{ViewState, Viewed}
 use Rattle.worm_device.specs.declared.device.Failed.{Failed}

@@ -1,7 +1,7 @@
 -- Which stamp a slot has, as a call over a view answers it.
 use Rattle.std.specs.Prelude.{ℕ, Option, Some, None, Result, Ok, Err, IsTrue}
 use Rattle.cell_types.specs.Layout.{Layout}
-use Rattle.stored_documents.specs.Slots.{IsStampOf}
+use Rattle.volume_meaning.specs.Slots.{IsStampOf}
 use Rattle.worm_device.specs.Counts.{Rose}
 use Rattle.worm_device.specs.Views.{ViewState, Viewed}
 use Rattle.worm_device.specs.declared.device.Failed.{Failed}

@@ -2,15 +2,15 @@
 ghost use Rattle.std.specs.Prelude.{◌≡◌, ◌<◌, ◌≤◌, ◌+◌};
 ghost use Rattle.sha2.specs.Sha256.{sha256};
 ghost use Rattle.cell_types.specs.Layout.{root_at};
-ghost use Rattle.index_paths.specs.declared.nodes.TheConstants.{NODE_CELLS};
+ghost use Rattle.volume_meaning.specs.declared.nodes.TheConstants.{NODE_CELLS};
 ghost use Rattle.kept_documents.specs.HashTrails.{AsksPath};
 
 use crate::buckets::{is_own, is_passed};
 use crate::node_cells::{bucket_at, child_at};
 use cell_types::Volume;
 use hash_tree::nibble_of;
-use index_paths::NODE_BUCKETS;
 use sha2::{Digest, Sha256};
+use volume_meaning::NODE_BUCKETS;
 use worm_device::{Failed, View};
 
 /// A digest has 64 half bytes, so there is no level below this one.

@@ -10,8 +10,8 @@ use crate::rows::are_trailed;
 use crate::stamps::slot_stamp;
 use cell_types::{Refusal, Volume};
 use std::alloc::Global;
-use stored_documents::rule_of;
 use term_tags::document_postings;
+use volume_meaning::rule_of;
 use word_reader::words;
 use worm_device::View;
 

@@ -10,7 +10,7 @@ use commit_record::{OpenRefusal, open};
 use document_store::{BodyFault, body_into, part_has_identifier, slot_part};
 use host_ports::MemorySink;
 use std::alloc::Global;
-use stored_documents::MAX_BODY_BYTES;
+use volume_meaning::MAX_BODY_BYTES;
 use worm_device::View;
 
 /// How many bytes the body of the document has that is kept in this slot with this identifier, `None` where none is, or

@@ -1,6 +1,6 @@
 //! Whether a posting has a trail.
 ghost use Rattle.std.specs.Prelude.{◌<◌, ◌≤◌, ◌+◌, ◌^◌};
-ghost use Rattle.index_paths.specs.declared.blocks.TheConstants.{BLOCK_CELLS};
+ghost use Rattle.volume_meaning.specs.declared.blocks.TheConstants.{BLOCK_CELLS};
 ghost use Rattle.kept_documents.specs.Trails.{AsksTrail, AsksBlock, wanted_posting};
 
 use crate::Wanted;

@@ -6,9 +6,9 @@ use Rattle.std.proofs.lemmas.Option.{slice_get_within, none-some, slice_get-get_
 use Rattle.cell_types.specs.Image.{Image}
 use Rattle.cell_types.specs.Layout.{Layout, IsLayout, all_lists, list_at, pool_at}
 use Rattle.cell_types.specs.declared.record_cell.RecordCell.TheVariants.{Jump}
-use Rattle.stored_documents.proofs.Holding.{one_record_holds}
-use Rattle.index_paths.specs.Blocks.{Leads, arrived, onwards}
-use Rattle.index_paths.specs.Nodes.{IsBlockOf}
+use Rattle.volume_meaning.proofs.Holding.{one_record_holds}
+use Rattle.volume_meaning.specs.Blocks.{Leads, arrived, onwards}
+use Rattle.volume_meaning.specs.Nodes.{IsBlockOf}
 use Rattle.list_audit.specs.Blocks.{IsAmong, AreOnce, AreListBlocks, PointsTo, Adds, LeadsAmong, AreClosedBelow}
 use Rattle.list_audit.specs.declared.listed.ListBlock.{ListBlock}
 

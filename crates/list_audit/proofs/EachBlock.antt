@@ -5,8 +5,8 @@ use Rattle.std.proofs.lemmas.Option.{slice_get_within}
 use Rattle.cell_types.specs.Image.{Image}
 use Rattle.cell_types.specs.Layout.{Layout}
 use Rattle.cell_types.specs.declared.refusal.Evidence.{Evidence}
-use Rattle.index_paths.specs.Nodes.{IsBlockOf}
-use Rattle.log_audit.specs.tamper_rules.Rules.{Rule, IsMet}
+use Rattle.volume_meaning.specs.Nodes.{IsBlockOf}
+use Rattle.tamper_rules.specs.Rules.{Rule, IsMet}
 use Rattle.log_audit.specs.Findings.{Finds}
 use Rattle.log_audit.specs.Least.{FindsPart, lower_finding}
 use Rattle.log_audit.proofs.Parts.{AskedBelow, as_asked, one_part, finds_all}

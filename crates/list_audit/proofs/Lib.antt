@@ -1,4 +1,12 @@
 pub mod Closing
 pub mod EachBlock
+pub mod Holding
+pub mod Listed
 pub mod Ordered
-pub use Rattle.log_audit.proofs as of_log_audit
+pub mod Owing
+pub mod Placing
+pub mod Spelling
+pub mod Stepping
+pub mod Tabling
+pub mod Trailing
+pub mod Walking

@@ -4,11 +4,11 @@ use Rattle.std.specs.Prelude.{IsTrue}
 use Rattle.std.proofs.lemmas.Bool.Decides.{nat_tests}
 use Rattle.cell_types.specs.Image.{Image}
 use Rattle.cell_types.specs.Layout.{Layout, list_at, pool_at}
-use Rattle.index_paths.specs.Blocks.{PostingFields, posting_record, Leads, arrived, onwards}
-use Rattle.index_paths.specs.Nodes.{IsBlockOf}
-use Rattle.index_paths.proofs.Fronts.{one_posting}
-use Rattle.stored_documents.specs.Volumes.{Holds}
-use Rattle.log_audit.specs.tamper_rules.Rules.{Entries, EntryRule, HoldsInOrder, IsPlace}
+use Rattle.volume_meaning.specs.Blocks.{PostingFields, posting_record, Leads, arrived, onwards}
+use Rattle.volume_meaning.specs.Nodes.{IsBlockOf}
+use Rattle.volume_meaning.proofs.Fronts.{one_posting}
+use Rattle.volume_meaning.specs.Volumes.{Holds}
+use Rattle.tamper_rules.specs.Rules.{Entries, EntryRule, HoldsInOrder, IsPlace}
 use Rattle.list_audit.specs.Entries.{BlockAsks}
 
 is_less : (a b : ℕ) → a < b → IsTrue (nat_lt a b)

@@ -5,7 +5,7 @@ use Rattle.std.specs.BTreeSet.{BTreeSet, contains}
 use Rattle.cell_types.specs.Image.{Image}
 use Rattle.cell_types.specs.Layout.{Layout, all_lists, list_at}
 use Rattle.cell_types.specs.declared.record_cell.RecordCell.TheVariants.{Jump}
-use Rattle.index_paths.specs.Nodes.{IsBlockOf}
+use Rattle.volume_meaning.specs.Nodes.{IsBlockOf}
 use Rattle.log_audit.specs.Leads.{LeadsInto}
 use Rattle.list_audit.specs.Numbers.{number_of}
 use Rattle.list_audit.specs.declared.listed.ListBlock.{ListBlock}

@@ -1,7 +1,7 @@
 -- What rule 8 asks of the cells of a block.
 use Rattle.std.specs.Prelude.{◌≡◌, ◌<◌, ◌+◌, ℕ}
 use Rattle.cell_types.specs.Image.{Image}
-use Rattle.log_audit.specs.tamper_rules.Rules.{HoldsInOrder}
+use Rattle.tamper_rules.specs.Rules.{HoldsInOrder}
 
 -- a place of a block, where it is written: before the pointers it is in order, and behind them there is none
 pub record KeepsEntryRule (image : Image) (block place : ℕ) : Type 0 where

@@ -1,4 +1,8 @@
 pub mod Blocks
+pub mod Bodies
 pub mod Entries
+pub mod Keeping
 pub mod Numbers
-pub use Rattle.log_audit.specs as log_audit
+pub mod Owing
+pub mod Tables
+pub mod Trails

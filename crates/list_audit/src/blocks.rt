@@ -2,14 +2,14 @@
 ghost use Rattle.std.specs.Prelude.{◌≡◌, ◌<◌, ◌+◌, IfOk, OnOk, Some, slice_get};
 ghost use Rattle.cell_types.specs.Image.{Image};
 ghost use Rattle.cell_types.specs.Layout.{all_lists};
-ghost use Rattle.kept_cells.specs.Kept.{image_of};
+ghost use Rattle.log_audit.specs.Kept.{image_of};
 ghost use Rattle.list_audit.specs.Blocks.{AreListBlocks, AreNumbered, AreClosedBelow};
 
 use crate::found::FoundBlocks;
 use crate::listed::ListBlock;
 use crate::targets::pointer_target;
 use cell_types::{Geometry, NoMemory, STAMPED_VERSION};
-use kept_cells::KeptCells;
+use log_audit::KeptCells;
 use std::alloc::Global;
 
 /// The first pointer place of a block.

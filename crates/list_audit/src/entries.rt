@@ -1,8 +1,8 @@
 //! Rule 8: what stands in the places of blocks.
 ghost use Rattle.std.specs.Prelude.{◌<◌, ◌≤◌, ◌+◌, ◌↔◌, ◌^◌, IsTrue};
-ghost use Rattle.log_audit.specs.tamper_rules.Rules.{Entries, HoldsInOrder};
-ghost use Rattle.index_paths.specs.Nodes.{IsBlockOf};
-ghost use Rattle.kept_cells.specs.Kept.{image_of};
+ghost use Rattle.tamper_rules.specs.Rules.{Entries, HoldsInOrder};
+ghost use Rattle.volume_meaning.specs.Nodes.{IsBlockOf};
+ghost use Rattle.log_audit.specs.Kept.{image_of};
 ghost use Rattle.log_audit.specs.Findings.{Finds};
 ghost use Rattle.log_audit.specs.Least.{FindsPart};
 ghost use Rattle.list_audit.specs.Blocks.{AreListBlocks};
@@ -12,10 +12,9 @@ use crate::blocks::{BEHIND_POINTERS, FIRST_POINTER};
 use crate::held_posting::posting_at;
 use crate::listed::ListBlock;
 use cell_types::{Evidence, Geometry};
-use index_paths::BLOCK_CELLS;
-use kept_cells::KeptCells;
-use log_audit::lower_of;
+use log_audit::{KeptCells, lower_of};
 use tamper_rules::BLOCK_OUT_OF_ORDER;
+use volume_meaning::BLOCK_CELLS;
 
 /// The least cell of a block at which rule 8 is broken, of these blocks of all lists.
 pub fn first_broken_entry(

@@ -1,12 +1,11 @@
 //! A posting that stands in a cell.
 ghost use Rattle.std.specs.Prelude.{◌≡◌, Some, IfSome, IfNone};
-ghost use Rattle.index_paths.specs.Blocks.{PostingFields, posting_record};
-ghost use Rattle.stored_documents.specs.Volumes.{Holds};
-ghost use Rattle.kept_cells.specs.Kept.{image_of};
+ghost use Rattle.volume_meaning.specs.Blocks.{PostingFields, posting_record};
+ghost use Rattle.volume_meaning.specs.Volumes.{Holds};
+ghost use Rattle.log_audit.specs.Kept.{image_of};
 
 use cell_types::RecordCell;
-use kept_cells::KeptCells;
-use log_audit::record_at;
+use log_audit::{KeptCells, record_at};
 use std::marker::Model;
 
 /// What a posting says. Contracts see the definition of one.
@@ -18,7 +17,7 @@ pub struct HeldPosting {
 }
 
 impl Model for HeldPosting {
-    ghost use Rattle.index_paths.specs.Blocks as paths;
+    ghost use Rattle.volume_meaning.specs.Blocks as paths;
 
     ghost Value = { paths.PostingFields };
 

@@ -1,4 +1,5 @@
-//! The blocks of a volume's posting lists, and whether what stands in them is in order.
+//! The blocks of a volume's posting lists, whether what stands in them is in order and is what the documents ask for, and
+//! whether each document is found by its words.
 //!
 //! A list begins at its first block, and each jump cell at a pointer place of one of its blocks leads to a block more. An
 //! audit looks at all of them, over cells that were read once and are kept. On the volume of 8 slots and 2 lists on 1,000
@@ -21,19 +22,33 @@
 //!
 //! Blocks come in no order, so what is found at one is joined with what was found before by `log_audit::lower_of`.
 //!
-//! Stands on `kept_cells` and `log_audit`. Begin with `blocks.rt`; `specs/Blocks.antt` says what the blocks of all lists
-//! are.
+//! **Rule 9** asks that each posting is one of a document's, and **rule 13** that each posting which a document asks for is
+//! led to. `rules.rt` tells of both, with an example.
+//!
+//! Stands on `log_audit` (kept cells and the log), `term_tags` (postings of words) and `jump_block` (spans). Begin with
+//! `blocks.rt`, then `rules.rt`; `specs/Blocks.antt` says what the blocks of all lists are.
 #![tactic(auto)]
 
 mod blocks;
+mod bodies;
 mod entries;
 mod found;
 mod held_posting;
 mod listed;
+mod listing;
+mod places;
+mod postings;
+mod rules;
+mod steps;
+mod table;
 mod targets;
+mod trails;
 
 pub use blocks::blocks_of;
 pub use entries::first_broken_entry;
 pub use held_posting::{HeldPosting, posting_at};
 pub use listed::ListBlock;
+pub use postings::first_broken_posting;
+pub use rules::first_broken_trail;
 pub use targets::pointer_target;
+pub use trails::has_trail;

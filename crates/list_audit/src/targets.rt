@@ -1,12 +1,11 @@
 //! Where a pointer place leads.
 ghost use Rattle.cell_types.specs.declared.record_cell.RecordCell.TheVariants.{Jump};
-ghost use Rattle.kept_cells.specs.Kept.{image_of};
+ghost use Rattle.log_audit.specs.Kept.{image_of};
 ghost use Rattle.log_audit.specs.Leads.{LeadEnds};
 
 use cell_types::{Geometry, RecordCell};
-use index_paths::BLOCK_CELLS;
-use kept_cells::KeptCells;
-use log_audit::{lies_in_pool, record_at};
+use log_audit::{KeptCells, lies_in_pool, record_at};
+use volume_meaning::BLOCK_CELLS;
 
 /// The block to which the jump cell there leads, if there is one whose cells lie in the pool.
 pub fn pointer_target(kept: &KeptCells, geometry: &Geometry, at: u32) -> Option<u32>

@@ -4,10 +4,10 @@ use Rattle.std.specs.Prelude.{IsTrue}
 use Rattle.cell_types.specs.Image.{Image}
 use Rattle.cell_types.specs.Layout.{Layout, reserve_at, pool_at}
 use Rattle.cell_types.specs.declared.record_cell.RecordCell.TheVariants.{Reserve}
-use Rattle.stored_documents.specs.Slots.{Reserves, HasEnded}
-use Rattle.stored_documents.proofs.Holding.{one_record_holds}
-use Rattle.stored_documents.proofs.OneDocument.{reserves}
-use Rattle.commit_record.specs.tamper_rules.Rules.{ReserveRule}
+use Rattle.volume_meaning.specs.Slots.{Reserves, HasEnded}
+use Rattle.volume_meaning.proofs.Holding.{one_record_holds}
+use Rattle.volume_meaning.proofs.OneDocument.{reserves}
+use Rattle.tamper_rules.specs.Rules.{ReserveRule}
 use Rattle.log_audit.specs.Logs.{IsEnded, end_of}
 use Rattle.log_audit.specs.declared.ended.EndedSlot.{EndedSlot}
 use Rattle.log_audit.specs.declared.ended.EndedSlot.TheVariants.{Abandoned, Done}

@@ -3,7 +3,7 @@ use Rattle.std.proofs.Common.{rules, ◌≡◌, ◌↔◌, ℕ, List, Option, So
 use Rattle.std.specs.Prelude.{IsTrue, is_some}
 use Rattle.cell_types.specs.Image.{Image}
 use Rattle.cell_types.specs.declared.record_cell.RecordCell.{RecordCell}
-use Rattle.stored_documents.specs.Volumes.{Holds, IsWritten}
+use Rattle.volume_meaning.specs.Volumes.{Holds, IsWritten}
 
 -- a no, where the fact does not hold, and a yes, where it does
 pub no : {P : Type 0} → (P → ⊥) → (IsTrue false → P) × (P → IsTrue false)

@@ -4,7 +4,7 @@ use Rattle.std.specs.Prelude.{slice_get}
 use Rattle.std.proofs.lemmas.Option.{none-some}
 use Rattle.cell_types.specs.Image.{Image}
 use Rattle.cell_types.specs.Layout.{Layout, reserve_at}
-use Rattle.stored_documents.specs.Slots.{Reserves, EndsBelow, IsEdge}
+use Rattle.volume_meaning.specs.Slots.{Reserves, EndsBelow, IsEdge}
 use Rattle.log_audit.specs.Logs.{IsLog}
 use Rattle.log_audit.specs.declared.ended.EndedSlot.{EndedSlot}
 use Rattle.log_audit.specs.declared.log.Log.{Log}

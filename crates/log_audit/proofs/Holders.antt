@@ -4,10 +4,10 @@ use Rattle.std.specs.Prelude.{slice_get}
 use Rattle.std.proofs.lemmas.Bool.{cases_order}
 use Rattle.cell_types.specs.Image.{Image}
 use Rattle.cell_types.specs.Layout.{Layout}
-use Rattle.stored_documents.specs.Documents.{document_at}
-use Rattle.stored_documents.specs.Slots.{Reserves, Stores}
-use Rattle.commit_record.specs.tamper_rules.Journals.{LiesInBlocks}
-use Rattle.commit_record.specs.tamper_rules.Rules.{ReserveCells}
+use Rattle.volume_meaning.specs.Documents.{document_at}
+use Rattle.volume_meaning.specs.Slots.{Reserves, Stores}
+use Rattle.tamper_rules.specs.Journals.{LiesInBlocks}
+use Rattle.tamper_rules.specs.Rules.{ReserveCells}
 use Rattle.log_audit.specs.Findings.{IsMetAll}
 use Rattle.log_audit.specs.Logs.{IsEnded, IsLog, end_of, start_of}
 use Rattle.log_audit.specs.Owning.{AreInRow, HasCell}

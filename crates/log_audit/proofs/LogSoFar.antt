@@ -4,11 +4,11 @@ use Rattle.std.specs.Prelude.{slice_get}
 use Rattle.std.proofs.lemmas.Option.{slice_get_within}
 use Rattle.cell_types.specs.Image.{Image}
 use Rattle.cell_types.specs.Layout.{Layout, reserve_at, pool_at}
-use Rattle.stored_documents.specs.Slots.{EndsBelow}
-use Rattle.commit_record.specs.tamper_rules.Rules.{ReserveCells, ReserveRule}
-use Rattle.commit_record.proofs.of_tamper_rules.Images.{look}
-use Rattle.commit_record.proofs.of_tamper_rules.Settled.{ended_reserves}
-use Rattle.kept_cells.proofs.OneMore.{get_before, get_last, length_pushed, below_or_at}
+use Rattle.volume_meaning.specs.Slots.{EndsBelow}
+use Rattle.tamper_rules.specs.Rules.{ReserveCells, ReserveRule}
+use Rattle.tamper_rules.proofs.Images.{look}
+use Rattle.tamper_rules.proofs.Settled.{ended_reserves}
+use Rattle.log_audit.proofs.OneMore.{get_before, get_last, length_pushed, below_or_at}
 use Rattle.log_audit.proofs.Beginning.{ended_cells}
 use Rattle.log_audit.specs.Findings.{AreMetBelow}
 use Rattle.log_audit.specs.Logs.{IsEnded, HasRoom, end_of, IsLog}

@@ -6,12 +6,12 @@ use Rattle.std.proofs.lemmas.Option.{none-some, slice_get-get_or}
 use Rattle.cell_types.specs.Image.{Image}
 use Rattle.cell_types.specs.Layout.{Layout, reserve_at, outcome_at, pool_at}
 use Rattle.cell_types.specs.declared.record_cell.RecordCell.TheVariants as records
-use Rattle.stored_documents.specs.Slots.{Reserves, Stores, IsAbandonedSlot, IsDoneSlot, EndsBelow}
-use Rattle.stored_documents.specs.Volumes.{Holds}
-use Rattle.stored_documents.proofs.Holding.{one_record_holds}
-use Rattle.stored_documents.proofs.OneDocument.{reserves, commits}
-use Rattle.commit_record.specs.tamper_rules.Rules.{ReserveCells, ReserveRule}
-use Rattle.commit_record.proofs.of_tamper_rules.Settled.{written}
+use Rattle.volume_meaning.specs.Slots.{Reserves, Stores, IsAbandonedSlot, IsDoneSlot, EndsBelow}
+use Rattle.volume_meaning.specs.Volumes.{Holds}
+use Rattle.volume_meaning.proofs.Holding.{one_record_holds}
+use Rattle.volume_meaning.proofs.OneDocument.{reserves, commits}
+use Rattle.tamper_rules.specs.Rules.{ReserveCells, ReserveRule}
+use Rattle.tamper_rules.proofs.Settled.{written}
 use Rattle.log_audit.specs.Findings.{IsMetAll}
 use Rattle.log_audit.specs.Logs.{IsLog}
 use Rattle.log_audit.specs.declared.ended.EndedSlot.{EndedSlot}

@@ -3,7 +3,7 @@ use Rattle.std.proofs.Common.{◌≡◌, ◌<◌, ◌≤◌, ◌+◌, ◌⊎◌,
 use Rattle.std.specs.Prelude.{if◌then◌else◌}
 use Rattle.cell_types.specs.Image.{Image}
 use Rattle.cell_types.specs.Layout.{Layout}
-use Rattle.commit_record.specs.tamper_rules.Rules.{Rule, number_of, ReserveCells, OutcomeCells, DoneCells, Documents, Journals, Targets, StrayCells, Entries, Postings, Pointers, Buckets, Children, Trails, Paths, Tilings}
+use Rattle.tamper_rules.specs.Rules.{Rule, number_of, ReserveCells, OutcomeCells, DoneCells, Documents, Journals, Targets, StrayCells, Entries, Postings, Pointers, Buckets, Children, Trails, Paths, Tilings}
 use Rattle.log_audit.specs.Findings.{IsMetAll, AreMetBelow}
 
 abbrev rule_of : ℕ → Rule

@@ -5,11 +5,11 @@ use Rattle.cell_types.specs.Image.{Image}
 use Rattle.cell_types.specs.Layout.{Layout, reserve_at, outcome_at, done_at}
 use Rattle.cell_types.specs.declared.geometry.TheConstants.{STAMPED_VERSION}
 use Rattle.cell_types.specs.declared.record_cell.RecordCell.TheVariants.{Abandon, Commit, Done, Reserve}
-use Rattle.stored_documents.specs.Slots.{cells_for, Reserves, IsStamped, IsAbandonedSlot, IsDone, IsDoneSlot, HasEnded}
-use Rattle.stored_documents.specs.Volumes.{Holds, IsWritten}
-use Rattle.stored_documents.proofs.Holding.{one_record_holds}
-use Rattle.stored_documents.proofs.OneDocument.{commits}
-use Rattle.commit_record.specs.tamper_rules.Rules.{OutcomeRule}
+use Rattle.volume_meaning.specs.Slots.{cells_for, Reserves, IsStamped, IsAbandonedSlot, IsDone, IsDoneSlot, HasEnded}
+use Rattle.volume_meaning.specs.Volumes.{Holds, IsWritten}
+use Rattle.volume_meaning.proofs.Holding.{one_record_holds}
+use Rattle.volume_meaning.proofs.OneDocument.{commits}
+use Rattle.tamper_rules.specs.Rules.{OutcomeRule}
 
 module _ (g : Layout) (image : Image) (n bytes journal : ℕ) (held : Holds image (outcome_at n) (Commit bytes journal)) where
   no_abandon : Holds image (outcome_at n) Abandon → ⊥

@@ -5,8 +5,8 @@ use Rattle.std.proofs.lemmas.Bool.Decides.{nat_tests}
 use Rattle.cell_types.specs.Image.{Image}
 use Rattle.cell_types.specs.Layout.{Layout}
 use Rattle.cell_types.specs.declared.refusal.Evidence.{Evidence}
-use Rattle.stored_documents.specs.Volumes.{IsWritten}
-use Rattle.commit_record.specs.tamper_rules.Rules.{Rule, IsMet, IsPlace, number_of}
+use Rattle.volume_meaning.specs.Volumes.{IsWritten}
+use Rattle.tamper_rules.specs.Rules.{Rule, IsMet, IsPlace, number_of}
 use Rattle.log_audit.specs.Findings.{Finds}
 use Rattle.log_audit.specs.Least.{IsLeastOf, FindsPart, lower_finding}
 use Rattle.log_audit.proofs.Families.{AreFine}

@@ -5,7 +5,7 @@ use Rattle.cell_types.specs.Layout.{Layout}
 use Rattle.cell_types.specs.declared.refusal.Evidence.{Evidence}
 use Rattle.cell_types.specs.declared.refusal.Refusal.{Refusal}
 use Rattle.cell_types.specs.declared.refusal.Refusal.TheVariants as refusals
-use Rattle.commit_record.specs.tamper_rules.Rules.{Rule, number_of}
+use Rattle.tamper_rules.specs.Rules.{Rule, number_of}
 use Rattle.log_audit.specs.Findings.{IsMetAll, Finds, AreMetBelow, IsFirst}
 use Rattle.log_audit.specs.Logs.{LogEnds, LogChecks}
 use Rattle.log_audit.specs.declared.log.Log.{Log}

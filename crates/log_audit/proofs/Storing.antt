@@ -5,11 +5,11 @@ use Rattle.std.proofs.lemmas.Option.{slice_get_within}
 use Rattle.cell_types.specs.Image.{Image}
 use Rattle.cell_types.specs.Layout.{Layout, reserve_at, outcome_at}
 use Rattle.cell_types.specs.declared.record_cell.RecordCell.TheVariants.{Reserve, Commit}
-use Rattle.stored_documents.specs.Slots.{Reserves, Stores}
-use Rattle.stored_documents.specs.Volumes.{Holds, IsWritten}
-use Rattle.stored_documents.proofs.Holding.{one_record_holds}
-use Rattle.stored_documents.proofs.OneDocument.{reserves, commits}
-use Rattle.commit_record.proofs.of_tamper_rules.Settled.{written}
+use Rattle.volume_meaning.specs.Slots.{Reserves, Stores}
+use Rattle.volume_meaning.specs.Volumes.{Holds, IsWritten}
+use Rattle.volume_meaning.proofs.Holding.{one_record_holds}
+use Rattle.volume_meaning.proofs.OneDocument.{reserves, commits}
+use Rattle.tamper_rules.proofs.Settled.{written}
 use Rattle.log_audit.specs.Logs.{IsLog}
 use Rattle.log_audit.specs.Stored.{IsStored, StoredIsLive, LiveIsStored}
 use Rattle.log_audit.specs.declared.ended.EndedSlot.{EndedSlot}

@@ -4,7 +4,7 @@ use Rattle.std.proofs.lemmas.Bool.{cases_order}
 use Rattle.cell_types.specs.Image.{Image}
 use Rattle.cell_types.specs.Layout.{Layout}
 use Rattle.cell_types.specs.declared.refusal.Evidence.{Evidence}
-use Rattle.commit_record.specs.tamper_rules.Rules.{Rule, number_of}
+use Rattle.tamper_rules.specs.Rules.{Rule, number_of}
 use Rattle.log_audit.specs.Findings.{IsFirst, IsLeast, IsMetAll}
 use Rattle.log_audit.proofs.Numbers.{one_rule}
 

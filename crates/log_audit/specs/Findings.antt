@@ -5,8 +5,8 @@ use Rattle.cell_types.specs.Layout.{Layout}
 use Rattle.cell_types.specs.declared.refusal.Evidence.{Evidence}
 use Rattle.cell_types.specs.declared.refusal.Refusal.{Refusal}
 use Rattle.cell_types.specs.declared.refusal.Refusal.TheVariants.{Tampered, NoMemory}
-use Rattle.stored_documents.specs.Volumes.{IsWritten}
-use Rattle.commit_record.specs.tamper_rules.Rules.{Rule, IsMet, IsPlace, number_of}
+use Rattle.volume_meaning.specs.Volumes.{IsWritten}
+use Rattle.tamper_rules.specs.Rules.{Rule, IsMet, IsPlace, number_of}
 
 -- the rule is kept at each written cell
 abbrev pub IsMetAll : Layout → Image → Rule → Type 0

@@ -3,7 +3,7 @@ use Rattle.std.specs.Prelude.{◌≤◌, ◌+◌, ℕ, Option, Some, None}
 use Rattle.cell_types.specs.Image.{Image}
 use Rattle.cell_types.specs.Layout.{Layout, pool_at}
 use Rattle.cell_types.specs.declared.record_cell.RecordCell.{RecordCell}
-use Rattle.stored_documents.specs.Volumes.{Holds}
+use Rattle.volume_meaning.specs.Volumes.{Holds}
 
 -- so many cells from the target on lie in the pool
 pub record LiesInPool (g : Layout) (cells target : ℕ) : Type 0 where

@@ -4,8 +4,8 @@ use Rattle.std.specs.Prelude.{◌≡◌, ◌<◌, nat_le, if◌then◌else◌, �
 use Rattle.cell_types.specs.Image.{Image}
 use Rattle.cell_types.specs.Layout.{Layout}
 use Rattle.cell_types.specs.declared.refusal.Evidence.{Evidence}
-use Rattle.stored_documents.specs.Volumes.{IsWritten}
-use Rattle.commit_record.specs.tamper_rules.Rules.{Rule, IsPlace, number_of}
+use Rattle.volume_meaning.specs.Volumes.{IsWritten}
+use Rattle.tamper_rules.specs.Rules.{Rule, IsPlace, number_of}
 
 -- The evidence names the rule, stands in one of its places, and is the least written cell that is not as asked.
 pub record IsLeastOf (g : Layout) (image : Image) (rule : Rule) (Asked : ℕ → Type 0) (e : Evidence) : Type 0 where

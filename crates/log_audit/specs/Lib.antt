@@ -1,8 +1,13 @@
+pub mod AllRows
 pub mod Between
+pub mod Cells
+pub mod Chunks
 pub mod Findings
+pub mod Kept
 pub mod Leads
 pub mod Least
 pub mod Logs
 pub mod Owning
+pub mod Rows
 pub mod Stored
-pub use Rattle.commit_record.specs.tamper_rules
+pub mod Viewing

@@ -6,8 +6,8 @@ use Rattle.cell_types.specs.declared.geometry.TheConstants.{MAX_CELLS}
 use Rattle.cell_types.specs.declared.refusal.Evidence.{Evidence}
 use Rattle.cell_types.specs.declared.refusal.Refusal.{Refusal}
 use Rattle.cell_types.specs.declared.refusal.Refusal.TheVariants.{Tampered, NoMemory}
-use Rattle.stored_documents.specs.Slots.{cells_for, IsAbandoned, IsDone, HasEnded, EndsBelow}
-use Rattle.commit_record.specs.tamper_rules.declared.numbers.TheConstants.{RESERVE_CELL}
+use Rattle.volume_meaning.specs.Slots.{cells_for, IsAbandoned, IsDone, HasEnded, EndsBelow}
+use Rattle.tamper_rules.specs.declared.numbers.TheConstants.{RESERVE_CELL}
 use Rattle.log_audit.specs.Findings.{AreMetBelow, IsFirst}
 use Rattle.log_audit.specs.declared.ended.EndedSlot.{EndedSlot}
 use Rattle.log_audit.specs.declared.ended.EndedSlot.TheVariants.{Abandoned, Done}

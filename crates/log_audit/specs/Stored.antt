@@ -3,7 +3,7 @@ use Rattle.std.specs.Prelude.{◌≡◌, ◌≤◌, ◌+◌, ℕ}
 use Rattle.cell_types.specs.Image.{Image}
 use Rattle.cell_types.specs.Layout.{Layout}
 use Rattle.cell_types.specs.declared.geometry.TheConstants.{MAX_CELLS}
-use Rattle.stored_documents.specs.Slots.{cells_for, IsDone, IsLive}
+use Rattle.volume_meaning.specs.Slots.{cells_for, IsDone, IsLive}
 use Rattle.log_audit.specs.Logs.{IsLog}
 use Rattle.log_audit.specs.declared.log.Log.{Log}
 use Rattle.log_audit.specs.declared.stored.StoredSlot.{StoredSlot}

@@ -1,11 +1,11 @@
 //! The first slot at which a rule of the log is broken.
-ghost use Rattle.commit_record.specs.tamper_rules.Rules.{ReserveCells, OutcomeCells, DoneCells};
-ghost use Rattle.kept_cells.specs.Kept.{image_of};
+ghost use Rattle.tamper_rules.specs.Rules.{ReserveCells, OutcomeCells, DoneCells};
+ghost use Rattle.log_audit.specs.Kept.{image_of};
 ghost use Rattle.log_audit.specs.Findings.{Finds};
 
+use crate::kept::KeptCells;
 use crate::slot_rules::{keeps_done_rule, keeps_outcome_rule, keeps_reserve_rule};
 use cell_types::{Evidence, Geometry};
-use kept_cells::KeptCells;
 use tamper_rules::{DONE_CELL, OUTCOME_CELL, RESERVE_CELL};
 
 /// The first reserve cell at which rule 1 is broken.

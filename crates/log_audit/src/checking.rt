@@ -1,11 +1,11 @@
 //! The log, checked.
-ghost use Rattle.kept_cells.specs.Kept.{image_of};
+ghost use Rattle.log_audit.specs.Kept.{image_of};
 ghost use Rattle.log_audit.specs.Logs.{LogChecks};
 
 use crate::broken::{first_broken_done, first_broken_outcome, first_broken_reserve};
+use crate::kept::KeptCells;
 use crate::log::{Log, log_of};
 use cell_types::{Geometry, Refusal};
-use kept_cells::KeptCells;
 use std::alloc::Global;
 
 /// The slots below the horizon, where rules 1 to 3 are kept and each of them has ended.

@@ -3,15 +3,15 @@ ghost use Rattle.std.specs.Prelude.{◌≡◌, ◌<◌, ◌+◌, ◌≤◌, ◌�
 ghost use Rattle.cell_types.specs.declared.geometry.TheConstants.{STAMPED_VERSION};
 ghost use Rattle.cell_types.specs.Layout.{done_at};
 ghost use Rattle.cell_types.specs.declared.record_cell.RecordCell.TheVariants.{Done};
-ghost use Rattle.stored_documents.specs.Slots.{HasEnded, IsStamped, cells_for};
-ghost use Rattle.stored_documents.specs.Volumes.{Holds};
-ghost use Rattle.kept_cells.specs.Kept.{image_of};
+ghost use Rattle.volume_meaning.specs.Slots.{HasEnded, IsStamped, cells_for};
+ghost use Rattle.volume_meaning.specs.Volumes.{Holds};
+ghost use Rattle.log_audit.specs.Kept.{image_of};
 ghost use Rattle.log_audit.specs.Logs.{IsEnded, HasRoom, start_of, end_of};
 
+use crate::kept::KeptCells;
 use crate::looks::{record_at, reservation};
 use cell_types::{Geometry, RecordCell, STAMPED_VERSION};
 use commit_record::document_cells;
-use kept_cells::KeptCells;
 
 /// What has come of a slot that has ended. `start` is the first cell that it reserves and `length` how many they are;
 /// `bytes` is how many stored bytes its document has, and `journal` how many cells its journal has.

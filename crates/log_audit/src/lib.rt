@@ -27,30 +27,46 @@
 //! `specs/Findings.antt` says what a check of any rule finds, and the crates that check the others use its words. Some
 //! rules ask the same of each of many blocks or nodes, which may meet and come in any order: `lower_of` joins what was
 //! found at one with what was found at the next, and `specs/Least.antt` says why the last of them is the least of all.
-//! What meets what is asked of numbers in order, which `sort_once` makes and `has_between` bisects.
+//! Overlaps are found in sorted numbers: `sort_once` sorts, and `has_between` searches by bisection.
 //!
-//! Stands on `kept_cells` and `commit_record`. Begin with `checking.rt`.
+//! The cells are read once, in rising order, and kept in memory: `keeping.rt` says how, and what that costs.
+//!
+//! Stands on `commit_record`. Begin with `checking.rt`.
 #![tactic(auto)]
 
+mod asking;
 mod broken;
 mod checking;
+mod chunked;
+mod chunks;
 mod ended;
+mod growing;
+mod keeping;
+mod kept;
 mod laws;
 mod log;
 mod looks;
 mod lower;
 mod owning;
+mod rows;
+mod shown;
 mod slot_rules;
 mod sorted;
 mod stored;
+mod written;
 
 pub use broken::{first_broken_done, first_broken_outcome, first_broken_reserve};
 pub use checking::check_log;
+pub use chunked::ChunkedRows;
 pub use ended::{EndedSlot, ended_slot};
+pub use keeping::keep_cells;
+pub use kept::KeptCells;
 pub use laws::{evidence_is_one, stored_slots_are_live};
 pub use log::{Log, log_of};
 pub use looks::{lies_in_pool, record_at, reservation};
 pub use lower::lower_of;
 pub use owning::owner_of;
+pub use shown::Shown;
 pub use sorted::{has_between, sort_once};
 pub use stored::{StoredSlot, stored_slot};
+pub use written::WrittenCell;

@@ -1,12 +1,12 @@
 //! The slots that have ended, in memory.
 ghost use Rattle.std.specs.Prelude.{◌≡◌, [], IfOk};
-ghost use Rattle.kept_cells.specs.Kept.{image_of};
+ghost use Rattle.log_audit.specs.Kept.{image_of};
 ghost use Rattle.log_audit.specs.Logs.{LogEnds};
 ghost use Rattle.log_audit.specs.Findings.{AreMetBelow};
 
 use crate::ended::{EndedSlot, ended_slot};
+use crate::kept::KeptCells;
 use cell_types::{Evidence, Geometry, NoMemory, Refusal};
-use kept_cells::KeptCells;
 use std::alloc::Global;
 use tamper_rules::RESERVE_CELL;
 

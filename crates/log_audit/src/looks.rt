@@ -2,14 +2,14 @@
 ghost use Rattle.std.specs.Prelude.{◌≡◌, ◌<◌, ◌+◌, ◌≤◌, ◌↔◌, ℕ, Some, IfSome, IfNone, IsTrue};
 ghost use Rattle.cell_types.specs.declared.record_cell.RecordCell.{RecordCell};
 ghost use Rattle.cell_types.specs.declared.geometry.TheConstants.{MAX_CELLS};
-ghost use Rattle.stored_documents.specs.Slots.{Reserves};
-ghost use Rattle.stored_documents.specs.Volumes.{Holds};
-ghost use Rattle.kept_cells.specs.Kept.{image_of};
+ghost use Rattle.volume_meaning.specs.Slots.{Reserves};
+ghost use Rattle.volume_meaning.specs.Volumes.{Holds};
+ghost use Rattle.log_audit.specs.Kept.{image_of};
 ghost use Rattle.log_audit.specs.Leads.{LiesInPool};
 
+use crate::kept::KeptCells;
 use cell_types::{Geometry, RecordCell, decode};
 use commit_record::Reservation;
-use kept_cells::KeptCells;
 
 /// The record that stands in a cell, if one does that is well-formed there.
 pub fn record_at(kept: &KeptCells, at: u32) -> Option<RecordCell>

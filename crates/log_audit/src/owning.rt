@@ -1,16 +1,16 @@
 //! In whose blocks a cell lies.
 ghost use Rattle.std.specs.Prelude.{◌<◌, ◌^◌, ℕ, length, IfSome, IfNone};
-ghost use Rattle.commit_record.specs.tamper_rules.Journals.{LiesInBlocks};
-ghost use Rattle.commit_record.specs.tamper_rules.Rules.{ReserveCells};
-ghost use Rattle.kept_cells.specs.Kept.{image_of};
+ghost use Rattle.tamper_rules.specs.Journals.{LiesInBlocks};
+ghost use Rattle.tamper_rules.specs.Rules.{ReserveCells};
+ghost use Rattle.log_audit.specs.Kept.{image_of};
 ghost use Rattle.log_audit.specs.Findings.{IsMetAll};
 ghost use Rattle.log_audit.specs.Logs.{IsLog};
 ghost use Rattle.log_audit.specs.Owning.{AreInRow, HasCell};
 
+use crate::kept::KeptCells;
 use crate::log::Log;
 use crate::stored::stored_slot;
 use cell_types::Geometry;
-use kept_cells::KeptCells;
 
 /// The slot in whose block part a cell lies, if it lies in one.
 pub fn owner_of(kept: &KeptCells, geometry: &Geometry, log: &Log, cell: u32) -> Option<u32>

@@ -2,15 +2,15 @@
 ghost use Rattle.std.specs.Prelude.{◌<◌, ◌≤◌, ◌+◌, ◌↔◌, ℕ, IsTrue};
 ghost use Rattle.cell_types.specs.Layout.{reserve_at};
 ghost use Rattle.cell_types.specs.declared.record_cell.RecordCell.TheVariants.{Reserve};
-ghost use Rattle.stored_documents.specs.Slots.{cells_for};
-ghost use Rattle.stored_documents.specs.Volumes.{Holds};
-ghost use Rattle.commit_record.specs.tamper_rules.Rules.{ReserveRule, OutcomeRule, DoneRule};
-ghost use Rattle.kept_cells.specs.Kept.{image_of};
+ghost use Rattle.volume_meaning.specs.Slots.{cells_for};
+ghost use Rattle.volume_meaning.specs.Volumes.{Holds};
+ghost use Rattle.tamper_rules.specs.Rules.{ReserveRule, OutcomeRule, DoneRule};
+ghost use Rattle.log_audit.specs.Kept.{image_of};
 
 use crate::ended::{ended_slot, fits_into, has_its_stamp, is_done_cell};
+use crate::kept::KeptCells;
 use crate::looks::{record_at, reservation};
 use cell_types::{Geometry, RecordCell};
-use kept_cells::KeptCells;
 
 /// Whether rule 1 is kept at the reserve cell of a slot.
 pub(crate) fn keeps_reserve_rule(kept: &KeptCells, geometry: &Geometry, slot: u32) -> bool

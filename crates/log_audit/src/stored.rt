@@ -1,15 +1,15 @@
 //! Slots that hold documents.
 ghost use Rattle.std.specs.Prelude.{◌≡◌, ℕ, IfSome, IfNone};
-ghost use Rattle.stored_documents.specs.Slots.{Stores};
-ghost use Rattle.kept_cells.specs.Kept.{image_of};
+ghost use Rattle.volume_meaning.specs.Slots.{Stores};
+ghost use Rattle.log_audit.specs.Kept.{image_of};
 ghost use Rattle.log_audit.specs.Logs.{IsLog};
 ghost use Rattle.log_audit.specs.Stored.{IsStored};
 
 use crate::ended::EndedSlot;
+use crate::kept::KeptCells;
 use crate::log::Log;
 use cell_types::Geometry;
 use commit_record::document_cells;
-use kept_cells::KeptCells;
 
 /// A slot that is done. `start` is the first cell that it reserves and `length` how many they are: the blocks first,
 /// then the document of `bytes` stored bytes, and last the journal of `journal` cells.
@@ -24,8 +24,8 @@ pub struct StoredSlot {
 
 impl StoredSlot {
     ghost use Rattle.std.specs.Prelude.{◌≤◌};
-    ghost use Rattle.stored_documents.specs.Documents.{document_at};
-    ghost use Rattle.commit_record.specs.tamper_rules.Journals.{journal_at};
+    ghost use Rattle.volume_meaning.specs.Documents.{document_at};
+    ghost use Rattle.tamper_rules.specs.Journals.{journal_at};
     ghost use Rattle.log_audit.specs.Stored.{HasCells};
 
     /// The first cell of its journal.

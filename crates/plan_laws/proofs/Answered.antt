@@ -4,15 +4,15 @@ use Rattle.std.specs.Prelude.{IsTrue}
 use Rattle.sha2.specs.Sha256.{sha256}
 use Rattle.cell_types.specs.Image.{Image, Extends, IsUnchanged}
 use Rattle.cell_types.specs.Layout.{Layout}
-use Rattle.index_paths.specs.Keeping.{sought_in}
-use Rattle.index_paths.proofs.HashTrails.{passed_on, passed_to_on}
-use Rattle.ingest_plan.proofs.of_tamper_rules.Images.{same_image}
-use Rattle.ingest_plan.specs.ingest_laws.Ingesting.{Plan}
+use Rattle.volume_meaning.specs.Keeping.{sought_in}
+use Rattle.volume_meaning.proofs.HashTrails.{passed_on, passed_to_on}
+use Rattle.tamper_rules.proofs.Images.{same_image}
+use Rattle.ingest_laws.specs.Ingesting.{Plan}
 use Rattle.worm_device.specs.Counts.{IsStill}
 use Rattle.worm_device.specs.State.{DeviceState}
-use Rattle.ingest_plan.specs.hash_tree.declared.level.Level.{Level}
-use Rattle.ingest_plan.specs.hash_tree.declared.path.Open.{Open}
-use Rattle.ingest_plan.specs.hash_insertion.Readiness.{PassedDown, blank_of}
+use Rattle.hash_tree.specs.declared.level.Level.{Level}
+use Rattle.hash_tree.specs.declared.path.Open.{Open}
+use Rattle.hash_tree.specs.Readiness.{PassedDown, blank_of}
 use Rattle.ingest_plan.specs.Journal.{IsJournal}
 use Rattle.ingest_plan.specs.Standing.{IndexStands}
 use Rattle.plan_laws.specs.Standing.{EndsPath, below_slot, seconds_of}

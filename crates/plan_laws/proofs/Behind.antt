@@ -7,24 +7,24 @@ use Rattle.cell_types.specs.Layout.{Layout, list_at, pool_at, all_lists}
 use Rattle.cell_types.specs.Records.{IsRecordCell}
 use Rattle.cell_types.specs.declared.record_cell.RecordCell.{RecordCell}
 use Rattle.cell_types.specs.declared.record_cell.RecordCell.TheVariants.{Jump, Bucket, Child}
-use Rattle.stored_documents.specs.Volumes.{Holds}
-use Rattle.stored_documents.proofs.Extending.{blank_before}
-use Rattle.stored_documents.proofs.Holding.{some_is}
-use Rattle.index_paths.specs.Blocks.{Leads, pointer_at, posting_record}
-use Rattle.index_paths.specs.HashPaths.{fingerprint_of, nibble}
-use Rattle.index_paths.specs.Nodes.{IsNode, under}
-use Rattle.index_paths.specs.Postings.{IsPostingOf, ListedPosting}
-use Rattle.ingest_plan.proofs.of_tamper_rules.GoingOn.{leads_to_on}
-use Rattle.ingest_plan.proofs.of_tamper_rules.Images.{look}
-use Rattle.ingest_plan.proofs.of_tamper_rules.Writing.{same_or_not}
-use Rattle.ingest_plan.specs.ingest_laws.Ingesting.{Plan}
-use Rattle.ingest_plan.proofs.of_ingest_laws.SettledShapes.{leads_wider}
-use Rattle.ingest_plan.specs.hash_tree.Levels.{bucket_at, child_at, node_of}
-use Rattle.ingest_plan.specs.hash_tree.declared.level.Level.{Level}
-use Rattle.ingest_plan.specs.hash_tree.declared.path.Open.{Open}
-use Rattle.ingest_plan.proofs.of_jump_insertion.KeptTrails.{leads_below}
-use Rattle.ingest_plan.proofs.of_hash_insertion.Paths.{nibble_low}
-use Rattle.ingest_plan.specs.hash_insertion.Rooting.{IsRooted, TreeGrows, in_bucket, in_new_node}
+use Rattle.volume_meaning.specs.Volumes.{Holds}
+use Rattle.volume_meaning.proofs.Extending.{blank_before}
+use Rattle.volume_meaning.proofs.Holding.{some_is}
+use Rattle.volume_meaning.specs.Blocks.{Leads, pointer_at, posting_record}
+use Rattle.volume_meaning.specs.HashPaths.{fingerprint_of, nibble}
+use Rattle.volume_meaning.specs.Nodes.{IsNode, under}
+use Rattle.volume_meaning.specs.Postings.{IsPostingOf, ListedPosting}
+use Rattle.tamper_rules.proofs.GoingOn.{leads_to_on}
+use Rattle.tamper_rules.proofs.Images.{look}
+use Rattle.tamper_rules.proofs.Writing.{same_or_not}
+use Rattle.ingest_laws.specs.Ingesting.{Plan}
+use Rattle.ingest_laws.proofs.SettledShapes.{leads_wider}
+use Rattle.hash_tree.specs.Levels.{bucket_at, child_at, node_of}
+use Rattle.hash_tree.specs.declared.level.Level.{Level}
+use Rattle.hash_tree.specs.declared.path.Open.{Open}
+use Rattle.jump_insertion.proofs.KeptTrails.{leads_below}
+use Rattle.hash_tree.proofs.InsertionPaths.{nibble_low}
+use Rattle.hash_tree.specs.Rooting.{IsRooted, TreeGrows, in_bucket, in_new_node}
 use Rattle.ingest_plan.specs.Standing.{IsAddedTo, posting, pointer}
 use Rattle.plan_laws.specs.Standing.{IndexesStand, TreeStands, below_slot, seconds_of}
 use Rattle.plan_laws.proofs.BehindBucket as bucket

@@ -2,21 +2,21 @@
 use Rattle.std.proofs.Common.{◌≡◌, ◌<◌, ◌≤◌, ◌+◌, ⊎_elim, inl, inr, ℕ, List, Option, Some, None, subst, sym, arith, ◌∙◌}
 use Rattle.cell_types.specs.Image.{Image, Extends}
 use Rattle.cell_types.specs.Layout.{Layout, list_at, pool_at, all_lists}
-use Rattle.stored_documents.proofs.Extending.{written_on}
-use Rattle.index_paths.specs.Blocks.{Leads}
-use Rattle.index_paths.specs.HashPaths.{nibble}
-use Rattle.index_paths.specs.Nodes.{AreApart, IsNode}
-use Rattle.ingest_plan.proofs.of_ingest_laws.ListShapes.{adds_extends}
+use Rattle.volume_meaning.proofs.Extending.{written_on}
+use Rattle.volume_meaning.specs.Blocks.{Leads}
+use Rattle.volume_meaning.specs.HashPaths.{nibble}
+use Rattle.volume_meaning.specs.Nodes.{AreApart, IsNode}
+use Rattle.ingest_laws.proofs.ListShapes.{adds_extends}
 use Rattle.worm_device.proofs.Images.{extends_then}
-use Rattle.index_paths.specs.Postings.{ListedPosting}
-use Rattle.ingest_plan.specs.hash_tree.Levels.{node_of}
-use Rattle.ingest_plan.specs.hash_tree.Steps.{IsOpenAt}
-use Rattle.ingest_plan.specs.hash_tree.declared.level.Level.{Level}
-use Rattle.ingest_plan.specs.hash_tree.declared.path.Open.{Open}
-use Rattle.ingest_plan.proofs.of_jump_insertion.KeptTrails.{leads_below}
-use Rattle.ingest_plan.proofs.of_hash_insertion.Paths.{nibble_low}
-use Rattle.ingest_plan.specs.hash_insertion.Readiness.{blank_in, blank_of, cost_of}
-use Rattle.ingest_plan.specs.hash_insertion.Rooting.{IsRooted, IsRootedBefore, TreeGrows, in_bucket, in_new_node}
+use Rattle.volume_meaning.specs.Postings.{ListedPosting}
+use Rattle.hash_tree.specs.Levels.{node_of}
+use Rattle.hash_tree.specs.Steps.{IsOpenAt}
+use Rattle.hash_tree.specs.declared.level.Level.{Level}
+use Rattle.hash_tree.specs.declared.path.Open.{Open}
+use Rattle.jump_insertion.proofs.KeptTrails.{leads_below}
+use Rattle.hash_tree.proofs.InsertionPaths.{nibble_low}
+use Rattle.hash_tree.specs.Readiness.{blank_in, blank_of, cost_of}
+use Rattle.hash_tree.specs.Rooting.{IsRooted, IsRootedBefore, TreeGrows, in_bucket, in_new_node}
 use Rattle.ingest_plan.specs.Standing.{IndexStands}
 use Rattle.plan_laws.specs.Standing.{EndsPath, IndexesStand, TreeStands}
 use Rattle.plan_laws.proofs.BehindRow.{node_on, node_same, tree_behind}

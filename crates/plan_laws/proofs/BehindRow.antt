@@ -2,12 +2,12 @@
 use Rattle.std.proofs.Common.{◌≡◌, ◌<◌, ◌≤◌, ◌+◌, ⊎_elim, inl, inr, ℕ, List, subst, arith}
 use Rattle.cell_types.specs.Image.{Image, Extends}
 use Rattle.cell_types.specs.Layout.{Layout, pool_at}
-use Rattle.stored_documents.proofs.Extending.{holds_on}
-use Rattle.index_paths.specs.Nodes.{IsNode, root, under}
-use Rattle.ingest_plan.specs.ingest_laws.TreeShapes.{IsWellRooted}
-use Rattle.ingest_plan.proofs.of_ingest_laws.ListShapes.{holds_back}
-use Rattle.ingest_plan.proofs.of_ingest_laws.TreeShapes.{node_place, rooted_apart, rooted_wider}
-use Rattle.index_paths.specs.Postings.{ListedPosting}
+use Rattle.volume_meaning.proofs.Extending.{holds_on}
+use Rattle.volume_meaning.specs.Nodes.{IsNode, root, under}
+use Rattle.ingest_laws.specs.TreeShapes.{IsWellRooted}
+use Rattle.ingest_laws.proofs.ListShapes.{holds_back}
+use Rattle.ingest_laws.proofs.TreeShapes.{node_place, rooted_apart, rooted_wider}
+use Rattle.volume_meaning.specs.Postings.{ListedPosting}
 use Rattle.ingest_plan.specs.Standing.{RowStands}
 use Rattle.plan_laws.specs.Standing.{TreeStands}
 

@@ -4,16 +4,16 @@ use Rattle.cell_types.specs.Image.{Image}
 use Rattle.cell_types.specs.Layout.{Layout, list_at, reserve_at, outcome_at, done_at, spare_at}
 use Rattle.cell_types.specs.Records.{IsRecordCell, record_bytes}
 use Rattle.cell_types.specs.declared.record_cell.RecordCell.TheVariants.{Reserve, Commit, Done, Stamp}
-use Rattle.stored_documents.specs.Slots.{Reserves, IsDoneSlot, IsStampFor, IsStampOf}
-use Rattle.index_paths.specs.Nodes.{IsBlockOf}
-use Rattle.index_paths.specs.Postings.{ListedPosting}
-use Rattle.ingest_plan.specs.tamper_rules.Journals.{LiesInBlocks}
-use Rattle.ingest_plan.proofs.of_tamper_rules.Settled.{below_horizon, written}
-use Rattle.ingest_plan.specs.ingest_laws.Filling.{IsFilled}
-use Rattle.ingest_plan.specs.ingest_laws.Ingesting.{Plan, Reserving, Storing, Committing, Finishing, stored_of}
-use Rattle.ingest_plan.proofs.of_ingest_laws.Filled.{mine, stores_on'}
-use Rattle.ingest_plan.specs.hash_tree.declared.level.Level.{Level}
-use Rattle.ingest_plan.specs.hash_tree.declared.path.Open.{Open}
+use Rattle.volume_meaning.specs.Slots.{Reserves, IsDoneSlot, IsStampFor, IsStampOf}
+use Rattle.volume_meaning.specs.Nodes.{IsBlockOf}
+use Rattle.volume_meaning.specs.Postings.{ListedPosting}
+use Rattle.tamper_rules.specs.Journals.{LiesInBlocks}
+use Rattle.tamper_rules.proofs.Settled.{below_horizon, written}
+use Rattle.ingest_laws.specs.Filling.{IsFilled}
+use Rattle.ingest_laws.specs.Ingesting.{Plan, Reserving, Storing, Committing, Finishing, stored_of}
+use Rattle.ingest_laws.proofs.Filled.{mine, stores_on'}
+use Rattle.hash_tree.specs.declared.level.Level.{Level}
+use Rattle.hash_tree.specs.declared.path.Open.{Open}
 use Rattle.ingest_plan.specs.Planning.{IsLater}
 use Rattle.plan_laws.specs.Laws.{IsPlannedIndex}
 use Rattle.plan_laws.proofs.Behind.{more, pool_before}

@@ -4,15 +4,15 @@ use Rattle.std.proofs.lemmas.Option.{slice_get-get_or}
 use Rattle.cell_types.specs.Image.{Image}
 use Rattle.cell_types.specs.Layout.{Layout, list_at, pool_at, all_lists}
 use Rattle.cell_types.specs.declared.record_cell.RecordCell.{RecordCell}
-use Rattle.index_paths.specs.Blocks.{Leads}
-use Rattle.index_paths.specs.Nodes.{IsNode}
-use Rattle.index_paths.specs.Postings.{ListedPosting}
-use Rattle.ingest_plan.specs.tamper_rules.Journals.{IsIndexCell}
-use Rattle.ingest_plan.specs.ingest_laws.Filling.{IsCopy, IsPlannedCopy}
-use Rattle.ingest_plan.specs.ingest_laws.Ingesting.{Plan}
-use Rattle.ingest_plan.proofs.of_ingest_laws.SettledShapes.{leads_wider}
-use Rattle.ingest_plan.specs.hash_tree.declared.level.Level.{Level}
-use Rattle.ingest_plan.specs.hash_tree.declared.path.Open.{Open}
+use Rattle.volume_meaning.specs.Blocks.{Leads}
+use Rattle.volume_meaning.specs.Nodes.{IsNode}
+use Rattle.volume_meaning.specs.Postings.{ListedPosting}
+use Rattle.tamper_rules.specs.Journals.{IsIndexCell}
+use Rattle.ingest_laws.specs.Filling.{IsCopy, IsPlannedCopy}
+use Rattle.ingest_laws.specs.Ingesting.{Plan}
+use Rattle.ingest_laws.proofs.SettledShapes.{leads_wider}
+use Rattle.hash_tree.specs.declared.level.Level.{Level}
+use Rattle.hash_tree.specs.declared.path.Open.{Open}
 use Rattle.plan_laws.specs.Laws.{IsPlannedIndex}
 use Rattle.plan_laws.proofs.Behind.{IsPlannedCell, a_posting, a_pointer, a_bucket, a_child, block_was, more, node_was, planned_cell, planned_low, to_inside}
 use Rattle.plan_laws.proofs.NewImage.{ends_there}

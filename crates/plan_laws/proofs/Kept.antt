@@ -2,14 +2,14 @@
 use Rattle.std.proofs.Common.{inl, ℕ, List, length, refl}
 use Rattle.cell_types.specs.Image.{Image, Extends}
 use Rattle.cell_types.specs.Layout.{Layout}
-use Rattle.stored_documents.specs.Documents.{Stands}
-use Rattle.stored_documents.proofs.Extending.{volume_on}
-use Rattle.index_paths.specs.Keeping.{IsKept}
-use Rattle.index_paths.specs.Postings.{ListedPosting}
-use Rattle.ingest_plan.specs.ingest_laws.Ingesting.{Plan, Storing}
-use Rattle.ingest_plan.proofs.of_ingest_laws.Filled.{mine}
-use Rattle.ingest_plan.specs.hash_tree.declared.level.Level.{Level}
-use Rattle.ingest_plan.specs.hash_tree.declared.path.Open.{Open}
+use Rattle.volume_meaning.specs.Documents.{Stands}
+use Rattle.volume_meaning.proofs.Extending.{volume_on}
+use Rattle.volume_meaning.specs.Keeping.{IsKept}
+use Rattle.volume_meaning.specs.Postings.{ListedPosting}
+use Rattle.ingest_laws.specs.Ingesting.{Plan, Storing}
+use Rattle.ingest_laws.proofs.Filled.{mine}
+use Rattle.hash_tree.specs.declared.level.Level.{Level}
+use Rattle.hash_tree.specs.declared.path.Open.{Open}
 use Rattle.plan_laws.specs.Laws.{IsPlannedIndex}
 use Rattle.plan_laws.proofs.Filled.{filled}
 use Rattle.plan_laws.proofs.NewImage.{new_image}

@@ -2,11 +2,11 @@
 use Rattle.std.proofs.Common.{◌≡◌, ◌≤◌, ◌+◌, ◌-◌, ◌⊎◌, ⊎_elim, inl, inr, ℕ, suc, zero, List, Option, Some, None, refl, sym, ◌∙◌, ap, arith}
 use Rattle.std.proofs.lemmas.Option.{none-some}
 use Rattle.cell_types.specs.Image.{Image}
-use Rattle.stored_documents.proofs.Holding.{some_is}
-use Rattle.ingest_plan.specs.tamper_rules.Settling.{IsWith}
-use Rattle.ingest_plan.proofs.of_tamper_rules.Images.{look}
+use Rattle.volume_meaning.proofs.Holding.{some_is}
+use Rattle.tamper_rules.specs.Settling.{IsWith}
+use Rattle.tamper_rules.proofs.Images.{look}
 use Rattle.worm_device.specs.Overlays.{over}
-use Rattle.ingest_plan.proofs.of_tamper_rules.Writing.{put_cell, put_there, put_other, same_or_not}
+use Rattle.tamper_rules.proofs.Writing.{put_cell, put_there, put_other, same_or_not}
 
 -- what the first image has, and where it is blank what the other has
 abbrev pub laid_on : Image → Image → Image

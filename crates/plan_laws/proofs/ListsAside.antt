@@ -2,10 +2,10 @@
 use Rattle.std.proofs.Common.{◌≡◌, ◌<◌, ◌≤◌, ◌+◌, ℕ, arith}
 use Rattle.cell_types.specs.Image.{Image, Extends}
 use Rattle.cell_types.specs.Layout.{Layout, list_at, pool_at, all_lists}
-use Rattle.index_paths.specs.Blocks.{Leads}
-use Rattle.index_paths.proofs.Trails.{trail_on, trail_wider}
-use Rattle.ingest_plan.specs.ingest_laws.ListShapes.{IsWellListed}
-use Rattle.ingest_plan.proofs.of_ingest_laws.ListShapes.{back, holds_back, listed_back, well_apart, well_wider}
+use Rattle.volume_meaning.specs.Blocks.{Leads}
+use Rattle.volume_meaning.proofs.Trails.{trail_on, trail_wider}
+use Rattle.ingest_laws.specs.ListShapes.{IsWellListed}
+use Rattle.ingest_laws.proofs.ListShapes.{back, holds_back, listed_back, well_apart, well_wider}
 use Rattle.ingest_plan.specs.Standing.{ListsStand}
 
 module _ {g : Layout} {old new : Image} {next to : ℕ} {bound : ℕ → ℕ} (lists : ListsStand g old next bound) (e : Extends old new)

@@ -5,20 +5,20 @@ use Rattle.std.proofs.lemmas.List.{take_all}
 use Rattle.sha2.specs.Sha256.{sha256}
 use Rattle.cell_types.specs.Image.{Image}
 use Rattle.cell_types.specs.Layout.{Layout, IsLayout}
-use Rattle.stored_documents.specs.Documents.{stored_bytes}
-use Rattle.stored_documents.specs.Slots.{EndsBelow, IsEdge, IsHorizon, IsStampFor, cells_for}
-use Rattle.index_paths.specs.HashPaths.{IsPassed, nibble}
-use Rattle.index_paths.specs.Keeping.{sought_in}
-use Rattle.index_paths.specs.Postings.{ListedPosting}
-use Rattle.ingest_plan.specs.tamper_rules.Settling.{IsSettled}
-use Rattle.ingest_plan.specs.ingest_laws.Needs.{BucketCosts, IsNeed, PostingsCost, in_bucket, in_new_node}
+use Rattle.volume_meaning.specs.Documents.{stored_bytes}
+use Rattle.volume_meaning.specs.Slots.{EndsBelow, IsEdge, IsHorizon, IsStampFor, cells_for}
+use Rattle.volume_meaning.specs.HashPaths.{IsPassed, nibble}
+use Rattle.volume_meaning.specs.Keeping.{sought_in}
+use Rattle.volume_meaning.specs.Postings.{ListedPosting}
+use Rattle.tamper_rules.specs.Settling.{IsSettled}
+use Rattle.ingest_laws.specs.Needs.{BucketCosts, IsNeed, PostingsCost, in_bucket, in_new_node}
 use Rattle.worm_device.specs.Counts.{IsStill}
 use Rattle.worm_device.specs.State.{DeviceState}
-use Rattle.ingest_plan.specs.hash_tree.Levels.{node_of}
-use Rattle.ingest_plan.specs.hash_tree.Steps.{IsOpenAt}
-use Rattle.ingest_plan.specs.hash_tree.declared.level.Level.{Level}
-use Rattle.ingest_plan.specs.hash_tree.declared.path.Open.{Open}
-use Rattle.ingest_plan.specs.hash_insertion.Readiness.{PassedDown, blank_in, cost_in, cost_of}
+use Rattle.hash_tree.specs.Levels.{node_of}
+use Rattle.hash_tree.specs.Steps.{IsOpenAt}
+use Rattle.hash_tree.specs.declared.level.Level.{Level}
+use Rattle.hash_tree.specs.declared.path.Open.{Open}
+use Rattle.hash_tree.specs.Readiness.{PassedDown, blank_in, cost_in, cost_of}
 use Rattle.plan_laws.specs.Standing.{EndsPath, below_slot, seconds_of}
 use Rattle.plan_laws.proofs.SettledLists.{settled_stand}
 use Rattle.ingest_plan.specs.Planning.{IsLater, IsPlanned}

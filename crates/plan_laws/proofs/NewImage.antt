@@ -5,18 +5,18 @@ use Rattle.cell_types.specs.Image.{Image}
 use Rattle.cell_types.specs.Layout.{Layout, reserve_at, outcome_at, done_at, spare_at, lists_at}
 use Rattle.cell_types.specs.Records.{record_bytes}
 use Rattle.cell_types.specs.declared.record_cell.RecordCell.TheVariants.{Reserve, Commit, Done, Stamp}
-use Rattle.stored_documents.specs.Documents.{content_at, document_at}
-use Rattle.stored_documents.specs.Slots.{cells_for}
-use Rattle.index_paths.specs.Postings.{ListedPosting}
-use Rattle.ingest_plan.specs.tamper_rules.Journals.{journal_at}
-use Rattle.ingest_plan.specs.tamper_rules.Rules
-use Rattle.ingest_plan.specs.tamper_rules.Rules.{BlankRule, DoneRule, OutcomeRule}
-use Rattle.ingest_plan.specs.tamper_rules.Settling.{IsWith}
-use Rattle.ingest_plan.proofs.of_tamper_rules.Images.{look}
-use Rattle.ingest_plan.specs.ingest_laws.Filling.{blocks_end}
-use Rattle.ingest_plan.specs.ingest_laws.Ingesting.{Plan, stored_of}
-use Rattle.ingest_plan.specs.hash_tree.declared.level.Level.{Level}
-use Rattle.ingest_plan.specs.hash_tree.declared.path.Open.{Open}
+use Rattle.volume_meaning.specs.Documents.{content_at, document_at}
+use Rattle.volume_meaning.specs.Slots.{cells_for}
+use Rattle.volume_meaning.specs.Postings.{ListedPosting}
+use Rattle.tamper_rules.specs.Journals.{journal_at}
+use Rattle.tamper_rules.specs.Rules
+use Rattle.tamper_rules.specs.Rules.{BlankRule, DoneRule, OutcomeRule}
+use Rattle.tamper_rules.specs.Settling.{IsWith}
+use Rattle.tamper_rules.proofs.Images.{look}
+use Rattle.ingest_laws.specs.Filling.{blocks_end}
+use Rattle.ingest_laws.specs.Ingesting.{Plan, stored_of}
+use Rattle.hash_tree.specs.declared.level.Level.{Level}
+use Rattle.hash_tree.specs.declared.path.Open.{Open}
 use Rattle.plan_laws.specs.Laws.{IsPlannedIndex}
 use Rattle.plan_laws.proofs.Behind.{blank_from, more, planned_low, pool_before}
 use Rattle.plan_laws.proofs.Laying.{IsIn, blank_with, held, held_is, one_cell, one_is, laid_on, over_is, row_from, row_is, with_both, with_same}

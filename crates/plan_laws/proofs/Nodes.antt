@@ -5,20 +5,20 @@ use Rattle.cell_types.specs.Bytes.{AreBytes}
 use Rattle.cell_types.specs.Image.{Image}
 use Rattle.cell_types.specs.Layout.{Layout, root_at}
 use Rattle.cell_types.specs.declared.record_cell.RecordCell.TheVariants.{Bucket, Child}
-use Rattle.stored_documents.specs.Volumes.{Holds, IsWritten}
-use Rattle.stored_documents.proofs.Extending.{holds_on}
-use Rattle.index_paths.specs.HashPaths.{PassedTo, fingerprint_of, nibble}
-use Rattle.index_paths.specs.Keeping.{sought_in}
-use Rattle.index_paths.specs.Nodes.{IsNode, IsOnPath}
-use Rattle.index_paths.specs.Postings.{ListedPosting}
-use Rattle.ingest_plan.proofs.of_tamper_rules.GoingOn.{on_path_on}
-use Rattle.ingest_plan.specs.ingest_laws.Ingesting.{Plan}
-use Rattle.ingest_plan.proofs.of_ingest_laws.ListShapes.{holds_back, written_back}
-use Rattle.ingest_plan.specs.hash_tree.Levels.{node_of}
-use Rattle.ingest_plan.specs.hash_tree.declared.level.Level.{Level}
-use Rattle.ingest_plan.specs.hash_tree.declared.path.Open.{Open}
-use Rattle.ingest_plan.proofs.of_hash_insertion.Paths.{on_path}
-use Rattle.ingest_plan.specs.hash_insertion.Readiness.{PassedDown}
+use Rattle.volume_meaning.specs.Volumes.{Holds, IsWritten}
+use Rattle.volume_meaning.proofs.Extending.{holds_on}
+use Rattle.volume_meaning.specs.HashPaths.{PassedTo, fingerprint_of, nibble}
+use Rattle.volume_meaning.specs.Keeping.{sought_in}
+use Rattle.volume_meaning.specs.Nodes.{IsNode, IsOnPath}
+use Rattle.volume_meaning.specs.Postings.{ListedPosting}
+use Rattle.tamper_rules.proofs.GoingOn.{on_path_on}
+use Rattle.ingest_laws.specs.Ingesting.{Plan}
+use Rattle.ingest_laws.proofs.ListShapes.{holds_back, written_back}
+use Rattle.hash_tree.specs.Levels.{node_of}
+use Rattle.hash_tree.specs.declared.level.Level.{Level}
+use Rattle.hash_tree.specs.declared.path.Open.{Open}
+use Rattle.hash_tree.proofs.InsertionPaths.{on_path}
+use Rattle.hash_tree.specs.Readiness.{PassedDown}
 use Rattle.plan_laws.proofs.BehindRow as row
 use Rattle.plan_laws.specs.Laws.{IsPlannedIndex}
 use Rattle.plan_laws.proofs.Behind.{between_blank, is_rooted, pool_before, stand}

@@ -4,20 +4,20 @@ use Rattle.std.specs.Prelude.{Contains}
 use Rattle.cell_types.specs.Image.{Image}
 use Rattle.cell_types.specs.Layout.{Layout, IsLayout, list_at, outcome_at, pool_at}
 use Rattle.cell_types.specs.declared.record_cell.RecordCell.TheVariants.{Jump, Child}
-use Rattle.stored_documents.specs.Documents.{document_at}
-use Rattle.stored_documents.specs.Slots.{IsDone, IsHorizon, Stores}
-use Rattle.stored_documents.specs.Volumes.{Holds}
-use Rattle.stored_documents.proofs.Holding.{one_record_holds}
-use Rattle.stored_documents.proofs.OneDocument.{reserves, commits}
-use Rattle.index_paths.specs.Blocks.{Leads, arrived, onwards, pointer_at}
-use Rattle.index_paths.specs.Nodes.{IsBlockOf, IsNode, root, under}
-use Rattle.ingest_plan.specs.tamper_rules.Journals.{IsIndexCell, LiesInBlocks, of_list, of_root, of_slot}
-use Rattle.ingest_plan.specs.tamper_rules.Rules
-use Rattle.ingest_plan.specs.tamper_rules.Rules.{ChildRule, HasChild, IsSize, LeadsDownWell, LeadsWell, PointerRule, Tile, TilingRule}
-use Rattle.ingest_plan.specs.tamper_rules.Settling.{IsSettled}
-use Rattle.ingest_plan.proofs.of_tamper_rules.Between.{commit_done}
-use Rattle.ingest_plan.proofs.of_tamper_rules.GivenUp.{children, jumps, leads_further}
-use Rattle.ingest_plan.proofs.of_tamper_rules.Settled.{below_horizon, written}
+use Rattle.volume_meaning.specs.Documents.{document_at}
+use Rattle.volume_meaning.specs.Slots.{IsDone, IsHorizon, Stores}
+use Rattle.volume_meaning.specs.Volumes.{Holds}
+use Rattle.volume_meaning.proofs.Holding.{one_record_holds}
+use Rattle.volume_meaning.proofs.OneDocument.{reserves, commits}
+use Rattle.volume_meaning.specs.Blocks.{Leads, arrived, onwards, pointer_at}
+use Rattle.volume_meaning.specs.Nodes.{IsBlockOf, IsNode, root, under}
+use Rattle.tamper_rules.specs.Journals.{IsIndexCell, LiesInBlocks, of_list, of_root, of_slot}
+use Rattle.tamper_rules.specs.Rules
+use Rattle.tamper_rules.specs.Rules.{ChildRule, HasChild, IsSize, LeadsDownWell, LeadsWell, PointerRule, Tile, TilingRule}
+use Rattle.tamper_rules.specs.Settling.{IsSettled}
+use Rattle.tamper_rules.proofs.Between.{commit_done}
+use Rattle.tamper_rules.proofs.GivenUp.{children, jumps, leads_further}
+use Rattle.tamper_rules.proofs.Settled.{below_horizon, written}
 
 -- a target among those that tile cells has at least 32 of them
 module _ (image : Image) (start reserved journal : ℕ) where

@@ -6,17 +6,17 @@ use Rattle.cell_types.specs.Layout.{Layout, list_at, pool_at, all_lists}
 use Rattle.cell_types.specs.Records.{IsRecordCell}
 use Rattle.cell_types.specs.declared.record_cell.RecordCell.{RecordCell}
 use Rattle.cell_types.specs.declared.record_cell.RecordCell.TheVariants.{Jump, Bucket, Child}
-use Rattle.stored_documents.specs.Volumes.{Holds}
-use Rattle.stored_documents.proofs.Holding.{one_record_holds}
-use Rattle.index_paths.specs.Blocks.{Leads, PostingFields, posting_record}
-use Rattle.index_paths.specs.Nodes.{IsBlockOf}
-use Rattle.index_paths.specs.Postings.{IsPostingOf, ListedPosting}
-use Rattle.index_paths.proofs.Fronts.{one_posting}
-use Rattle.ingest_plan.proofs.of_tamper_rules.Writing.{same_or_not}
-use Rattle.ingest_plan.specs.ingest_laws.Ingesting.{Plan}
-use Rattle.ingest_plan.proofs.of_ingest_laws.ListShapes.{holds_back}
-use Rattle.ingest_plan.specs.hash_tree.declared.level.Level.{Level}
-use Rattle.ingest_plan.specs.hash_tree.declared.path.Open.{Open}
+use Rattle.volume_meaning.specs.Volumes.{Holds}
+use Rattle.volume_meaning.proofs.Holding.{one_record_holds}
+use Rattle.volume_meaning.specs.Blocks.{Leads, PostingFields, posting_record}
+use Rattle.volume_meaning.specs.Nodes.{IsBlockOf}
+use Rattle.volume_meaning.specs.Postings.{IsPostingOf, ListedPosting}
+use Rattle.volume_meaning.proofs.Fronts.{one_posting}
+use Rattle.tamper_rules.proofs.Writing.{same_or_not}
+use Rattle.ingest_laws.specs.Ingesting.{Plan}
+use Rattle.ingest_laws.proofs.ListShapes.{holds_back}
+use Rattle.hash_tree.specs.declared.level.Level.{Level}
+use Rattle.hash_tree.specs.declared.path.Open.{Open}
 use Rattle.plan_laws.specs.Laws.{IsPlannedIndex}
 use Rattle.plan_laws.proofs.Behind.{IsPlannedCell, a_posting, a_pointer, a_bucket, a_child, is_listed, planned_cell, stand_behind}
 use Rattle.plan_laws.proofs.NewImage.{new_image}

@@ -6,15 +6,15 @@ use Rattle.cell_types.specs.Layout.{Layout, reserve_at, outcome_at, done_at, spa
 use Rattle.cell_types.specs.Records.{IsRecordCell, record_bytes}
 use Rattle.cell_types.specs.declared.record_cell.RecordCell.TheVariants.{Reserve, Commit, Done, Stamp}
 use Rattle.cell_types.proofs.OneRecord.{one_record}
-use Rattle.stored_documents.specs.Documents.{content_at}
-use Rattle.stored_documents.specs.Slots.{cells_for}
-use Rattle.stored_documents.proofs.Extending.{blank_before}
-use Rattle.index_paths.specs.Postings.{ListedPosting}
-use Rattle.ingest_plan.specs.tamper_rules.Settling.{IsWith}
-use Rattle.ingest_plan.proofs.of_tamper_rules.Images.{look}
-use Rattle.ingest_plan.specs.ingest_laws.Ingesting.{Plan, Reserving, Storing, Committing, Applying, Finishing, stored_of, StoredRow, AppliedRow, AnyRow}
-use Rattle.ingest_plan.specs.hash_tree.declared.level.Level.{Level}
-use Rattle.ingest_plan.specs.hash_tree.declared.path.Open.{Open}
+use Rattle.volume_meaning.specs.Documents.{content_at}
+use Rattle.volume_meaning.specs.Slots.{cells_for}
+use Rattle.volume_meaning.proofs.Extending.{blank_before}
+use Rattle.volume_meaning.specs.Postings.{ListedPosting}
+use Rattle.tamper_rules.specs.Settling.{IsWith}
+use Rattle.tamper_rules.proofs.Images.{look}
+use Rattle.ingest_laws.specs.Ingesting.{Plan, Reserving, Storing, Committing, Applying, Finishing, stored_of, StoredRow, AppliedRow, AnyRow}
+use Rattle.hash_tree.specs.declared.level.Level.{Level}
+use Rattle.hash_tree.specs.declared.path.Open.{Open}
 use Rattle.plan_laws.specs.Laws.{IsPlannedIndex}
 use Rattle.plan_laws.specs.Standing.{seconds_of}
 use Rattle.plan_laws.proofs.Behind.{more, planned_low, some_planned, to_inside}

@@ -5,21 +5,21 @@ use Rattle.std.proofs.lemmas.Bool.{cases_lt, le-ltb, lt-ltb}
 use Rattle.cell_types.specs.Image.{Image}
 use Rattle.cell_types.specs.Layout.{Layout, IsLayout, list_at, pool_at, all_lists}
 use Rattle.cell_types.specs.declared.record_cell.RecordCell.TheVariants.{Jump}
-use Rattle.stored_documents.specs.Slots.{IsEdge, IsHorizon}
-use Rattle.stored_documents.proofs.Stamps.{stands_given}
-use Rattle.stored_documents.specs.Volumes.{Holds}
-use Rattle.stored_documents.proofs.Holding.{one_record_holds}
-use Rattle.index_paths.specs.Blocks.{PostingFields, posting_record, Leads, arrived, onwards, pointer_at}
-use Rattle.index_paths.specs.Nodes.{IsBlockOf, AreApart}
-use Rattle.ingest_plan.specs.tamper_rules.Rules
-use Rattle.ingest_plan.specs.tamper_rules.Rules.{IsTruePosting, LeadsWell, PointerRule, PostingRule}
-use Rattle.ingest_plan.specs.tamper_rules.Settling.{IsSettled}
-use Rattle.index_paths.specs.Postings.{IsWordPosting, time_posting}
-use Rattle.index_paths.proofs.Tags.{word_slot}
-use Rattle.ingest_plan.proofs.of_tamper_rules.GivenUp.{jumps, leads_further}
-use Rattle.ingest_plan.proofs.of_tamper_rules.Settled.{below_horizon, written}
-use Rattle.ingest_plan.proofs.of_ingest_laws.SettledShapes.{edge_inside, leads_wider, settled_listed}
-use Rattle.ingest_plan.proofs.of_ingest_laws.SettledTrails.{settled_trails}
+use Rattle.volume_meaning.specs.Slots.{IsEdge, IsHorizon}
+use Rattle.volume_meaning.proofs.Stamps.{stands_given}
+use Rattle.volume_meaning.specs.Volumes.{Holds}
+use Rattle.volume_meaning.proofs.Holding.{one_record_holds}
+use Rattle.volume_meaning.specs.Blocks.{PostingFields, posting_record, Leads, arrived, onwards, pointer_at}
+use Rattle.volume_meaning.specs.Nodes.{IsBlockOf, AreApart}
+use Rattle.tamper_rules.specs.Rules
+use Rattle.tamper_rules.specs.Rules.{IsTruePosting, LeadsWell, PointerRule, PostingRule}
+use Rattle.tamper_rules.specs.Settling.{IsSettled}
+use Rattle.volume_meaning.specs.Postings.{IsWordPosting, time_posting}
+use Rattle.volume_meaning.proofs.Tags.{word_slot}
+use Rattle.tamper_rules.proofs.GivenUp.{jumps, leads_further}
+use Rattle.tamper_rules.proofs.Settled.{below_horizon, written}
+use Rattle.ingest_laws.proofs.SettledShapes.{edge_inside, leads_wider, settled_listed}
+use Rattle.ingest_laws.proofs.SettledTrails.{settled_trails}
 use Rattle.ingest_plan.specs.Standing.{ListsStand}
 use Rattle.plan_laws.specs.Standing.{HasPastStamps, below_slot}
 

@@ -4,15 +4,15 @@ use Rattle.std.proofs.lemmas.Bool.{cases_lt}
 use Rattle.cell_types.specs.Image.{Image}
 use Rattle.cell_types.specs.Layout.{Layout, IsLayout, list_at, pool_at}
 use Rattle.cell_types.specs.declared.record_cell.RecordCell.TheVariants.{Child}
-use Rattle.stored_documents.specs.Slots.{IsEdge}
-use Rattle.stored_documents.proofs.Holding.{one_record_holds}
-use Rattle.index_paths.specs.Blocks.{Leads, arrived, onwards}
-use Rattle.index_paths.specs.Nodes.{AreApart, IsBlockOf, IsNode, root, under}
-use Rattle.ingest_plan.specs.tamper_rules.Rules
-use Rattle.ingest_plan.specs.tamper_rules.Rules.{ChildRule, LeadsDownWell}
-use Rattle.ingest_plan.specs.tamper_rules.Settling.{IsSettled}
-use Rattle.ingest_plan.proofs.of_tamper_rules.GivenUp.{children}
-use Rattle.ingest_plan.proofs.of_ingest_laws.SettledShapes.{edge_inside, leads_wider, settled_rooted}
+use Rattle.volume_meaning.specs.Slots.{IsEdge}
+use Rattle.volume_meaning.proofs.Holding.{one_record_holds}
+use Rattle.volume_meaning.specs.Blocks.{Leads, arrived, onwards}
+use Rattle.volume_meaning.specs.Nodes.{AreApart, IsBlockOf, IsNode, root, under}
+use Rattle.tamper_rules.specs.Rules
+use Rattle.tamper_rules.specs.Rules.{ChildRule, LeadsDownWell}
+use Rattle.tamper_rules.specs.Settling.{IsSettled}
+use Rattle.tamper_rules.proofs.GivenUp.{children}
+use Rattle.ingest_laws.proofs.SettledShapes.{edge_inside, leads_wider, settled_rooted}
 use Rattle.plan_laws.specs.Standing.{TreeStands}
 
 -- a block is a first one, or lies in the pool

@@ -2,20 +2,20 @@
 use Rattle.std.proofs.Common.{◌≡◌, ◌<◌, ◌≤◌, ◌+◌, ◌⊎◌, ⊎_elim, inl, inr, ℕ, List, sym, subst, arith}
 use Rattle.cell_types.specs.Image.{Image}
 use Rattle.cell_types.specs.Layout.{Layout, list_at, pool_at, root_at, all_lists, lists_at}
-use Rattle.index_paths.specs.Blocks.{Leads}
-use Rattle.index_paths.specs.Nodes.{AreApart, IsBlockOf, IsNode, root, under}
-use Rattle.index_paths.specs.Postings.{ListedPosting}
-use Rattle.ingest_plan.proofs.of_tamper_rules.Writing.{same_or_not}
-use Rattle.ingest_plan.specs.ingest_laws.Filling.{blocks_end}
-use Rattle.ingest_plan.specs.ingest_laws.Ingesting.{Plan}
-use Rattle.ingest_plan.specs.ingest_laws.ListShapes.{IsWellListed}
-use Rattle.ingest_plan.specs.ingest_laws.TreeShapes.{IsWellRooted}
-use Rattle.ingest_plan.proofs.of_ingest_laws.ListShapes.{back, holds_back}
-use Rattle.ingest_plan.proofs.of_ingest_laws.SettledShapes.{leads_wider}
-use Rattle.ingest_plan.proofs.of_ingest_laws.TreeShapes.{node_place, rooted_apart}
-use Rattle.ingest_plan.specs.hash_tree.declared.level.Level.{Level}
-use Rattle.ingest_plan.specs.hash_tree.declared.path.Open.{Open}
-use Rattle.ingest_plan.proofs.of_jump_insertion.KeptTrails.{leads_below}
+use Rattle.volume_meaning.specs.Blocks.{Leads}
+use Rattle.volume_meaning.specs.Nodes.{AreApart, IsBlockOf, IsNode, root, under}
+use Rattle.volume_meaning.specs.Postings.{ListedPosting}
+use Rattle.tamper_rules.proofs.Writing.{same_or_not}
+use Rattle.ingest_laws.specs.Filling.{blocks_end}
+use Rattle.ingest_laws.specs.Ingesting.{Plan}
+use Rattle.ingest_laws.specs.ListShapes.{IsWellListed}
+use Rattle.ingest_laws.specs.TreeShapes.{IsWellRooted}
+use Rattle.ingest_laws.proofs.ListShapes.{back, holds_back}
+use Rattle.ingest_laws.proofs.SettledShapes.{leads_wider}
+use Rattle.ingest_laws.proofs.TreeShapes.{node_place, rooted_apart}
+use Rattle.hash_tree.specs.declared.level.Level.{Level}
+use Rattle.hash_tree.specs.declared.path.Open.{Open}
+use Rattle.jump_insertion.proofs.KeptTrails.{leads_below}
 use Rattle.ingest_plan.specs.Standing.{ListsStand}
 use Rattle.plan_laws.specs.Standing.{below_slot, seconds_of}
 use Rattle.plan_laws.proofs.ListsAside.{lists_aside, was_block}

@@ -5,16 +5,16 @@ use Rattle.std.specs.Prelude.{nat_lt, if◌then◌else◌, Bool, true, false}
 use Rattle.std.proofs.lemmas.Bool.Decides.{nat_tests}
 use Rattle.cell_types.specs.Image.{Image}
 use Rattle.cell_types.specs.Layout.{Layout, all_lists, pool_at}
-use Rattle.stored_documents.specs.Slots.{IsEdge, IsStampFor, Reserves}
-use Rattle.index_paths.specs.Blocks.{PostingFields}
-use Rattle.index_paths.specs.Postings.{ArePostings, IsPostingOf, IsWordPosting, ListedPosting, time_posting}
-use Rattle.ingest_plan.specs.tamper_rules.Rules
-use Rattle.ingest_plan.specs.tamper_rules.Rules.{BlankRule}
-use Rattle.ingest_plan.specs.tamper_rules.Settling.{IsSettled}
-use Rattle.ingest_plan.proofs.of_tamper_rules.Images.{look, same_image}
-use Rattle.ingest_plan.specs.ingest_laws.Ingesting.{Plan}
-use Rattle.ingest_plan.specs.hash_tree.declared.level.Level.{Level}
-use Rattle.ingest_plan.specs.hash_tree.declared.path.Open.{Open}
+use Rattle.volume_meaning.specs.Slots.{IsEdge, IsStampFor, Reserves}
+use Rattle.volume_meaning.specs.Blocks.{PostingFields}
+use Rattle.volume_meaning.specs.Postings.{ArePostings, IsPostingOf, IsWordPosting, ListedPosting, time_posting}
+use Rattle.tamper_rules.specs.Rules
+use Rattle.tamper_rules.specs.Rules.{BlankRule}
+use Rattle.tamper_rules.specs.Settling.{IsSettled}
+use Rattle.tamper_rules.proofs.Images.{look, same_image}
+use Rattle.ingest_laws.specs.Ingesting.{Plan}
+use Rattle.hash_tree.specs.declared.level.Level.{Level}
+use Rattle.hash_tree.specs.declared.path.Open.{Open}
 use Rattle.ingest_plan.specs.Standing.{HasKeysBetween, ListsStand}
 use Rattle.plan_laws.specs.Standing.{HasPastStamps, IndexesStand, below_slot, seconds_of}
 use Rattle.plan_laws.proofs.SettledLists.{settled_stand, time_bound, words_bound}

@@ -9,20 +9,20 @@ use Rattle.cell_types.specs.Layout.{Layout, list_at, pool_at, all_lists}
 use Rattle.cell_types.specs.Records.{IsRecordCell}
 use Rattle.cell_types.specs.declared.record_cell.RecordCell.{RecordCell}
 use Rattle.cell_types.specs.declared.record_cell.RecordCell.TheVariants.{Jump, Bucket, Child}
-use Rattle.stored_documents.specs.Volumes.{Holds}
-use Rattle.stored_documents.proofs.Holding.{one_record_holds, some_is}
-use Rattle.index_paths.specs.Blocks.{Leads, PostingFields, posting_record}
-use Rattle.index_paths.specs.Nodes.{AreApart, IsNode}
-use Rattle.index_paths.specs.Postings.{ListedPosting}
-use Rattle.ingest_plan.specs.tamper_rules.Journals.{Copies, IsIndexRecord, journal_at}
-use Rattle.ingest_plan.specs.tamper_rules.Rules.{HasChild, HasJump, IsSize, TilingRule}
-use Rattle.ingest_plan.specs.tamper_rules.Rules as rules
-use Rattle.ingest_plan.proofs.of_tamper_rules.GivenUp.{children, jumps}
-use Rattle.ingest_plan.proofs.of_tamper_rules.Writing.{same_or_not}
-use Rattle.ingest_plan.specs.ingest_laws.Ingesting.{Plan, Storing, stored_of}
-use Rattle.ingest_plan.specs.cell_pool.Grants.{Grant, Tile}
-use Rattle.ingest_plan.specs.hash_tree.declared.level.Level.{Level}
-use Rattle.ingest_plan.specs.hash_tree.declared.path.Open.{Open}
+use Rattle.volume_meaning.specs.Volumes.{Holds}
+use Rattle.volume_meaning.proofs.Holding.{one_record_holds, some_is}
+use Rattle.volume_meaning.specs.Blocks.{Leads, PostingFields, posting_record}
+use Rattle.volume_meaning.specs.Nodes.{AreApart, IsNode}
+use Rattle.volume_meaning.specs.Postings.{ListedPosting}
+use Rattle.tamper_rules.specs.Journals.{Copies, IsIndexRecord, journal_at}
+use Rattle.tamper_rules.specs.Rules.{HasChild, HasJump, IsSize, TilingRule}
+use Rattle.tamper_rules.specs.Rules as rules
+use Rattle.tamper_rules.proofs.GivenUp.{children, jumps}
+use Rattle.tamper_rules.proofs.Writing.{same_or_not}
+use Rattle.ingest_laws.specs.Ingesting.{Plan, Storing, stored_of}
+use Rattle.cell_pool.specs.Grants.{Grant, Tile}
+use Rattle.hash_tree.specs.declared.level.Level.{Level}
+use Rattle.hash_tree.specs.declared.path.Open.{Open}
 use Rattle.ingest_plan.specs.Granting.{IsLedTo, to_block, to_node}
 use Rattle.plan_laws.specs.Laws.{IsPlannedIndex}
 use Rattle.plan_laws.proofs.Behind.{IsPlannedCell, a_posting, a_pointer, a_bucket, a_child, planned_cell, stand_behind}

@@ -1,13 +1,13 @@
 -- A planned index is well made.
-use Rattle.stored_documents.proofs.Stamps.{one}
-use Rattle.index_paths.specs.Postings.{IsPostingOf, ListedPosting}
+use Rattle.volume_meaning.proofs.Stamps.{one}
+use Rattle.volume_meaning.specs.Postings.{IsPostingOf, ListedPosting}
 use Rattle.std.proofs.Common.{ℕ, List, Option, subst}
 use Rattle.cell_types.specs.Image.{Image}
 use Rattle.cell_types.specs.Layout.{Layout}
-use Rattle.ingest_plan.specs.ingest_laws.Filling.{IsWellPlanned}
-use Rattle.ingest_plan.specs.ingest_laws.Ingesting.{Plan}
-use Rattle.ingest_plan.specs.hash_tree.declared.level.Level.{Level}
-use Rattle.ingest_plan.specs.hash_tree.declared.path.Open.{Open}
+use Rattle.ingest_laws.specs.Filling.{IsWellPlanned}
+use Rattle.ingest_laws.specs.Ingesting.{Plan}
+use Rattle.hash_tree.specs.declared.level.Level.{Level}
+use Rattle.hash_tree.specs.declared.path.Open.{Open}
 use Rattle.plan_laws.specs.Laws.{IsPlannedIndex}
 use Rattle.plan_laws.proofs.Filled.{filled, owners}
 use Rattle.plan_laws.proofs.Kept.{kept}

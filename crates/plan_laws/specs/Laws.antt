@@ -3,20 +3,20 @@ use Rattle.std.specs.Prelude.{◌≡◌, ◌<◌, ◌≤◌, ◌+◌, ◌^◌, �
 use Rattle.sha2.specs.Sha256.{sha256}
 use Rattle.cell_types.specs.Image.{Image, Extends, IsUnchanged}
 use Rattle.cell_types.specs.Layout.{Layout, IsLayout}
-use Rattle.stored_documents.specs.Documents.{IsBody, IsIdentifier, Stands, stored_bytes}
-use Rattle.stored_documents.specs.Slots.{EndsBelow, IsHorizon, IsStampFor, IsStampOf, cells_for}
-use Rattle.stored_documents.specs.Volumes.{IsVolume}
-use Rattle.index_paths.specs.Keeping.{IsKept, sought_in}
-use Rattle.index_paths.specs.Postings.{ArePostings, ListedPosting}
-use Rattle.ingest_plan.specs.tamper_rules.Settling.{IsSettled, IsWith}
-use Rattle.ingest_plan.specs.ingest_laws.Filling.{IsWellPlanned}
-use Rattle.ingest_plan.specs.ingest_laws.Ingesting.{Plan, stored_of}
-use Rattle.ingest_plan.specs.ingest_laws.Needs.{IsNeed}
+use Rattle.volume_meaning.specs.Documents.{IsBody, IsIdentifier, Stands, stored_bytes}
+use Rattle.volume_meaning.specs.Slots.{EndsBelow, IsHorizon, IsStampFor, IsStampOf, cells_for}
+use Rattle.volume_meaning.specs.Volumes.{IsVolume}
+use Rattle.volume_meaning.specs.Keeping.{IsKept, sought_in}
+use Rattle.volume_meaning.specs.Postings.{ArePostings, ListedPosting}
+use Rattle.tamper_rules.specs.Settling.{IsSettled, IsWith}
+use Rattle.ingest_laws.specs.Filling.{IsWellPlanned}
+use Rattle.ingest_laws.specs.Ingesting.{Plan, stored_of}
+use Rattle.ingest_laws.specs.Needs.{IsNeed}
 use Rattle.worm_device.specs.Counts.{IsStill}
 use Rattle.worm_device.specs.State.{DeviceState}
-use Rattle.ingest_plan.specs.hash_tree.declared.level.Level.{Level}
-use Rattle.ingest_plan.specs.hash_tree.declared.path.Open.{Open}
-use Rattle.ingest_plan.specs.hash_insertion.Readiness.{PassedDown}
+use Rattle.hash_tree.specs.declared.level.Level.{Level}
+use Rattle.hash_tree.specs.declared.path.Open.{Open}
+use Rattle.hash_tree.specs.Readiness.{PassedDown}
 use Rattle.ingest_plan.specs.Granting.{GivesWhatIsLedTo}
 use Rattle.ingest_plan.specs.Indexes.{IsIndexCell}
 use Rattle.ingest_plan.specs.Journal.{IsJournal}

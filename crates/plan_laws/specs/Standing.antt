@@ -3,19 +3,19 @@ use Rattle.std.specs.Prelude.{◌≡◌, ◌<◌, ◌≤◌, ◌*◌, if◌then�
 use Rattle.cell_types.specs.Bytes.{AreBytes}
 use Rattle.cell_types.specs.Image.{Image}
 use Rattle.cell_types.specs.Layout.{Layout, IsLayout, list_at, pool_at, all_lists}
-use Rattle.stored_documents.specs.Slots.{IsEdge, IsHorizon}
-use Rattle.stored_documents.specs.Volumes.{IsWritten}
-use Rattle.index_paths.specs.Blocks.{Leads}
-use Rattle.index_paths.specs.Nodes.{AreApart, IsNode}
-use Rattle.index_paths.specs.Postings.{ListedPosting}
-use Rattle.ingest_plan.specs.tamper_rules.Settling.{IsSettled}
-use Rattle.ingest_plan.specs.ingest_laws.TreeShapes.{IsWellRooted}
-use Rattle.ingest_plan.specs.jump_insertion.Evidence.{IsPastStamps}
-use Rattle.ingest_plan.specs.hash_tree.Levels.{IsReached}
-use Rattle.ingest_plan.specs.hash_tree.Steps.{IsOpenOf}
-use Rattle.ingest_plan.specs.hash_tree.declared.level.Level.{Level}
-use Rattle.ingest_plan.specs.hash_tree.declared.path.Open.{Open}
-use Rattle.ingest_plan.specs.hash_insertion.Readiness.{blank_of}
+use Rattle.volume_meaning.specs.Slots.{IsEdge, IsHorizon}
+use Rattle.volume_meaning.specs.Volumes.{IsWritten}
+use Rattle.volume_meaning.specs.Blocks.{Leads}
+use Rattle.volume_meaning.specs.Nodes.{AreApart, IsNode}
+use Rattle.volume_meaning.specs.Postings.{ListedPosting}
+use Rattle.tamper_rules.specs.Settling.{IsSettled}
+use Rattle.ingest_laws.specs.TreeShapes.{IsWellRooted}
+use Rattle.jump_insertion.specs.Evidence.{IsPastStamps}
+use Rattle.hash_tree.specs.Levels.{IsReached}
+use Rattle.hash_tree.specs.Steps.{IsOpenOf}
+use Rattle.hash_tree.specs.declared.level.Level.{Level}
+use Rattle.hash_tree.specs.declared.path.Open.{Open}
+use Rattle.hash_tree.specs.Readiness.{blank_of}
 use Rattle.ingest_plan.specs.Standing.{IndexStands, ListsStand}
 
 -- The tree has its shape, with nodes before this cell, and no node meets a block of a list.

@@ -7,7 +7,7 @@ use Rattle.cell_types.specs.Image.{IsUnchanged}
 use Rattle.cell_types.specs.declared.refusal.Fault.{Fault}
 use Rattle.cell_types.specs.declared.refusal.Fault.TheVariants.{Tampered, Failed}
 use Rattle.commit_record.specs.declared.reservation.Reservation.{Reservation}
-use Rattle.stored_documents.proofs.Extending.{blank_before}
+use Rattle.volume_meaning.proofs.Extending.{blank_before}
 use Rattle.worm_device.specs.Calls.{Called}
 use Rattle.worm_device.specs.Counts.{IsStill}
 use Rattle.worm_device.specs.ReadRows.{ReadsRow}

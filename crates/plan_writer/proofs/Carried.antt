@@ -6,16 +6,16 @@ use Rattle.cell_types.specs.Image.{Image}
 use Rattle.cell_types.specs.Layout.{Layout, lists_at}
 use Rattle.cell_types.specs.declared.refusal.Fault.{Fault}
 use Rattle.commit_record.specs.declared.reservation.Reservation.{Reservation}
-use Rattle.phase_writer.specs.declared.put.Put.{Put}
-use Rattle.phase_writer.specs.declared.put.Blame.TheVariants.{Rule}
-use Rattle.phase_writer.specs.Putting.{IsThis, PutsPhase, PutsPhases}
-use Rattle.phase_writer.proofs.Phasing.{phases_none, phases_more, phases_ended, phases_wider, phase_told}
+use Rattle.recovery_engine.specs.declared.put.Put.{Put}
+use Rattle.recovery_engine.specs.declared.put.Blame.TheVariants.{Rule}
+use Rattle.recovery_engine.specs.Putting.{IsThis, PutsPhase, PutsPhases}
+use Rattle.recovery_engine.proofs.Phasing.{phases_none, phases_more, phases_ended, phases_wider, phase_told}
 use Rattle.recovery_engine.specs.Ending.{done_put, journal_of}
 use Rattle.recovery_engine.specs.Entries.{AreEntries, target_of}
 use Rattle.recovery_engine.specs.Journal.{IsEntryPut}
 use Rattle.recovery_engine.specs.declared.journal.Journal.{Journal}
-use Rattle.stored_documents.specs.Slots.{cells_for}
-use Rattle.stored_documents.proofs.Holding.{some_is}
+use Rattle.volume_meaning.specs.Slots.{cells_for}
+use Rattle.volume_meaning.proofs.Holding.{some_is}
 use Rattle.tamper_rules.specs.declared.numbers.TheConstants.{STRAY_CELL}
 use Rattle.worm_device.specs.State.{DeviceState}
 use Rattle.plan_writer.specs.Planned.{INGEST_PHASES, IsAskedPut, IsStoredPut, Suits, commit_put, document_from, ingest_phases, journal_from, laid, reserve_put, reserved_by}

@@ -3,15 +3,15 @@ use Rattle.std.proofs.Common.{◌≡◌, ◌<◌, ◌+◌, ℕ, List, length, So
 use Rattle.std.specs.Prelude.{IsTrue}
 use Rattle.cell_types.specs.Image.{Image, Extends}
 use Rattle.cell_types.specs.Layout.{Layout, IsLayout}
-use Rattle.phase_writer.specs.declared.put.Put.{Put}
-use Rattle.phase_writer.specs.declared.put.Blame.TheVariants.{Rule, Journal}
-use Rattle.phase_writer.specs.Putting.{AreStanding, PutsPhases}
+use Rattle.recovery_engine.specs.declared.put.Put.{Put}
+use Rattle.recovery_engine.specs.declared.put.Blame.TheVariants.{Rule, Journal}
+use Rattle.recovery_engine.specs.Putting.{AreStanding, PutsPhases}
 use Rattle.recovery_engine.specs.Ending.{done_put}
 use Rattle.recovery_engine.specs.Entries.{target_of}
-use Rattle.stored_documents.specs.Documents.{Spells, Stands, content_at, document_at, stored_bytes}
-use Rattle.stored_documents.specs.Slots.{IsDone, IsUnused, cells_for}
-use Rattle.stored_documents.specs.Volumes.{IsVolume}
-use Rattle.stored_documents.proofs.Extending.{volume_on}
+use Rattle.volume_meaning.specs.Documents.{Spells, Stands, content_at, document_at, stored_bytes}
+use Rattle.volume_meaning.specs.Slots.{IsDone, IsUnused, cells_for}
+use Rattle.volume_meaning.specs.Volumes.{IsVolume}
+use Rattle.volume_meaning.proofs.Extending.{volume_on}
 use Rattle.tamper_rules.specs.declared.numbers.TheConstants.{STRAY_CELL}
 use Rattle.worm_device.specs.State.{DeviceState}
 use Rattle.worm_device.proofs.Images.{extends_then}

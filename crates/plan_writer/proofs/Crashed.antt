@@ -7,14 +7,14 @@ use Rattle.cell_types.specs.declared.record_cell.RecordCell.TheVariants as recor
 use Rattle.commit_record.specs.States.{IsState}
 use Rattle.commit_record.specs.declared.slot.SlotState.{SlotState}
 use Rattle.commit_record.specs.declared.slot.SlotState.TheVariants.{Unused, Reserved, Committed, Done}
-use Rattle.phase_writer.specs.declared.put.Put.{Put}
-use Rattle.phase_writer.specs.declared.put.Blame.TheVariants.{Rule}
-use Rattle.phase_writer.specs.Putting.{AreStanding, IsPut, IsInFirst}
+use Rattle.recovery_engine.specs.declared.put.Put.{Put}
+use Rattle.recovery_engine.specs.declared.put.Blame.TheVariants.{Rule}
+use Rattle.recovery_engine.specs.Putting.{AreStanding, IsPut, IsInFirst}
 use Rattle.recovery_engine.specs.Ending.{done_put}
-use Rattle.stored_documents.specs.Documents.{Spells, content_at, document_at, stored_bytes}
-use Rattle.stored_documents.specs.Slots.{Reserves, Commits, cells_for}
-use Rattle.stored_documents.specs.Volumes.{Holds}
-use Rattle.stored_documents.proofs.Holding.{one_record_holds}
+use Rattle.volume_meaning.specs.Documents.{Spells, content_at, document_at, stored_bytes}
+use Rattle.volume_meaning.specs.Slots.{Reserves, Commits, cells_for}
+use Rattle.volume_meaning.specs.Volumes.{Holds}
+use Rattle.volume_meaning.proofs.Holding.{one_record_holds}
 use Rattle.tamper_rules.specs.declared.numbers.TheConstants.{STRAY_CELL}
 use Rattle.plan_writer.specs.CrashLaws.{IsLeftByPlan, IsWholeOrUncommitted}
 use Rattle.plan_writer.specs.Planned.{IsStoredPut, PlansDocument, Suits, commit_put, document_from, ingest_phases, reserve_put, reserved_by}

@@ -6,8 +6,8 @@ use Rattle.cell_types.specs.declared.refusal.Evidence.{Evidence}
 use Rattle.commit_record.specs.States.{done_unreserved, ends_unreserved}
 use Rattle.commit_record.specs.declared.reservation.Reservation.{Reservation}
 use Rattle.commit_record.proofs.Breaking.{no_written, breaks}
-use Rattle.stored_documents.specs.Slots.{EndsBelow}
-use Rattle.stored_documents.specs.Volumes.{IsVolume, IsWritten}
+use Rattle.volume_meaning.specs.Slots.{EndsBelow}
+use Rattle.volume_meaning.specs.Volumes.{IsVolume, IsWritten}
 use Rattle.tamper_rules.specs.Rules.{DoneCells, IsBroken, IsPlaceOf, OutcomeCells, StrayCells}
 use Rattle.plan_writer.specs.Blank.{IsFirstWritten, done, outcome, reserved, spare}
 

@@ -13,5 +13,3 @@ pub mod Stated
 pub mod StoredCells
 pub mod TakenCells
 pub mod Targets
-pub use Rattle.phase_writer.proofs as of_phase_writer
-pub use Rattle.recovery_engine.proofs as of_recovery_engine

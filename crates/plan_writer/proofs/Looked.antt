@@ -3,9 +3,9 @@ use Rattle.std.proofs.Common.{◌≡◌, ◌≤◌, ◌+◌, ◌-◌, ℕ, Ok, E
 use Rattle.std.specs.Prelude.{Result}
 use Rattle.cell_types.specs.Image.{IsUnchanged}
 use Rattle.cell_types.specs.declared.refusal.Fault.{Fault}
-use Rattle.phase_writer.specs.declared.put.Put.{Put}
-use Rattle.phase_writer.specs.Putting.{LeavesPhases, PutsPhases}
-use Rattle.phase_writer.proofs.Phasing.{changes_same, crashes_looked, phases_append, phases_append_ended, phases_looked, phases_none}
+use Rattle.recovery_engine.specs.declared.put.Put.{Put}
+use Rattle.recovery_engine.specs.Putting.{LeavesPhases, PutsPhases}
+use Rattle.recovery_engine.proofs.Phasing.{changes_same, crashes_looked, phases_append, phases_append_ended, phases_looked, phases_none}
 use Rattle.worm_device.specs.Calls.{Called}
 use Rattle.worm_device.specs.Counts.{IsStill}
 use Rattle.worm_device.specs.State.{DeviceState}

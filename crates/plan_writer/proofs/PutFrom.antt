@@ -5,9 +5,9 @@ use Rattle.cell_types.specs.Image.{IsUnchanged}
 use Rattle.cell_types.specs.Layout.{reserve_at}
 use Rattle.recovery_engine.specs.Settling.{HasSettled, IsReady}
 use Rattle.recovery_engine.specs.declared.settling.Ready.{Ready}
-use Rattle.stored_documents.specs.Slots.{EndsBelow}
-use Rattle.stored_documents.specs.Volumes.{IsVolume}
-use Rattle.stored_documents.proofs.Extending.{ends_on, volume_on}
+use Rattle.volume_meaning.specs.Slots.{EndsBelow}
+use Rattle.volume_meaning.specs.Volumes.{IsVolume}
+use Rattle.volume_meaning.proofs.Extending.{ends_on, volume_on}
 use Rattle.worm_device.specs.Calls.{Called}
 use Rattle.worm_device.specs.Counts.{IsStill}
 use Rattle.worm_device.specs.State.{DeviceState}

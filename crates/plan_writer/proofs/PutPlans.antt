@@ -5,11 +5,11 @@ use Rattle.cell_types.specs.Image.{Extends}
 use Rattle.cell_types.specs.Layout.{IsLayout}
 use Rattle.cell_types.specs.declared.refusal.Fault.{Fault}
 use Rattle.cell_types.specs.declared.refusal.Fault.TheVariants.{Tampered, Failed}
-use Rattle.phase_writer.specs.Putting.{PutsPhases}
+use Rattle.recovery_engine.specs.Putting.{PutsPhases}
 use Rattle.recovery_engine.specs.Settling.{HasSettled}
 use Rattle.recovery_engine.specs.declared.settling.Ready.{Ready}
-use Rattle.stored_documents.specs.Slots.{IsUnused}
-use Rattle.stored_documents.proofs.Extending.{blank_before}
+use Rattle.volume_meaning.specs.Slots.{IsUnused}
+use Rattle.volume_meaning.proofs.Extending.{blank_before}
 use Rattle.worm_device.specs.State.{DeviceState}
 use Rattle.worm_device.proofs.Images.{extends_then}
 use Rattle.plan_writer.specs.Blank.{IsFree}

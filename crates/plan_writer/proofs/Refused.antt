@@ -9,9 +9,9 @@ use Rattle.cell_types.specs.declared.refusal.Fault.TheVariants.{Tampered, Failed
 use Rattle.commit_record.specs.declared.reservation.Reservation.{Reservation}
 use Rattle.recovery_engine.specs.Settling.{HasSettled}
 use Rattle.recovery_engine.specs.declared.settling.Ready.{Ready}
-use Rattle.stored_documents.specs.Slots.{EndsBelow}
-use Rattle.stored_documents.specs.Volumes.{IsVolume}
-use Rattle.stored_documents.proofs.Extending.{blank_before, ends_on, volume_on}
+use Rattle.volume_meaning.specs.Slots.{EndsBelow}
+use Rattle.volume_meaning.specs.Volumes.{IsVolume}
+use Rattle.volume_meaning.proofs.Extending.{blank_before, ends_on, volume_on}
 use Rattle.tamper_rules.specs.Rules.{IsBroken}
 use Rattle.worm_device.specs.Counts.{IsStill}
 use Rattle.worm_device.specs.State.{DeviceState}

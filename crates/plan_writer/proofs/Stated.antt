@@ -3,11 +3,11 @@ use Rattle.std.proofs.Common.{◌≡◌, ◌≤◌, ◌<◌, ◌^◌, ℕ, lengt
 use Rattle.cell_types.specs.Image.{Image}
 use Rattle.cell_types.specs.Layout.{Layout, IsLayout, reserve_at, outcome_at, done_at}
 use Rattle.cell_types.specs.declared.record_cell.RecordCell.TheVariants as records
-use Rattle.phase_writer.specs.Putting.{AreStanding}
+use Rattle.recovery_engine.specs.Putting.{AreStanding}
 use Rattle.recovery_engine.specs.Ending.{done_put}
-use Rattle.stored_documents.specs.Slots.{Reserves, Commits, IsStampFor, IsStampOf}
-use Rattle.stored_documents.specs.Volumes.{Holds}
-use Rattle.stored_documents.proofs.Stamps.{has_stamp}
+use Rattle.volume_meaning.specs.Slots.{Reserves, Commits, IsStampFor, IsStampOf}
+use Rattle.volume_meaning.specs.Volumes.{Holds}
+use Rattle.volume_meaning.proofs.Stamps.{has_stamp}
 use Rattle.plan_writer.specs.Planned.{IsStampPut, Suits, commit_put, reserve_put, reserved_by, stamp_put}
 use Rattle.plan_writer.specs.declared.plan.Plan.{Plan}
 

@@ -2,9 +2,9 @@
 use Rattle.std.proofs.Common.{◌≡◌, ◌⊎◌, ◌∙◌, ℕ, Option, Some, Ok, Err, sym, ap, inl, inr, ⊎_elim}
 use Rattle.std.specs.Prelude.{Result}
 use Rattle.cell_types.specs.declared.refusal.Fault.{Fault}
-use Rattle.phase_writer.specs.declared.put.Put.{Put}
-use Rattle.phase_writer.specs.Putting.{IsInRow, IsThis, Puts}
-use Rattle.phase_writer.proofs.Phasing.{puts_ended, puts_more, puts_same}
+use Rattle.recovery_engine.specs.declared.put.Put.{Put}
+use Rattle.recovery_engine.specs.Putting.{IsInRow, IsThis, Puts}
+use Rattle.recovery_engine.proofs.Phasing.{puts_ended, puts_more, puts_same}
 use Rattle.tamper_rules.specs.declared.numbers.TheConstants.{STRAY_CELL}
 use Rattle.worm_device.specs.State.{DeviceState}
 use Rattle.plan_writer.specs.Planned.{IsStampPut, IsStoredPut, document_from, journal_from, stamp_put}

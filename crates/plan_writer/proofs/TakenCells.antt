@@ -6,16 +6,16 @@ use Rattle.cell_types.specs.Image.{Extends}
 use Rattle.cell_types.specs.Layout.{Layout, IsLayout, reserve_at, outcome_at, done_at, spare_at}
 use Rattle.cell_types.specs.Records.{IsRecordCell}
 use Rattle.cell_types.specs.declared.refusal.Evidence.{Evidence}
-use Rattle.phase_writer.specs.declared.put.Blame.{Blame}
-use Rattle.phase_writer.specs.declared.put.Blame.TheVariants.{Rule}
-use Rattle.phase_writer.specs.declared.put.Put.{Put}
-use Rattle.phase_writer.specs.Putting.{AreStanding, IsInFirst, IsInRow, IsPut, IsPutTwice, IsTakenIn, blamed}
+use Rattle.recovery_engine.specs.declared.put.Blame.{Blame}
+use Rattle.recovery_engine.specs.declared.put.Blame.TheVariants.{Rule}
+use Rattle.recovery_engine.specs.declared.put.Put.{Put}
+use Rattle.recovery_engine.specs.Putting.{AreStanding, IsInFirst, IsInRow, IsPut, IsPutTwice, IsTakenIn, blamed}
 use Rattle.recovery_engine.specs.Ending.{done_put}
 use Rattle.recovery_engine.specs.Entries.{target_of}
-use Rattle.stored_documents.specs.Slots.{Commits}
-use Rattle.stored_documents.specs.Volumes.{IsVolume}
-use Rattle.stored_documents.proofs.Extending.{volume_on}
-use Rattle.stored_documents.proofs.Holding.{some_is}
+use Rattle.volume_meaning.specs.Slots.{Commits}
+use Rattle.volume_meaning.specs.Volumes.{IsVolume}
+use Rattle.volume_meaning.proofs.Extending.{volume_on}
+use Rattle.volume_meaning.proofs.Holding.{some_is}
 use Rattle.tamper_rules.specs.Journals.{Copies, journal_at}
 use Rattle.tamper_rules.specs.Rules.{DoneCells, IsPlaceOf, OutcomeCells, RedoneRule, ReserveCells, StrayCells, Targets}
 use Rattle.tamper_rules.specs.declared.numbers.TheConstants.{DONE_CELL, OUTCOME_CELL, RESERVE_CELL, STRAY_CELL}

@@ -3,7 +3,7 @@ use Rattle.std.proofs.Common.{◌≡◌, ◌≤◌, ◌<◌, ◌+◌, ℕ, lengt
 use Rattle.std.specs.Prelude.{slice_get}
 use Rattle.std.proofs.lemmas.Option.{slice_get_within}
 use Rattle.cell_types.specs.Layout.{Layout, lists_at}
-use Rattle.phase_writer.specs.declared.put.Put.{Put}
+use Rattle.recovery_engine.specs.declared.put.Put.{Put}
 use Rattle.recovery_engine.proofs.Rising.{entries_apart, entries_below, entries_from}
 use Rattle.plan_writer.specs.Planned.{IsAskedPut, Suits, document_from, journal_from, laid}
 use Rattle.plan_writer.specs.declared.plan.Plan.{Plan}

@@ -2,11 +2,11 @@
 use Rattle.std.specs.Prelude.{◌≡◌, ℕ, List, Some, length}
 use Rattle.cell_types.specs.Image.{Image}
 use Rattle.cell_types.specs.Layout.{Layout, IsLayout, outcome_at}
-use Rattle.stored_documents.specs.Documents.{Spells, document_at, stored_bytes}
-use Rattle.stored_documents.specs.Slots.{Commits, IsUnused}
+use Rattle.volume_meaning.specs.Documents.{Spells, document_at, stored_bytes}
+use Rattle.volume_meaning.specs.Slots.{Commits, IsUnused}
 use Rattle.worm_device.specs.Counts.{IsStill}
 use Rattle.worm_device.specs.State.{DeviceState}
-use Rattle.phase_writer.specs.Putting.{AreStanding, LeavesPhases}
+use Rattle.recovery_engine.specs.Putting.{AreStanding, LeavesPhases}
 use Rattle.commit_record.specs.States.{IsState}
 use Rattle.commit_record.specs.declared.slot.SlotState.{SlotState}
 use Rattle.plan_writer.specs.Planned.{INGEST_PHASES, IsStoredPut, PlansDocument, Suits, ingest_phases}

@@ -4,12 +4,12 @@ use Rattle.cell_types.specs.Image.{Image}
 use Rattle.cell_types.specs.Layout.{Layout, reserve_at, outcome_at, spare_at, pool_at, lists_at}
 use Rattle.cell_types.specs.Records.{record_bytes}
 use Rattle.cell_types.specs.declared.record_cell.RecordCell.TheVariants.{Reserve, Commit, Stamp}
-use Rattle.stored_documents.specs.Documents.{IsIdentifier, IsBody, content_at, stored_bytes}
-use Rattle.stored_documents.specs.Slots.{IsStampFor, cells_for}
+use Rattle.volume_meaning.specs.Documents.{IsIdentifier, IsBody, content_at, stored_bytes}
+use Rattle.volume_meaning.specs.Slots.{IsStampFor, cells_for}
 use Rattle.tamper_rules.specs.declared.numbers.TheConstants.{RESERVE_CELL, OUTCOME_CELL, STRAY_CELL}
-use Rattle.phase_writer.specs.Putting.{IsInRow}
-use Rattle.phase_writer.specs.declared.put.Blame.TheVariants.{Rule, Journal}
-use Rattle.phase_writer.specs.declared.put.Put.{Put}
+use Rattle.recovery_engine.specs.Putting.{IsInRow}
+use Rattle.recovery_engine.specs.declared.put.Blame.TheVariants.{Rule, Journal}
+use Rattle.recovery_engine.specs.declared.put.Put.{Put}
 use Rattle.commit_record.specs.States.{FitsInto}
 use Rattle.commit_record.specs.declared.reservation.Reservation.{Reservation}
 use Rattle.recovery_engine.specs.Ending.{done_put}

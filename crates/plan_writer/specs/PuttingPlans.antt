@@ -5,14 +5,14 @@ use Rattle.cell_types.specs.Layout.{Layout, spare_at}
 use Rattle.cell_types.specs.declared.refusal.Evidence.{Evidence}
 use Rattle.cell_types.specs.declared.refusal.Fault.{Fault}
 use Rattle.cell_types.specs.declared.refusal.Fault.TheVariants.{Tampered, Failed}
-use Rattle.stored_documents.specs.Documents.{Stands}
-use Rattle.stored_documents.specs.Slots.{IsDone, IsStampOf, IsUnused}
+use Rattle.volume_meaning.specs.Documents.{Stands}
+use Rattle.volume_meaning.specs.Slots.{IsDone, IsStampOf, IsUnused}
 use Rattle.tamper_rules.specs.Rules.{IsBroken}
 use Rattle.tamper_rules.specs.declared.numbers.TheConstants.{DONE_CELL, OTHER_TARGET, OUTCOME_CELL, RESERVE_CELL, STRAY_CELL}
 use Rattle.worm_device.specs.Calls.{Called}
 use Rattle.worm_device.specs.Counts.{Rose, IsStill}
 use Rattle.worm_device.specs.State.{DeviceState}
-use Rattle.phase_writer.specs.Putting.{ChangesBy, CrashesLeavePhases, IsInFirst}
+use Rattle.recovery_engine.specs.Putting.{ChangesBy, CrashesLeavePhases, IsInFirst}
 use Rattle.commit_record.specs.Licences.{IsLicensed}
 use Rattle.recovery_engine.specs.Entries.{target_of}
 use Rattle.plan_writer.specs.Blank.{AreBlank, IsOfSlot}

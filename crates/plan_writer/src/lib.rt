@@ -17,7 +17,7 @@
 //! stamp, the whole document and the journal. Where somebody else has taken a cell, it is named with the rule that it
 //! breaks.
 //!
-//! No memory is taken. Stands on `phase_writer` and on `recovery_engine`, whose last two phases it shares. Begin with
+//! No memory is taken. Stands on `recovery_engine`, which puts cells in phases and whose last two phases it shares. Begin with
 //! `plan.rt`; specs/Planned.antt says which cells a plan asks for.
 #![tactic(auto)]
 

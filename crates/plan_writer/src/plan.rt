@@ -1,6 +1,6 @@
 //! What an ingest writes.
 ghost use Rattle.std.specs.Prelude.{◌≡◌, ◌<◌, ◌≤◌, ◌^◌};
-ghost use Rattle.phase_writer.specs.Putting.{PutsPhases};
+ghost use Rattle.recovery_engine.specs.Putting.{PutsPhases};
 ghost use Rattle.plan_writer.specs.Planned.{INGEST_PHASES, Suits, ingest_phases, reserved_by};
 
 use crate::steps::{commit, reserve, store};

@@ -2,13 +2,13 @@
 ghost use Rattle.std.specs.Prelude.{◌<◌, ◌≤◌, ◌+◌};
 ghost use Rattle.cell_types.specs.Records.{IsWellFormed};
 ghost use Rattle.cell_types.specs.declared.record_cell.RecordCell.TheVariants.{Commit};
-ghost use Rattle.phase_writer.specs.Putting.{IsThis, Puts, PutsPhase};
+ghost use Rattle.recovery_engine.specs.Putting.{IsThis, Puts, PutsPhase};
 ghost use Rattle.plan_writer.specs.Planned.{IsStampPut, IsStoredPut, commit_put, reserve_put, reserved_by};
 
 use crate::plan::Plan;
 use cell_types::{Fault, Geometry, RecordCell, encode};
 use commit_record::Reservation;
-use phase_writer::{Blame, Put, put_cell, put_one, put_row};
+use recovery_engine::{Blame, Put, put_cell, put_one, put_row};
 use tamper_rules::{OUTCOME_CELL, RESERVE_CELL, STRAY_CELL};
 use worm_device::Device;
 

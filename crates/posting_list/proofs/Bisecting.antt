@@ -4,14 +4,14 @@ use Rattle.std.specs.Prelude.{IsTrue, slice_get}
 use Rattle.std.proofs.lemmas.Bool.{cases_eq, cases_lt}
 use Rattle.byteorder.specs.Endian.{big_number}
 use Rattle.cell_types.specs.declared.refusal.Fault.{Fault}
-use Rattle.index_paths.specs.Blocks.{PostingFields}
-use Rattle.index_paths.proofs.Fronts.{front_holds}
+use Rattle.volume_meaning.specs.Blocks.{PostingFields}
+use Rattle.volume_meaning.proofs.Fronts.{front_holds}
 use Rattle.worm_device.specs.Views.{ViewState, Viewed}
 use Rattle.worm_device.proofs.Resting.{viewed_self, viewed_then}
-use Rattle.jump_index.specs.jump_block.Entries.{posting_of}
-use Rattle.jump_index.specs.jump_block.declared.held_entry.Entry.{Entry}
+use Rattle.jump_block.specs.Entries.{posting_of}
+use Rattle.jump_block.specs.declared.held_entry.Entry.{Entry}
 use Rattle.jump_index.specs.Searches.{FindsGeq}
-use Rattle.jump_index.proofs.of_jump_block.OneBlock.{leads_wider}
+use Rattle.jump_block.proofs.OneBlock.{leads_wider}
 use Rattle.jump_index.proofs.Telling.{told}
 use Rattle.posting_list.specs.Owing.{IsOwed}
 use Rattle.posting_list.specs.Searches.{HasSlot, Probes, head_of, within}

@@ -8,13 +8,13 @@ use Rattle.cell_types.specs.Layout.{Layout, all_lists, pool_at, reserve_at, outc
 use Rattle.cell_types.specs.declared.record_cell.RecordCell.TheVariants.{Abandon, Commit}
 use Rattle.cell_types.specs.declared.refusal.Fault.{Fault}
 use Rattle.cell_types.specs.declared.refusal.Fault.TheVariants.{Tampered, Failed}
-use Rattle.stored_documents.specs.Slots.{Reserves, IsDoneSlot, IsEdge, IsHorizon, IsLive}
-use Rattle.stored_documents.specs.Volumes.{Holds, IsVolume}
-use Rattle.stored_documents.proofs.Holding.{one_record_holds}
-use Rattle.index_paths.specs.Blocks.{PostingFields, posting_record}
-use Rattle.index_paths.specs.Nodes.{IsBlockOf}
-use Rattle.index_paths.proofs.Fronts.{front_holds, front_on}
-use Rattle.index_paths.proofs.Tags.{of_word, word_slot}
+use Rattle.volume_meaning.specs.Slots.{Reserves, IsDoneSlot, IsEdge, IsHorizon, IsLive}
+use Rattle.volume_meaning.specs.Volumes.{Holds, IsVolume}
+use Rattle.volume_meaning.proofs.Holding.{one_record_holds}
+use Rattle.volume_meaning.specs.Blocks.{PostingFields, posting_record}
+use Rattle.volume_meaning.specs.Nodes.{IsBlockOf}
+use Rattle.volume_meaning.proofs.Fronts.{front_holds, front_on}
+use Rattle.volume_meaning.proofs.Tags.{of_word, word_slot}
 use Rattle.tamper_rules.specs.Rules.{IsBroken, IsPlace, IsTruePosting, Postings}
 use Rattle.worm_device.specs.Counts.{IsStill}
 use Rattle.worm_device.specs.Views.{ViewState, Viewed}
@@ -23,12 +23,12 @@ use Rattle.worm_device.proofs.Resting.{rests_of, viewed_self}
 use Rattle.commit_record.specs.States.{IsNoState, IsState, StateEnds, done_abandoned, done_unended, done_unreserved, done_wrongly, ends_unreserved, ends_unstamped, ends_wrongly, reserves_none}
 use Rattle.commit_record.specs.declared.slot.SlotState.{SlotState}
 use Rattle.commit_record.specs.declared.slot.SlotState.TheVariants.{Unused, Reserved, Abandoned, Committed, Done}
-use Rattle.jump_index.specs.jump_block.Entries.{cell_of, posting_of}
-use Rattle.jump_index.specs.jump_block.declared.held_entry.Entry.{Entry}
-use Rattle.jump_index.proofs.of_jump_block.Counting.{rose_later}
+use Rattle.jump_block.specs.Entries.{cell_of, posting_of}
+use Rattle.jump_block.specs.declared.held_entry.Entry.{Entry}
+use Rattle.jump_block.proofs.Counting.{rose_later}
 use Rattle.jump_index.specs.Searches.{FindsGeq, IsEntryBehind}
 use Rattle.jump_index.specs.declared.bounds.Bounds.{Bounds}
-use Rattle.jump_index.proofs.of_jump_block.OneBlock.{in_place, leads_wider}
+use Rattle.jump_block.proofs.OneBlock.{in_place, leads_wider}
 use Rattle.jump_index.proofs.Telling.{told_before}
 use Rattle.posting_list.specs.Naming.{FaultSays, IsListRule, IsReachOf}
 use Rattle.posting_list.specs.Searches.{IsFalsePosting, LooksLive, head_of, says_done, within}

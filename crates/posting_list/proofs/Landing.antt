@@ -4,14 +4,14 @@ use Rattle.std.specs.Prelude.{slice_get}
 use Rattle.cell_types.specs.declared.refusal.Fault.{Fault}
 use Rattle.worm_device.specs.Views.{ViewState, Viewed}
 use Rattle.worm_device.proofs.Resting.{viewed_then}
-use Rattle.jump_index.specs.jump_block.declared.held_entry.Entry.{Entry}
-use Rattle.jump_index.specs.jump_block.declared.kept_fronts.KeptFronts.{KeptFronts}
+use Rattle.jump_block.specs.declared.held_entry.Entry.{Entry}
+use Rattle.jump_block.specs.declared.kept_fronts.KeptFronts.{KeptFronts}
 use Rattle.jump_index.specs.Searches.{FindsGeq}
 use Rattle.jump_index.proofs.Telling.{kept_then, told, told_before}
-use Rattle.jump_index.proofs.of_jump_block.OneBlock.{leads_wider}
-use Rattle.jump_index.specs.jump_block.Entries.{posting_of}
-use Rattle.index_paths.proofs.Fronts.{front_holds}
-use Rattle.stored_documents.proofs.Extending.{holds_on}
+use Rattle.jump_block.proofs.OneBlock.{leads_wider}
+use Rattle.jump_block.specs.Entries.{posting_of}
+use Rattle.volume_meaning.proofs.Fronts.{front_holds}
+use Rattle.volume_meaning.proofs.Extending.{holds_on}
 use Rattle.posting_list.specs.Keeping.{KeepEach, KeepsFronts}
 use Rattle.posting_list.specs.Searches.{IsFalsePosting, LooksLive, NextSlot, head_of, within}
 use Rattle.posting_list.specs.declared.reach.Reach.{Reach}

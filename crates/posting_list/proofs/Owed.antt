@@ -4,12 +4,12 @@ use Rattle.std.specs.Prelude.{IsTrue, slice_get, slice_index_or}
 use Rattle.std.proofs.lemmas.Option.{slice_get_read, slice_get_cases}
 use Rattle.cell_types.specs.Image.{Image, Extends}
 use Rattle.cell_types.specs.Layout.{Layout, pool_at, list_at}
-use Rattle.stored_documents.specs.Documents.{Document, Stands}
-use Rattle.stored_documents.specs.Volumes.{IsVolume}
-use Rattle.stored_documents.proofs.Extending.{holds_on, stands_on, volume_on}
-use Rattle.index_paths.specs.Blocks.{PostingFields, Trail, Leads, arrived, onwards}
-use Rattle.index_paths.specs.Keeping.{IsKept}
-use Rattle.index_paths.specs.Postings.{AreTags, HasTag, IsWordPosting}
+use Rattle.volume_meaning.specs.Documents.{Document, Stands}
+use Rattle.volume_meaning.specs.Volumes.{IsVolume}
+use Rattle.volume_meaning.proofs.Extending.{holds_on, stands_on, volume_on}
+use Rattle.volume_meaning.specs.Blocks.{PostingFields, Trail, Leads, arrived, onwards}
+use Rattle.volume_meaning.specs.Keeping.{IsKept}
+use Rattle.volume_meaning.specs.Postings.{AreTags, HasTag, IsWordPosting}
 use Rattle.worm_device.specs.Views.{ViewState, Viewed}
 use Rattle.jump_index.specs.Searches.{HasTrail}
 use Rattle.jump_index.proofs.LookingLater.{trail_then}

@@ -4,15 +4,15 @@ use Rattle.std.proofs.Common.{ap, subst, sym, arith, ◌∙◌}
 use Rattle.std.proofs.Props.{props}
 use Rattle.cell_types.specs.Image.{Image}
 use Rattle.cell_types.specs.Records.{IsRecordCell}
-use Rattle.stored_documents.specs.Volumes.{Holds}
-use Rattle.stored_documents.proofs.Holding.{some_is}
-use Rattle.index_paths.specs.Blocks.{PostingFields, posting_record, InFront, at_the_start, behind}
-use Rattle.index_paths.proofs.Fronts.{one_place}
-use Rattle.jump_index.specs.jump_block.Fronts.{HasKeyAt}
-use Rattle.jump_index.specs.jump_block.Keeping.{AreKept}
-use Rattle.jump_index.specs.jump_block.Known.{IsKnown}
-use Rattle.jump_index.specs.jump_block.declared.kept_fronts.KeptFronts.{KeptFronts}
-use Rattle.jump_index.specs.jump_block.declared.known_front.KnownFront.{KnownFront}
+use Rattle.volume_meaning.specs.Volumes.{Holds}
+use Rattle.volume_meaning.proofs.Holding.{some_is}
+use Rattle.volume_meaning.specs.Blocks.{PostingFields, posting_record, InFront, at_the_start, behind}
+use Rattle.volume_meaning.proofs.Fronts.{one_place}
+use Rattle.jump_block.specs.Fronts.{HasKeyAt}
+use Rattle.jump_block.specs.Keeping.{AreKept}
+use Rattle.jump_block.specs.Known.{IsKnown}
+use Rattle.jump_block.specs.declared.kept_fronts.KeptFronts.{KeptFronts}
+use Rattle.jump_block.specs.declared.known_front.KnownFront.{KnownFront}
 use Rattle.worm_device.specs.Views.{ViewState}
 
 -- where the view tells its image, each front that is kept is known in it

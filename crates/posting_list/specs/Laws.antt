@@ -1,10 +1,10 @@
 -- Laws of lists of terms.
 use Rattle.std.specs.Prelude.{◌≡◌, ◌<◌, ℕ, List, Some, IsTrue, slice_get}
 use Rattle.cell_types.specs.Layout.{pool_at}
-use Rattle.stored_documents.specs.Documents.{Document}
-use Rattle.stored_documents.specs.Volumes.{IsVolume}
-use Rattle.index_paths.specs.Keeping.{IsKept}
-use Rattle.index_paths.specs.Postings.{HasTag}
+use Rattle.volume_meaning.specs.Documents.{Document}
+use Rattle.volume_meaning.specs.Volumes.{IsVolume}
+use Rattle.volume_meaning.specs.Keeping.{IsKept}
+use Rattle.volume_meaning.specs.Postings.{HasTag}
 use Rattle.worm_device.specs.Views.{ViewState}
 use Rattle.posting_list.specs.Owing.{Owes}
 use Rattle.posting_list.specs.declared.reach.Reach.{Reach}

@@ -5,8 +5,8 @@ use Rattle.cell_types.specs.Layout.{pool_at}
 use Rattle.cell_types.specs.declared.refusal.Evidence.{Evidence}
 use Rattle.cell_types.specs.declared.refusal.Fault.{Fault}
 use Rattle.cell_types.specs.declared.refusal.Fault.TheVariants.{Tampered, Failed}
-use Rattle.stored_documents.specs.Slots.{EndsBelow, IsHorizon}
-use Rattle.stored_documents.specs.Volumes.{IsVolume}
+use Rattle.volume_meaning.specs.Slots.{EndsBelow, IsHorizon}
+use Rattle.volume_meaning.specs.Volumes.{IsVolume}
 use Rattle.tamper_rules.specs.Rules.{IsBroken, IsPlaceOf}
 use Rattle.tamper_rules.specs.declared.numbers.TheConstants.{DONE_CELL, FAKE_POSTING, OUTCOME_CELL, RESERVE_CELL}
 use Rattle.worm_device.specs.Counts.{Rose, IsStill}

@@ -2,10 +2,10 @@
 use Rattle.std.specs.Prelude.{◌≡◌, ◌<◌, ◌+◌, ◌/◌, ℕ, List, Some, IsTrue, slice_get}
 use Rattle.cell_types.specs.Image.{Image}
 use Rattle.cell_types.specs.Layout.{list_at}
-use Rattle.stored_documents.specs.Documents.{Stands}
-use Rattle.stored_documents.specs.Volumes.{Holds, IsVolume}
-use Rattle.index_paths.specs.Blocks.{PostingFields, posting_record, Leads, Trail}
-use Rattle.index_paths.specs.Postings.{HasPostings, HasTag, IsWordPosting}
+use Rattle.volume_meaning.specs.Documents.{Stands}
+use Rattle.volume_meaning.specs.Volumes.{Holds, IsVolume}
+use Rattle.volume_meaning.specs.Blocks.{PostingFields, posting_record, Leads, Trail}
+use Rattle.volume_meaning.specs.Postings.{HasPostings, HasTag, IsWordPosting}
 use Rattle.worm_device.specs.Views.{ViewState}
 use Rattle.posting_list.specs.declared.reach.Reach.{Reach}
 use Rattle.posting_list.specs.declared.sought_term.SoughtTerm.{SoughtTerm}

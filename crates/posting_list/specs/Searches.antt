@@ -5,15 +5,15 @@ use Rattle.cell_types.specs.Records.{record_bytes}
 use Rattle.cell_types.specs.declared.geometry.TheConstants.{MAX_SLOTS}
 use Rattle.cell_types.specs.declared.refusal.Fault.{Fault}
 use Rattle.cell_types.specs.declared.refusal.Fault.TheVariants.{Tampered, Failed}
-use Rattle.stored_documents.specs.Slots.{IsDoneSlot, IsHorizon, IsLive}
-use Rattle.index_paths.specs.Blocks.{PostingFields, posting_record}
+use Rattle.volume_meaning.specs.Slots.{IsDoneSlot, IsHorizon, IsLive}
+use Rattle.volume_meaning.specs.Blocks.{PostingFields, posting_record}
 use Rattle.tamper_rules.specs.declared.numbers.TheConstants.{FAKE_POSTING}
 use Rattle.worm_device.specs.Counts.{IsStill}
 use Rattle.worm_device.specs.Views.{ViewState, Viewed}
 use Rattle.commit_record.specs.declared.slot.SlotState.{SlotState}
 use Rattle.commit_record.specs.declared.slot.SlotState.TheVariants.{Unused, Reserved, Abandoned, Committed, Done}
-use Rattle.jump_index.specs.jump_block.Entries.{cell_of, posting_of}
-use Rattle.jump_index.specs.jump_block.declared.held_entry.Entry.{Entry}
+use Rattle.jump_block.specs.Entries.{cell_of, posting_of}
+use Rattle.jump_block.specs.declared.held_entry.Entry.{Entry}
 use Rattle.jump_index.specs.Searches.{HasTrail, IsEntryBehind}
 use Rattle.jump_index.specs.declared.bounds.Bounds.{Bounds}
 use Rattle.posting_list.specs.Naming.{FaultSays}

@@ -1,6 +1,6 @@
 -- Terms as their lists have them.
 use Rattle.std.specs.Prelude.{◌≡◌, ◌<◌, ℕ, List, Option, Some, None, slice_get}
-use Rattle.index_paths.specs.Postings.{list_of, tag_of}
+use Rattle.volume_meaning.specs.Postings.{list_of, tag_of}
 use Rattle.worm_device.specs.Views.{ViewState}
 use Rattle.posting_list.specs.declared.reach.Reach.{Reach}
 use Rattle.posting_list.specs.declared.sought_term.SoughtTerm.{SoughtTerm}

@@ -8,9 +8,9 @@ use Rattle.std.proofs.lemmas.Cmp.{ranked}
 use Rattle.std.proofs.lemmas.Option.{none-some, same_Some}
 use Rattle.cell_types.specs.Bytes.{IsCell}
 use Rattle.cell_types.specs.Image.{Extends}
-use Rattle.stored_documents.specs.Documents.{Document}
-use Rattle.index_paths.specs.Keeping.{Kept}
-use Rattle.index_paths.proofs.KeepingLaws.{kept_on}
+use Rattle.volume_meaning.specs.Documents.{Document}
+use Rattle.volume_meaning.specs.Keeping.{Kept}
+use Rattle.volume_meaning.proofs.KeepingLaws.{kept_on}
 use Rattle.worm_device.specs.State.{DeviceState}
 use Rattle.worm_device.proofs.Resting.{rests_of}
 use Rattle.kept_documents.specs.Kept.{AsksKept, document_of}

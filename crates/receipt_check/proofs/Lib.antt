@@ -1,3 +1,9 @@
 pub mod Accepting
 pub mod Comparing
-pub use Rattle.kept_documents.proofs as of_kept_documents
+pub mod Later
+pub mod Made
+pub mod MakingAccepted
+pub mod PathTrails
+pub mod Recorded
+pub mod SlotReceipts
+pub mod Unkept

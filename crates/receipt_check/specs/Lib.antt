@@ -1,5 +1,10 @@
 pub mod Checks
 pub mod Holding
+pub mod Judging
 pub mod Listing
+pub mod Making
+pub mod MakingLaws
+pub mod Naming
+pub mod Recording
+pub mod Unheard
 pub mod Viewing
-pub use Rattle.kept_documents.specs as kept_documents

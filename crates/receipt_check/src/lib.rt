@@ -1,4 +1,4 @@
-//! Checks a receipt: whether the cells that it lists stand on a device, and keep its document.
+//! Checks a receipt, whether the cells that it lists stand on a device and keep its document; and makes one.
 //!
 //! A receipt lists the written cells that a document's being kept rests on. Cells stay, so whoever finds them on a device
 //! knows that the document is kept there, and will be. That of `a`, `hello world` on the volume of 8 slots and 2 lists:
@@ -15,14 +15,26 @@
 //! **A receipt holds on.** One whose cells show a document and stand in an image is accepted on each device whose image
 //! extends that one, but for want of memory and reads that fail: `receipts_hold_on`.
 //!
-//! Stands on `receipt_text` (the type of a receipt) and on `kept_documents`, which decides whether a document is kept.
-//! Begin with `checking.rt`; `specs/Checks.antt` says how a check may end.
+//! **What is made is accepted.** A receipt is made of the cells that are read while its document is looked up, and judged
+//! as a check will judge it before it goes out: `receipts_are_accepted`.
+//!
+//! Stands on `receipt_text` (the type of a receipt), on `kept_documents`, which decides whether a document is kept, and on
+//! `record_query`, for the look-up. Begin with `checking.rt`, then `making.rt`; `specs/Checks.antt` and `specs/Making.antt`
+//! say how each may end.
 #![tactic(auto)]
 
 mod checking;
 mod laws;
+mod listing;
+mod looking;
+mod making;
+mod making_laws;
+mod naming;
+mod recorder;
 mod shown;
 
 pub use checking::{CheckRefusal, Checked, check_receipt};
 pub use laws::receipts_hold_on;
+pub use making::make_receipt;
+pub use making_laws::receipts_are_accepted;
 pub use shown::ShownCells;

@@ -4,7 +4,7 @@ use Rattle.std.proofs.lemmas.Fmt.{decimal_injective, decimal_nonempty}
 use Rattle.hex.specs.Hex.{encode_lower}
 use Rattle.cell_types.specs.Bytes.{IsCell}
 use Rattle.cell_types.specs.declared.geometry.TheConstants.{MAX_SLOTS}
-use Rattle.stored_documents.specs.Documents.{IsIdentifier}
+use Rattle.volume_meaning.specs.Documents.{IsIdentifier}
 use Rattle.receipt_text.specs.Form.{IsReceiptOn, cell_line, end_line, head_line, receipt_lines}
 use Rattle.receipt_text.specs.Listed.{AreListedFrom}
 use Rattle.receipt_text.specs.Reading.{Lacks, next_of}

@@ -3,7 +3,7 @@ use Rattle.std.proofs.Common.{◌≡◌, ◌≢◌, ◌<◌, ◌≤◌, ◌+◌,
 use Rattle.std.proofs.lemmas.Bool.{cases_eq, cases_lt, eqb-true}
 use Rattle.std.proofs.lemmas.List.{length-map}
 use Rattle.cell_types.specs.declared.geometry.TheConstants.{MAX_SLOTS}
-use Rattle.stored_documents.specs.Documents.{IsIdentifier}
+use Rattle.volume_meaning.specs.Documents.{IsIdentifier}
 use Rattle.receipt_text.specs.Form.{Begins, IsFirstBadLine, IsReceiptOn, cell_line, end_line, head_line, receipt_lines, text_of_lines, text_of_receipt}
 use Rattle.receipt_text.specs.Listed.{AreListed}
 use Rattle.receipt_text.specs.Reading.{IsListing, IsStuck, Lacks, ListingEnds, ReadEnds}

@@ -9,7 +9,7 @@ use Rattle.hex.specs.Hex.{encode_lower}
 use Rattle.cell_types.specs.declared.geometry.TheConstants.{MAX_SLOTS}
 use Rattle.cell_types.specs.declared.refusal.Refusal.{Refusal}
 use Rattle.cell_types.specs.declared.refusal.Refusal.TheVariants as refusals
-use Rattle.stored_documents.specs.Documents.{IsIdentifier}
+use Rattle.volume_meaning.specs.Documents.{IsIdentifier}
 use Rattle.receipt_text.specs.Listed.{AreListed}
 use Rattle.receipt_text.specs.declared.receipt.Receipt.{Receipt}
 use Rattle.receipt_text.specs.declared.receipt.ReceiptFault.{ReceiptFault}

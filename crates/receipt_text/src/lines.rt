@@ -3,7 +3,7 @@ ghost use Rattle.std.specs.Prelude.{◌≡◌, ◌≢◌, ◌<◌, ◌≤◌, �
 ghost use Rattle.hex.specs.Hex.{encode_lower};
 ghost use Rattle.cell_types.specs.Bytes.{IsCell};
 ghost use Rattle.cell_types.specs.declared.geometry.TheConstants.{MAX_SLOTS};
-ghost use Rattle.stored_documents.specs.Documents.{IsIdentifier};
+ghost use Rattle.volume_meaning.specs.Documents.{IsIdentifier};
 ghost use Rattle.receipt_text.specs.Form.{cell_line, end_line, head_line};
 ghost use Rattle.receipt_text.specs.Reading.{Lacks};
 

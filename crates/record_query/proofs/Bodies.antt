@@ -2,23 +2,23 @@
 use Rattle.std.proofs.Common.{◌≡◌, ◌<◌, ◌≤◌, ◌+◌, ◌∙◌, ℕ, Bool, List, [], ◌++◌, Ok, Err, arith, subst, sym}
 use Rattle.std.proofs.lemmas.List.{length-append}
 use Rattle.std.specs.Prelude.{IsTrue}
-use Rattle.stored_documents.specs.Documents.{stored_bytes}
-use Rattle.stored_documents.specs.declared.word_rules.WordRule.{WordRule}
+use Rattle.volume_meaning.specs.Documents.{stored_bytes}
+use Rattle.volume_meaning.specs.declared.word_rules.WordRule.{WordRule}
 use Rattle.worm_device.specs.Views.{ViewState, Viewed}
-use Rattle.identifier_lookup.specs.append_file.Reading.{IsPosition, NextRowEnds}
-use Rattle.identifier_lookup.specs.append_file.declared.position.Position.{Position}
+use Rattle.append_file.specs.Reading.{IsPosition, NextRowEnds}
+use Rattle.append_file.specs.declared.position.Position.{Position}
 use Rattle.word_reader.specs.Matching.{FinishEnds, HasPushed}
 use Rattle.word_reader.specs.declared.matcher.Matcher.{Matcher}
-use Rattle.identifier_lookup.specs.append_file.declared.piece.ContentFault.{ContentFault}
-use Rattle.identifier_lookup.specs.append_file.declared.piece.ContentFault.TheVariants.{Broken, ReadFault}
-use Rattle.identifier_lookup.specs.document_store.Heads.{FaultEnds, IsHead, id_of}
-use Rattle.identifier_lookup.specs.document_store.declared.head.Head.{Head}
+use Rattle.append_file.specs.declared.piece.ContentFault.{ContentFault}
+use Rattle.append_file.specs.declared.piece.ContentFault.TheVariants.{Broken, ReadFault}
+use Rattle.document_store.specs.Heads.{FaultEnds, IsHead, id_of}
+use Rattle.document_store.specs.declared.head.Head.{Head}
 use Rattle.record_query.specs.Matching.{HasSought, KeepsTerms, PushNextEnds, Pushes, SeekFails, seek_fault_of}
 use Rattle.record_query.specs.declared.matching.SeekFault.{SeekFault}
 use Rattle.record_query.specs.declared.matching.SeekFault.TheVariants as seeks
-use Rattle.identifier_lookup.proofs.of_document_store.SoFar.{body_add, body_left, body_none, body_whole, BodySoFar}
-use Rattle.identifier_lookup.proofs.of_document_store.Naming.{spelled_none}
-use Rattle.identifier_lookup.proofs.of_document_store.Parsing.{none_broken}
+use Rattle.document_store.proofs.SoFar.{body_add, body_left, body_none, body_whole, BodySoFar}
+use Rattle.document_store.proofs.Naming.{spelled_none}
+use Rattle.document_store.proofs.Parsing.{none_broken}
 
 -- so many bytes of the body were read, and pushed
 pub record MatchSoFar (old now : ViewState) (start bytes : ℕ) (p q : Position) (h : Head) (m n : Matcher) (k : ℕ)

@@ -6,20 +6,20 @@ use Rattle.std.proofs.lemmas.Nat.{mod_below}
 use Rattle.cell_types.specs.Image.{Image}
 use Rattle.cell_types.specs.Layout.{Layout}
 use Rattle.cell_types.specs.declared.refusal.Refusal.{Refusal}
-use Rattle.stored_documents.specs.Documents.{AreDocuments, Document, Stands, stored_bytes}
-use Rattle.stored_documents.specs.Slots.{IsDone}
-use Rattle.stored_documents.specs.Volumes.{IsVolume}
-use Rattle.index_paths.specs.Nearness.{IsCandidate, IsNear, SharesList}
-use Rattle.index_paths.specs.Postings.{list_of}
-use Rattle.ingest_laws.specs.tamper_rules.Settling.{IsSettled, Settled}
-use Rattle.ingest_laws.proofs.of_tamper_rules.GivenUp.{one_layout}
+use Rattle.volume_meaning.specs.Documents.{AreDocuments, Document, Stands, stored_bytes}
+use Rattle.volume_meaning.specs.Slots.{IsDone}
+use Rattle.volume_meaning.specs.Volumes.{IsVolume}
+use Rattle.volume_meaning.specs.Nearness.{IsCandidate, IsNear, SharesList}
+use Rattle.volume_meaning.specs.Postings.{list_of}
+use Rattle.tamper_rules.specs.Settling.{IsSettled, Settled}
+use Rattle.tamper_rules.proofs.GivenUp.{one_layout}
 use Rattle.worm_device.specs.Counts.{IsStill}
 use Rattle.worm_device.specs.State.{DeviceState}
 use Rattle.worm_device.specs.Views.{Viewed, seen_directly}
 use Rattle.worm_device.proofs.Counting.{still_first, still_second}
 use Rattle.worm_device.proofs.Elapsing.{called_then}
 use Rattle.worm_device.proofs.Resting.{rests_of}
-use Rattle.ingest_laws.proofs.of_tamper_rules.Images.{same_image}
+use Rattle.tamper_rules.proofs.Images.{same_image}
 use Rattle.recovery_engine.specs.Settling.{Settles}
 use Rattle.recovery_engine.specs.declared.settling.Ready.{Ready}
 use Rattle.recovery_engine.proofs.OfSettled.{settled_same}

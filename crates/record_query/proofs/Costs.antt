@@ -1,10 +1,10 @@
 -- What common slots cost together, the cells of candidates pay for; and how many slots Near counts.
 use Rattle.std.proofs.Common.{◌≡◌, ◌<◌, ◌≤◌, ◌+◌, ◌-◌, ◌*◌, ◌⊎◌, ⊎_elim, inl, inr, ℕ, zero, suc, Bool, true, false, cond, List, [], ◌∷◌, length, refl, sym, ap, subst, arith, ◌∙◌}
 use Rattle.std.specs.Prelude.{Contains, nat_eq, slice_index, slice_index_or, ⊤}
-use Rattle.stored_documents.specs.Documents.{Document, Rise, stored_bytes}
-use Rattle.stored_documents.specs.Slots.{cells_for}
-use Rattle.index_paths.specs.Nearness.{Count}
-use Rattle.posting_list.specs.zigzag_join.Gathering as gathering
+use Rattle.volume_meaning.specs.Documents.{Document, Rise, stored_bytes}
+use Rattle.volume_meaning.specs.Slots.{cells_for}
+use Rattle.volume_meaning.specs.Nearness.{Count}
+use Rattle.zigzag_join.specs.Gathering as gathering
 use Rattle.record_query.specs.Among.{row_cost}
 use Rattle.record_query.specs.Finding.{HaveCells}
 

@@ -7,21 +7,21 @@ use Rattle.cell_types.specs.Layout.{Layout}
 use Rattle.cell_types.specs.declared.refusal.Fault.TheVariants as faults
 use Rattle.cell_types.specs.declared.refusal.Refusal.{Refusal}
 use Rattle.cell_types.specs.declared.refusal.Refusal.TheVariants.{DeviceFault, NoMemory, Tampered}
-use Rattle.stored_documents.specs.Words.{rule_of}
+use Rattle.volume_meaning.specs.Words.{rule_of}
 use Rattle.worm_device.specs.State.{DeviceState}
 use Rattle.worm_device.specs.Views.{Viewed, seen_directly}
 use Rattle.worm_device.proofs.Resting.{viewed_self, viewed_then}
 use Rattle.word_reader.specs.declared.matcher.Matcher.{Matcher}
-use Rattle.posting_list.specs.zigzag_join.Gathering.{Rise}
-use Rattle.identifier_lookup.specs.document_store.Looks.{ReadsOnce}
-use Rattle.identifier_lookup.specs.document_store.Standing.{HoldsDocument}
+use Rattle.zigzag_join.specs.Gathering.{Rise}
+use Rattle.document_store.specs.Looks.{ReadsOnce}
+use Rattle.document_store.specs.Standing.{HoldsDocument}
 use Rattle.record_query.specs.Among.{AmongEnds, IsSlotCost, FoundAmong, IsMatchAmong, ReadsEach, added, row_cost}
 use Rattle.record_query.specs.Finding.{Rises}
 use Rattle.record_query.specs.Matching.{HasNoMatch, IsMatchIn, IsMatcherOf, KeepsTerms, SlotEnds}
 use Rattle.record_query.specs.declared.found.Match.{Match}
-use Rattle.identifier_lookup.proofs.of_document_store.Holding.{held_is_one, held_on}
-use Rattle.identifier_lookup.proofs.of_document_store.Naming.{fails_from}
-use Rattle.stored_documents.proofs.Extending.{done_on}
+use Rattle.document_store.proofs.Holding.{held_is_one, held_on}
+use Rattle.document_store.proofs.Naming.{fails_from}
+use Rattle.volume_meaning.proofs.Extending.{done_on}
 use Rattle.worm_device.proofs.Images.{extends_then}
 use Rattle.record_query.proofs.Costs.{cost_more, cost_within}
 

@@ -6,7 +6,7 @@ use Rattle.cell_types.specs.declared.refusal.Refusal.{Refusal}
 use Rattle.cell_types.specs.declared.refusal.Refusal.TheVariants as refusals
 use Rattle.worm_device.specs.State.{DeviceState}
 use Rattle.worm_device.specs.Views.{ViewState, seen_directly}
-use Rattle.posting_list.specs.zigzag_join.Joins.{AllOwe}
+use Rattle.zigzag_join.specs.Joins.{AllOwe}
 use Rattle.posting_list.specs.Joins.{TermsGather, TermsGatherReads}
 use Rattle.posting_list.specs.Naming.{IsShown}
 use Rattle.posting_list.specs.Owing.{Owes}

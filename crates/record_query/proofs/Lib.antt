@@ -13,6 +13,3 @@ pub mod Nearby
 pub mod PathMates
 pub mod Searched
 pub mod WalkedOn
-pub use Rattle.identifier_lookup.proofs as of_identifier_lookup
-pub use Rattle.ingest_laws.proofs as of_ingest_laws
-pub use Rattle.posting_list.proofs as of_posting_list

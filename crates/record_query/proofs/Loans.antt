@@ -9,10 +9,10 @@ use Rattle.host_ports.specs.Sinks.{SinkState}
 use Rattle.worm_device.specs.State.{DeviceState}
 use Rattle.worm_device.specs.Views.{Viewed, seen_directly}
 use Rattle.worm_device.proofs.Resting.{rested_since, rests_of}
-use Rattle.posting_list.specs.commit_record.States.{AsksBelow, Shows}
-use Rattle.identifier_lookup.specs.document_store.Looks.{BodyEnds, GotPart, LookFails, Names, ReadsOnce, ReadsTwice, of_document, of_state}
-use Rattle.identifier_lookup.specs.document_store.declared.body.BodyFault.{BodyFault}
-use Rattle.identifier_lookup.specs.document_store.declared.body.BodyFault.TheVariants.{ReadFault, SinkFault, Tampered}
+use Rattle.commit_record.specs.States.{AsksBelow, Shows}
+use Rattle.document_store.specs.Looks.{BodyEnds, GotPart, LookFails, Names, ReadsOnce, ReadsTwice, of_document, of_state}
+use Rattle.document_store.specs.declared.body.BodyFault.{BodyFault}
+use Rattle.document_store.specs.declared.body.BodyFault.TheVariants.{ReadFault, SinkFault, Tampered}
 use Rattle.cell_types.specs.declared.refusal.Fault.TheVariants as faults
 use Rattle.record_query.specs.Among.{LooksOnce}
 use Rattle.record_query.specs.Matching.{SlotEnds}

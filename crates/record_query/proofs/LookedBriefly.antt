@@ -5,13 +5,13 @@ use Rattle.sha2.specs.Sha256.{sha256}
 use Rattle.cell_types.specs.Image.{Image}
 use Rattle.cell_types.specs.Layout.{Layout}
 use Rattle.cell_types.specs.declared.record_cell.RecordCell.TheVariants.{Bucket}
-use Rattle.stored_documents.specs.Slots.{IsDone, IsDoneSlot, cells_for}
-use Rattle.stored_documents.specs.Volumes.{Holds, IsVolume}
-use Rattle.stored_documents.proofs.Extending.{done_on}
-use Rattle.index_paths.specs.HashPaths.{fingerprint_of, nibble}
-use Rattle.index_paths.specs.Nodes.{IsOnPath}
-use Rattle.ingest_laws.specs.tamper_rules.Settling.{IsSettled, Settled}
-use Rattle.ingest_laws.proofs.of_tamper_rules.GivenUp.{one_layout}
+use Rattle.volume_meaning.specs.Slots.{IsDone, IsDoneSlot, cells_for}
+use Rattle.volume_meaning.specs.Volumes.{Holds, IsVolume}
+use Rattle.volume_meaning.proofs.Extending.{done_on}
+use Rattle.volume_meaning.specs.HashPaths.{fingerprint_of, nibble}
+use Rattle.volume_meaning.specs.Nodes.{IsOnPath}
+use Rattle.tamper_rules.specs.Settling.{IsSettled, Settled}
+use Rattle.tamper_rules.proofs.GivenUp.{one_layout}
 use Rattle.worm_device.specs.Counts.{IsStill}
 use Rattle.worm_device.specs.State.{DeviceState}
 use Rattle.worm_device.specs.Views.{Viewed, seen_directly}
@@ -19,8 +19,8 @@ use Rattle.worm_device.proofs.Counting.{still_first}
 use Rattle.worm_device.proofs.Elapsing.{called_then}
 use Rattle.recovery_engine.specs.Settling.{Settles}
 use Rattle.recovery_engine.specs.declared.settling.Ready.{Ready}
-use Rattle.identifier_lookup.specs.document_store.Looks.{ReadsTwice}
-use Rattle.identifier_lookup.proofs.of_document_store.Holding.{held_is_done}
+use Rattle.document_store.specs.Looks.{ReadsTwice}
+use Rattle.document_store.proofs.Holding.{held_is_done}
 use Rattle.identifier_lookup.specs.Costs.{HaveMates, IsComparison, Mate, WalkCosts, cells_in, mate_cells}
 use Rattle.identifier_lookup.specs.Walks.{IsFound}
 use Rattle.identifier_lookup.proofs.Costing.{passed_is_way}

@@ -8,16 +8,16 @@ use Rattle.cell_types.specs.declared.refusal.Fault.{Fault}
 use Rattle.cell_types.specs.declared.refusal.Fault.TheVariants as faults
 use Rattle.cell_types.specs.declared.refusal.Refusal.{Refusal}
 use Rattle.cell_types.specs.declared.refusal.Refusal.TheVariants.{Absent, DeviceFault, NotAVolume, NotFormatted, SinkFault, Tampered, WrongSize}
-use Rattle.stored_documents.specs.Documents.{Document, Stands}
-use Rattle.stored_documents.specs.Slots.{IsDoneSlot}
-use Rattle.stored_documents.proofs.Extending.{holds_on, stands_on}
-use Rattle.stored_documents.proofs.OneDocument.{one_document}
-use Rattle.index_paths.specs.HashPaths.{HashTrail}
-use Rattle.index_paths.specs.Keeping.{IsKept, Kept, sought_in}
-use Rattle.index_paths.proofs.HashTrails.{passed_to_on}
-use Rattle.index_paths.proofs.KeepingLaws.{kept_on}
+use Rattle.volume_meaning.specs.Documents.{Document, Stands}
+use Rattle.volume_meaning.specs.Slots.{IsDoneSlot}
+use Rattle.volume_meaning.proofs.Extending.{holds_on, stands_on}
+use Rattle.volume_meaning.proofs.OneDocument.{one_document}
+use Rattle.volume_meaning.specs.HashPaths.{HashTrail}
+use Rattle.volume_meaning.specs.Keeping.{IsKept, Kept, sought_in}
+use Rattle.volume_meaning.proofs.HashTrails.{passed_to_on}
+use Rattle.volume_meaning.proofs.KeepingLaws.{kept_on}
 use Rattle.host_ports.specs.Sinks.{SinkState}
-use Rattle.ingest_laws.proofs.of_tamper_rules.GivenUp.{one_layout}
+use Rattle.tamper_rules.proofs.GivenUp.{one_layout}
 use Rattle.worm_device.specs.State.{DeviceState}
 use Rattle.worm_device.specs.Views.{Viewed, seen_directly}
 use Rattle.worm_device.proofs.Counting.{still_second}
@@ -25,16 +25,16 @@ use Rattle.worm_device.proofs.Elapsing.{called_then}
 use Rattle.worm_device.proofs.Images.{extends_then}
 use Rattle.recovery_engine.specs.Settling.{SettleEnds, Settles, SettlesFirst}
 use Rattle.recovery_engine.specs.declared.settling.Ready.{Ready}
-use Rattle.identifier_lookup.specs.document_store.Looks.{BodyEnds, GotPart, HoldsBody, ReadsTwice}
-use Rattle.identifier_lookup.specs.document_store.declared.body.BodyFault.{BodyFault}
-use Rattle.identifier_lookup.specs.document_store.declared.body.BodyFault.TheVariants as bodies
-use Rattle.identifier_lookup.proofs.of_document_store.Holding.{held_is_done, held_is_one, held_on, held_stands}
+use Rattle.document_store.specs.Looks.{BodyEnds, GotPart, HoldsBody, ReadsTwice}
+use Rattle.document_store.specs.declared.body.BodyFault.{BodyFault}
+use Rattle.document_store.specs.declared.body.BodyFault.TheVariants as bodies
+use Rattle.document_store.proofs.Holding.{held_is_done, held_is_one, held_on, held_stands}
 use Rattle.identifier_lookup.specs.Costs.{WalkCosts}
 use Rattle.identifier_lookup.specs.Walks.{HasTrail, IsFirstOnPath, IsFound, IsLicensed, NoneHasTrail}
 use Rattle.identifier_lookup.specs.declared.answers.Walk.TheVariants as walks
 use Rattle.identifier_lookup.proofs.Licence.{names_licensed}
-use Rattle.identifier_lookup.specs.hash_tree.declared.level.Level.{Level}
-use Rattle.identifier_lookup.specs.hash_tree.declared.path.Open.{Open}
+use Rattle.hash_tree.specs.declared.level.Level.{Level}
+use Rattle.hash_tree.specs.declared.path.Open.{Open}
 use Rattle.record_query.specs.Looking.{HasLooked}
 use Rattle.record_query.proofs.Looking.{is_ready, same_since, still_looking, tells_settled, volume_now, looked_more}
 use Rattle.record_query.specs.LookingUp.{IsLookedUp, IsThatOf, LookUpEnds, LooksUp, NamesLookUpRule, NoneHas, PathEnds, PutsFront, at_place, behind_all, refusal_of_body}

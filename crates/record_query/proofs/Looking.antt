@@ -1,9 +1,9 @@
 -- A volume that was settled and looked at since: what the call at its end knows.
 use Rattle.std.proofs.Common.{◌≡◌, ℕ, Ok, refl, sym, subst}
 use Rattle.std.specs.Prelude.{IsTrue}
-use Rattle.stored_documents.specs.Volumes.{IsVolume}
-use Rattle.stored_documents.proofs.Extending.{volume_on}
-use Rattle.ingest_laws.proofs.of_tamper_rules.Images.{same_image}
+use Rattle.volume_meaning.specs.Volumes.{IsVolume}
+use Rattle.volume_meaning.proofs.Extending.{volume_on}
+use Rattle.tamper_rules.proofs.Images.{same_image}
 use Rattle.worm_device.specs.Counts.{IsStill}
 use Rattle.worm_device.specs.State.{DeviceState}
 use Rattle.worm_device.specs.Views.{Viewed, seen_directly}

@@ -8,20 +8,20 @@ use Rattle.cell_types.specs.declared.refusal.Fault.{Fault}
 use Rattle.cell_types.specs.declared.refusal.Fault.TheVariants as faults
 use Rattle.cell_types.specs.declared.refusal.Refusal.{Refusal}
 use Rattle.cell_types.specs.declared.refusal.Refusal.TheVariants.{DeviceFault, NoMemory, Tampered}
-use Rattle.stored_documents.specs.Documents.{stored_bytes}
-use Rattle.stored_documents.specs.Slots.{IsDoneSlot}
-use Rattle.stored_documents.specs.Words.{Matches, rule_of}
+use Rattle.volume_meaning.specs.Documents.{stored_bytes}
+use Rattle.volume_meaning.specs.Slots.{IsDoneSlot}
+use Rattle.volume_meaning.specs.Words.{Matches, rule_of}
 use Rattle.worm_device.specs.Views.{ViewState, Viewed}
 use Rattle.word_reader.specs.declared.matcher.Matcher.{Matcher}
-use Rattle.identifier_lookup.specs.document_store.Heads.{id_of}
-use Rattle.identifier_lookup.specs.document_store.Looks.{IsPartOf, IsUndone, LookFails, PartEnds}
-use Rattle.identifier_lookup.specs.document_store.Standing.{HoldsDocument}
-use Rattle.identifier_lookup.specs.document_store.declared.head.Head.{Head}
-use Rattle.identifier_lookup.specs.document_store.declared.part.Part.{Part}
+use Rattle.document_store.specs.Heads.{id_of}
+use Rattle.document_store.specs.Looks.{IsPartOf, IsUndone, LookFails, PartEnds}
+use Rattle.document_store.specs.Standing.{HoldsDocument}
+use Rattle.document_store.specs.declared.head.Head.{Head}
+use Rattle.document_store.specs.declared.part.Part.{Part}
 use Rattle.record_query.specs.Matching.{HasNoMatch, IsMatcherOf, ReadMatch, ReadOther, SlotEnds}
 use Rattle.record_query.specs.declared.found.Match.{Match}
-use Rattle.identifier_lookup.proofs.of_document_store.Holding.{held_is_one, held_on, part_on, whole_is_held}
-use Rattle.identifier_lookup.proofs.of_document_store.Naming.{fails_from}
+use Rattle.document_store.proofs.Holding.{held_is_one, held_on, part_on, whole_is_held}
+use Rattle.document_store.proofs.Naming.{fails_from}
 
 -- a slot that holds a document is done
 done_of_held : {g : Layout} {image : Image} {n : ℕ} {id body : List ℕ} → HoldsDocument g image n id body

@@ -8,19 +8,19 @@ use Rattle.cell_types.specs.Image.{Image}
 use Rattle.cell_types.specs.Layout.{Layout, root_at}
 use Rattle.cell_types.specs.declared.record_cell.RecordCell.{RecordCell}
 use Rattle.cell_types.specs.declared.record_cell.RecordCell.TheVariants.{Bucket, Child}
-use Rattle.stored_documents.specs.Documents.{Document, Stands}
-use Rattle.stored_documents.specs.Volumes.{Holds}
-use Rattle.stored_documents.proofs.Holding.{one_record_holds}
-use Rattle.stored_documents.proofs.OneDocument.{one_document}
-use Rattle.index_paths.specs.HashPaths.{fingerprint_of, nibble}
-use Rattle.index_paths.specs.Nearness.{IsPathMate}
-use Rattle.index_paths.specs.Nodes as nodes
-use Rattle.index_paths.specs.Nodes.{IsOnPath}
-use Rattle.ingest_laws.specs.tamper_rules.Rules.{BucketRule, Buckets, ChildRule, Children, IsTrueBucket}
-use Rattle.ingest_laws.specs.tamper_rules.Settling.{IsSettled}
-use Rattle.ingest_laws.proofs.of_tamper_rules.GivenUp.{children}
-use Rattle.ingest_laws.proofs.of_tamper_rules.Images.{look}
-use Rattle.ingest_laws.proofs.of_tamper_rules.Writing.{same_or_not}
+use Rattle.volume_meaning.specs.Documents.{Document, Stands}
+use Rattle.volume_meaning.specs.Volumes.{Holds}
+use Rattle.volume_meaning.proofs.Holding.{one_record_holds}
+use Rattle.volume_meaning.proofs.OneDocument.{one_document}
+use Rattle.volume_meaning.specs.HashPaths.{fingerprint_of, nibble}
+use Rattle.volume_meaning.specs.Nearness.{IsPathMate}
+use Rattle.volume_meaning.specs.Nodes as nodes
+use Rattle.volume_meaning.specs.Nodes.{IsOnPath}
+use Rattle.tamper_rules.specs.Rules.{BucketRule, Buckets, ChildRule, Children, IsTrueBucket}
+use Rattle.tamper_rules.specs.Settling.{IsSettled}
+use Rattle.tamper_rules.proofs.GivenUp.{children}
+use Rattle.tamper_rules.proofs.Images.{look}
+use Rattle.tamper_rules.proofs.Writing.{same_or_not}
 use Rattle.identifier_lookup.specs.Costs.{Mate}
 use Rattle.identifier_lookup.proofs.Licence.{half_byte}
 use Rattle.record_query.specs.Laws.{IsMateOf, MatesOfPath}

@@ -4,17 +4,17 @@ use Rattle.std.specs.Prelude.{Contains, slice_get}
 use Rattle.std.proofs.lemmas.Option.{get_or_from_slice_get, slice_get-get_or, slice_get_within}
 use Rattle.cell_types.specs.Image.{Image}
 use Rattle.cell_types.specs.Layout.{Layout, done_at, list_at, pool_at}
-use Rattle.stored_documents.specs.Documents.{AreDocuments, Document, Stands}
-use Rattle.stored_documents.specs.Volumes.{Holds, IsVolume}
-use Rattle.stored_documents.proofs.OneDocument.{one_document}
-use Rattle.index_paths.specs.Blocks.{Leads, PostingFields, posting_record}
-use Rattle.index_paths.specs.Nearness.{IsCandidate, SharesList}
-use Rattle.index_paths.specs.Nodes.{IsBlockOf}
-use Rattle.index_paths.specs.Postings.{HasPostings, HasTag, IsWordPosting, list_of, tag_of}
-use Rattle.index_paths.proofs.Tags.{of_word, word_slot}
-use Rattle.ingest_laws.specs.tamper_rules.Rules.{Postings, Trails}
-use Rattle.ingest_laws.specs.tamper_rules.Settling.{IsSettled}
-use Rattle.posting_list.proofs.of_jump_block.OneBlock.{leads_wider}
+use Rattle.volume_meaning.specs.Documents.{AreDocuments, Document, Stands}
+use Rattle.volume_meaning.specs.Volumes.{Holds, IsVolume}
+use Rattle.volume_meaning.proofs.OneDocument.{one_document}
+use Rattle.volume_meaning.specs.Blocks.{Leads, PostingFields, posting_record}
+use Rattle.volume_meaning.specs.Nearness.{IsCandidate, SharesList}
+use Rattle.volume_meaning.specs.Nodes.{IsBlockOf}
+use Rattle.volume_meaning.specs.Postings.{HasPostings, HasTag, IsWordPosting, list_of, tag_of}
+use Rattle.volume_meaning.proofs.Tags.{of_word, word_slot}
+use Rattle.tamper_rules.specs.Rules.{Postings, Trails}
+use Rattle.tamper_rules.specs.Settling.{IsSettled}
+use Rattle.jump_block.proofs.OneBlock.{leads_wider}
 use Rattle.posting_list.specs.Owing.{HasPosting, IsVouched}
 use Rattle.posting_list.specs.Terms.{sought_of}
 use Rattle.posting_list.specs.declared.reach.Reach.{Reach}

@@ -6,18 +6,18 @@ use Rattle.sha2.specs.Sha256.{sha256}
 use Rattle.cell_types.specs.Image.{Image}
 use Rattle.cell_types.specs.Layout.{IsLayout, Layout, outcome_at}
 use Rattle.cell_types.specs.declared.record_cell.RecordCell.TheVariants.{Bucket, Commit}
-use Rattle.stored_documents.specs.Documents.{Document, Stands, stored_bytes}
-use Rattle.stored_documents.specs.Slots.{IsDone, cells_for}
-use Rattle.stored_documents.specs.Volumes.{Holds}
-use Rattle.stored_documents.proofs.Holding.{one_record_holds}
-use Rattle.stored_documents.proofs.OneDocument.{commits}
-use Rattle.index_paths.specs.HashPaths.{fingerprint_of, nibble}
-use Rattle.index_paths.specs.Nearness.{IsPathMate}
-use Rattle.index_paths.specs.Nodes as nodes
-use Rattle.index_paths.specs.Nodes.{IsNode, IsOnPath}
-use Rattle.ingest_laws.specs.tamper_rules.Rules.{BucketRule, Buckets}
-use Rattle.ingest_laws.specs.tamper_rules.Settling.{IsSettled}
-use Rattle.ingest_laws.proofs.of_tamper_rules.Settled.{some_edge, some_horizon}
+use Rattle.volume_meaning.specs.Documents.{Document, Stands, stored_bytes}
+use Rattle.volume_meaning.specs.Slots.{IsDone, cells_for}
+use Rattle.volume_meaning.specs.Volumes.{Holds}
+use Rattle.volume_meaning.proofs.Holding.{one_record_holds}
+use Rattle.volume_meaning.proofs.OneDocument.{commits}
+use Rattle.volume_meaning.specs.HashPaths.{fingerprint_of, nibble}
+use Rattle.volume_meaning.specs.Nearness.{IsPathMate}
+use Rattle.volume_meaning.specs.Nodes as nodes
+use Rattle.volume_meaning.specs.Nodes.{IsNode, IsOnPath}
+use Rattle.tamper_rules.specs.Rules.{BucketRule, Buckets}
+use Rattle.tamper_rules.specs.Settling.{IsSettled}
+use Rattle.tamper_rules.proofs.Settled.{some_edge, some_horizon}
 use Rattle.ingest_laws.specs.TreeShapes.{IsWellRooted}
 use Rattle.ingest_laws.proofs.SettledShapes.{settled_rooted}
 use Rattle.ingest_laws.proofs.TreeShapes.{one_level}

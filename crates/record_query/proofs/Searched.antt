@@ -8,19 +8,19 @@ use Rattle.cell_types.specs.Image.{Image}
 use Rattle.cell_types.specs.Layout.{Layout}
 use Rattle.cell_types.specs.declared.refusal.Refusal.{Refusal}
 use Rattle.cell_types.specs.declared.refusal.Refusal.TheVariants.{DeviceFault, NoMemory, NotAVolume, NotFormatted, Tampered, WrongSize}
-use Rattle.stored_documents.specs.Documents.{Document}
-use Rattle.stored_documents.specs.Slots.{IsEdge}
-use Rattle.stored_documents.specs.Words.{Matches, rule_of}
-use Rattle.stored_documents.proofs.Extending.{volume_on}
-use Rattle.index_paths.specs.Keeping.{IsKept, Kept}
-use Rattle.index_paths.proofs.KeepingLaws.{kept_on}
-use Rattle.ingest_laws.proofs.of_tamper_rules.GivenUp.{one_layout}
+use Rattle.volume_meaning.specs.Documents.{Document}
+use Rattle.volume_meaning.specs.Slots.{IsEdge}
+use Rattle.volume_meaning.specs.Words.{Matches, rule_of}
+use Rattle.volume_meaning.proofs.Extending.{volume_on}
+use Rattle.volume_meaning.specs.Keeping.{IsKept, Kept}
+use Rattle.volume_meaning.proofs.KeepingLaws.{kept_on}
+use Rattle.tamper_rules.proofs.GivenUp.{one_layout}
 use Rattle.worm_device.specs.Counts.{IsStill}
 use Rattle.worm_device.specs.State.{DeviceState}
 use Rattle.worm_device.specs.Views.{Viewed, seen_directly}
 use Rattle.worm_device.proofs.Counting.{still_second}
 use Rattle.worm_device.proofs.Elapsing.{called_then}
-use Rattle.posting_list.specs.zigzag_join.Joins.{AllOwe}
+use Rattle.zigzag_join.specs.Joins.{AllOwe}
 use Rattle.recovery_engine.specs.Settling.{SettleEnds, Settles, SettlesFirst}
 use Rattle.recovery_engine.specs.declared.settling.Ready.{Ready}
 use Rattle.posting_list.specs.Joins.{TermsGather, TermsGatherReads}
@@ -30,9 +30,9 @@ use Rattle.posting_list.specs.States.{lists_over}
 use Rattle.posting_list.specs.Terms.{sought_of}
 use Rattle.posting_list.specs.declared.sought_term.SoughtTerm.{SoughtTerm}
 use Rattle.posting_list.proofs.Evidence.{state_rule}
-use Rattle.identifier_lookup.specs.document_store.Looks.{Names, of_document, of_state}
-use Rattle.identifier_lookup.specs.document_store.Standing.{HoldsDocument}
-use Rattle.identifier_lookup.proofs.of_document_store.Holding.{held_on, held_stands, stands_held}
+use Rattle.document_store.specs.Looks.{Names, of_document, of_state}
+use Rattle.document_store.specs.Standing.{HoldsDocument}
+use Rattle.document_store.proofs.Holding.{held_on, held_stands, stands_held}
 use Rattle.identifier_lookup.proofs.Licence.{names_licensed}
 use Rattle.record_query.specs.Looking.{HasLooked}
 use Rattle.record_query.proofs.Looking.{has_settled, is_ready, same_since, still_looking, still_settling, tells_settled, volume_now, looked_from, looked_more}

@@ -5,13 +5,13 @@ use Rattle.cell_types.specs.Image.{Image}
 use Rattle.cell_types.specs.Layout.{Layout}
 use Rattle.cell_types.specs.declared.refusal.Refusal.{Refusal}
 use Rattle.cell_types.specs.declared.refusal.Refusal.TheVariants.{NoMemory}
-use Rattle.stored_documents.specs.Words.{Matches, rule_of}
+use Rattle.volume_meaning.specs.Words.{Matches, rule_of}
 use Rattle.worm_device.specs.State.{DeviceState}
 use Rattle.worm_device.specs.Views.{seen_directly}
-use Rattle.stored_documents.specs.Slots.{IsDone, cells_for}
-use Rattle.posting_list.specs.commit_record.States.{stamp_cells}
-use Rattle.identifier_lookup.specs.document_store.Looks.{LookRefuses, ReadsOnce}
-use Rattle.identifier_lookup.specs.document_store.Standing.{HoldsDocument}
+use Rattle.volume_meaning.specs.Slots.{IsDone, cells_for}
+use Rattle.commit_record.specs.States.{stamp_cells}
+use Rattle.document_store.specs.Looks.{LookRefuses, ReadsOnce}
+use Rattle.document_store.specs.Standing.{HoldsDocument}
 use Rattle.record_query.specs.Finding.{HasMatch, Rises}
 use Rattle.record_query.specs.Matching.{IsMatchIn}
 use Rattle.record_query.specs.declared.found.Match.{Match}

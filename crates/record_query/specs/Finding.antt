@@ -5,15 +5,15 @@ use Rattle.cell_types.specs.Image.{Image}
 use Rattle.cell_types.specs.Layout.{Layout}
 use Rattle.cell_types.specs.declared.refusal.Refusal.{Refusal}
 use Rattle.cell_types.specs.declared.refusal.Refusal.TheVariants.{DeviceFault, NoMemory, NotAVolume, NotFormatted, Tampered, WrongSize}
-use Rattle.posting_list.specs.commit_record.Licences.{IsLicensed}
-use Rattle.index_paths.specs.Keeping.{Kept}
-use Rattle.index_paths.specs.Nearness.{IsCandidate, IsNear}
-use Rattle.stored_documents.specs.Documents.{AreDocuments, Document, Stands, stored_bytes}
-use Rattle.stored_documents.specs.Slots.{cells_for}
-use Rattle.stored_documents.specs.Volumes.{IsVolume}
-use Rattle.stored_documents.specs.Words.{Matches, rule_of}
-use Rattle.ingest_laws.specs.tamper_rules.Settling.{Settled}
-use Rattle.ingest_laws.specs.tamper_rules.declared.numbers.TheConstants.{BROKEN_DOCUMENT}
+use Rattle.commit_record.specs.Licences.{IsLicensed}
+use Rattle.volume_meaning.specs.Keeping.{Kept}
+use Rattle.volume_meaning.specs.Nearness.{IsCandidate, IsNear}
+use Rattle.volume_meaning.specs.Documents.{AreDocuments, Document, Stands, stored_bytes}
+use Rattle.volume_meaning.specs.Slots.{cells_for}
+use Rattle.volume_meaning.specs.Volumes.{IsVolume}
+use Rattle.volume_meaning.specs.Words.{Matches, rule_of}
+use Rattle.tamper_rules.specs.Settling.{Settled}
+use Rattle.tamper_rules.specs.declared.numbers.TheConstants.{BROKEN_DOCUMENT}
 use Rattle.worm_device.specs.Calls.{Called}
 use Rattle.worm_device.specs.Counts.{Rose, IsStill}
 use Rattle.worm_device.specs.State.{DeviceState}

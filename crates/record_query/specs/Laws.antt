@@ -3,9 +3,9 @@ use Rattle.std.specs.Prelude.{◌≡◌, ◌≤◌, ◌+◌, ℕ, List, length, 
 use Rattle.sha2.specs.Sha256.{sha256}
 use Rattle.cell_types.specs.Image.{Image}
 use Rattle.cell_types.specs.Layout.{Layout}
-use Rattle.index_paths.specs.HashPaths.{nibble}
-use Rattle.index_paths.specs.Nearness.{IsPathMate}
-use Rattle.ingest_laws.specs.tamper_rules.Settling.{IsSettled}
+use Rattle.volume_meaning.specs.HashPaths.{nibble}
+use Rattle.volume_meaning.specs.Nearness.{IsPathMate}
+use Rattle.tamper_rules.specs.Settling.{IsSettled}
 use Rattle.identifier_lookup.specs.Costs.{HaveMates, Mate}
 
 -- the mate's document is one that a look-up of the identifier may have to read, and its bucket names the slot

@@ -3,20 +3,20 @@ use Rattle.std.specs.Prelude.{◌≡◌, ◌≤◌, ◌+◌, ◌*◌, ◌⊎◌,
 use Rattle.cell_types.specs.Layout.{Layout}
 use Rattle.cell_types.specs.declared.refusal.Refusal.{Refusal}
 use Rattle.cell_types.specs.declared.refusal.Refusal.TheVariants.{Absent, DeviceFault, NotAVolume, NotFormatted, SinkFault, Tampered, WrongSize}
-use Rattle.posting_list.specs.commit_record.Licences.{IsLicensed}
-use Rattle.stored_documents.specs.Documents.{Document, Stands}
-use Rattle.stored_documents.specs.Volumes.{IsVolume}
-use Rattle.index_paths.specs.Keeping.{Kept}
-use Rattle.ingest_laws.specs.tamper_rules.Settling.{Settled}
+use Rattle.commit_record.specs.Licences.{IsLicensed}
+use Rattle.volume_meaning.specs.Documents.{Document, Stands}
+use Rattle.volume_meaning.specs.Volumes.{IsVolume}
+use Rattle.volume_meaning.specs.Keeping.{Kept}
+use Rattle.tamper_rules.specs.Settling.{Settled}
 use Rattle.host_ports.specs.Sinks.{Gets, SinkState}
 use Rattle.worm_device.specs.Calls.{Called}
 use Rattle.worm_device.specs.Counts.{IsStill, Rose}
 use Rattle.worm_device.specs.State.{DeviceState}
 use Rattle.recovery_engine.specs.Settling.{IsSettlingRule, SettleEnds, SettlesFirst}
-use Rattle.identifier_lookup.specs.document_store.declared.body.BodyFault.{BodyFault}
-use Rattle.identifier_lookup.specs.document_store.declared.body.BodyFault.TheVariants as bodies
-use Rattle.identifier_lookup.specs.hash_tree.declared.level.Level.{Level}
-use Rattle.identifier_lookup.specs.hash_tree.declared.path.Open.{Open}
+use Rattle.document_store.specs.declared.body.BodyFault.{BodyFault}
+use Rattle.document_store.specs.declared.body.BodyFault.TheVariants as bodies
+use Rattle.hash_tree.specs.declared.level.Level.{Level}
+use Rattle.hash_tree.specs.declared.path.Open.{Open}
 use Rattle.identifier_lookup.specs.Costs.{HaveMates, Mate, mate_cells}
 use Rattle.identifier_lookup.specs.Walks.{IsBlankIn, IsFirstOnPath, IsPassedUpToPlace, IsPassedWhole, IsWalkRule}
 use Rattle.record_query.specs.declared.found.Found.{Found}

@@ -4,20 +4,20 @@ use Rattle.cell_types.specs.Image.{Image}
 use Rattle.cell_types.specs.Layout.{Layout}
 use Rattle.cell_types.specs.declared.refusal.Refusal.{Refusal}
 use Rattle.cell_types.specs.declared.refusal.Refusal.TheVariants.{NoMemory}
-use Rattle.stored_documents.specs.Words.{Matches, rule_of}
-use Rattle.stored_documents.specs.declared.word_rules.WordRule.{WordRule}
+use Rattle.volume_meaning.specs.Words.{Matches, rule_of}
+use Rattle.volume_meaning.specs.declared.word_rules.WordRule.{WordRule}
 use Rattle.worm_device.specs.Counts.{Rose}
 use Rattle.worm_device.specs.Views.{ViewState}
-use Rattle.identifier_lookup.specs.append_file.declared.piece.ContentFault.{ContentFault}
-use Rattle.identifier_lookup.specs.append_file.declared.piece.ContentFault.TheVariants as contents
-use Rattle.identifier_lookup.specs.append_file.Reading.{HasBroken, HasRead}
-use Rattle.identifier_lookup.specs.append_file.declared.position.Position.{Position}
+use Rattle.append_file.specs.declared.piece.ContentFault.{ContentFault}
+use Rattle.append_file.specs.declared.piece.ContentFault.TheVariants as contents
+use Rattle.append_file.specs.Reading.{HasBroken, HasRead}
+use Rattle.append_file.specs.declared.position.Position.{Position}
 use Rattle.word_reader.specs.Matching.{HasPushed, PushEnds}
 use Rattle.word_reader.specs.declared.matcher.Matcher.{Matcher}
-use Rattle.identifier_lookup.specs.document_store.Heads.{HasBody, IsWhole, SpellsNone}
-use Rattle.identifier_lookup.specs.document_store.Looks.{LookRefuses}
-use Rattle.identifier_lookup.specs.document_store.Standing.{HoldsDocument}
-use Rattle.identifier_lookup.specs.document_store.declared.head.Head.{Head}
+use Rattle.document_store.specs.Heads.{HasBody, IsWhole, SpellsNone}
+use Rattle.document_store.specs.Looks.{LookRefuses}
+use Rattle.document_store.specs.Standing.{HoldsDocument}
+use Rattle.document_store.specs.declared.head.Head.{Head}
 use Rattle.record_query.specs.declared.found.Match.{Match}
 use Rattle.record_query.specs.declared.matching.SeekFault.{SeekFault}
 use Rattle.record_query.specs.declared.matching.SeekFault.TheVariants as seeks

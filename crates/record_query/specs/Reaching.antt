@@ -5,8 +5,8 @@ use Rattle.cell_types.specs.declared.refusal.Fault.{Fault}
 use Rattle.host_ports.specs.Sinks.{SinkState}
 use Rattle.worm_device.specs.State.{DeviceState}
 use Rattle.worm_device.specs.Views.{Viewed, seen_directly}
-use Rattle.identifier_lookup.specs.document_store.Looks.{BodyEnds, ReadsTwice}
-use Rattle.identifier_lookup.specs.document_store.declared.body.BodyFault.{BodyFault}
+use Rattle.document_store.specs.Looks.{BodyEnds, ReadsTwice}
+use Rattle.document_store.specs.declared.body.BodyFault.{BodyFault}
 use Rattle.identifier_lookup.specs.Costs.{WalkCosts}
 use Rattle.identifier_lookup.specs.Walks.{WalkEnds}
 use Rattle.identifier_lookup.specs.declared.answers.Walk.{Walk}

@@ -1,8 +1,8 @@
 //! All documents that have the words which are sought.
 ghost use Rattle.std.specs.Prelude.{◌≡◌, ◌<◌, ◌≤◌, ℕ, List, IfOk, length};
-ghost use Rattle.stored_documents.specs.Words.{rule_of};
+ghost use Rattle.volume_meaning.specs.Words.{rule_of};
 ghost use Rattle.worm_device.specs.Views.{Viewed, seen_directly};
-ghost use Rattle.posting_list.specs.zigzag_join.Gathering.{Rise};
+ghost use Rattle.zigzag_join.specs.Gathering.{Rise};
 ghost use Rattle.record_query.specs.Among.{AmongEnds, LooksOnce, ReadsEach, added};
 ghost use Rattle.record_query.specs.Finding.{Searches};
 ghost use Rattle.record_query.specs.Matching.{IsMatcherOf, KeepsTerms, SlotEnds};
@@ -14,7 +14,7 @@ use cell_types::{Refusal, Volume};
 use posting_list::{SoughtTerms, kept_are_owed};
 use recovery_engine::settle;
 use std::alloc::{AllocError, Global};
-use stored_documents::rule_of;
+use volume_meaning::rule_of;
 use word_reader::{Matcher, Term};
 use worm_device::{Device, Direct};
 

@@ -1,7 +1,7 @@
 //! A document, by its identifier.
 ghost use Rattle.std.specs.Prelude.{◌≡◌, ◌<◌, ◌≤◌, IsTrue};
-ghost use Rattle.stored_documents.specs.Slots.{IsDoneSlot};
-ghost use Rattle.identifier_lookup.specs.hash_tree.Levels.{AreBounds};
+ghost use Rattle.volume_meaning.specs.Slots.{IsDoneSlot};
+ghost use Rattle.hash_tree.specs.Levels.{AreBounds};
 ghost use Rattle.record_query.specs.LookingUp.{LooksUp, refusal_of_body};
 ghost use Rattle.record_query.specs.Reaching.{PutsFromDevice, WalksOnDevice};
 

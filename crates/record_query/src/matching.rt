@@ -1,13 +1,13 @@
 //! The document of one slot, read once while words are sought in it.
 ghost use Rattle.std.specs.Prelude.{◌≡◌, ◌<◌, ◌≤◌, ◌+◌, [], ℕ, List, IsTrue};
-ghost use Rattle.stored_documents.specs.Slots.{cells_for};
-ghost use Rattle.stored_documents.specs.Words.{rule_of};
-ghost use Rattle.stored_documents.specs.declared.word_rules.WordRule.{WordRule};
+ghost use Rattle.volume_meaning.specs.Slots.{cells_for};
+ghost use Rattle.volume_meaning.specs.Words.{rule_of};
+ghost use Rattle.volume_meaning.specs.declared.word_rules.WordRule.{WordRule};
 ghost use Rattle.worm_device.specs.Views.{Viewed};
-ghost use Rattle.identifier_lookup.specs.append_file.Reading.{IsPosition};
+ghost use Rattle.append_file.specs.Reading.{IsPosition};
 ghost use Rattle.word_reader.specs.Matching.{HasPushed};
-ghost use Rattle.identifier_lookup.specs.document_store.Heads.{IsHead};
-ghost use Rattle.identifier_lookup.specs.document_store.Looks.{IsPartOf, IsStated, ReadsOnce};
+ghost use Rattle.document_store.specs.Heads.{IsHead};
+ghost use Rattle.document_store.specs.Looks.{IsPartOf, IsStated, ReadsOnce};
 ghost use Rattle.record_query.specs.Matching.{IsMatcherOf, KeepsTerms, MatchEnds, PushNextEnds, SeekEnds, SlotEnds, seek_fault_of};
 ghost use Rattle.record_query.specs.declared.matching.SeekFault.TheVariants as seeks;
 

@@ -13,7 +13,7 @@ use Rattle.worm_device.proofs.Elapsing.{called_self}
 use Rattle.worm_memory.specs.Memory.{Memory}
 use Rattle.volume_exercise.specs.Exercising.{ExerciseEnds, exercise_device, refused, told, unmade, untold}
 use Rattle.volume_exercise.specs.Refusing.{IsOfExercise}
-use Rattle.volume_exercise.proofs.of_command_laws.Results.{no_answer, one_refusal, other_refusal}
+use Rattle.command_laws.proofs.Results.{no_answer, one_refusal, other_refusal}
 use Rattle.record_top.specs.Exercising.{DoesExercise, IsOkOrOfExercise}
 use Rattle.volume_commands.specs.Ports.{Ports}
 

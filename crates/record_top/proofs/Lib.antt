@@ -1,5 +1,6 @@
+pub mod Asked
 pub mod Asking
 pub mod Exercises
+pub mod Keeping
 pub mod Replays
 pub mod Steadily
-pub use Rattle.volume_commands.proofs as of_volume_commands

@@ -4,17 +4,17 @@ use Rattle.std.proofs.Common.{◌≡◌, ℕ, List, Result, Ok, Err, refl, subst
 use Rattle.cell_types.specs.declared.refusal.Evidence.{Evidence}
 use Rattle.cell_types.specs.declared.refusal.Refusal.{Refusal}
 use Rattle.cell_types.specs.declared.refusal.Refusal.TheVariants as refusals
-use Rattle.stored_documents.specs.declared.limits.TheConstants.{MAX_BODY_BYTES}
+use Rattle.volume_meaning.specs.declared.limits.TheConstants.{MAX_BODY_BYTES}
 use Rattle.worm_device.specs.Calls.{Called}
 use Rattle.worm_device.specs.State.{DeviceState}
 use Rattle.worm_device.proofs.Counting.{rose_or_still}
 use Rattle.worm_device.proofs.Elapsing.{called_self}
-use Rattle.volume_exercise.proofs.of_command_laws.Results.{one_refusal}
+use Rattle.command_laws.proofs.Results.{one_refusal}
 use Rattle.script_events.specs.Scripts.{IsScript, ReadScriptEnds}
 use Rattle.script_events.specs.declared.event.Script.{Script}
 use Rattle.script_events.proofs.OneScript.{texts_are_one_script}
-use Rattle.volume_exercise.specs.script_replies.Lines.{replies_text}
-use Rattle.volume_exercise.specs.script_replies.declared.reply.Reply.{Reply}
+use Rattle.script_replies.specs.Lines.{replies_text}
+use Rattle.script_replies.specs.declared.reply.Reply.{Reply}
 use Rattle.volume_commands.specs.Ports.{IsOkOrNoMemory, Ports, TellsFromMemory}
 use Rattle.record_top.specs.Replaying.{DoesReplay, IsReadyToReplay, ReplayEnds, replayed, unread, untaken}
 use Rattle.volume_commands.specs.Taking.{refusal_of_body_fault}

@@ -5,22 +5,22 @@ use Rattle.cell_types.specs.Layout.{Layout}
 use Rattle.cell_types.specs.declared.refusal.Evidence.{Evidence}
 use Rattle.cell_types.specs.declared.refusal.Refusal.{Refusal}
 use Rattle.cell_types.specs.declared.refusal.Refusal.TheVariants as refusals
-use Rattle.stored_documents.specs.declared.word_rules.WordRule.{WordRule}
+use Rattle.volume_meaning.specs.declared.word_rules.WordRule.{WordRule}
 use Rattle.worm_device.proofs.Elapsing.{called_self}
 use Rattle.worm_device.specs.State.{IsDevice}
-use Rattle.volume_commands.specs.recovery_engine.Settling.{Settles, SettlesFirst}
-use Rattle.volume_commands.specs.recovery_engine.declared.settling.Ready.{Ready}
-use Rattle.volume_exercise.proofs.of_settling_laws.LeftWhole.{held_unmoved}
-use Rattle.volume_exercise.specs.ingest_engine.Formats.{FormatEnds}
-use Rattle.volume_commands.specs.commit_record.Licences.{IsLicensed}
-use Rattle.volume_commands.specs.record_query.Finding.{FindEnds}
-use Rattle.volume_commands.specs.record_query.LookingUp.{LookUpEnds}
-use Rattle.volume_commands.specs.receipt_text.Form.{text_of_receipt}
-use Rattle.volume_commands.specs.record_query.declared.found.Found.{Found}
-use Rattle.volume_commands.specs.record_query.declared.found.Match.{Match}
-use Rattle.volume_exercise.specs.volume_audit.Audits.{SettlesThenAudits}
-use Rattle.volume_exercise.specs.volume_audit.declared.report.AuditReport.{AuditReport}
-use Rattle.volume_exercise.proofs.of_volume_audit.Comes.{licensed, settles_first}
+use Rattle.recovery_engine.specs.Settling.{Settles, SettlesFirst}
+use Rattle.recovery_engine.specs.declared.settling.Ready.{Ready}
+use Rattle.crash_laws.proofs.LeftWhole.{held_unmoved}
+use Rattle.ingest_engine.specs.Formats.{FormatEnds}
+use Rattle.commit_record.specs.Licences.{IsLicensed}
+use Rattle.record_query.specs.Finding.{FindEnds}
+use Rattle.record_query.specs.LookingUp.{LookUpEnds}
+use Rattle.receipt_text.specs.Form.{text_of_receipt}
+use Rattle.record_query.specs.declared.found.Found.{Found}
+use Rattle.record_query.specs.declared.found.Match.{Match}
+use Rattle.volume_audit.specs.Audits.{SettlesThenAudits}
+use Rattle.volume_audit.specs.declared.report.AuditReport.{AuditReport}
+use Rattle.volume_audit.proofs.Comes.{licensed, settles_first}
 use Rattle.command_line.specs.Requests.{Request, ToAudit, ToCheck, ToExercise, ToFind, ToFindBetween, ToFormat, ToIngest, ToLookUp, ToMakeReceipt, ToRecover, ToReplay}
 use Rattle.volume_commands.specs.Auditing.{DoesAudit, report_text}
 use Rattle.volume_commands.specs.Checking.{DoesCheck}
@@ -39,18 +39,18 @@ use Rattle.volume_commands.specs.Ports.{Ports, Tells, TellsFromMemory}
 use Rattle.volume_commands.specs.Recovering.{DoesRecover, recovered}
 use Rattle.volume_commands.proofs.Checks.{check_called, check_only, check_refuses}
 use Rattle.volume_commands.proofs.Receipts.{receipt_held, told_alarm}
-use Rattle.volume_exercise.proofs.of_command_laws.Alarms.{query_alarms, settling_alarms}
+use Rattle.command_laws.proofs.Alarms.{query_alarms, settling_alarms}
 use Rattle.volume_commands.proofs.HeldAnswers.{find_held, look_up_held}
 use Rattle.volume_commands.proofs.OneMore.{ingest_adds}
 use Rattle.record_top.proofs.Replays.{replay_keeps, replay_names_none}
 use Rattle.volume_commands.proofs.Spans.{between_held, between_leaves, between_names_none}
-use Rattle.volume_exercise.proofs.of_command_laws.Results.{no_answer, one_refusal, other_refusal}
-use Rattle.volume_exercise.specs.command_laws.Begins.{BeginsSteady}
+use Rattle.command_laws.proofs.Results.{no_answer, one_refusal, other_refusal}
+use Rattle.command_laws.specs.Begins.{BeginsSteady}
 use Rattle.volume_commands.specs.Steadiness.{AddsNone, LeavesFormatted, LeavesWhole}
-use Rattle.volume_exercise.specs.command_laws.Telling.{IsFormatted, LeavesHeld}
-use Rattle.volume_exercise.proofs.of_command_laws.Formatting.{format_leaves, format_makes, unused_steady}
-use Rattle.volume_exercise.proofs.of_command_laws.LookedFirst.{begins_mid, leaves_both, looked_leaves}
-use Rattle.volume_exercise.proofs.of_command_laws.Queries.{query_leaves, settling_leaves}
+use Rattle.command_laws.specs.Telling.{IsFormatted, LeavesHeld}
+use Rattle.command_laws.proofs.Formatting.{format_leaves, format_makes, unused_steady}
+use Rattle.command_laws.proofs.LookedFirst.{begins_mid, leaves_both, looked_leaves}
+use Rattle.command_laws.proofs.Queries.{query_leaves, settling_leaves}
 
 -- formatting the device ended so
 format_ends : (g : Layout) (old new : Ports) (result : Result Unit Refusal) → FormatCommandEnds g old new result

@@ -2,7 +2,7 @@
 use Rattle.std.specs.Prelude.{ℕ, List, Result}
 use Rattle.cell_types.specs.Layout.{Layout}
 use Rattle.cell_types.specs.declared.refusal.Refusal.{Refusal}
-use Rattle.volume_commands.specs.receipt_text.declared.receipt.Receipt.{Receipt}
+use Rattle.receipt_text.specs.declared.receipt.Receipt.{Receipt}
 use Rattle.script_events.specs.declared.event.Script.{Script}
 use Rattle.command_line.specs.Requests.{Request, ToAudit, ToCheck, ToExercise, ToFind, ToFindBetween, ToFormat, ToIngest, ToLookUp, ToMakeReceipt, ToRecover, ToReplay}
 use Rattle.volume_commands.specs.Auditing.{DoesAudit, IsReadyToAudit}

@@ -4,16 +4,16 @@ use Rattle.std.specs.Prelude.{◌≡◌, ℕ, List, [], false, Some, Result, Ok,
 use Rattle.cell_types.specs.declared.refusal.Refusal.{Refusal}
 use Rattle.cell_types.specs.declared.refusal.Refusal.TheVariants.{NoMemory}
 use Rattle.host_ports.specs.Sources.{Gives, IsAtEnd}
-use Rattle.stored_documents.specs.Documents.{IsBody}
-use Rattle.stored_documents.specs.declared.limits.TheConstants.{MAX_BODY_BYTES}
+use Rattle.volume_meaning.specs.Documents.{IsBody}
+use Rattle.volume_meaning.specs.declared.limits.TheConstants.{MAX_BODY_BYTES}
 use Rattle.worm_device.specs.Counts.{IsStill}
 use Rattle.worm_memory.specs.Memory.{Memory}
 use Rattle.worm_memory.specs.Plans.{no_plan}
 use Rattle.script_events.specs.Scripts.{IsScript, ReadScriptEnds}
 use Rattle.script_events.specs.declared.event.Script.{Script}
-use Rattle.volume_exercise.specs.script_replies.Lines.{replies_text}
-use Rattle.volume_exercise.specs.script_replies.declared.reply.Reply.{Reply}
-use Rattle.volume_exercise.specs.replayed_worlds.Worlds.{IsWorld}
+use Rattle.script_replies.specs.Lines.{replies_text}
+use Rattle.script_replies.specs.declared.reply.Reply.{Reply}
+use Rattle.hostile_replay.specs.Worlds.{IsWorld}
 use Rattle.volume_commands.specs.Ports.{KeepsSink, Ports, TellsFromMemory}
 use Rattle.volume_commands.specs.Taking.{BodyFails, refusal_of_body_fault}
 use Rattle.volume_commands.specs.declared.body.BodyFault.{BodyFault}

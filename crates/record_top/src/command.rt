@@ -2,7 +2,7 @@
 ghost use Rattle.std.specs.Prelude.{◌≡◌, ◌↔◌, map};
 ghost use Rattle.std.specs.String.{string_bytes};
 ghost use Rattle.worm_device.specs.Calls.{Called};
-ghost use Rattle.volume_exercise.specs.command_laws.Begins.{BeginsSteady};
+ghost use Rattle.command_laws.specs.Begins.{BeginsSteady};
 ghost use Rattle.command_line.specs.Requests.{Asks, AsksNothing, IsAskedFor, Request, request_of};
 ghost use Rattle.record_top.specs.Commands.{Does, IsAnswered, IsUnhindered};
 ghost use Rattle.volume_commands.specs.Ports.{ports_of};
@@ -12,8 +12,7 @@ use crate::exercising::exercise_volume;
 use crate::replay::replay_script;
 use cell_types::Refusal;
 use command_line::{Command, command_of};
-use host_ports::{Sink, Source};
-use progress::{Meter, Silent};
+use host_ports::{Meter, Silent, Sink, Source};
 use std::alloc::Global;
 use volume_commands::{
     Outcome, audit_volume, check_source, find_between, find_documents, format_device, ingest_body,

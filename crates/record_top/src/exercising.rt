@@ -8,8 +8,7 @@ ghost use Rattle.worm_memory.specs.Device.{memory_of};
 
 use cell_types::Refusal;
 use host_ports::{Sink, Source, put_all};
-use hostile_replay::replay;
-use replayed_worlds::{acknowledged_are_returned, plain_is_done, turns_are_marked};
+use hostile_replay::{acknowledged_are_returned, plain_is_done, replay, turns_are_marked};
 use std::alloc::Global;
 use volume_commands::Outcome;
 use volume_exercise::{BASE_CELLS, CELLS_PER_DOCUMENT, exercise_events, first_refusal, text_of};

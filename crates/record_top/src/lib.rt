@@ -1,4 +1,5 @@
-//! The call that a program makes with its words: it carries out the command, or refuses.
+//! The calls that a program makes with its words: each carries out the command, or refuses. One is of a single device, one
+//! copies a volume onto another device, and each is said again over files.
 //!
 //! On a blank device, with `hello world` in the source at the `ingest`:
 //!
@@ -21,15 +22,26 @@
 //! A further command is one case in each relation of specs/Commands.antt and of specs/Steadiness.antt of
 //! `volume_commands`, a file of its own there, and one arm in `command.rt`; its words are read in `command_line`.
 //!
-//! Stands on `command_line`, which says what words ask for, and on `volume_commands`, `hostile_replay` and
-//! `volume_exercise`. Begin with `command.rt`; specs/Commands.antt says which commands there are, and leads to what each
-//! does.
+//! `copying.rt` has the call that copies a volume onto another device, and `over_file.rt` what a command over a file does to
+//! the bytes of the file.
+//!
+//! Stands on `command_line`, which says what words ask for, on `volume_commands`, `volume_copy`, `hostile_replay` and
+//! `volume_exercise`, and on `host_files`. Begin with `command.rt`; `specs/Commands.antt` says which commands there are, and
+//! leads to what each does.
 #![tactic(auto)]
 
 mod command;
+mod copy_text;
+mod copy_words;
+mod copying;
 mod exercising;
+mod over_file;
 mod replay;
+mod two_files;
 
 pub use command::{run, run_metered};
+pub use copying::run_two;
 pub use exercising::exercise;
+pub use over_file::run_over_file;
+pub use two_files::run_two_over_files;
 pub use volume_commands::Outcome;

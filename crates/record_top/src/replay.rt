@@ -1,8 +1,8 @@
 //! The command `replay`.
 ghost use Rattle.std.specs.Prelude.{◌≡◌, List, IfOk, string_bytes};
 ghost use Rattle.script_events.specs.Events.{IsInLimits};
-ghost use Rattle.volume_exercise.specs.script_replies.Lines.{replies_text};
-ghost use Rattle.volume_exercise.specs.script_replies.declared.reply.Reply.{Reply};
+ghost use Rattle.script_replies.specs.Lines.{replies_text};
+ghost use Rattle.script_replies.specs.declared.reply.Reply.{Reply};
 ghost use Rattle.volume_commands.specs.Ports.{ports_of};
 ghost use Rattle.record_top.specs.Replaying.{DoesReplay, IsReplayOf};
 
@@ -13,8 +13,8 @@ use hostile_replay::replay;
 use script_events::{Script, read_script, scripts_are_in_limits};
 use script_replies::text_of_replies;
 use std::alloc::Global;
-use stored_documents::MAX_BODY_BYTES;
 use volume_commands::{Outcome, take_body};
+use volume_meaning::MAX_BODY_BYTES;
 use worm_device::Device;
 use worm_memory::MemoryDevice;
 

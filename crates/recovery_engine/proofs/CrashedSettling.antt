@@ -3,12 +3,12 @@ use Rattle.std.proofs.Common.{◌≡◌, ◌+◌, ℕ, List, Option, Some, None,
 use Rattle.std.proofs.lemmas.Option.{none-some}
 use Rattle.cell_types.specs.Image.{Image, Extends}
 use Rattle.cell_types.specs.Layout.{Layout, outcome_at, done_at, lists_at}
-use Rattle.stored_documents.specs.Documents.{document_at}
-use Rattle.stored_documents.specs.Slots.{IsAbandoned, IsCommitted, IsDone, IsReserved, IsUnused}
-use Rattle.stored_documents.proofs.Extending.{abandons_on, commits_on, done_on, reserves_on}
-use Rattle.commit_record.specs.tamper_rules.Journals.{journal_at}
-use Rattle.phase_writer.specs.Putting.{IsInFirst, IsPut}
-use Rattle.phase_writer.specs.declared.put.Put.{Put}
+use Rattle.volume_meaning.specs.Documents.{document_at}
+use Rattle.volume_meaning.specs.Slots.{IsAbandoned, IsCommitted, IsDone, IsReserved, IsUnused}
+use Rattle.volume_meaning.proofs.Extending.{abandons_on, commits_on, done_on, reserves_on}
+use Rattle.tamper_rules.specs.Journals.{journal_at}
+use Rattle.recovery_engine.specs.Putting.{IsInFirst, IsPut}
+use Rattle.recovery_engine.specs.declared.put.Put.{Put}
 use Rattle.commit_record.specs.States.{IsState}
 use Rattle.commit_record.specs.declared.slot.SlotState.{SlotState}
 use Rattle.commit_record.specs.declared.slot.SlotState.TheVariants.{Unused, Reserved, Abandoned, Committed, Done}

@@ -10,11 +10,11 @@ use Rattle.worm_device.specs.Calls.{Called}
 use Rattle.worm_device.specs.Counts.{IsStill}
 use Rattle.worm_device.specs.State.{DeviceState}
 use Rattle.worm_device.proofs.Elapsing.{called_then}
-use Rattle.phase_writer.specs.declared.put.Put.{Put}
-use Rattle.phase_writer.specs.declared.put.Blame.{Blame}
-use Rattle.phase_writer.specs.declared.put.Blame.TheVariants as blames
-use Rattle.phase_writer.specs.Putting.{Puts, PutsPhase, IsThis}
-use Rattle.phase_writer.proofs.Phasing.{false_true, only_looked, changes_wider, puts_more, puts_ended, puts_looked, phase_ended}
+use Rattle.recovery_engine.specs.declared.put.Put.{Put}
+use Rattle.recovery_engine.specs.declared.put.Blame.{Blame}
+use Rattle.recovery_engine.specs.declared.put.Blame.TheVariants as blames
+use Rattle.recovery_engine.specs.Putting.{Puts, PutsPhase, IsThis}
+use Rattle.recovery_engine.proofs.Phasing.{false_true, only_looked, changes_wider, puts_more, puts_ended, puts_looked, phase_ended}
 use Rattle.recovery_engine.specs.declared.journal.Journal.{Journal}
 use Rattle.recovery_engine.specs.Journal.{IsEntryOf, IsEntryPut, IsUnfitAt, EntryEnds}
 

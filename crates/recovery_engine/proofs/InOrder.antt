@@ -11,9 +11,9 @@ use Rattle.commit_record.specs.States.{IsNoState, IsState, StateEnds}
 use Rattle.commit_record.specs.declared.reservation.Reservation.{Reservation}
 use Rattle.commit_record.specs.declared.slot.SlotState.{SlotState}
 use Rattle.commit_record.specs.declared.slot.SlotState.TheVariants.{Unused, Reserved, Abandoned, Committed, Done}
-use Rattle.commit_record.specs.tamper_rules.Rules.{ReserveRule, ReserveCells}
-use Rattle.stored_documents.specs.Slots.{Reserves, HasEnded, EndsBelow}
-use Rattle.stored_documents.proofs.Extending.{unused_further, reserved_further, abandoned_further, committed_further, done_on, reserves_on, ended_further}
+use Rattle.tamper_rules.specs.Rules.{ReserveRule, ReserveCells}
+use Rattle.volume_meaning.specs.Slots.{Reserves, HasEnded, EndsBelow}
+use Rattle.volume_meaning.proofs.Extending.{unused_further, reserved_further, abandoned_further, committed_further, done_on, reserves_on, ended_further}
 use Rattle.worm_device.specs.Counts.{IsStill}
 use Rattle.worm_device.specs.Views.{ViewState, Viewed}
 use Rattle.worm_device.proofs.Counting.{still_second}

@@ -7,11 +7,11 @@ use Rattle.cell_types.specs.declared.record_cell.RecordCell.{RecordCell}
 use Rattle.cell_types.specs.declared.refusal.Fault.{Fault}
 use Rattle.commit_record.specs.declared.slot.SlotState.{SlotState}
 use Rattle.commit_record.specs.declared.slot.SlotState.TheVariants.{Reserved, Committed}
-use Rattle.phase_writer.specs.declared.put.Put.{Put}
-use Rattle.phase_writer.specs.declared.put.Blame.TheVariants.{Rule}
-use Rattle.phase_writer.specs.Putting.{IsThis, PutsPhase, PutsPhases}
-use Rattle.phase_writer.proofs.Phasing.{phases_none, phases_more, phases_ended, phases_wider, phase_same}
-use Rattle.commit_record.specs.tamper_rules.Journals.{journal_at}
+use Rattle.recovery_engine.specs.declared.put.Put.{Put}
+use Rattle.recovery_engine.specs.declared.put.Blame.TheVariants.{Rule}
+use Rattle.recovery_engine.specs.Putting.{IsThis, PutsPhase, PutsPhases}
+use Rattle.recovery_engine.proofs.Phasing.{phases_none, phases_more, phases_ended, phases_wider, phase_same}
+use Rattle.tamper_rules.specs.Journals.{journal_at}
 use Rattle.worm_device.specs.State.{DeviceState}
 use Rattle.recovery_engine.specs.Ending.{abandon_put, done_put, end_plan, end_phases}
 use Rattle.recovery_engine.specs.Journal.{IsEntryPut}

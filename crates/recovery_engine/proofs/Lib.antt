@@ -6,7 +6,8 @@ pub mod LastCells
 pub mod Licensed
 pub mod Looked
 pub mod OfSettled
+pub mod Phasing
 pub mod Rising
+pub mod Rows
 pub mod Settled
 pub mod States
-pub use Rattle.commit_record.proofs.of_tamper_rules

@@ -15,20 +15,20 @@ use Rattle.cell_types.proofs.OneRecord.{address_in}
 use Rattle.commit_record.specs.Licences.{IsLicensed}
 use Rattle.commit_record.specs.declared.slot.SlotState.{SlotState}
 use Rattle.commit_record.specs.declared.slot.SlotState.TheVariants.{Unused, Reserved, Abandoned, Committed, Done}
-use Rattle.phase_writer.specs.declared.put.Blame.{Blame}
-use Rattle.phase_writer.specs.declared.put.Blame.TheVariants.{Rule}
-use Rattle.phase_writer.specs.declared.put.Put.{Put}
-use Rattle.phase_writer.specs.Putting.{IsPut, IsPutTwice, IsTaken, IsInFirst, PutsPhases, blamed, evidence_of}
-use Rattle.stored_documents.specs.Documents.{document_at}
+use Rattle.recovery_engine.specs.declared.put.Blame.{Blame}
+use Rattle.recovery_engine.specs.declared.put.Blame.TheVariants.{Rule}
+use Rattle.recovery_engine.specs.declared.put.Put.{Put}
+use Rattle.recovery_engine.specs.Putting.{IsPut, IsPutTwice, IsTaken, IsInFirst, PutsPhases, blamed, evidence_of}
+use Rattle.volume_meaning.specs.Documents.{document_at}
 use Rattle.recovery_engine.specs.Entries.{target_of, IsCopy, IsUnfit, IsFloor, AreEntries}
-use Rattle.commit_record.specs.tamper_rules.Journals.{journal_at, Copies, IsInOrder}
-use Rattle.commit_record.specs.tamper_rules.Rules.{IsBroken, IsPlaceOf, IsOfPool, OutcomeCells, DoneCells, Journals, Targets}
-use Rattle.commit_record.specs.tamper_rules.declared.numbers.TheConstants.{BROKEN_JOURNAL, OUTCOME_CELL, DONE_CELL, OTHER_TARGET}
-use Rattle.commit_record.proofs.of_tamper_rules.Images.{same_image, look}
-use Rattle.commit_record.proofs.of_tamper_rules.SettlingGoesOn.{behind_log}
-use Rattle.stored_documents.specs.Slots.{Commits, Stores}
-use Rattle.stored_documents.specs.Volumes.{IsVolume, Holds}
-use Rattle.stored_documents.proofs.Extending.{commits_on, ended_further, ends_on, volume_on}
+use Rattle.tamper_rules.specs.Journals.{journal_at, Copies, IsInOrder}
+use Rattle.tamper_rules.specs.Rules.{IsBroken, IsPlaceOf, IsOfPool, OutcomeCells, DoneCells, Journals, Targets}
+use Rattle.tamper_rules.specs.declared.numbers.TheConstants.{BROKEN_JOURNAL, OUTCOME_CELL, DONE_CELL, OTHER_TARGET}
+use Rattle.tamper_rules.proofs.Images.{same_image, look}
+use Rattle.tamper_rules.proofs.SettlingGoesOn.{behind_log}
+use Rattle.volume_meaning.specs.Slots.{Commits, Stores}
+use Rattle.volume_meaning.specs.Volumes.{IsVolume, Holds}
+use Rattle.volume_meaning.proofs.Extending.{commits_on, ended_further, ends_on, volume_on}
 use Rattle.worm_device.specs.Calls.{Called}
 use Rattle.worm_device.specs.Counts.{IsStill}
 use Rattle.worm_device.specs.State.{DeviceState}

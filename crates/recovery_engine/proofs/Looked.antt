@@ -7,9 +7,9 @@ use Rattle.cell_types.specs.declared.refusal.Refusal.{Refusal}
 use Rattle.cell_types.specs.declared.refusal.Refusal.TheVariants.{DeviceFault}
 use Rattle.commit_record.specs.declared.slot.SlotState.{SlotState}
 use Rattle.commit_record.specs.declared.slot.SlotState.TheVariants.{Unused, Reserved, Abandoned, Committed, Done}
-use Rattle.phase_writer.specs.declared.put.Put.{Put}
-use Rattle.phase_writer.specs.Putting.{IsInFirst, LeavesPhases, CrashesLeavePhases, PutsPhases}
-use Rattle.phase_writer.proofs.Phasing.{changes_same, changes_wider, false_true, phases_append, phases_append_ended}
+use Rattle.recovery_engine.specs.declared.put.Put.{Put}
+use Rattle.recovery_engine.specs.Putting.{IsInFirst, LeavesPhases, CrashesLeavePhases, PutsPhases}
+use Rattle.recovery_engine.proofs.Phasing.{changes_same, changes_wider, false_true, phases_append, phases_append_ended}
 use Rattle.worm_device.specs.Calls.{Called, Syncs}
 use Rattle.worm_device.specs.Counts.{IsStill, Rose}
 use Rattle.worm_device.specs.State.{DeviceState, LeftSince}
@@ -20,15 +20,15 @@ use Rattle.worm_device.proofs.Images.{extends_self, extends_then, unchanged_then
 use Rattle.recovery_engine.specs.Ending.{HasJournal, IsFirstEnd, IsLastEnd, end_plan, end_phases, step_of}
 use Rattle.recovery_engine.specs.Settling.{Settles, SettleEnds, LooksBriefly, LooksBrieflyAgain, NamesTarget, EndsByPhases, IsEnding, settle_plan}
 use Rattle.recovery_engine.specs.declared.settling.Step.TheVariants.{Nothing}
-use Rattle.commit_record.specs.tamper_rules.Settling.{Settled}
-use Rattle.commit_record.proofs.of_tamper_rules.Images.{same_image}
+use Rattle.tamper_rules.specs.Settling.{Settled}
+use Rattle.tamper_rules.proofs.Images.{same_image}
 use Rattle.commit_record.specs.States.{IsState}
 use Rattle.recovery_engine.proofs.HalfDone.{settled_is_whole}
 use Rattle.recovery_engine.specs.LastSlot.{IsLast}
 use Rattle.cell_types.specs.Layout.{Layout}
-use Rattle.stored_documents.specs.Slots.{IsHorizon}
-use Rattle.stored_documents.specs.Volumes.{IsVolume}
-use Rattle.stored_documents.proofs.Extending.{horizon_further}
+use Rattle.volume_meaning.specs.Slots.{IsHorizon}
+use Rattle.volume_meaning.specs.Volumes.{IsVolume}
+use Rattle.volume_meaning.proofs.Extending.{horizon_further}
 use Rattle.recovery_engine.proofs.InOrder.{state_further}
 use Rattle.recovery_engine.specs.declared.settling.Ready.{Ready}
 

@@ -3,12 +3,12 @@ use Rattle.std.proofs.Common.{◌≡◌, ◌≤◌, ⊎_elim, ℕ, List, Result,
 use Rattle.std.specs.Prelude.{IsTrue}
 use Rattle.cell_types.specs.Image.{Image}
 use Rattle.cell_types.specs.declared.refusal.Refusal.{Refusal}
-use Rattle.commit_record.specs.tamper_rules.Settling.{Settled}
-use Rattle.commit_record.proofs.of_tamper_rules.Images.{same_both, same_image}
+use Rattle.tamper_rules.specs.Settling.{Settled}
+use Rattle.tamper_rules.proofs.Images.{same_both, same_image}
 use Rattle.worm_device.specs.Counts.{IsStill}
 use Rattle.worm_device.specs.State.{DeviceState}
-use Rattle.phase_writer.specs.Putting.{IsInFirst, IsPut}
-use Rattle.phase_writer.specs.declared.put.Put.{Put}
+use Rattle.recovery_engine.specs.Putting.{IsInFirst, IsPut}
+use Rattle.recovery_engine.specs.declared.put.Put.{Put}
 use Rattle.commit_record.specs.declared.slot.SlotState.{SlotState}
 use Rattle.commit_record.specs.declared.slot.SlotState.TheVariants.{Unused, Reserved, Abandoned, Committed, Done}
 use Rattle.recovery_engine.specs.Ending.{end_phases}

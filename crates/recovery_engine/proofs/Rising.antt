@@ -1,7 +1,7 @@
 -- The targets of a journal: they rise, from the first list on and up to the document.
 use Rattle.std.proofs.Common.{◌≡◌, ◌≤◌, ◌<◌, ◌+◌, ◌⊎◌, ℕ, zero, suc, List, Some, sym, ap, ◌∙◌, ⊎_elim, arith}
 use Rattle.cell_types.specs.Image.{Image}
-use Rattle.stored_documents.proofs.Holding.{some_is}
+use Rattle.volume_meaning.proofs.Holding.{some_is}
 use Rattle.recovery_engine.specs.Entries.{AreEntries, target_of}
 
 below_or_at : (k n : ℕ) → k < n + 1 → (k < n) ⊎ (k ≡ n)

@@ -13,9 +13,9 @@ use Rattle.commit_record.specs.LogEnds.{IsLogEnd}
 use Rattle.commit_record.specs.declared.reservation.Reservation.{Reservation}
 use Rattle.commit_record.specs.declared.slot.SlotState.{SlotState}
 use Rattle.commit_record.specs.declared.slot.SlotState.TheVariants.{Unused, Reserved, Abandoned, Committed, Done}
-use Rattle.stored_documents.specs.Slots.{Reserves, HasEnded}
-use Rattle.stored_documents.specs.Volumes.{IsVolume}
-use Rattle.stored_documents.proofs.Extending.{blank_before, ended_further, ends_on, reserves_on, commits_on, reserved_further, abandoned_further, committed_further, done_on, horizon_further, written_on}
+use Rattle.volume_meaning.specs.Slots.{Reserves, HasEnded}
+use Rattle.volume_meaning.specs.Volumes.{IsVolume}
+use Rattle.volume_meaning.proofs.Extending.{blank_before, ended_further, ends_on, reserves_on, commits_on, reserved_further, abandoned_further, committed_further, done_on, horizon_further, written_on}
 use Rattle.cell_types.specs.declared.refusal.Fault.{Fault}
 use Rattle.cell_types.specs.declared.refusal.Fault.TheVariants as faults
 use Rattle.commit_record.specs.Opening.{OpenEnds, refusal_of}
@@ -30,14 +30,14 @@ use Rattle.worm_device.proofs.Elapsing.{called_then}
 use Rattle.worm_device.proofs.Images.{extends_self, extends_then}
 use Rattle.recovery_engine.specs.LastSlot.{IsLast, IsNamed, IsSlotRule, LastEnds}
 use Rattle.recovery_engine.specs.Settling.{LastFollows, StepMakes, IsReady, LiesInBounds, NamesTarget, SettleEnds, unused}
-use Rattle.commit_record.specs.tamper_rules.declared.numbers.TheConstants.{OTHER_TARGET, RESERVE_CELL, OUTCOME_CELL, DONE_CELL}
+use Rattle.tamper_rules.specs.declared.numbers.TheConstants.{OTHER_TARGET, RESERVE_CELL, OUTCOME_CELL, DONE_CELL}
 use Rattle.cell_types.specs.declared.geometry.Volume.{Volume}
 use Rattle.cell_types.specs.Refusals.{refusal_of_fault}
 use Rattle.recovery_engine.specs.Ending.{HasJournal, abandon_put, done_put, end_plan, end_phases, step_of}
-use Rattle.phase_writer.specs.Putting.{PutsPhases}
-use Rattle.phase_writer.specs.declared.put.Blame.TheVariants.{Journal}
+use Rattle.recovery_engine.specs.Putting.{PutsPhases}
+use Rattle.recovery_engine.specs.declared.put.Blame.TheVariants.{Journal}
 use Rattle.recovery_engine.specs.Entries.{target_of}
-use Rattle.commit_record.specs.tamper_rules.Journals.{journal_at}
+use Rattle.tamper_rules.specs.Journals.{journal_at}
 use Rattle.recovery_engine.specs.declared.settling.Ready.{Ready}
 use Rattle.recovery_engine.proofs.Licensed.{stays_free, found_looked}
 use Rattle.recovery_engine.proofs.Looked.{Looked}

@@ -10,10 +10,10 @@ use Rattle.commit_record.specs.States.{IsState, LiesInPool, AreOfPool}
 use Rattle.commit_record.specs.declared.reservation.Reservation.{Reservation}
 use Rattle.commit_record.specs.declared.slot.SlotState.{SlotState}
 use Rattle.commit_record.specs.declared.slot.SlotState.TheVariants.{Unused, Reserved, Abandoned, Committed, Done}
-use Rattle.stored_documents.specs.Slots.{Reserves, IsAbandonedSlot, IsDoneSlot, HasEnded, EndsBelow}
-use Rattle.stored_documents.specs.Volumes.{Holds}
-use Rattle.stored_documents.proofs.Holding.{one_record_holds}
-use Rattle.stored_documents.proofs.OneDocument as one
+use Rattle.volume_meaning.specs.Slots.{Reserves, IsAbandonedSlot, IsDoneSlot, HasEnded, EndsBelow}
+use Rattle.volume_meaning.specs.Volumes.{Holds}
+use Rattle.volume_meaning.proofs.Holding.{one_record_holds}
+use Rattle.volume_meaning.proofs.OneDocument as one
 use Rattle.recovery_engine.specs.LastSlot.{IsFollowed}
 
 cells_are : (a b : Reservation) → Some a ≡ Some b → a ≡ b

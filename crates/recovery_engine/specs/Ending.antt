@@ -7,13 +7,13 @@ use Rattle.cell_types.specs.declared.record_cell.RecordCell.TheVariants as recor
 use Rattle.cell_types.specs.declared.refusal.Evidence.{Evidence}
 use Rattle.cell_types.specs.declared.refusal.Fault.{Fault}
 use Rattle.cell_types.specs.declared.refusal.Fault.TheVariants.{Tampered, Failed}
-use Rattle.stored_documents.specs.Documents.{document_at}
-use Rattle.commit_record.specs.tamper_rules.Journals.{journal_at}
-use Rattle.commit_record.specs.tamper_rules.declared.numbers.TheConstants.{OUTCOME_CELL, DONE_CELL, BROKEN_JOURNAL}
+use Rattle.volume_meaning.specs.Documents.{document_at}
+use Rattle.tamper_rules.specs.Journals.{journal_at}
+use Rattle.tamper_rules.specs.declared.numbers.TheConstants.{OUTCOME_CELL, DONE_CELL, BROKEN_JOURNAL}
 use Rattle.worm_device.specs.Counts.{Rose}
 use Rattle.worm_device.specs.State.{DeviceState}
-use Rattle.phase_writer.specs.declared.put.Blame.TheVariants.{Rule}
-use Rattle.phase_writer.specs.declared.put.Put.{Put}
+use Rattle.recovery_engine.specs.declared.put.Blame.TheVariants.{Rule}
+use Rattle.recovery_engine.specs.declared.put.Put.{Put}
 use Rattle.commit_record.specs.declared.slot.SlotState.{SlotState}
 use Rattle.commit_record.specs.declared.slot.SlotState.TheVariants.{Reserved, Committed}
 use Rattle.recovery_engine.specs.Entries.{AreEntries}

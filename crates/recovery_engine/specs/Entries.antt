@@ -4,7 +4,7 @@ use Rattle.byteorder.specs.Endian.{big_number}
 use Rattle.cell_types.specs.Image.{Image}
 use Rattle.cell_types.specs.Records.{IsRecordCell}
 use Rattle.cell_types.specs.declared.record_cell.RecordCell.{RecordCell}
-use Rattle.commit_record.specs.tamper_rules.Journals.{IsIndexRecord}
+use Rattle.tamper_rules.specs.Journals.{IsIndexRecord}
 
 -- the address in a record cell's last four bytes: of a journal cell, its target
 abbrev pub target_of : List ℕ → ℕ

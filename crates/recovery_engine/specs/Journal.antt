@@ -4,11 +4,11 @@ use Rattle.cell_types.specs.Image.{Image}
 use Rattle.cell_types.specs.declared.refusal.Evidence.{Evidence}
 use Rattle.cell_types.specs.declared.refusal.Fault.{Fault}
 use Rattle.cell_types.specs.declared.refusal.Fault.TheVariants.{Tampered, Failed}
-use Rattle.commit_record.specs.tamper_rules.declared.numbers.TheConstants.{BROKEN_JOURNAL}
+use Rattle.tamper_rules.specs.declared.numbers.TheConstants.{BROKEN_JOURNAL}
 use Rattle.worm_device.specs.Counts.{Rose}
 use Rattle.worm_device.specs.State.{DeviceState}
-use Rattle.phase_writer.specs.declared.put.Blame.TheVariants as blames
-use Rattle.phase_writer.specs.declared.put.Put.{Put}
+use Rattle.recovery_engine.specs.declared.put.Blame.TheVariants as blames
+use Rattle.recovery_engine.specs.declared.put.Put.{Put}
 use Rattle.recovery_engine.specs.Entries.{target_of, IsFit, IsUnfit, IsFloor, AreEntries}
 use Rattle.recovery_engine.specs.declared.journal.Journal.{Journal}
 

@@ -7,10 +7,10 @@ use Rattle.cell_types.specs.declared.record_cell.RecordCell.TheVariants.{Reserve
 use Rattle.cell_types.specs.declared.refusal.Evidence.{Evidence}
 use Rattle.cell_types.specs.declared.refusal.Fault.{Fault}
 use Rattle.cell_types.specs.declared.refusal.Fault.TheVariants.{Tampered, Failed}
-use Rattle.stored_documents.specs.Slots.{EndsBelow, HasEnded}
-use Rattle.stored_documents.specs.Volumes.{IsVolume}
-use Rattle.commit_record.specs.tamper_rules.Rules.{IsBroken, IsPlaceOf}
-use Rattle.commit_record.specs.tamper_rules.declared.numbers.TheConstants.{DONE_CELL, OUTCOME_CELL, RESERVE_CELL}
+use Rattle.volume_meaning.specs.Slots.{EndsBelow, HasEnded}
+use Rattle.volume_meaning.specs.Volumes.{IsVolume}
+use Rattle.tamper_rules.specs.Rules.{IsBroken, IsPlaceOf}
+use Rattle.tamper_rules.specs.declared.numbers.TheConstants.{DONE_CELL, OUTCOME_CELL, RESERVE_CELL}
 use Rattle.worm_device.specs.Counts.{Rose, IsStill}
 use Rattle.worm_device.specs.Views.{ViewState}
 use Rattle.commit_record.specs.Reservations.{reservation_of}

@@ -5,17 +5,17 @@ use Rattle.cell_types.specs.Layout.{Layout, IsLayout, reserve_at, pool_at}
 use Rattle.cell_types.specs.declared.refusal.Evidence.{Evidence}
 use Rattle.cell_types.specs.declared.refusal.Refusal.{Refusal}
 use Rattle.cell_types.specs.declared.refusal.Refusal.TheVariants.{Tampered, DeviceFault, NotFormatted, NotAVolume, WrongSize}
-use Rattle.stored_documents.specs.Slots.{Reserves, IsReserved, IsCommitted, IsAbandoned, IsDone, HasEnded, EndsBelow, IsHorizon}
-use Rattle.stored_documents.specs.Volumes.{Holds, IsVolume, IsWritten, volume_record}
-use Rattle.commit_record.specs.tamper_rules.Journals.{journal_at}
-use Rattle.commit_record.specs.tamper_rules.Rules.{IsBroken}
-use Rattle.commit_record.specs.tamper_rules.Settling.{Settled}
-use Rattle.commit_record.specs.tamper_rules.declared.numbers.TheConstants.{BROKEN_JOURNAL, OTHER_TARGET}
+use Rattle.volume_meaning.specs.Slots.{Reserves, IsReserved, IsCommitted, IsAbandoned, IsDone, HasEnded, EndsBelow, IsHorizon}
+use Rattle.volume_meaning.specs.Volumes.{Holds, IsVolume, IsWritten, volume_record}
+use Rattle.tamper_rules.specs.Journals.{journal_at}
+use Rattle.tamper_rules.specs.Rules.{IsBroken}
+use Rattle.tamper_rules.specs.Settling.{Settled}
+use Rattle.tamper_rules.specs.declared.numbers.TheConstants.{BROKEN_JOURNAL, OTHER_TARGET}
 use Rattle.worm_device.specs.Calls.{Called}
 use Rattle.worm_device.specs.Counts.{Rose, IsStill}
 use Rattle.worm_device.specs.State.{DeviceState}
-use Rattle.phase_writer.specs.Putting.{AreStanding, ChangesBy, IsInFirst, CrashesLeavePhases}
-use Rattle.phase_writer.specs.declared.put.Put.{Put}
+use Rattle.recovery_engine.specs.Putting.{AreStanding, ChangesBy, IsInFirst, CrashesLeavePhases}
+use Rattle.recovery_engine.specs.declared.put.Put.{Put}
 use Rattle.commit_record.specs.Licences.{IsLicensed}
 use Rattle.commit_record.specs.Opening.{IsNoVolumeCell}
 use Rattle.commit_record.specs.States.{IsState}

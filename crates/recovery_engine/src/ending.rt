@@ -3,17 +3,17 @@ ghost use Rattle.std.specs.Prelude.{◌≡◌, ◌<◌, ◌≤◌, IsOk, IsTrue}
 ghost use Rattle.cell_types.specs.Image.{IsUnchanged};
 ghost use Rattle.commit_record.specs.States.{LiesInPool};
 ghost use Rattle.commit_record.specs.declared.slot.SlotState.TheVariants.{Committed};
-ghost use Rattle.phase_writer.specs.Putting.{IsThis, PutsPhase, PutsPhases};
+ghost use Rattle.recovery_engine.specs.Putting.{IsThis, PutsPhase, PutsPhases};
 ghost use Rattle.worm_device.specs.Calls.{Called};
 ghost use Rattle.worm_device.specs.Counts.{IsStill};
-ghost use Rattle.recovery_engine.specs.Ending.{HasJournal, SlotCheckEnds};
-ghost use Rattle.recovery_engine.specs.Ending.{done_put, end_phases, end_plan, journal_of, step_of};
+ghost use Rattle.recovery_engine.specs.Ending.{HasJournal, SlotCheckEnds, done_put, end_phases, end_plan, journal_of, step_of};
 
 use crate::journal::{Journal, apply_journal, check_journal};
+use crate::put::{Blame, Put};
+use crate::row::put_one;
 use crate::settling::Step;
 use cell_types::{Evidence, Fault, Geometry, RecordCell, encode};
 use commit_record::{Reservation, SlotState, document_cells};
-use phase_writer::{Blame, Put, put_one};
 use tamper_rules::{BROKEN_JOURNAL, DONE_CELL, OUTCOME_CELL};
 use worm_device::Device;
 

@@ -1,15 +1,15 @@
 //! The journal of a committed slot: copies of the cells that it asks to be written.
 ghost use Rattle.std.specs.Prelude.{◌≡◌, ◌<◌, ◌≤◌, ◌+◌, ◌↔◌, ◌^◌, IsOk, IsTrue};
-ghost use Rattle.commit_record.specs.tamper_rules.Journals.{IsIndexRecord};
+ghost use Rattle.tamper_rules.specs.Journals.{IsIndexRecord};
 ghost use Rattle.recovery_engine.specs.Entries.{IsCopy, AreEntries, target_of};
-ghost use Rattle.phase_writer.specs.Putting.{PutsPhase};
+ghost use Rattle.recovery_engine.specs.Putting.{PutsPhase};
 ghost use Rattle.worm_device.specs.Calls.{Called};
 ghost use Rattle.worm_device.specs.Counts.{IsStill};
 ghost use Rattle.cell_types.specs.Image.{IsUnchanged};
 ghost use Rattle.recovery_engine.specs.Journal.{EntryEnds, JournalEnds, IsEntryPut};
 
+use crate::put::{Blame, Put, put_cell};
 use cell_types::{Cell, Evidence, Fault, RecordCell, address_of, breach, decode};
-use phase_writer::{Blame, Put, put_cell};
 use tamper_rules::BROKEN_JOURNAL;
 use worm_device::Device;
 

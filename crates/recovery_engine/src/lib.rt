@@ -15,8 +15,11 @@
 //!
 //! `apply_journal` and `finish` are the last two phases, which an ingest shares.
 //!
-//! Stands on `commit_record`, which reads the log, and on `phase_writer`, which puts cells in phases. Begin with
-//! `settling.rt`; specs/Settling.antt says how settling may end, and what a crash leaves of it.
+//! Cells are put onto a device in phases, each of them sure before the next begins: `put.rt` and `row.rt`, which an
+//! ingest goes by, too.
+//!
+//! Stands on `commit_record`, which reads the log. Begin with `settling.rt`; `specs/Settling.antt` says how settling may
+//! end, and what a crash leaves of it.
 #![tactic(auto)]
 
 mod ending;
@@ -24,9 +27,13 @@ mod journal;
 mod laws;
 mod looks;
 mod ordered;
+mod put;
+mod row;
 mod settling;
 
 pub use ending::{finish, journal_of};
 pub use journal::{Journal, apply_journal};
 pub use laws::settling_keeps_states;
+pub use put::{Blame, Put, put_cell};
+pub use row::{put_one, put_row};
 pub use settling::{Ready, Step, settle};

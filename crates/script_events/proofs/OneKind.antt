@@ -6,8 +6,8 @@ use Rattle.serde_json.specs.Find.{get, as_str}
 use Rattle.script_events.specs.declared.event.Event.{Event}
 use Rattle.script_events.specs.declared.event.Event.TheVariants.{Format, Ingest, Find, Lookup, Foreign}
 use Rattle.script_events.specs.declared.event.Schedule.{Schedule}
-use Rattle.stored_documents.specs.Words.{AreWords, rule_of}
-use Rattle.stored_documents.specs.declared.word_rules.WordRule.{WordRule}
+use Rattle.volume_meaning.specs.Words.{AreWords, rule_of}
+use Rattle.volume_meaning.specs.declared.word_rules.WordRule.{WordRule}
 use Rattle.script_events.specs.Grammar.{SaysEvent, SaysFind, SaysForeign, SaysFormat, SaysIngest, SaysLookup, SaysTerm}
 use Rattle.script_events.specs.Json.{Exactly}
 

@@ -2,9 +2,9 @@
 use Rattle.std.proofs.Common.{◌≡◌, ℕ, List, [], ◌∷◌, Option, Some, None, Result, Ok, MatchOption, codes, get_or, refl, ap, sym, ◌∙◌, subst}
 use Rattle.serde_json.specs.Data.{Data, number, string, unsigned, Items, no_items, item}
 use Rattle.serde_json.specs.Find.{get, as_array, as_str}
-use Rattle.stored_documents.specs.Words.{rule_of}
-use Rattle.stored_documents.specs.declared.word_rules.WordRule.{WordRule}
-use Rattle.stored_documents.proofs.Words.{words_are_one}
+use Rattle.volume_meaning.specs.Words.{rule_of}
+use Rattle.volume_meaning.specs.declared.word_rules.WordRule.{WordRule}
+use Rattle.volume_meaning.proofs.Words.{words_are_one}
 use Rattle.worm_memory.specs.declared.moment.Moment.{Moment}
 use Rattle.worm_memory.specs.declared.moment.Moment.TheVariants.{Step, Call}
 use Rattle.script_events.proofs.OneKind.{two_texts}

@@ -5,8 +5,8 @@ use Rattle.serde_json.specs.Data.{Data, Items, no_items, item}
 use Rattle.serde_json.specs.Events.{items_len}
 use Rattle.serde_json.specs.Find.{get, as_array, as_str}
 use Rattle.cell_types.specs.declared.geometry.TheConstants.{FIRST_VERSION, MAX_LISTS, MAX_SLOTS, NEWEST_VERSION}
-use Rattle.stored_documents.specs.Words.{rule_of}
-use Rattle.stored_documents.specs.declared.word_rules.WordRule.{WordRule}
+use Rattle.volume_meaning.specs.Words.{rule_of}
+use Rattle.volume_meaning.specs.declared.word_rules.WordRule.{WordRule}
 use Rattle.worm_memory.specs.declared.moment.Moment.{Moment}
 use Rattle.worm_memory.specs.declared.moment.Moment.TheVariants.{Step, Call}
 use Rattle.script_events.specs.Events.{IsEventOn, IsPlanOn, IsScriptMoment, IsScriptStamp, IsScriptStop, IsTermOfWord, IsTimedOn}

@@ -12,7 +12,7 @@ use crate::kind::{EventKind, kind_of};
 use crate::rows::{crash, find, foreign, format, ingest, lookup, plan_alone};
 use serde_json::Value;
 use std::alloc::{AllocError, Global};
-use stored_documents::rule_of;
+use volume_meaning::rule_of;
 
 /// The event that the value is.
 pub(crate) fn event(

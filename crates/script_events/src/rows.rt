@@ -16,7 +16,7 @@ use cell_types::{Cell, MAX_LISTS, MAX_SLOTS};
 use document_store::Text;
 use serde_json::Value;
 use std::alloc::{AllocError, Global};
-use stored_documents::WordRule;
+use volume_meaning::WordRule;
 use word_reader::Term;
 
 /// The slots, the lists and the plan of a `format`.

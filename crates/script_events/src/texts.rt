@@ -2,8 +2,8 @@
 ghost use Rattle.std.specs.Prelude.{◌≡◌, ◌≤◌, ◌∷◌, [], length, IfOk};
 ghost use Rattle.serde_json.specs.Data.{string};
 ghost use Rattle.serde_json.specs.View.{view, items_view};
-ghost use Rattle.stored_documents.specs.Documents.{IsBody};
-ghost use Rattle.stored_documents.specs.Words.{AreWords};
+ghost use Rattle.volume_meaning.specs.Documents.{IsBody};
+ghost use Rattle.volume_meaning.specs.Words.{AreWords};
 ghost use Rattle.script_events.specs.Grammar.{SaysBody, SaysBytes, SaysIdentifier, SaysTerm};
 ghost use Rattle.script_events.specs.Json.{AreItems, Exactly, IsArrayOf};
 ghost use Rattle.script_events.specs.declared.limits.TheConstants.{MAX_WORDS};
@@ -15,7 +15,7 @@ use document_store::{Text, is_identifier};
 use hex::FromHexError;
 use serde_json::Value;
 use std::alloc::{AllocError, Global};
-use stored_documents::{MAX_BODY_BYTES, WordRule};
+use volume_meaning::{MAX_BODY_BYTES, WordRule};
 use word_reader::{Term, WordFault, single_term};
 
 /// The identifier that the value is.

@@ -1,4 +1,5 @@
-//! The replies to the events of a script, and the lines that tell them.
+//! What a script's events begin with and are answered by: a command begun on a device in memory with its plan, the replies
+//! to the events, and the lines that tell them.
 //!
 //! Each event has one reply and each reply one line: the event's number from 1, the status, which is 0 for an answer,
 //! and what is answered. A format, an ingest that the device cut short, a crash that left one of two cells, and what
@@ -14,13 +15,16 @@
 //! 2, and what stands there.
 //!
 //! Stands on the crates whose answers replies are: `record_query`, `volume_audit`, `recovery_engine`, `worm_memory`; on
-//! `script_events` for `Sequence`, and on `hex`. Begin with `reply.rt`; `specs/Lines.antt` says what each line is.
+//! `script_events` for `Sequence` and the plans of events, and on `hex`. Begin with `reply.rt`; `specs/Lines.antt` says what
+//! each line is. `beginning.rt` says how a command begins with its plan.
 #![tactic(auto)]
 
+mod beginning;
 mod laws;
 mod reply;
 mod text;
 
+pub use beginning::{MAX_REPLAYED_CELLS, SPARE_CHANGES, begin_by_hand, begin_with};
 pub use laws::one_line_each;
 pub use reply::Reply;
 pub use text::text_of_replies;

@@ -2,11 +2,11 @@
 use Rattle.std.proofs.Common.{◌≡◌, ℕ, List, [], ◌∷◌, Some, None, refl, sym, ◌∙◌, inr, arith}
 use Rattle.std.proofs.lemmas.Option.{none-some}
 use Rattle.cell_types.specs.Image.{Image, Extends}
-use Rattle.stored_documents.specs.Slots.{IsEdge}
-use Rattle.stored_documents.specs.Volumes.{IsWritten}
-use Rattle.stored_documents.proofs.Extending.{volume_on, reserves_on}
-use Rattle.index_paths.specs.Blocks.{arrived}
-use Rattle.index_paths.specs.Nodes.{IsBlockOf}
+use Rattle.volume_meaning.specs.Slots.{IsEdge}
+use Rattle.volume_meaning.specs.Volumes.{IsWritten}
+use Rattle.volume_meaning.proofs.Extending.{volume_on, reserves_on}
+use Rattle.volume_meaning.specs.Blocks.{arrived}
+use Rattle.volume_meaning.specs.Nodes.{IsBlockOf}
 use Rattle.tamper_rules.specs.Rules.{Rule, IsMet, IsPlace, IsBroken, number_of}
 use Rattle.small_volume.specs.Images.{with_cell}
 use Rattle.small_volume.specs.SmallVolume.{small_image, small_layout}

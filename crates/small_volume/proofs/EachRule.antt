@@ -5,20 +5,19 @@ use Rattle.std.proofs.lemmas.Option.{none-some}
 use Rattle.cell_types.specs.Layout.{done_at, list_at}
 use Rattle.cell_types.specs.declared.record_cell.RecordCell.{RecordCell}
 use Rattle.cell_types.specs.declared.record_cell.RecordCell.TheVariants.{Reserve, Bucket}
-use Rattle.stored_documents.specs.Documents.{document_at}
-use Rattle.stored_documents.specs.Volumes.{IsWritten}
-use Rattle.stored_documents.proofs.Holding.{one_record_holds}
-use Rattle.stored_documents.proofs.OneDocument.{reserves}
-use Rattle.index_paths.specs.Blocks.{Leads, posting_record}
-use Rattle.index_paths.specs.Nodes.{IsNode}
+use Rattle.volume_meaning.specs.Documents.{document_at}
+use Rattle.volume_meaning.specs.Volumes.{IsWritten}
+use Rattle.volume_meaning.proofs.Holding.{one_record_holds}
+use Rattle.volume_meaning.proofs.OneDocument.{reserves}
+use Rattle.volume_meaning.specs.Blocks.{Leads, posting_record}
+use Rattle.volume_meaning.specs.Nodes.{IsNode}
 use Rattle.tamper_rules.specs.Journals.{Copies, IsNamed, IsInOrder, of_list, of_root, journal_at}
 use Rattle.tamper_rules.specs.Rules
 use Rattle.tamper_rules.specs.Rules.{ReserveRule, OutcomeRule, DoneRule, HasDocument, JournalRule, RedoneRule, BlankRule, IsDoneIndexCell, EntryRule, HoldsInOrder, PointerRule, ChildRule, TilingRule}
 use Rattle.small_volume.specs.SmallVolume.{small_cells, small_image, small_layout, reserve_cell, hello_cell, world_cell, bucket_cell, a_fingerprint}
 use Rattle.small_volume.proofs.Found.{numbers, alone, copied_to, heads_only, root_only}
 use Rattle.small_volume.proofs.OneSlot.{edge_alone, of_one, reserves_alone}
-use Rattle.small_volume.proofs.Small.{reserve_0, commit_0, done_0, reserves_0, slot_0, spells, is_a, is_hello_world}
-use Rattle.small_volume.proofs.Small.{hello_posting, hello_is, hello_holds, world_posting, world_is, world_holds, bucket_is}
+use Rattle.small_volume.proofs.Small.{reserve_0, commit_0, done_0, reserves_0, slot_0, spells, is_a, is_hello_world, hello_posting, hello_is, hello_holds, world_posting, world_is, world_holds, bucket_is}
 
 -- rule 1, of slot 0
 pub reserve_rule : ReserveRule small_layout small_image 0

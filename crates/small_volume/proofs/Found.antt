@@ -7,10 +7,10 @@ use Rattle.cell_types.specs.Layout.{Layout, reserve_at, root_at}
 use Rattle.cell_types.specs.declared.record_cell.RecordCell.{RecordCell}
 use Rattle.cell_types.specs.declared.record_cell.RecordCell.TheVariants.{Jump, Child}
 use Rattle.cell_types.proofs.OneRecord.{address_in}
-use Rattle.stored_documents.specs.Volumes.{Holds, IsWritten}
-use Rattle.stored_documents.proofs.Holding.{some_is}
-use Rattle.index_paths.specs.Blocks.{Leads, arrived, onwards, pointer_at}
-use Rattle.index_paths.specs.Nodes.{IsNode, root, under}
+use Rattle.volume_meaning.specs.Volumes.{Holds, IsWritten}
+use Rattle.volume_meaning.proofs.Holding.{some_is}
+use Rattle.volume_meaning.specs.Blocks.{Leads, arrived, onwards, pointer_at}
+use Rattle.volume_meaning.specs.Nodes.{IsNode, root, under}
 use Rattle.tamper_rules.specs.Journals.{Copies, journal_at}
 use Rattle.small_volume.specs.Images.{image_of}
 use Rattle.small_volume.specs.SmallVolume.{small_image, small_layout, small_cells}

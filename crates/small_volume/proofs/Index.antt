@@ -5,15 +5,15 @@ use Rattle.std.proofs.lemmas.Bool.{cases_lt}
 use Rattle.std.proofs.lemmas.Option.{none-some}
 use Rattle.cell_types.specs.Layout.{all_lists, list_at}
 use Rattle.cell_types.specs.declared.record_cell.RecordCell.TheVariants.{Bucket}
-use Rattle.stored_documents.specs.Slots.{IsLive}
-use Rattle.stored_documents.specs.Volumes.{Holds, IsWritten}
-use Rattle.stored_documents.proofs.Holding.{some_is}
-use Rattle.index_paths.specs.Blocks.{PostingFields, posting_record, InFront, Trail, here, at_the_start, behind}
-use Rattle.index_paths.specs.HashPaths
-use Rattle.index_paths.specs.HashPaths.{fingerprint_of, nibble}
-use Rattle.index_paths.specs.Nodes.{root}
-use Rattle.index_paths.specs.Postings.{IsPostingOf, IsWordPosting}
-use Rattle.index_paths.proofs.Fronts.{one_posting}
+use Rattle.volume_meaning.specs.Slots.{IsLive}
+use Rattle.volume_meaning.specs.Volumes.{Holds, IsWritten}
+use Rattle.volume_meaning.proofs.Holding.{some_is}
+use Rattle.volume_meaning.specs.Blocks.{PostingFields, posting_record, InFront, Trail, here, at_the_start, behind}
+use Rattle.volume_meaning.specs.HashPaths
+use Rattle.volume_meaning.specs.HashPaths.{fingerprint_of, nibble}
+use Rattle.volume_meaning.specs.Nodes.{root}
+use Rattle.volume_meaning.specs.Postings.{IsPostingOf, IsWordPosting}
+use Rattle.volume_meaning.proofs.Fronts.{one_posting}
 use Rattle.tamper_rules.specs.Rules.{PostingRule, IsTruePosting, BucketRule, IsTrueBucket, TrailRule, PathRule}
 use Rattle.small_volume.specs.SmallVolume.{small_image, small_layout, hello_tag, world_tag, a_fingerprint}
 use Rattle.small_volume.proofs.Digests.{sha256_of_a}

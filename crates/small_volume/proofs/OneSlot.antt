@@ -5,12 +5,12 @@ use Rattle.std.proofs.lemmas.Option.{none-some}
 use Rattle.cell_types.specs.Image.{Image}
 use Rattle.cell_types.specs.Layout.{Layout, reserve_at, outcome_at}
 use Rattle.cell_types.specs.declared.record_cell.RecordCell.TheVariants.{Reserve, Commit}
-use Rattle.stored_documents.specs.Documents.{Document, IsDocument, AreDocuments, Stands}
-use Rattle.stored_documents.specs.Slots.{Reserves, Stores, IsDone, IsDoneSlot, IsHorizon, IsEdge}
-use Rattle.stored_documents.specs.Volumes.{Holds, IsVolume, IsWritten}
-use Rattle.stored_documents.proofs.Holding.{one_record_holds}
-use Rattle.stored_documents.proofs.OneDocument.{one_document, reserves, commits}
-use Rattle.index_paths.proofs.KeepingLaws.{documents}
+use Rattle.volume_meaning.specs.Documents.{Document, IsDocument, AreDocuments, Stands}
+use Rattle.volume_meaning.specs.Slots.{Reserves, Stores, IsDone, IsDoneSlot, IsHorizon, IsEdge}
+use Rattle.volume_meaning.specs.Volumes.{Holds, IsVolume, IsWritten}
+use Rattle.volume_meaning.proofs.Holding.{one_record_holds}
+use Rattle.volume_meaning.proofs.OneDocument.{one_document, reserves, commits}
+use Rattle.volume_meaning.proofs.KeepingLaws.{documents}
 use Rattle.tamper_rules.proofs.DocumentLists.{only_one, the_one}
 use Rattle.tamper_rules.proofs.GivenUp.{one_layout}
 

@@ -3,12 +3,11 @@ use Rattle.std.proofs.Common.{◌≡◌, ◌≤◌, ◌+◌, inr, ℕ, List, Som
 use Rattle.cell_types.specs.Layout.{IsLayout, reserve_at}
 use Rattle.cell_types.specs.Records.{IsRecordCell}
 use Rattle.cell_types.specs.declared.record_cell.RecordCell.TheVariants.{Reserve, Commit, Done, Bucket}
-use Rattle.stored_documents.specs.Volumes.{Holds, IsWritten, IsVolume, volume_record}
-use Rattle.stored_documents.specs.Slots.{Reserves, IsDone, IsHorizon, IsEdge}
-use Rattle.stored_documents.specs.Documents.{Spells, IsIdentifier, IsBody, Stands, content_at, stored_bytes}
-use Rattle.index_paths.specs.Blocks.{PostingFields, posting_record}
-use Rattle.small_volume.specs.SmallVolume.{small_image, small_layout, volume_cell, reserve_cell, commit_cell, done_cell}
-use Rattle.small_volume.specs.SmallVolume.{hello_tag, hello_cell, world_tag, world_cell, a_fingerprint, bucket_cell}
+use Rattle.volume_meaning.specs.Volumes.{Holds, IsWritten, IsVolume, volume_record}
+use Rattle.volume_meaning.specs.Slots.{Reserves, IsDone, IsHorizon, IsEdge}
+use Rattle.volume_meaning.specs.Documents.{Spells, IsIdentifier, IsBody, Stands, content_at, stored_bytes}
+use Rattle.volume_meaning.specs.Blocks.{PostingFields, posting_record}
+use Rattle.small_volume.specs.SmallVolume.{small_image, small_layout, volume_cell, reserve_cell, commit_cell, done_cell, hello_tag, hello_cell, world_tag, world_cell, a_fingerprint, bucket_cell}
 use Rattle.small_volume.proofs.Values.{are_bytes}
 
 -- a volume may have 8 slots, 2 lists and 1,000 cells

@@ -3,9 +3,9 @@ use Rattle.std.proofs.Common.{◌≡◌, ◌<◌, ◌≤◌, inl, inr, ℕ, List
 use Rattle.cell_types.specs.Image.{Image, Extends}
 use Rattle.cell_types.specs.Records.{IsRecordCell}
 use Rattle.cell_types.specs.declared.record_cell.RecordCell.TheVariants.{Stamp}
-use Rattle.stored_documents.specs.Slots.{HasStamp, IsDoneSlot}
-use Rattle.stored_documents.proofs.Extending.{done_on, holds_on, volume_on}
-use Rattle.stored_documents.proofs.Stamps.{one_stamp}
+use Rattle.volume_meaning.specs.Slots.{HasStamp, IsDoneSlot}
+use Rattle.volume_meaning.proofs.Extending.{done_on, holds_on, volume_on}
+use Rattle.volume_meaning.proofs.Stamps.{one_stamp}
 use Rattle.tamper_rules.specs.Rules
 use Rattle.tamper_rules.specs.Rules.{BlankRule, IsBroken, IsDoneIndexCell, IsTrueStamp, StrayCells}
 use Rattle.tamper_rules.specs.declared.numbers.TheConstants.{STRAY_CELL}

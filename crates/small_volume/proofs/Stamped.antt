@@ -3,11 +3,11 @@ use Rattle.std.proofs.Common.{◌≡◌, ◌≤◌, ◌+◌, ℕ, List, [], Some
 use Rattle.cell_types.specs.Layout.{IsLayout}
 use Rattle.cell_types.specs.Records.{IsRecordCell}
 use Rattle.cell_types.specs.declared.record_cell.RecordCell.TheVariants.{Reserve, Commit, Done, Stamp, Bucket}
-use Rattle.stored_documents.specs.Documents.{Spells, IsBody, Stands, content_at, stored_bytes}
-use Rattle.stored_documents.specs.Slots.{HasStamp, IsDone, IsStampOf, Reserves}
-use Rattle.stored_documents.specs.Volumes.{Holds, IsVolume, volume_record}
-use Rattle.index_paths.specs.Blocks.{posting_record}
-use Rattle.index_paths.specs.Postings.{time_posting}
+use Rattle.volume_meaning.specs.Documents.{Spells, IsBody, Stands, content_at, stored_bytes}
+use Rattle.volume_meaning.specs.Slots.{HasStamp, IsDone, IsStampOf, Reserves}
+use Rattle.volume_meaning.specs.Volumes.{Holds, IsVolume, volume_record}
+use Rattle.volume_meaning.specs.Blocks.{posting_record}
+use Rattle.volume_meaning.specs.Postings.{time_posting}
 use Rattle.small_volume.specs.SmallVolume.{done_cell, bucket_cell, a_fingerprint}
 use Rattle.small_volume.specs.StampedVolume.{stamped_image, stamped_layout, stamped_volume_cell, stamped_reserve_cell, stamped_commit_cell, stamp_cell, time_cell}
 use Rattle.small_volume.proofs.Small.{is_a, bucket_is}

@@ -4,16 +4,16 @@ use Rattle.std.specs.Prelude.{Contains, slice_get}
 use Rattle.std.proofs.lemmas.Option.{none-some}
 use Rattle.cell_types.specs.Layout.{all_lists, list_at}
 use Rattle.cell_types.specs.declared.record_cell.RecordCell.TheVariants.{Bucket}
-use Rattle.stored_documents.specs.Documents.{Document}
-use Rattle.stored_documents.specs.Volumes.{Holds}
-use Rattle.stored_documents.specs.Words.{words_of, HasWord}
-use Rattle.stored_documents.specs.declared.word_rules.WordRule.TheVariants.{Folded}
-use Rattle.stored_documents.proofs.Words.{words_are_one}
-use Rattle.index_paths.specs.Blocks.{PostingFields, Trail, at_the_start, here}
-use Rattle.index_paths.specs.HashPaths
-use Rattle.index_paths.specs.HashPaths.{HashTrail, fingerprint_of, nibble}
-use Rattle.index_paths.specs.Keeping.{IsKept, Kept, sought_in}
-use Rattle.index_paths.specs.Postings.{AreTags, HasPostings, HasTag, IsPostingOf, IsWordPosting, time_posting}
+use Rattle.volume_meaning.specs.Documents.{Document}
+use Rattle.volume_meaning.specs.Volumes.{Holds}
+use Rattle.volume_meaning.specs.Words.{words_of, HasWord}
+use Rattle.volume_meaning.specs.declared.word_rules.WordRule.TheVariants.{Folded}
+use Rattle.volume_meaning.proofs.Words.{words_are_one}
+use Rattle.volume_meaning.specs.Blocks.{PostingFields, Trail, at_the_start, here}
+use Rattle.volume_meaning.specs.HashPaths
+use Rattle.volume_meaning.specs.HashPaths.{HashTrail, fingerprint_of, nibble}
+use Rattle.volume_meaning.specs.Keeping.{IsKept, Kept, sought_in}
+use Rattle.volume_meaning.specs.Postings.{AreTags, HasPostings, HasTag, IsPostingOf, IsWordPosting, time_posting}
 use Rattle.tamper_rules.proofs.DocumentLists.{only_one}
 use Rattle.small_volume.specs.StampedVolume.{stamped_document, stamped_image, stamped_layout}
 use Rattle.small_volume.proofs.Digests.{sha256_of_a}

@@ -4,16 +4,16 @@ use Rattle.std.proofs.lemmas.Option.{none-some}
 use Rattle.cell_types.specs.Layout.{done_at, list_at, reserve_at}
 use Rattle.cell_types.specs.declared.record_cell.RecordCell.{RecordCell}
 use Rattle.cell_types.specs.declared.record_cell.RecordCell.TheVariants.{Reserve, Bucket}
-use Rattle.stored_documents.specs.Documents.{document_at}
-use Rattle.stored_documents.specs.Slots.{IsLive}
-use Rattle.stored_documents.specs.Volumes.{Holds, IsWritten}
-use Rattle.stored_documents.proofs.Holding.{one_record_holds}
-use Rattle.stored_documents.proofs.OneDocument.{reserves}
-use Rattle.index_paths.specs.Blocks.{PostingFields, Leads, posting_record}
-use Rattle.index_paths.specs.HashPaths.{fingerprint_of, nibble}
-use Rattle.index_paths.specs.Nodes.{IsNode, root}
-use Rattle.index_paths.specs.Postings.{time_posting}
-use Rattle.index_paths.proofs.Fronts.{one_posting}
+use Rattle.volume_meaning.specs.Documents.{document_at}
+use Rattle.volume_meaning.specs.Slots.{IsLive}
+use Rattle.volume_meaning.specs.Volumes.{Holds, IsWritten}
+use Rattle.volume_meaning.proofs.Holding.{one_record_holds}
+use Rattle.volume_meaning.proofs.OneDocument.{reserves}
+use Rattle.volume_meaning.specs.Blocks.{PostingFields, Leads, posting_record}
+use Rattle.volume_meaning.specs.HashPaths.{fingerprint_of, nibble}
+use Rattle.volume_meaning.specs.Nodes.{IsNode, root}
+use Rattle.volume_meaning.specs.Postings.{time_posting}
+use Rattle.volume_meaning.proofs.Fronts.{one_posting}
 use Rattle.tamper_rules.specs.Journals.{Copies, IsInOrder, IsNamed, journal_at, of_list, of_root}
 use Rattle.tamper_rules.specs.Rules
 use Rattle.tamper_rules.specs.Rules.{ReserveRule, OutcomeRule, DoneRule, HasDocument, JournalRule, RedoneRule, BlankRule, IsDoneIndexCell, IsTrueStamp, EntryRule, HoldsInOrder, PostingRule, IsTruePosting, PointerRule, BucketRule, IsTrueBucket, ChildRule, TrailRule, PathRule, TilingRule}

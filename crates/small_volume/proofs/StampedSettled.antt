@@ -1,7 +1,7 @@
 -- The stamped volume is settled, and has one document.
 use Rattle.std.proofs.Common.{◌≡◌, ◌≤◌, inr, ℕ, [], ◌∷◌, sym, subst, arith}
-use Rattle.stored_documents.specs.Documents.{AreDocuments, document_at}
-use Rattle.stored_documents.specs.Volumes.{IsWritten}
+use Rattle.volume_meaning.specs.Documents.{AreDocuments, document_at}
+use Rattle.volume_meaning.specs.Volumes.{IsWritten}
 use Rattle.tamper_rules.specs.Rules
 use Rattle.tamper_rules.specs.Rules.{Rule, IsMet, ReserveRule, OutcomeRule, DoneRule, HasDocument, TrailRule, PathRule, TilingRule}
 use Rattle.tamper_rules.specs.Settling.{Settled}

@@ -3,11 +3,11 @@ use Rattle.std.proofs.Common.{◌≡◌, ◌<◌, ◌≤◌, ◌%◌, ◌⊎◌,
 use Rattle.std.specs.Prelude.{Contains, slice_get}
 use Rattle.std.proofs.lemmas.Option.{none-some}
 use Rattle.byteorder.specs.Endian.{big_number}
-use Rattle.stored_documents.specs.Words.{words_of, HasWord}
-use Rattle.stored_documents.specs.declared.word_rules.WordRule.TheVariants.{Ascii}
-use Rattle.stored_documents.proofs.Holding.{some_is}
-use Rattle.stored_documents.proofs.Words.{words_are_one}
-use Rattle.index_paths.specs.Postings.{tag_of, list_of, HasTag, AreTags, HasPostings}
+use Rattle.volume_meaning.specs.Words.{words_of, HasWord}
+use Rattle.volume_meaning.specs.declared.word_rules.WordRule.TheVariants.{Ascii}
+use Rattle.volume_meaning.proofs.Holding.{some_is}
+use Rattle.volume_meaning.proofs.Words.{words_are_one}
+use Rattle.volume_meaning.specs.Postings.{tag_of, list_of, HasTag, AreTags, HasPostings}
 use Rattle.small_volume.specs.SmallVolume.{small_layout, hello_tag, world_tag}
 use Rattle.small_volume.proofs.Digests.{sha256_of_hello, sha256_of_world}
 

@@ -10,7 +10,7 @@ use Rattle.std.proofs.lemmas.Option.{none-some}
 use Rattle.cell_types.specs.Bytes.{AreBytes}
 use Rattle.cell_types.specs.Image.{Image, Extends, ChangesOnly}
 use Rattle.small_volume.specs.Images.{image_of, with_cell, with_cells, or_else}
-use Rattle.stored_documents.proofs.Holding.{some_is}
+use Rattle.volume_meaning.proofs.Holding.{some_is}
 
 -- whether the number is a byte
 abbrev is_byte : ℕ → Bool

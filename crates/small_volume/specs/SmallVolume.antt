@@ -3,7 +3,7 @@
 use Rattle.std.specs.Prelude.{ℕ, List, [], ◌∷◌, codes}
 use Rattle.cell_types.specs.Image.{Image}
 use Rattle.cell_types.specs.Layout.{Layout}
-use Rattle.stored_documents.specs.Documents.{Document}
+use Rattle.volume_meaning.specs.Documents.{Document}
 use Rattle.small_volume.specs.Images.{image_of}
 
 -- 8 slots, 2 lists, 1,000 cells, version 1

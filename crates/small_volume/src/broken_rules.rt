@@ -2,8 +2,8 @@
 //! where they stand, and only what stands around them breaks a rule.
 ghost use Rattle.std.specs.Prelude.{codes, [], ◌∷◌};
 ghost use Rattle.cell_types.specs.declared.record_cell.RecordCell.TheVariants.{Abandon, Done, Jump, Posting, Reserve, Stamp};
-ghost use Rattle.stored_documents.specs.Documents.{Stands};
-ghost use Rattle.stored_documents.specs.Volumes.{Holds};
+ghost use Rattle.volume_meaning.specs.Documents.{Stands};
+ghost use Rattle.volume_meaning.specs.Volumes.{Holds};
 ghost use Rattle.tamper_rules.specs.Rules.{IsBroken};
 ghost use Rattle.tamper_rules.specs.declared.numbers.TheConstants.{BLOCK_OUT_OF_ORDER, DONE_CELL, LOST_POINTER, OUTCOME_CELL, RESERVE_CELL, STRAY_CELL};
 ghost use Rattle.small_volume.specs.ForeignCells.{abandon_cell, done_cell_1, early_reserve_cell, late_posting_cell, second_slot_cells, stray_cell};

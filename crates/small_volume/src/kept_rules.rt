@@ -1,6 +1,6 @@
 //! Which rules the small volume keeps, as it is.
 ghost use Rattle.std.specs.Prelude.{[], ◌∷◌};
-ghost use Rattle.stored_documents.specs.Documents.{AreDocuments};
+ghost use Rattle.volume_meaning.specs.Documents.{AreDocuments};
 ghost use Rattle.tamper_rules.specs.Settling.{Settled};
 ghost use Rattle.tamper_rules.specs.Rules.{DoneCells, Entries, IsMet, OutcomeCells, ReserveCells};
 ghost use Rattle.small_volume.specs.SmallVolume.{small_document, small_image, small_layout};

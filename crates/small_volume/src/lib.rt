@@ -61,7 +61,7 @@
 //! The cells are written out in `specs/`, and no definition of a record made them. Nothing is said of the other rules
 //! as broken ones, nor of a third volume.
 //!
-//! Stands on `stored_documents`, `index_paths` and `tamper_rules`, whose words it tries. Begin with
+//! Stands on `volume_meaning` and `tamper_rules`, whose words it tries. Begin with
 //! `specs/SmallVolume.antt`; the other volume is in `specs/StampedVolume.antt`.
 #![tactic(auto)]
 

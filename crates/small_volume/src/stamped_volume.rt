@@ -1,12 +1,12 @@
 //! What the stamped volume is, that it is settled and its document kept, and which stamps rule 7 refuses.
 ghost use Rattle.std.specs.Prelude.{codes, [], ◌∷◌, Some};
 ghost use Rattle.cell_types.specs.declared.record_cell.RecordCell.TheVariants.{Stamp};
-ghost use Rattle.stored_documents.specs.Documents.{AreDocuments, Stands};
-ghost use Rattle.stored_documents.specs.Slots.{HasStamp, IsDone, IsStampOf};
-ghost use Rattle.stored_documents.specs.Volumes.{Holds, IsVolume};
-ghost use Rattle.index_paths.specs.Blocks.{Trail};
-ghost use Rattle.index_paths.specs.Keeping.{Kept};
-ghost use Rattle.index_paths.specs.Postings.{IsPostingOf, time_posting};
+ghost use Rattle.volume_meaning.specs.Documents.{AreDocuments, Stands};
+ghost use Rattle.volume_meaning.specs.Slots.{HasStamp, IsDone, IsStampOf};
+ghost use Rattle.volume_meaning.specs.Volumes.{Holds, IsVolume};
+ghost use Rattle.volume_meaning.specs.Blocks.{Trail};
+ghost use Rattle.volume_meaning.specs.Keeping.{Kept};
+ghost use Rattle.volume_meaning.specs.Postings.{IsPostingOf, time_posting};
 ghost use Rattle.tamper_rules.specs.Rules.{IsBroken, IsMet, StrayCells};
 ghost use Rattle.tamper_rules.specs.Settling.{Settled};
 ghost use Rattle.tamper_rules.specs.declared.numbers.TheConstants.{STRAY_CELL};

@@ -1,8 +1,8 @@
 //! What the small volume is, and what its volume cell alone is.
 ghost use Rattle.std.specs.Prelude.{codes, [], ◌∷◌};
-ghost use Rattle.stored_documents.specs.Documents.{AreDocuments, Stands};
-ghost use Rattle.stored_documents.specs.Slots.{IsDone, IsEdge, IsHorizon};
-ghost use Rattle.stored_documents.specs.Volumes.{IsVolume};
+ghost use Rattle.volume_meaning.specs.Documents.{AreDocuments, Stands};
+ghost use Rattle.volume_meaning.specs.Slots.{IsDone, IsEdge, IsHorizon};
+ghost use Rattle.volume_meaning.specs.Volumes.{IsVolume};
 ghost use Rattle.tamper_rules.specs.Settling.{Settled};
 ghost use Rattle.small_volume.specs.SmallVolume.{formatted_image, small_image, small_layout};
 

@@ -9,10 +9,10 @@ use Rattle.cell_types.specs.declared.record_cell.RecordCell.TheVariants.{Commit,
 use Rattle.tamper_rules.specs.Rules
 use Rattle.tamper_rules.specs.Rules.{OutcomeRule, DoneRule}
 use Rattle.tamper_rules.specs.Settling.{IsSettled, IsOneHorizon, AbandonRow, JournalRow, DoneRow, After, nothing, abandoned, completed, Sound}
-use Rattle.stored_documents.specs.Slots.{IsAbandonedSlot, IsDoneSlot, IsHorizon}
-use Rattle.stored_documents.specs.Volumes.{Holds, IsWritten, IsVolume}
-use Rattle.stored_documents.proofs.Extending.{volume_on, written_on}
-use Rattle.stored_documents.proofs.Holding.{one_record_holds}
+use Rattle.volume_meaning.specs.Slots.{IsAbandonedSlot, IsDoneSlot, IsHorizon}
+use Rattle.volume_meaning.specs.Volumes.{Holds, IsWritten, IsVolume}
+use Rattle.volume_meaning.proofs.Extending.{volume_on, written_on}
+use Rattle.volume_meaning.proofs.Holding.{one_record_holds}
 use Rattle.tamper_rules.proofs.GivenUp.{no_abandon, one_layout}
 use Rattle.tamper_rules.proofs.Images.{look}
 use Rattle.tamper_rules.proofs.Settled.{below_horizon, some_horizon}

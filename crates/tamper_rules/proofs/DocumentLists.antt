@@ -7,16 +7,16 @@ use Rattle.std.proofs.lemmas.Bool.{cases_order}
 use Rattle.cell_types.specs.Image.{Image}
 use Rattle.cell_types.specs.Layout.{Layout, reserve_at, outcome_at}
 use Rattle.cell_types.specs.declared.record_cell.RecordCell.TheVariants.{Commit, Abandon}
-use Rattle.stored_documents.specs.Documents.{Document, Rise, IsDocument, AreDocuments, Spells, Stands, stored_bytes, document_at}
+use Rattle.volume_meaning.specs.Documents.{Document, Rise, IsDocument, AreDocuments, Spells, Stands, stored_bytes, document_at}
 use Rattle.tamper_rules.specs.Rules
 use Rattle.tamper_rules.specs.Rules.{DocumentRule, HasDocument}
 use Rattle.tamper_rules.specs.Settling.{IsSettled, Settled}
-use Rattle.stored_documents.specs.Slots.{IsDone, IsAbandonedSlot, IsDoneSlot, IsHorizon}
-use Rattle.stored_documents.specs.Volumes.{IsWritten, IsVolume}
-use Rattle.stored_documents.proofs.Holding.{one_record_holds}
+use Rattle.volume_meaning.specs.Slots.{IsDone, IsAbandonedSlot, IsDoneSlot, IsHorizon}
+use Rattle.volume_meaning.specs.Volumes.{IsWritten, IsVolume}
+use Rattle.volume_meaning.proofs.Holding.{one_record_holds}
 use Rattle.tamper_rules.proofs.GivenUp.{no_abandon, stands_inside}
-use Rattle.index_paths.proofs.KeepingLaws.{documents}
-use Rattle.stored_documents.proofs.OneDocument.{one_document}
+use Rattle.volume_meaning.proofs.KeepingLaws.{documents}
+use Rattle.volume_meaning.proofs.OneDocument.{one_document}
 use Rattle.tamper_rules.proofs.Settled.{written, taken_below, taken_to, some_horizon}
 use Rattle.tamper_rules.proofs.Writing.{same_or_not}
 

@@ -2,9 +2,9 @@
 use Rattle.std.proofs.Common.{◌≡◌, ◌<◌, ◌+◌, ⊎_elim, ℕ, suc, zero, refl, sym, subst, ap, arith}
 use Rattle.std.proofs.lemmas.Bool.{cases_lt}
 use Rattle.cell_types.specs.Image.{Image}
-use Rattle.index_paths.specs.Blocks.{PostingFields, posting_record, InFront, at_the_start, behind, IsFull}
-use Rattle.index_paths.proofs.Fronts.{front_holds, one_posting}
-use Rattle.stored_documents.specs.Volumes.{Holds}
+use Rattle.volume_meaning.specs.Blocks.{PostingFields, posting_record, InFront, at_the_start, behind, IsFull}
+use Rattle.volume_meaning.proofs.Fronts.{front_holds, one_posting}
+use Rattle.volume_meaning.specs.Volumes.{Holds}
 use Rattle.tamper_rules.specs.Rules.{HoldsInOrder, EndsFront}
 
 -- a full front ends at its last place

@@ -6,15 +6,15 @@ use Rattle.cell_types.specs.Image.{Image, Extends}
 use Rattle.cell_types.specs.Layout.{Layout, reserve_at, outcome_at, done_at, spare_at, list_at, pool_at, lists_at}
 use Rattle.cell_types.specs.declared.record_cell.RecordCell.{RecordCell}
 use Rattle.cell_types.specs.declared.record_cell.RecordCell.TheVariants.{Commit, Abandon, Jump, Child, Volume}
-use Rattle.index_paths.specs.Blocks.{Leads, arrived, onwards, pointer_at}
-use Rattle.stored_documents.specs.Documents.{Stands, Spells, document_at}
-use Rattle.index_paths.specs.Nodes.{IsBlockOf, IsNode, root, under}
+use Rattle.volume_meaning.specs.Blocks.{Leads, arrived, onwards, pointer_at}
+use Rattle.volume_meaning.specs.Documents.{Stands, Spells, document_at}
+use Rattle.volume_meaning.specs.Nodes.{IsBlockOf, IsNode, root, under}
 use Rattle.tamper_rules.specs.Rules.{Pointers, Children, LeadsWell, LeadsDownWell, IsTrueStamp}
 use Rattle.tamper_rules.specs.Settling.{IsSettled}
-use Rattle.stored_documents.specs.Slots.{cells_for, Reserves, Commits, IsStamped, HasStamp, Stores, IsAbandonedSlot, IsDoneSlot, IsDone, HasEnded, IsHorizon, EndsBelow, IsEdge}
-use Rattle.stored_documents.specs.Volumes.{Holds, IsWritten, IsVolume, volume_record}
-use Rattle.stored_documents.proofs.Extending.{holds_on, blank_before, reserves_on, done_on}
-use Rattle.stored_documents.proofs.Holding.{one_record_holds}
+use Rattle.volume_meaning.specs.Slots.{cells_for, Reserves, Commits, IsStamped, HasStamp, Stores, IsAbandonedSlot, IsDoneSlot, IsDone, HasEnded, IsHorizon, EndsBelow, IsEdge}
+use Rattle.volume_meaning.specs.Volumes.{Holds, IsWritten, IsVolume, volume_record}
+use Rattle.volume_meaning.proofs.Extending.{holds_on, blank_before, reserves_on, done_on}
+use Rattle.volume_meaning.proofs.Holding.{one_record_holds}
 use Rattle.tamper_rules.proofs.Images.{look}
 use Rattle.tamper_rules.proofs.Settled.{written, taken_below, taken_to, below_horizon, ends_before, edge_horizon, one_end}
 

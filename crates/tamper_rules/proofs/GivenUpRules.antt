@@ -6,25 +6,25 @@ use Rattle.cell_types.specs.Image.{Image}
 use Rattle.cell_types.specs.Layout.{Layout, reserve_at, outcome_at, done_at, spare_at, pool_at, lists_at}
 use Rattle.cell_types.specs.declared.record_cell.RecordCell.{RecordCell}
 use Rattle.cell_types.specs.declared.record_cell.RecordCell.TheVariants.{Commit, Abandon}
-use Rattle.index_paths.specs.Blocks.{PostingFields, posting_record}
-use Rattle.stored_documents.specs.Documents.{Stands, stored_bytes, document_at}
+use Rattle.volume_meaning.specs.Blocks.{PostingFields, posting_record}
+use Rattle.volume_meaning.specs.Documents.{Stands, stored_bytes, document_at}
 use Rattle.tamper_rules.specs.Journals.{journal_at, Copies}
 use Rattle.tamper_rules.specs.Rules
 use Rattle.tamper_rules.specs.Rules.{Rule, IsMet, ReserveRule, OutcomeRule, DoneRule, DocumentRule, HasDocument, JournalRule, RedoneRule, BlankRule, IsTrueStamp, IsDoneIndexCell, HoldsInOrder, EntryRule, IsTruePosting, PostingRule, LeadsWell, PointerRule, IsTrueBucket, BucketRule, LeadsDownWell, ChildRule, TrailRule, PathRule, HasJump, HasChild, IsSize, Tile, TilingRule}
 use Rattle.tamper_rules.specs.Settling.{IsSettled}
-use Rattle.stored_documents.specs.Slots.{Commits, IsCommitted, IsAbandonedSlot, IsDoneSlot, IsDone, HasEnded, IsHorizon, IsLive}
-use Rattle.stored_documents.specs.Volumes.{Holds, IsWritten, IsVolume}
-use Rattle.stored_documents.proofs.Extending.{holds_on, written_on, blank_before, volume_on, reserves_on, ends_on, live_on, spells_on, stands_on, stamped_on}
-use Rattle.stored_documents.proofs.Holding.{one_record_holds}
-use Rattle.stored_documents.proofs.Stamps.{stamp_on}
-use Rattle.index_paths.proofs.Fronts.{front_on}
+use Rattle.volume_meaning.specs.Slots.{Commits, IsCommitted, IsAbandonedSlot, IsDoneSlot, IsDone, HasEnded, IsHorizon, IsLive}
+use Rattle.volume_meaning.specs.Volumes.{Holds, IsWritten, IsVolume}
+use Rattle.volume_meaning.proofs.Extending.{holds_on, written_on, blank_before, volume_on, reserves_on, ends_on, live_on, spells_on, stands_on, stamped_on}
+use Rattle.volume_meaning.proofs.Holding.{one_record_holds}
+use Rattle.volume_meaning.proofs.Stamps.{stamp_on}
+use Rattle.volume_meaning.proofs.Fronts.{front_on}
 use Rattle.tamper_rules.proofs.FullFronts.{ends_full, full_ends}
 use Rattle.tamper_rules.proofs.GivenUp.{no_abandon, log_was, held, stood, reserve_was, reserve_held, done_blank, stores_back, done_back, ended_on, ends, horizon_is, edge_is, old_edge, block_was, node_was, spells_back, one_layout, IsGivenUp, IsOf, of_reserve, of_outcome, of_spare, of_range, is_other, stamp_held}
 use Rattle.tamper_rules.proofs.GoingOn.{copies_on, copies_back, blocks_on, in_order_on, named_on, on_path_on, stores_go_on}
-use Rattle.index_paths.proofs.HashTrails.{hash_trail_on}
+use Rattle.volume_meaning.proofs.HashTrails.{hash_trail_on}
 use Rattle.tamper_rules.proofs.Images.{look}
 use Rattle.tamper_rules.proofs.Settled.{written, below_horizon}
-use Rattle.index_paths.proofs.Trails.{trail_on}
+use Rattle.volume_meaning.proofs.Trails.{trail_on}
 
 module _ {g : Layout} {old new : Image} {n start size : ℕ} (v : IsVolume g.cells old g) (s : IsSettled g old) (u : IsGivenUp g old new n start size) where
   rule_1 : (m : ℕ) → m < g.slots → IsWritten new (reserve_at m) → ReserveRule g new m

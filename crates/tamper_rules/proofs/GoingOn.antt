@@ -5,13 +5,13 @@ use Rattle.cell_types.specs.Layout.{Layout, done_at}
 use Rattle.cell_types.specs.Records.{IsRecordCell}
 use Rattle.cell_types.specs.declared.record_cell.RecordCell.{RecordCell}
 use Rattle.cell_types.proofs.OneRecord.{one_record}
-use Rattle.index_paths.specs.Blocks.{Leads, arrived, onwards}
+use Rattle.volume_meaning.specs.Blocks.{Leads, arrived, onwards}
 use Rattle.tamper_rules.specs.Journals.{journal_at, Copies, LiesInBlocks, IsIndexCell, of_list, of_root, of_slot, IsNamed, IsInOrder}
-use Rattle.index_paths.specs.Nodes.{IsOnPath, root, under}
-use Rattle.stored_documents.specs.Slots.{Stores}
-use Rattle.stored_documents.specs.Volumes.{IsWritten}
-use Rattle.stored_documents.proofs.Extending.{holds_on, commits_on, done_on}
-use Rattle.stored_documents.proofs.Holding.{some_is}
+use Rattle.volume_meaning.specs.Nodes.{IsOnPath, root, under}
+use Rattle.volume_meaning.specs.Slots.{Stores}
+use Rattle.volume_meaning.specs.Volumes.{IsWritten}
+use Rattle.volume_meaning.proofs.Extending.{holds_on, commits_on, done_on}
+use Rattle.volume_meaning.proofs.Holding.{some_is}
 
 pub copies_on : {old new : Image} {start length journal place target : ℕ} {r : RecordCell} → Extends old new
     → Copies old start length journal place target r → Copies new start length journal place target r

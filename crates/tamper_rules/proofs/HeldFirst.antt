@@ -6,10 +6,10 @@ use Rattle.std.proofs.lemmas.Option.{none-some}
 use Rattle.std.proofs.lemmas.Bool.{cases_lt}
 use Rattle.cell_types.specs.Image.{Image, Extends}
 use Rattle.cell_types.specs.Layout.{Layout, lists_at, outcome_at, reserve_at}
-use Rattle.stored_documents.specs.Documents.{AreDocuments, Document, IsDocument, Rise}
-use Rattle.stored_documents.specs.Slots.{IsAbandonedSlot, IsDoneSlot}
-use Rattle.stored_documents.specs.Volumes.{IsVolume, IsWritten}
-use Rattle.stored_documents.proofs.Extending.{volume_on}
+use Rattle.volume_meaning.specs.Documents.{AreDocuments, Document, IsDocument, Rise}
+use Rattle.volume_meaning.specs.Slots.{IsAbandonedSlot, IsDoneSlot}
+use Rattle.volume_meaning.specs.Volumes.{IsVolume, IsWritten}
+use Rattle.volume_meaning.proofs.Extending.{volume_on}
 use Rattle.tamper_rules.specs.Settling.{AbandonRow, After, DoneRow, IsSettled, JournalRow, abandoned, completed, nothing}
 use Rattle.tamper_rules.proofs.Between.{after_keeps, in_log}
 use Rattle.tamper_rules.proofs.DocumentLists.{only_one, the_one}

@@ -2,7 +2,7 @@
 use Rattle.std.proofs.Common.{◌≡◌, ◌⊎◌, ⊎_elim, inl, inr, ℕ, List, Option, Some, None, refl, sym, ◌∙◌}
 use Rattle.cell_types.specs.Image.{Image, Extends, IsUnchanged}
 use Rattle.tamper_rules.specs.Settling.{IsWith}
-use Rattle.stored_documents.proofs.Extending.{blank_before}
+use Rattle.volume_meaning.proofs.Extending.{blank_before}
 
 -- images that are the same in each cell are the same
 pub same_image : {old new : Image} → IsUnchanged old new → new ≡ old

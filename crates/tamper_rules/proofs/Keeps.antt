@@ -3,11 +3,11 @@ use Rattle.std.proofs.Common.{ℕ, List, refl, sym, subst}
 use Rattle.std.specs.Prelude.{Contains}
 use Rattle.cell_types.specs.Image.{Image}
 use Rattle.cell_types.specs.Layout.{Layout, done_at}
-use Rattle.stored_documents.specs.Documents.{Document, AreDocuments, IsDocument}
-use Rattle.index_paths.specs.Keeping.{IsKept, Kept}
+use Rattle.volume_meaning.specs.Documents.{Document, AreDocuments, IsDocument}
+use Rattle.volume_meaning.specs.Keeping.{IsKept, Kept}
 use Rattle.tamper_rules.specs.Rules.{Trails, Paths, TrailRule, PathRule}
 use Rattle.tamper_rules.specs.Settling.{IsSettled, Settled}
-use Rattle.stored_documents.specs.Volumes.{IsWritten}
+use Rattle.volume_meaning.specs.Volumes.{IsWritten}
 
 pub keeps_one : (g : Layout) (image : Image) (d : Document) → IsSettled g image
     → IsDocument g.cells image d.slot d.id d.body → IsKept g.cells image g d

@@ -5,12 +5,12 @@ use Rattle.cell_types.specs.Image.{Image, Extends}
 use Rattle.cell_types.specs.Layout.{Layout, reserve_at, outcome_at}
 use Rattle.cell_types.specs.declared.record_cell.RecordCell.TheVariants.{Reserve, Commit, Abandon}
 use Rattle.tamper_rules.specs.Settling.{IsSettled, Settled, IsOneHorizon, IsWith, AbandonRow, JournalRow, DoneRow, After, nothing, abandoned, completed}
-use Rattle.stored_documents.specs.Slots.{IsReserved, IsCommitted, IsAbandonedSlot, IsDoneSlot, HasEnded, IsHorizon}
-use Rattle.stored_documents.specs.Volumes.{Holds, IsVolume}
-use Rattle.stored_documents.proofs.Holding.{one_record_holds}
+use Rattle.volume_meaning.specs.Slots.{IsReserved, IsCommitted, IsAbandonedSlot, IsDoneSlot, HasEnded, IsHorizon}
+use Rattle.volume_meaning.specs.Volumes.{Holds, IsVolume}
+use Rattle.volume_meaning.proofs.Holding.{one_record_holds}
 use Rattle.tamper_rules.proofs.GivenUp.{one_layout, no_abandon}
 use Rattle.tamper_rules.proofs.Images.{same_image, same_both}
-use Rattle.stored_documents.proofs.OneDocument.{reserves, commits}
+use Rattle.volume_meaning.proofs.OneDocument.{reserves, commits}
 
 into : {rows : ℕ → List ℕ → Type 0} {old x y : Image} → IsWith rows old x → IsWith rows old y → Extends x y
 into v w = record { keeps = λ cell value is. ⊎_elim (λ was. w.keeps.keeps cell value was) (λ row. w.adds cell value row) (v.only cell value is) }

@@ -6,18 +6,18 @@ use Rattle.cell_types.specs.Layout.{Layout, reserve_at, outcome_at, done_at, spa
 use Rattle.cell_types.specs.Records.{IsRecordCell, record_bytes}
 use Rattle.cell_types.specs.declared.record_cell.RecordCell.{RecordCell}
 use Rattle.cell_types.specs.declared.record_cell.RecordCell.TheVariants.{Volume, Reserve, Commit, Abandon, Done, Posting, Jump, Bucket, Child, Stamp}
-use Rattle.stored_documents.specs.Documents.{Document, IsDocument, AreDocuments, Stands, stored_bytes, content_at}
+use Rattle.volume_meaning.specs.Documents.{Document, IsDocument, AreDocuments, Stands, stored_bytes, content_at}
 use Rattle.tamper_rules.specs.Settling.{IsSettled, AbandonRow, JournalRow, DoneRow, After, nothing, abandoned, completed, Sound, Held, none, of_after}
-use Rattle.stored_documents.specs.Slots.{IsDone, IsDoneSlot, IsHorizon}
-use Rattle.stored_documents.specs.Volumes.{Holds, IsWritten, IsVolume}
+use Rattle.volume_meaning.specs.Slots.{IsDone, IsDoneSlot, IsHorizon}
+use Rattle.volume_meaning.specs.Volumes.{Holds, IsWritten, IsVolume}
 use Rattle.tamper_rules.proofs.Between.{after_keeps, commit_stood, commit_done, one_commit}
 use Rattle.tamper_rules.proofs.DocumentLists.{done_stands}
-use Rattle.stored_documents.proofs.Extending.{holds_on, volume_on, blank_before}
-use Rattle.stored_documents.proofs.Holding.{some_is}
+use Rattle.volume_meaning.proofs.Extending.{holds_on, volume_on, blank_before}
+use Rattle.volume_meaning.proofs.Holding.{some_is}
 use Rattle.tamper_rules.proofs.GivenUp.{one_layout, stands_inside}
 use Rattle.tamper_rules.proofs.Images.{look, same_image}
 use Rattle.tamper_rules.proofs.OneAfter.{one_after}
-use Rattle.stored_documents.proofs.OneDocument.{one_document}
+use Rattle.volume_meaning.proofs.OneDocument.{one_document}
 use Rattle.tamper_rules.proofs.Settled.{written, taken_below, some_horizon}
 use Rattle.tamper_rules.proofs.SettlingGoesOn.{target_behind_log}
 

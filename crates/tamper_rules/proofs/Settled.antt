@@ -7,10 +7,10 @@ use Rattle.cell_types.specs.Layout.{Layout, reserve_at, pool_at}
 use Rattle.cell_types.specs.declared.record_cell.RecordCell.TheVariants.{Reserve}
 use Rattle.tamper_rules.specs.Rules.{ReserveCells, ReserveRule}
 use Rattle.tamper_rules.specs.Settling.{IsSettled}
-use Rattle.stored_documents.specs.Slots.{Reserves, IsAbandonedSlot, IsDoneSlot, HasEnded, AreTaken, IsHorizon, EndsBelow, IsEdge}
-use Rattle.stored_documents.specs.Volumes.{Holds, IsWritten}
-use Rattle.stored_documents.proofs.Holding.{one_record_holds}
-use Rattle.stored_documents.proofs.OneDocument.{reserves}
+use Rattle.volume_meaning.specs.Slots.{Reserves, IsAbandonedSlot, IsDoneSlot, HasEnded, AreTaken, IsHorizon, EndsBelow, IsEdge}
+use Rattle.volume_meaning.specs.Volumes.{Holds, IsWritten}
+use Rattle.volume_meaning.proofs.Holding.{one_record_holds}
+use Rattle.volume_meaning.proofs.OneDocument.{reserves}
 use Rattle.tamper_rules.proofs.Images.{look}
 
 -- a slot that has ended has a written reserve cell

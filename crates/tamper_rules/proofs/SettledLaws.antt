@@ -4,15 +4,14 @@ use Rattle.std.proofs.lemmas.Option.{none-some}
 use Rattle.cell_types.specs.Image.{Image}
 use Rattle.cell_types.specs.Layout.{Layout, IsLayout, reserve_at, pool_at}
 use Rattle.cell_types.specs.declared.record_cell.RecordCell.{RecordCell}
-use Rattle.index_paths.specs.Blocks.{pointer_at}
-use Rattle.stored_documents.specs.Documents.{AreDocuments}
-use Rattle.index_paths.specs.Nodes.{IsNode, root, under}
-use Rattle.index_paths.specs.Blocks.{Leads, arrived, onwards}
+use Rattle.volume_meaning.specs.Blocks.{pointer_at, Leads, arrived, onwards}
+use Rattle.volume_meaning.specs.Documents.{AreDocuments}
+use Rattle.volume_meaning.specs.Nodes.{IsNode, root, under}
 use Rattle.tamper_rules.specs.Rules
 use Rattle.tamper_rules.specs.Rules.{Rule, IsMet, IsBroken, IsDoneIndexCell}
 use Rattle.tamper_rules.specs.Settling.{Settled}
-use Rattle.stored_documents.specs.Slots.{Reserves, IsHorizon}
-use Rattle.stored_documents.specs.Volumes.{Holds, IsWritten, IsVolume}
+use Rattle.volume_meaning.specs.Slots.{Reserves, IsHorizon}
+use Rattle.volume_meaning.specs.Volumes.{Holds, IsWritten, IsVolume}
 use Rattle.tamper_rules.proofs.GivenUp.{one_layout}
 
 pub unbroken : (cells : ℕ) (image : Image) (number cell : ℕ) → Settled cells image

@@ -6,10 +6,10 @@ use Rattle.cell_types.specs.Layout.{Layout, reserve_at, outcome_at, done_at, lis
 use Rattle.cell_types.specs.declared.record_cell.RecordCell.{RecordCell}
 use Rattle.tamper_rules.specs.Journals.{journal_at, Copies, IsIndexCell, of_list, of_root, of_slot, IsInOrder}
 use Rattle.tamper_rules.specs.Settling.{Settled, IsOneHorizon, IsWith, AbandonRow, JournalRow, DoneRow, IsReady, After, nothing, abandoned, completed}
-use Rattle.stored_documents.specs.Slots.{IsCommitted, IsHorizon}
-use Rattle.stored_documents.specs.Volumes.{IsWritten, IsVolume}
-use Rattle.stored_documents.proofs.Extending.{volume_on, written_on, blank_before, commits_on}
-use Rattle.stored_documents.proofs.Holding.{some_is}
+use Rattle.volume_meaning.specs.Slots.{IsCommitted, IsHorizon}
+use Rattle.volume_meaning.specs.Volumes.{IsWritten, IsVolume}
+use Rattle.volume_meaning.proofs.Extending.{volume_on, written_on, blank_before, commits_on}
+use Rattle.volume_meaning.proofs.Holding.{some_is}
 use Rattle.tamper_rules.proofs.GoingOn.{copies_on, copies_back, one_copy, in_order_on}
 use Rattle.tamper_rules.proofs.Images.{same_image, same_both, look, all_of_it}
 

@@ -4,11 +4,11 @@ use Rattle.std.proofs.Common.{◌≡◌, ◌<◌, ◌⊎◌, ⊎_elim, inl, inr,
 use Rattle.std.proofs.lemmas.Option.{none-some}
 use Rattle.cell_types.specs.Image.{Image, Extends}
 use Rattle.cell_types.specs.Layout.{Layout}
-use Rattle.stored_documents.specs.Documents.{Document, AreDocuments}
-use Rattle.stored_documents.specs.Volumes.{IsVolume}
-use Rattle.stored_documents.proofs.Extending.{blank_before}
-use Rattle.stored_documents.proofs.Holding.{some_is}
-use Rattle.stored_documents.proofs.Lists.{lists_one}
+use Rattle.volume_meaning.specs.Documents.{Document, AreDocuments}
+use Rattle.volume_meaning.specs.Volumes.{IsVolume}
+use Rattle.volume_meaning.proofs.Extending.{blank_before}
+use Rattle.volume_meaning.proofs.Holding.{some_is}
+use Rattle.volume_meaning.proofs.Lists.{lists_one}
 use Rattle.tamper_rules.specs.Settling.{After, Sound, IsBlankOrSound, Held, none, of_after}
 use Rattle.tamper_rules.proofs.Between.{volume_of}
 use Rattle.tamper_rules.proofs.Images.{look, same_image}

@@ -5,8 +5,8 @@ use Rattle.cell_types.specs.Layout.{Layout, FirstBlock, Root, LiesIn}
 use Rattle.cell_types.specs.Records.{IsRecordCell}
 use Rattle.cell_types.specs.declared.record_cell.RecordCell.{RecordCell}
 use Rattle.cell_types.specs.declared.record_cell.RecordCell.TheVariants.{Posting, Jump, Bucket, Child}
-use Rattle.stored_documents.specs.Documents.{document_at}
-use Rattle.stored_documents.specs.Slots.{Stores, IsDone}
+use Rattle.volume_meaning.specs.Documents.{document_at}
+use Rattle.volume_meaning.specs.Slots.{Stores, IsDone}
 
 -- where the journal begins in a slot's cells: it is their end
 abbrev pub journal_at : ℕ → ℕ → ℕ → ℕ

@@ -8,16 +8,16 @@ use Rattle.cell_types.specs.declared.geometry.TheConstants.{STAMPED_VERSION}
 use Rattle.cell_types.specs.declared.record_cell.RecordCell.{RecordCell}
 use Rattle.cell_types.specs.declared.refusal.Evidence.{Evidence}
 use Rattle.cell_types.specs.declared.record_cell.RecordCell.TheVariants.{Reserve, Commit, Abandon, Done, Jump, Bucket, Child}
-use Rattle.index_paths.specs.Blocks.{PostingFields, posting_record, InFront, InSpan, pointer_at, Trail}
-use Rattle.stored_documents.specs.Documents.{IsIdentifier, IsBody, Spells, Stands, stored_bytes, document_at}
-use Rattle.index_paths.specs.HashPaths.{HashTrail, fingerprint_of, nibble}
+use Rattle.volume_meaning.specs.Blocks.{PostingFields, posting_record, InFront, InSpan, pointer_at, Trail}
+use Rattle.volume_meaning.specs.Documents.{IsIdentifier, IsBody, Spells, Stands, stored_bytes, document_at}
+use Rattle.volume_meaning.specs.HashPaths.{HashTrail, fingerprint_of, nibble}
 use Rattle.tamper_rules.specs.Journals.{journal_at, Copies, LiesInBlocks, IsNamed, IsInOrder}
-use Rattle.index_paths.specs.Keeping.{sought_in}
-use Rattle.index_paths.specs.Nodes.{IsBlockOf, IsNode, IsOnPath, AreApart}
-use Rattle.stored_documents.specs.Slots.{cells_for, Reserves, Stores, IsCommitted, IsDone, IsDoneSlot, HasEnded, EndsBelow, IsEdge, IsLive, HasStamp, IsStamped, IsStampOf}
+use Rattle.volume_meaning.specs.Keeping.{sought_in}
+use Rattle.volume_meaning.specs.Nodes.{IsBlockOf, IsNode, IsOnPath, AreApart}
+use Rattle.volume_meaning.specs.Slots.{cells_for, Reserves, Stores, IsCommitted, IsDone, IsDoneSlot, HasEnded, EndsBelow, IsEdge, IsLive, HasStamp, IsStamped, IsStampOf}
 use Rattle.tamper_rules.specs.declared.numbers.TheConstants.{RESERVE_CELL, OUTCOME_CELL, DONE_CELL, BROKEN_DOCUMENT, BROKEN_JOURNAL, OTHER_TARGET, STRAY_CELL, BLOCK_OUT_OF_ORDER, FAKE_POSTING, LOST_POINTER, FAKE_BUCKET, LOST_CHILD, MISSING_TRAIL, MISSING_PATH, UNTILED_BLOCKS}
-use Rattle.stored_documents.specs.Volumes.{Holds, IsWritten, IsVolume}
-use Rattle.index_paths.specs.Postings.{IsPostingOf, HasPostings}
+use Rattle.volume_meaning.specs.Volumes.{Holds, IsWritten, IsVolume}
+use Rattle.volume_meaning.specs.Postings.{IsPostingOf, HasPostings}
 
 -- Rule 1, at the reserve cell of slot n: it reserves cells of the pool, which begin where those of the slot before
 -- end, and for slot 0 where the pool begins; and the slot before is abandoned or done.

@@ -5,11 +5,11 @@ use Rattle.cell_types.specs.Layout.{Layout, outcome_at, done_at}
 use Rattle.cell_types.specs.Records.{IsRecordCell}
 use Rattle.cell_types.specs.declared.record_cell.RecordCell.{RecordCell}
 use Rattle.cell_types.specs.declared.record_cell.RecordCell.TheVariants.{Abandon, Done}
-use Rattle.stored_documents.specs.Documents.{Document, AreDocuments}
+use Rattle.volume_meaning.specs.Documents.{Document, AreDocuments}
 use Rattle.tamper_rules.specs.Journals.{journal_at, Copies, IsInOrder}
 use Rattle.tamper_rules.specs.Rules.{Rule, IsMet}
-use Rattle.stored_documents.specs.Slots.{IsReserved, IsCommitted, HasEnded, IsHorizon}
-use Rattle.stored_documents.specs.Volumes.{IsWritten, IsVolume}
+use Rattle.volume_meaning.specs.Slots.{IsReserved, IsCommitted, HasEnded, IsHorizon}
+use Rattle.volume_meaning.specs.Volumes.{IsWritten, IsVolume}
 
 -- each rule is kept at each written cell, and each slot below a horizon is abandoned or done
 pub record IsSettled (g : Layout) (image : Image) : Type 0 where

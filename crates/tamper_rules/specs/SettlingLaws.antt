@@ -2,12 +2,12 @@
 use Rattle.std.specs.Prelude.{◌≡◌, ◌≤◌, ◌⊎◌, ◌++◌, ℕ, List, [], Some, None}
 use Rattle.cell_types.specs.Image.{Image, Extends}
 use Rattle.cell_types.specs.Layout.{Layout, IsLayout, done_at}
-use Rattle.stored_documents.specs.Documents.{Document, AreDocuments}
-use Rattle.index_paths.specs.Keeping.{Kept}
+use Rattle.volume_meaning.specs.Documents.{Document, AreDocuments}
+use Rattle.volume_meaning.specs.Keeping.{Kept}
 use Rattle.tamper_rules.specs.Rules.{IsBroken}
 use Rattle.tamper_rules.specs.Settling.{IsSettled, Settled, IsOneHorizon, JournalRow, After, IsBlankOrSound, Held}
-use Rattle.stored_documents.specs.Slots.{IsCommitted, IsEdge}
-use Rattle.stored_documents.specs.Volumes.{IsWritten, IsVolume}
+use Rattle.volume_meaning.specs.Slots.{IsCommitted, IsEdge}
+use Rattle.volume_meaning.specs.Volumes.{IsWritten, IsVolume}
 
 -- a settled image has one horizon and one edge
 abbrev pub EdgeIsOne : Type 0

@@ -5,9 +5,9 @@ use Rattle.std.proofs.lemmas.Nat.{mod_below}
 use Rattle.byteorder.specs.Endian.{big_number}
 use Rattle.sha2.specs.Sha256.{sha256}
 use Rattle.cell_types.specs.Layout.{Layout}
-use Rattle.stored_documents.specs.Words.{AreWords, rule_of}
-use Rattle.stored_documents.proofs.Words.{words_are_one}
-use Rattle.index_paths.specs.Postings.{HasTag, AreTags}
+use Rattle.volume_meaning.specs.Words.{AreWords, rule_of}
+use Rattle.volume_meaning.proofs.Words.{words_are_one}
+use Rattle.volume_meaning.specs.Postings.{HasTag, AreTags}
 use Rattle.term_tags.specs.Keys.{key_of, keys_of, list_in, tag_in, tags_at, AreInLists, AreKeys}
 use Rattle.term_tags.specs.Listing.{AllFit, AreCounts, GetsTooMany, IsFirstOver}
 use Rattle.term_tags.proofs.KeyLaws.{list_back, tag_back}

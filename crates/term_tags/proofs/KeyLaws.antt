@@ -5,8 +5,8 @@ use Rattle.byteorder.specs.Numbers.{big_from-lt, big_number-reads_back}
 use Rattle.sha2.specs.Sha256.{sha256}
 use Rattle.sha2.proofs.Facts256.{length-sha256}
 use Rattle.cell_types.specs.Bytes.{AreBytes}
-use Rattle.index_paths.proofs.Digests.{digest_is_bytes}
-use Rattle.index_paths.specs.Postings.{tag_of, list_of}
+use Rattle.volume_meaning.proofs.Digests.{digest_is_bytes}
+use Rattle.volume_meaning.specs.Postings.{tag_of, list_of}
 use Rattle.term_tags.specs.Keys.{key_of, list_in, tag_in}
 
 -- the number of a digest's first six bytes

@@ -5,10 +5,10 @@ use Rattle.std.proofs.lemmas.Bool.{cases_lt}
 use Rattle.std.proofs.lemmas.List.{append_assoc, append-nil}
 use Rattle.std.proofs.lemmas.Option.{none-some, same_Some}
 use Rattle.cell_types.specs.Layout.{Layout, all_lists}
-use Rattle.stored_documents.specs.Words.{AreWords, rule_of}
-use Rattle.index_paths.specs.Postings.{IsPostingOf, IsWordPosting, ListedPosting, ComesBefore, ArePostings}
-use Rattle.index_paths.specs.Blocks.{PostingFields}
-use Rattle.index_paths.proofs.Tags.{tags_one}
+use Rattle.volume_meaning.specs.Words.{AreWords, rule_of}
+use Rattle.volume_meaning.specs.Postings.{IsPostingOf, IsWordPosting, ListedPosting, ComesBefore, ArePostings}
+use Rattle.volume_meaning.specs.Blocks.{PostingFields}
+use Rattle.volume_meaning.proofs.Tags.{tags_one}
 use Rattle.term_tags.specs.Keys.{list_in, tag_in, tags_at, AreInLists, AreKeys}
 use Rattle.term_tags.specs.Listing.{listed, row_of, rows_behind, rows_of}
 use Rattle.term_tags.proofs.Bodies.{are_tags}

@@ -2,8 +2,8 @@
 use Rattle.std.proofs.Common.{◌++◌, ℕ, List, Option, Some, None, sym, subst}
 use Rattle.std.proofs.lemmas.List.{append-nil}
 use Rattle.cell_types.specs.Layout.{Layout}
-use Rattle.index_paths.specs.Postings.{ArePostings, ListedPosting}
-use Rattle.index_paths.proofs.StampedPostings.{stamps_add_one}
+use Rattle.volume_meaning.specs.Postings.{ArePostings, ListedPosting}
+use Rattle.volume_meaning.proofs.StampedPostings.{stamps_add_one}
 use Rattle.term_tags.specs.Listing.{MayHaveStamp, time_entries}
 
 pub with_stamp : (g : Layout) (body : List ℕ) (n : ℕ) (rows : List ListedPosting) (stamp : Option ℕ) → MayHaveStamp g stamp

@@ -2,8 +2,8 @@
 use Rattle.std.proofs.Common.{◌≡◌, ◌<◌, ⊎_elim, ℕ, List, length, ap, sym, subst, ◌∙◌, arith}
 use Rattle.std.proofs.lemmas.Bool.{cases_lt}
 use Rattle.cell_types.specs.Layout.{Layout}
-use Rattle.index_paths.specs.Postings.{AreTags, HasPostings}
-use Rattle.index_paths.proofs.Tags.{tags_one}
+use Rattle.volume_meaning.specs.Postings.{AreTags, HasPostings}
+use Rattle.volume_meaning.proofs.Tags.{tags_one}
 use Rattle.term_tags.specs.Listing.{GetsTooMany, TooManyIsOne}
 
 module _ (g : Layout) (body : List ℕ) where

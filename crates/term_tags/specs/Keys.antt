@@ -6,7 +6,7 @@ use Rattle.std.specs.Prelude.{◌<◌, ◌+◌, ◌*◌, ◌/◌, ◌%◌, ◌^�
 use Rattle.std.specs.List.Sorted.{IsStrictlyIncreasing}
 use Rattle.byteorder.specs.Endian.{big_number, big_bytes}
 use Rattle.sha2.specs.Sha256.{sha256}
-use Rattle.index_paths.specs.Postings.{list_of}
+use Rattle.volume_meaning.specs.Postings.{list_of}
 
 -- the key of a term's tag
 abbrev pub key_of : ℕ → List ℕ → ℕ

@@ -4,8 +4,8 @@ use Rattle.cell_types.specs.declared.refusal.Refusal.{Refusal}
 use Rattle.cell_types.specs.declared.refusal.Refusal.TheVariants.{TooManyTerms, NoMemory}
 use Rattle.cell_types.specs.Layout.{Layout}
 use Rattle.cell_types.specs.declared.geometry.TheConstants.{STAMPED_VERSION}
-use Rattle.stored_documents.specs.Words.{AreWords, rule_of}
-use Rattle.index_paths.specs.Postings.{AreTags, ListedPosting, ArePostings, HasPostings, time_posting}
+use Rattle.volume_meaning.specs.Words.{AreWords, rule_of}
+use Rattle.volume_meaning.specs.Postings.{AreTags, ListedPosting, ArePostings, HasPostings, time_posting}
 use Rattle.term_tags.specs.Keys.{list_in, tag_in, tags_at}
 use Rattle.term_tags.specs.declared.rows.Posting.{Posting}
 

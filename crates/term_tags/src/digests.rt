@@ -1,7 +1,7 @@
 //! A term's tag and its list, by its SHA-256.
 ghost use Rattle.std.specs.Prelude.{◌≡◌, ◌≤◌, ◌<◌, ◌%◌, drop};
 ghost use Rattle.byteorder.specs.Endian.{big_number};
-ghost use Rattle.index_paths.specs.Postings.{list_of, tag_of};
+ghost use Rattle.volume_meaning.specs.Postings.{list_of, tag_of};
 
 use sha2::{Digest, Sha256};
 use word_reader::Term;

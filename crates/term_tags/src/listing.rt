@@ -2,7 +2,7 @@
 //! that of the document's stamp.
 ghost use Rattle.std.specs.Prelude.{◌≡◌, ◌<◌, ◌≤◌, ◌++◌, IfErr, IfOk, map};
 ghost use Rattle.cell_types.specs.declared.geometry.TheConstants.{MAX_SLOTS};
-ghost use Rattle.index_paths.specs.Postings.{time_posting};
+ghost use Rattle.volume_meaning.specs.Postings.{time_posting};
 ghost use Rattle.term_tags.specs.Listing.{GivesNone, GivesListed, listed, time_entries};
 
 use crate::rows::{Posting, postings};
@@ -21,7 +21,7 @@ pub struct ListedPosting {
 }
 
 impl Model for ListedPosting {
-    ghost use Rattle.index_paths.specs.Postings as paths;
+    ghost use Rattle.volume_meaning.specs.Postings as paths;
 
     ghost Value = { paths.ListedPosting };
 

@@ -12,10 +12,10 @@ use Rattle.cell_types.specs.declared.refusal.Fault.{Fault}
 use Rattle.cell_types.specs.declared.refusal.Fault.TheVariants as faults
 use Rattle.cell_types.specs.declared.refusal.Refusal.{Refusal}
 use Rattle.cell_types.specs.declared.refusal.Refusal.TheVariants.{DeviceFault, NoMemory, Tampered}
-use Rattle.stored_documents.specs.Documents.{stored_bytes}
-use Rattle.stored_documents.specs.Slots.{HasStamp, cells_for}
-use Rattle.stored_documents.proofs.Extending.{holds_on}
-use Rattle.stored_documents.proofs.Holding.{one_record_holds}
+use Rattle.volume_meaning.specs.Documents.{stored_bytes}
+use Rattle.volume_meaning.specs.Slots.{HasStamp, cells_for}
+use Rattle.volume_meaning.proofs.Extending.{holds_on}
+use Rattle.volume_meaning.proofs.Holding.{one_record_holds}
 use Rattle.tamper_rules.specs.Rules.{IsTrueStamp, StrayCells}
 use Rattle.worm_device.specs.Views.{ViewState, Viewed}
 use Rattle.worm_device.proofs.Resting.{viewed_self, viewed_then}
@@ -28,9 +28,9 @@ use Rattle.document_store.proofs.Holding.{part_is_done, part_on, whole_is_held}
 use Rattle.jump_block.specs.declared.held_entry.Entry.{Entry}
 use Rattle.jump_index.specs.Searches.{IsEntryBehind}
 use Rattle.jump_index.proofs.Telling.{told, told_before}
-use Rattle.record_query.specs.posting_list.Searches.{IsFalsePosting, head_of, within}
-use Rattle.record_query.specs.posting_list.declared.reach.Reach.{Reach}
-use Rattle.record_query.proofs.of_posting_list.Evidence.{false_named}
+use Rattle.posting_list.specs.Searches.{IsFalsePosting, head_of, within}
+use Rattle.posting_list.specs.declared.reach.Reach.{Reach}
+use Rattle.posting_list.proofs.Evidence.{false_named}
 use Rattle.time_index.specs.Matching.{IsEarlier, IsTimeMatchIn, MatchEnds, OrderEnds, ReadPartEnds, ReadsMatch, ReadsPart, StampedPartEnds, TimeFault, TimeRefuses, stamp_breach}
 use Rattle.time_index.specs.declared.found.TimeMatch.{TimeMatch}
 use Rattle.time_index.specs.declared.matching.Stamped.{Stamped}

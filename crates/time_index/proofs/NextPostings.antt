@@ -4,16 +4,16 @@ use Rattle.std.specs.Prelude.{IsTrue}
 use Rattle.cell_types.specs.Layout.{all_lists}
 use Rattle.cell_types.specs.declared.geometry.TheConstants.{STAMPED_VERSION}
 use Rattle.cell_types.specs.declared.refusal.Fault.{Fault}
-use Rattle.index_paths.specs.Blocks.{PostingFields}
+use Rattle.volume_meaning.specs.Blocks.{PostingFields}
 use Rattle.worm_device.specs.Views.{ViewState, Viewed}
 use Rattle.worm_device.proofs.Resting.{viewed_then}
 use Rattle.jump_block.specs.declared.held_entry.Entry.{Entry}
 use Rattle.jump_index.specs.Searches.{FindsGeq}
 use Rattle.jump_index.proofs.LookingLater.{entry_then, trail_then}
 use Rattle.jump_index.proofs.Telling.{told}
-use Rattle.record_query.specs.posting_list.Searches.{head_of, within}
-use Rattle.record_query.specs.posting_list.declared.reach.Reach.{Reach}
-use Rattle.record_query.proofs.of_posting_list.Evidence.{entry_on, find_fault, says_later}
+use Rattle.posting_list.specs.Searches.{head_of, within}
+use Rattle.posting_list.specs.declared.reach.Reach.{Reach}
+use Rattle.posting_list.proofs.Evidence.{entry_on, find_fault, says_later}
 use Rattle.time_index.specs.Postings.{IsNextPosting, IsOfKey, IsTimed, NextPosting}
 
 -- the time list of the volume

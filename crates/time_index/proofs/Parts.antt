@@ -8,10 +8,10 @@ use Rattle.cell_types.specs.declared.record_cell.RecordCell.TheVariants.{Stamp}
 use Rattle.cell_types.specs.declared.refusal.Evidence.{Evidence}
 use Rattle.cell_types.specs.declared.refusal.Fault.{Fault}
 use Rattle.cell_types.specs.declared.refusal.Fault.TheVariants as faults
-use Rattle.index_paths.specs.Blocks.{PostingFields}
-use Rattle.index_paths.specs.Postings.{IsWordPosting, time_posting}
-use Rattle.stored_documents.specs.Slots.{HasStamp, IsDoneSlot, IsEdge, IsLive, IsStampOf}
-use Rattle.stored_documents.proofs.Holding.{one_record_holds}
+use Rattle.volume_meaning.specs.Blocks.{PostingFields}
+use Rattle.volume_meaning.specs.Postings.{IsWordPosting, time_posting}
+use Rattle.volume_meaning.specs.Slots.{HasStamp, IsDoneSlot, IsEdge, IsLive, IsStampOf}
+use Rattle.volume_meaning.proofs.Holding.{one_record_holds}
 use Rattle.tamper_rules.specs.Rules.{IsTruePosting}
 use Rattle.tamper_rules.proofs.Images.{same_image}
 use Rattle.worm_device.specs.Views.{ViewState, Viewed}
@@ -22,14 +22,14 @@ use Rattle.commit_record.specs.Stamps.{IsStampOrNone, ReadsStamp}
 use Rattle.document_store.specs.Looks.{IsPartOf, LookFails, Names, PartEnds, of_document, of_state}
 use Rattle.document_store.specs.declared.part.Part.{Part}
 use Rattle.document_store.proofs.Holding.{part_on}
-use Rattle.record_query.specs.identifier_lookup.Walks.{IsLicensed}
-use Rattle.record_query.proofs.of_identifier_lookup.Licence.{names_licensed}
+use Rattle.identifier_lookup.specs.Walks.{IsLicensed}
+use Rattle.identifier_lookup.proofs.Licence.{names_licensed}
 use Rattle.jump_block.specs.Entries.{posting_of}
 use Rattle.jump_block.specs.declared.held_entry.Entry.{Entry}
 use Rattle.jump_index.proofs.Telling.{told, told_before}
-use Rattle.record_query.specs.posting_list.Naming.{FaultSays, IsReachOf}
-use Rattle.record_query.specs.posting_list.declared.reach.Reach.{Reach}
-use Rattle.record_query.proofs.of_posting_list.Evidence.{live_not, state_rule}
+use Rattle.posting_list.specs.Naming.{FaultSays, IsReachOf}
+use Rattle.posting_list.specs.declared.reach.Reach.{Reach}
+use Rattle.posting_list.proofs.Evidence.{live_not, state_rule}
 use Rattle.time_index.specs.Matching.{IsTimeRule, StampedPartEnds, TimeFault}
 use Rattle.time_index.specs.Postings.{slot_named}
 

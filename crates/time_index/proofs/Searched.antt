@@ -8,13 +8,13 @@ use Rattle.cell_types.specs.declared.geometry.TheConstants.{STAMPED_VERSION}
 use Rattle.cell_types.specs.declared.refusal.Evidence.{Evidence}
 use Rattle.cell_types.specs.declared.refusal.Refusal.{Refusal}
 use Rattle.cell_types.specs.declared.refusal.Refusal.TheVariants as refusals
-use Rattle.index_paths.specs.Keeping.{IsKept, Kept}
-use Rattle.index_paths.specs.Postings.{time_posting}
-use Rattle.index_paths.proofs.KeepingLaws.{kept_on}
-use Rattle.stored_documents.specs.Documents.{Document}
-use Rattle.stored_documents.specs.Slots.{IsStampOf}
-use Rattle.stored_documents.specs.Volumes.{IsVolume}
-use Rattle.stored_documents.proofs.Extending.{holds_on, volume_on}
+use Rattle.volume_meaning.specs.Keeping.{IsKept, Kept}
+use Rattle.volume_meaning.specs.Postings.{time_posting}
+use Rattle.volume_meaning.proofs.KeepingLaws.{kept_on}
+use Rattle.volume_meaning.specs.Documents.{Document}
+use Rattle.volume_meaning.specs.Slots.{IsStampOf}
+use Rattle.volume_meaning.specs.Volumes.{IsVolume}
+use Rattle.volume_meaning.proofs.Extending.{holds_on, volume_on}
 use Rattle.tamper_rules.specs.Settling.{Settled}
 use Rattle.tamper_rules.proofs.GivenUp.{one_layout}
 use Rattle.tamper_rules.proofs.Images.{same_image}
@@ -24,8 +24,8 @@ use Rattle.worm_device.proofs.Counting.{still_first, still_second}
 use Rattle.worm_device.proofs.Elapsing.{called_then}
 use Rattle.document_store.specs.Standing.{HoldsDocument}
 use Rattle.document_store.proofs.Holding.{held_is_one, held_on, held_stands, stands_held}
-use Rattle.record_query.specs.posting_list.Naming.{Shows}
-use Rattle.record_query.specs.posting_list.declared.reach.Reach.{Reach}
+use Rattle.posting_list.specs.Naming.{Shows}
+use Rattle.posting_list.specs.declared.reach.Reach.{Reach}
 use Rattle.recovery_engine.specs.Settling.{SettleEnds, Settles, SettlesFirst}
 use Rattle.recovery_engine.specs.declared.settling.Ready.{Ready}
 use Rattle.record_query.specs.Looking.{HasLooked}

@@ -12,9 +12,9 @@ use Rattle.cell_types.specs.declared.refusal.Fault.{Fault}
 use Rattle.cell_types.specs.declared.refusal.Fault.TheVariants as faults
 use Rattle.cell_types.specs.declared.refusal.Refusal.{Refusal}
 use Rattle.cell_types.specs.declared.refusal.Refusal.TheVariants as refusals
-use Rattle.index_paths.specs.Blocks.{PostingFields}
-use Rattle.index_paths.specs.Postings.{time_posting}
-use Rattle.stored_documents.proofs.Extending.{holds_on}
+use Rattle.volume_meaning.specs.Blocks.{PostingFields}
+use Rattle.volume_meaning.specs.Postings.{time_posting}
+use Rattle.volume_meaning.proofs.Extending.{holds_on}
 use Rattle.worm_device.specs.Views.{ViewState, Viewed}
 use Rattle.worm_device.proofs.Resting.{viewed_self, viewed_then}
 use Rattle.document_store.proofs.Holding.{held_on}
@@ -22,8 +22,8 @@ use Rattle.jump_block.specs.Entries.{posting_of}
 use Rattle.jump_block.specs.declared.held_entry.Entry.{Entry}
 use Rattle.jump_index.proofs.LookingLater.{trail_then}
 use Rattle.jump_index.proofs.Telling.{told}
-use Rattle.record_query.specs.posting_list.Searches.{head_of}
-use Rattle.record_query.specs.posting_list.declared.reach.Reach.{Reach}
+use Rattle.posting_list.specs.Searches.{head_of}
+use Rattle.posting_list.specs.declared.reach.Reach.{Reach}
 use Rattle.time_index.specs.Gathering.{AreTimeMatches, Gathers, HasSlot, IsBehind, IsLastMatch, IsUpTo, SpanGathered, SpanSoFar, unanswered}
 use Rattle.time_index.specs.Matching.{IsEarlier, IsMatchOf, IsTimeMatchIn, ReadsMatch, TimeFault, TimeRefuses, cells_of}
 use Rattle.time_index.specs.Postings.{IsTimed, NextPosting, slot_named}

@@ -2,11 +2,11 @@
 use Rattle.std.specs.Prelude.{◌≡◌, ◌<◌, ◌≤◌, ◌+◌, ◌*◌, ◌^◌, IfSome, ℕ, List, length, Contains, Option, Some, None, Result, Ok, Err, IsTrue}
 use Rattle.std.specs.Global.{Vec}
 use Rattle.cell_types.specs.declared.refusal.Refusal.{Refusal}
-use Rattle.index_paths.specs.Postings.{time_posting}
-use Rattle.stored_documents.specs.Slots.{HasStamp}
+use Rattle.volume_meaning.specs.Postings.{time_posting}
+use Rattle.volume_meaning.specs.Slots.{HasStamp}
 use Rattle.worm_device.specs.State.{DeviceState}
 use Rattle.worm_device.specs.Views.{ViewState, Viewed, seen_directly}
-use Rattle.record_query.specs.posting_list.declared.reach.Reach.{Reach}
+use Rattle.posting_list.specs.declared.reach.Reach.{Reach}
 use Rattle.recovery_engine.specs.declared.settling.Ready.{Ready}
 use Rattle.record_query.specs.Reaching.{reach_of}
 use Rattle.time_index.specs.Matching.{IsTimeMatchIn, TimeRefuses}

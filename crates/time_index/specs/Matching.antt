@@ -9,7 +9,7 @@ use Rattle.cell_types.specs.declared.refusal.Fault.{Fault}
 use Rattle.cell_types.specs.declared.refusal.Fault.TheVariants as faults
 use Rattle.cell_types.specs.declared.refusal.Refusal.{Refusal}
 use Rattle.cell_types.specs.declared.refusal.Refusal.TheVariants.{DeviceFault, NoMemory, Tampered}
-use Rattle.stored_documents.specs.Slots.{HasStamp, IsHorizon, cells_for}
+use Rattle.volume_meaning.specs.Slots.{HasStamp, IsHorizon, cells_for}
 use Rattle.tamper_rules.specs.Rules.{IsPlaceOf, IsTruePosting}
 use Rattle.tamper_rules.specs.declared.numbers.TheConstants.{BROKEN_DOCUMENT, STRAY_CELL}
 use Rattle.worm_device.specs.Counts.{IsStill, Rose}
@@ -19,8 +19,8 @@ use Rattle.document_store.specs.Standing.{HoldsDocument}
 use Rattle.document_store.specs.declared.part.Part.{Part}
 use Rattle.jump_block.specs.Entries.{posting_of}
 use Rattle.jump_block.specs.declared.held_entry.Entry.{Entry}
-use Rattle.record_query.specs.posting_list.Naming.{IsListRule, Shows}
-use Rattle.record_query.specs.posting_list.declared.reach.Reach.{Reach}
+use Rattle.posting_list.specs.Naming.{IsListRule, Shows}
+use Rattle.posting_list.specs.declared.reach.Reach.{Reach}
 use Rattle.time_index.specs.Postings.{slot_named}
 use Rattle.time_index.specs.declared.found.TimeMatch.{TimeMatch}
 use Rattle.time_index.specs.declared.matching.Stamped.{Stamped}

@@ -2,14 +2,14 @@
 use Rattle.std.specs.Prelude.{◌≡◌, ◌≤◌, ◌⊎◌, ℕ, Option, Some, None, Result, Ok, Err, IsTrue}
 use Rattle.byteorder.specs.Endian.{big_number}
 use Rattle.cell_types.specs.declared.refusal.Fault.{Fault}
-use Rattle.index_paths.specs.Blocks.{PostingFields}
+use Rattle.volume_meaning.specs.Blocks.{PostingFields}
 use Rattle.worm_device.specs.Views.{ViewState, Viewed}
 use Rattle.jump_block.specs.Entries.{posting_of}
 use Rattle.jump_block.specs.declared.held_entry.Entry.{Entry}
 use Rattle.jump_index.specs.Searches.{HasTrail, IsEntry, IsEntryBehind}
-use Rattle.record_query.specs.posting_list.Naming.{FaultSays}
-use Rattle.record_query.specs.posting_list.Searches.{head_of, within}
-use Rattle.record_query.specs.posting_list.declared.reach.Reach.{Reach}
+use Rattle.posting_list.specs.Naming.{FaultSays}
+use Rattle.posting_list.specs.Searches.{head_of, within}
+use Rattle.posting_list.specs.declared.reach.Reach.{Reach}
 
 -- the slot that a posting of the time list names, in the first four bytes of its tag
 abbrev pub slot_named : PostingFields → ℕ

@@ -6,10 +6,10 @@ use Rattle.cell_types.specs.Layout.{Layout}
 use Rattle.cell_types.specs.declared.refusal.Refusal.{Refusal}
 use Rattle.cell_types.specs.declared.refusal.Refusal.TheVariants.{DeviceFault, NoMemory, NoStamps, NotAVolume, NotFormatted, Tampered, WrongSize}
 use Rattle.commit_record.specs.Licences.{IsLicensed}
-use Rattle.index_paths.specs.Keeping.{Kept}
-use Rattle.stored_documents.specs.Documents.{Document, Stands}
-use Rattle.stored_documents.specs.Slots.{IsStampOf}
-use Rattle.stored_documents.specs.Volumes.{IsVolume}
+use Rattle.volume_meaning.specs.Keeping.{Kept}
+use Rattle.volume_meaning.specs.Documents.{Document, Stands}
+use Rattle.volume_meaning.specs.Slots.{IsStampOf}
+use Rattle.volume_meaning.specs.Volumes.{IsVolume}
 use Rattle.tamper_rules.specs.Settling.{Settled}
 use Rattle.worm_device.specs.Calls.{Called}
 use Rattle.worm_device.specs.Counts.{IsStill, Rose}

@@ -4,8 +4,8 @@ ghost use Rattle.cell_types.specs.declared.geometry.TheConstants.{STAMPED_VERSIO
 ghost use Rattle.document_store.specs.Looks.{IsPartOf, IsStated};
 ghost use Rattle.jump_block.specs.Entries.{posting_of};
 ghost use Rattle.jump_index.specs.Searches.{IsEntry, IsEntryBehind};
-ghost use Rattle.record_query.specs.posting_list.Searches.{head_of, within};
-ghost use Rattle.stored_documents.specs.Slots.{HasStamp, cells_for};
+ghost use Rattle.posting_list.specs.Searches.{head_of, within};
+ghost use Rattle.volume_meaning.specs.Slots.{HasStamp, cells_for};
 ghost use Rattle.worm_device.specs.Views.{Viewed};
 ghost use Rattle.time_index.specs.Matching.{IsEarlier, OrderEnds, ReadsMatch, ReadsPart, StampedPartEnds, stamp_breach};
 ghost use Rattle.time_index.specs.Postings.{slot_named};

@@ -2,8 +2,8 @@
 ghost use Rattle.std.specs.Prelude.{◌≡◌, ◌<◌, ◌≤◌, ◌+◌};
 ghost use Rattle.cell_types.specs.declared.geometry.TheConstants.{STAMPED_VERSION};
 ghost use Rattle.jump_index.specs.Searches.{FindsGeq};
-ghost use Rattle.record_query.specs.posting_list.Keeping.{KeepsFronts};
-ghost use Rattle.record_query.specs.posting_list.Searches.{head_of, within};
+ghost use Rattle.posting_list.specs.Keeping.{KeepsFronts};
+ghost use Rattle.posting_list.specs.Searches.{head_of, within};
 ghost use Rattle.time_index.specs.Postings.{IsOfKey, NextPosting};
 
 use cell_types::Fault;

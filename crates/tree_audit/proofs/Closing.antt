@@ -8,10 +8,10 @@ use Rattle.std.proofs.lemmas.Option.{slice_get_within, slice_get-get_or}
 use Rattle.cell_types.specs.Image.{Image}
 use Rattle.cell_types.specs.Layout.{Layout, IsLayout, root_at}
 use Rattle.cell_types.specs.declared.record_cell.RecordCell.TheVariants.{Child}
-use Rattle.index_paths.specs.Nodes.{IsNode, root, under}
-use Rattle.stored_documents.specs.Volumes.{Holds}
-use Rattle.stored_documents.proofs.Holding.{one_record_holds}
-use Rattle.kept_cells.proofs.OneMore.{get_before, get_last, length_pushed, below_or_at}
+use Rattle.volume_meaning.specs.Nodes.{IsNode, root, under}
+use Rattle.volume_meaning.specs.Volumes.{Holds}
+use Rattle.volume_meaning.proofs.Holding.{one_record_holds}
+use Rattle.log_audit.proofs.OneMore.{get_before, get_last, length_pushed, below_or_at}
 use Rattle.tree_audit.specs.Nodes.{HasChild, IsTarget, AddsTargets, IsUnder, AreUnder, AreInside, AreOnLevel, AddsLevel, IsBefore, IsAmong, AreNodes}
 use Rattle.tree_audit.specs.declared.nodes.LevelNode.{LevelNode}
 

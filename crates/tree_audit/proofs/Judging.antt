@@ -6,14 +6,14 @@ use Rattle.sha2.specs.Sha256.{sha256}
 use Rattle.cell_types.specs.Image.{Image}
 use Rattle.cell_types.specs.Layout.{Layout, IsLayout}
 use Rattle.cell_types.specs.declared.record_cell.RecordCell.TheVariants as records
-use Rattle.index_paths.specs.HashPaths.{fingerprint_of}
-use Rattle.index_paths.specs.Nodes.{IsNode}
-use Rattle.stored_documents.specs.Documents.{Stands}
-use Rattle.stored_documents.specs.Volumes.{Holds}
-use Rattle.stored_documents.proofs.Holding.{one_record_holds}
-use Rattle.stored_documents.proofs.OneDocument.{one_document}
+use Rattle.volume_meaning.specs.HashPaths.{fingerprint_of}
+use Rattle.volume_meaning.specs.Nodes.{IsNode}
+use Rattle.volume_meaning.specs.Documents.{Stands}
+use Rattle.volume_meaning.specs.Volumes.{Holds}
+use Rattle.volume_meaning.proofs.Holding.{one_record_holds}
+use Rattle.volume_meaning.proofs.OneDocument.{one_document}
 use Rattle.tamper_rules.specs.Rules.{BucketRule, Buckets, IsPlace, IsTrueBucket}
-use Rattle.journal_audit.proofs.of_log_audit.Parts.{AskedBelow}
+use Rattle.log_audit.proofs.Parts.{AskedBelow}
 use Rattle.tree_audit.specs.Buckets.{AsksBucket}
 use Rattle.tree_audit.specs.Documents.{HasDigest}
 use Rattle.tree_audit.specs.Nodes.{AreNodes}

@@ -7,25 +7,25 @@ use Rattle.cell_types.specs.Image.{Image}
 use Rattle.cell_types.specs.Layout.{Layout, IsLayout, pool_at}
 use Rattle.cell_types.specs.Records.{IsRecordCell}
 use Rattle.cell_types.proofs.OneRecord.{address_in}
-use Rattle.journal_audit.specs.Copying.{HasTarget}
+use Rattle.slot_audit.specs.Copying.{HasTarget}
 use Rattle.cell_types.specs.declared.record_cell.RecordCell.TheVariants.{Child}
-use Rattle.index_paths.specs.Nodes.{AreApart, IsBlockOf, IsNode}
-use Rattle.stored_documents.specs.Slots.{EndsBelow, IsEdge}
-use Rattle.stored_documents.specs.Volumes.{Holds, IsWritten}
+use Rattle.volume_meaning.specs.Nodes.{AreApart, IsBlockOf, IsNode}
+use Rattle.volume_meaning.specs.Slots.{EndsBelow, IsEdge}
+use Rattle.volume_meaning.specs.Volumes.{Holds, IsWritten}
 use Rattle.tamper_rules.specs.Journals.{LiesInBlocks, journal_at}
 use Rattle.tamper_rules.specs.Rules.{ChildRule, Children, IsPlace, LeadsDownWell, ReserveCells}
 use Rattle.tamper_rules.proofs.Settled.{one_end}
-use Rattle.journal_audit.specs.log_audit.Between.{HasBetween}
-use Rattle.journal_audit.specs.log_audit.Findings.{IsMetAll}
-use Rattle.journal_audit.specs.log_audit.Logs.{IsLog}
-use Rattle.journal_audit.specs.log_audit.Stored.{IsStored}
-use Rattle.journal_audit.specs.log_audit.declared.ended.EndedSlot.TheVariants.{Abandoned}
-use Rattle.journal_audit.specs.log_audit.declared.log.Log.{Log}
-use Rattle.journal_audit.specs.log_audit.declared.stored.StoredSlot.{StoredSlot}
-use Rattle.journal_audit.proofs.of_log_audit.Beginning.{ended_cells}
-use Rattle.journal_audit.proofs.of_log_audit.Logged.{one_slot}
-use Rattle.journal_audit.proofs.of_log_audit.Parts.{AskedBelow}
-use Rattle.journal_audit.proofs.of_log_audit.Storing.{one_row}
+use Rattle.log_audit.specs.Between.{HasBetween}
+use Rattle.log_audit.specs.Findings.{IsMetAll}
+use Rattle.log_audit.specs.Logs.{IsLog}
+use Rattle.log_audit.specs.Stored.{IsStored}
+use Rattle.log_audit.specs.declared.ended.EndedSlot.TheVariants.{Abandoned}
+use Rattle.log_audit.specs.declared.log.Log.{Log}
+use Rattle.log_audit.specs.declared.stored.StoredSlot.{StoredSlot}
+use Rattle.log_audit.proofs.Beginning.{ended_cells}
+use Rattle.log_audit.proofs.Logged.{one_slot}
+use Rattle.log_audit.proofs.Parts.{AskedBelow}
+use Rattle.log_audit.proofs.Storing.{one_row}
 use Rattle.tree_audit.specs.Around.{AreAround, IsLeadOf, lead_number}
 use Rattle.tree_audit.specs.Children.{AsksChild, HasCopyOf, IsClear, IsFirstTo, IsJournaled, IsWellLed}
 use Rattle.tree_audit.specs.Nodes.{AreNodes, HasChild}

@@ -1,9 +1,14 @@
 pub mod Closing
+pub mod Going
 pub mod Judging
 pub mod Leading
+pub mod Meeting
 pub mod Numbering
+pub mod Occupying
+pub mod Owning
 pub mod Pathing
+pub mod PointerLeading
+pub mod PointerNumbering
 pub mod Reading
+pub mod Spanning
 pub mod Trailing
-pub use Rattle.list_audit.proofs as of_list_audit
-pub use Rattle.journal_audit.proofs.of_log_audit

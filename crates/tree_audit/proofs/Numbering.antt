@@ -6,8 +6,8 @@ use Rattle.std.proofs.lemmas.List.Elements.{Contains-append_left, Contains-push,
 use Rattle.std.proofs.lemmas.Option.{slice_get_within}
 use Rattle.cell_types.specs.Image.{Image}
 use Rattle.cell_types.specs.Layout.{Layout}
-use Rattle.index_paths.specs.Nodes.{IsBlockOf, IsNode}
-use Rattle.kept_cells.proofs.OneMore.{below_or_at}
+use Rattle.volume_meaning.specs.Nodes.{IsBlockOf, IsNode}
+use Rattle.log_audit.proofs.OneMore.{below_or_at}
 use Rattle.list_audit.specs.Blocks.{AreListBlocks}
 use Rattle.list_audit.specs.declared.listed.ListBlock.{ListBlock}
 use Rattle.tree_audit.specs.Around.{Adds, AreAll, AreAround, BeginsBlock, BeginsNode, IsLeadAmong, IsLeadOf, lead_number}

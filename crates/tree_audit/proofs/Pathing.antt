@@ -3,10 +3,10 @@ use Rattle.std.proofs.Common.{◌≡◌, ◌<◌, ◌≤◌, ◌+◌, ◌⊎◌,
 use Rattle.cell_types.specs.Image.{Image}
 use Rattle.cell_types.specs.Layout.{Layout, root_at}
 use Rattle.cell_types.specs.declared.record_cell.RecordCell.TheVariants.{Child}
-use Rattle.index_paths.specs.HashPaths.{nibble}
-use Rattle.index_paths.specs.Nodes.{IsOnPath, root, under}
-use Rattle.stored_documents.specs.Volumes.{Holds}
-use Rattle.kept_cells.proofs.OneMore.{below_or_at}
+use Rattle.volume_meaning.specs.HashPaths.{nibble}
+use Rattle.volume_meaning.specs.Nodes.{IsOnPath, root, under}
+use Rattle.volume_meaning.specs.Volumes.{Holds}
+use Rattle.log_audit.proofs.OneMore.{below_or_at}
 use Rattle.tree_audit.specs.Nodes.{HasChild}
 use Rattle.tree_audit.specs.Paths.{GoesBy}
 use Rattle.tree_audit.proofs.Closing.{one_target}

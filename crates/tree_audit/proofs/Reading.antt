@@ -4,30 +4,30 @@ use Rattle.std.specs.Prelude.{IsTrue, true}
 use Rattle.std.proofs.Math.Seq.{take-append_seam}
 use Rattle.cell_types.specs.Image.{Image}
 use Rattle.cell_types.specs.Layout.{Layout, outcome_at}
-use Rattle.stored_documents.specs.Documents.{IsBody, IsIdentifier, Spells, Stands, document_at, stored_bytes}
-use Rattle.stored_documents.specs.Slots.{IsDone}
-use Rattle.stored_documents.specs.Volumes.{IsVolume}
+use Rattle.volume_meaning.specs.Documents.{IsBody, IsIdentifier, Spells, Stands, document_at, stored_bytes}
+use Rattle.volume_meaning.specs.Slots.{IsDone}
+use Rattle.volume_meaning.specs.Volumes.{IsVolume}
 use Rattle.worm_device.specs.Views.{Viewed, ViewState}
 use Rattle.worm_device.proofs.Resting.{rests_of}
 use Rattle.tamper_rules.specs.Rules.{Documents, HasDocument}
 use Rattle.tamper_rules.proofs.Images.{same_image}
-use Rattle.journal_audit.specs.append_file.Reading.{HasRead}
-use Rattle.journal_audit.specs.append_file.declared.position.Position.{Position}
-use Rattle.journal_audit.proofs.of_append_file.Spelled.{front_of}
-use Rattle.journal_audit.specs.append_file.declared.piece.ContentFault.{ContentFault}
-use Rattle.journal_audit.specs.append_file.declared.piece.ContentFault.TheVariants as faults
-use Rattle.journal_audit.specs.document_store.Heads.{HeadEnds, id_of}
-use Rattle.journal_audit.specs.document_store.declared.head.Head.{Head}
-use Rattle.journal_audit.proofs.of_document_store.Parsing.{first_is, stored_fits}
-use Rattle.kept_cells.specs.Kept.{image_of, view_of}
-use Rattle.kept_cells.specs.declared.kept.KeptCells.{KeptCells}
-use Rattle.journal_audit.specs.log_audit.Findings.{IsMetAll}
-use Rattle.journal_audit.specs.log_audit.Logs.{IsLog}
-use Rattle.journal_audit.specs.log_audit.Stored.{IsStored}
-use Rattle.journal_audit.specs.log_audit.declared.log.Log.{Log}
-use Rattle.journal_audit.specs.log_audit.declared.stored.StoredSlot.{StoredSlot}
-use Rattle.journal_audit.proofs.of_log_audit.Deciding.{held_written}
-use Rattle.journal_audit.proofs.of_log_audit.Storing.{stored_is_live, stores_it}
+use Rattle.append_file.specs.Reading.{HasRead}
+use Rattle.append_file.specs.declared.position.Position.{Position}
+use Rattle.append_file.proofs.Spelled.{front_of}
+use Rattle.append_file.specs.declared.piece.ContentFault.{ContentFault}
+use Rattle.append_file.specs.declared.piece.ContentFault.TheVariants as faults
+use Rattle.document_store.specs.Heads.{HeadEnds, id_of}
+use Rattle.document_store.specs.declared.head.Head.{Head}
+use Rattle.document_store.proofs.Parsing.{first_is, stored_fits}
+use Rattle.log_audit.specs.Kept.{image_of, view_of}
+use Rattle.log_audit.specs.declared.kept.KeptCells.{KeptCells}
+use Rattle.log_audit.specs.Findings.{IsMetAll}
+use Rattle.log_audit.specs.Logs.{IsLog}
+use Rattle.log_audit.specs.Stored.{IsStored}
+use Rattle.log_audit.specs.declared.log.Log.{Log}
+use Rattle.log_audit.specs.declared.stored.StoredSlot.{StoredSlot}
+use Rattle.log_audit.proofs.Deciding.{held_written}
+use Rattle.log_audit.proofs.Storing.{stored_is_live, stores_it}
 use Rattle.tree_audit.specs.Documents.{HasHead}
 
 told : IsTrue true

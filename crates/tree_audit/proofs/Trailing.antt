@@ -4,17 +4,17 @@ use Rattle.sha2.specs.Sha256.{sha256}
 use Rattle.cell_types.specs.Image.{Image}
 use Rattle.cell_types.specs.Layout.{Layout, root_at, done_at}
 use Rattle.cell_types.specs.declared.record_cell.RecordCell.TheVariants as records
-use Rattle.index_paths.specs.HashPaths.{HashTrail, LeadsDown, here, below, fingerprint_of, nibble}
-use Rattle.index_paths.specs.Keeping.{sought_in}
-use Rattle.index_paths.proofs.HashTrails.{one_hash_trail}
-use Rattle.stored_documents.specs.Documents.{Stands}
-use Rattle.stored_documents.specs.Volumes.{Holds, IsVolume}
-use Rattle.stored_documents.proofs.Holding.{one_record_holds}
-use Rattle.stored_documents.proofs.OneDocument.{one_document}
+use Rattle.volume_meaning.specs.HashPaths.{HashTrail, LeadsDown, here, below, fingerprint_of, nibble}
+use Rattle.volume_meaning.specs.Keeping.{sought_in}
+use Rattle.volume_meaning.proofs.HashTrails.{one_hash_trail}
+use Rattle.volume_meaning.specs.Documents.{Stands}
+use Rattle.volume_meaning.specs.Volumes.{Holds, IsVolume}
+use Rattle.volume_meaning.proofs.Holding.{one_record_holds}
+use Rattle.volume_meaning.proofs.OneDocument.{one_document}
 use Rattle.tamper_rules.specs.Rules.{PathRule}
-use Rattle.journal_audit.proofs.of_document_store.Holding.{stands_held}
-use Rattle.kept_cells.proofs.OneMore.{below_or_at}
-use Rattle.journal_audit.proofs.of_log_audit.Families.{AreFine}
+use Rattle.document_store.proofs.Holding.{stands_held}
+use Rattle.log_audit.proofs.OneMore.{below_or_at}
+use Rattle.log_audit.proofs.Families.{AreFine}
 use Rattle.tree_audit.specs.Nodes.{HasChild}
 use Rattle.tree_audit.specs.Paths.{HasTrail, IsOther, IsOwn}
 use Rattle.tree_audit.specs.declared.looks.HeldBucket.{HeldBucket}

@@ -3,7 +3,7 @@ use Rattle.std.specs.Prelude.{◌≡◌, ◌<◌, ◌≤◌, ◌+◌, ◌*◌, �
 use Rattle.std.specs.List.Sorted.{IsStrictlyIncreasing}
 use Rattle.cell_types.specs.Image.{Image}
 use Rattle.cell_types.specs.Layout.{Layout}
-use Rattle.index_paths.specs.Nodes.{IsBlockOf, IsNode}
+use Rattle.volume_meaning.specs.Nodes.{IsBlockOf, IsNode}
 use Rattle.list_audit.specs.declared.listed.ListBlock.{ListBlock}
 use Rattle.tree_audit.specs.Nodes.{HasChild}
 use Rattle.tree_audit.specs.declared.around.Around.{Around}

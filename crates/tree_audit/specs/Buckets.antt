@@ -3,7 +3,7 @@ use Rattle.std.specs.Prelude.{◌≡◌, ◌<◌, ◌+◌, ℕ, List, Option, So
 use Rattle.cell_types.specs.Image.{Image}
 use Rattle.cell_types.specs.Layout.{Layout}
 use Rattle.cell_types.specs.declared.record_cell.RecordCell.TheVariants as records
-use Rattle.stored_documents.specs.Volumes.{Holds}
+use Rattle.volume_meaning.specs.Volumes.{Holds}
 use Rattle.tamper_rules.specs.Rules.{IsTrueBucket}
 use Rattle.tree_audit.specs.declared.looks.HeldBucket.{HeldBucket}
 

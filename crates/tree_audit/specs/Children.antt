@@ -3,13 +3,13 @@ use Rattle.std.specs.Prelude.{◌≡◌, ◌<◌, ◌≤◌, ◌+◌, ◌⊎◌,
 use Rattle.cell_types.specs.Image.{Image}
 use Rattle.cell_types.specs.Layout.{Layout}
 use Rattle.cell_types.specs.declared.record_cell.RecordCell.TheVariants.{Child}
-use Rattle.index_paths.specs.Nodes.{AreApart, IsBlockOf, IsNode}
-use Rattle.stored_documents.specs.Documents.{document_at}
-use Rattle.stored_documents.specs.Slots.{IsEdge, Stores}
-use Rattle.stored_documents.specs.Volumes.{Holds}
+use Rattle.volume_meaning.specs.Nodes.{AreApart, IsBlockOf, IsNode}
+use Rattle.volume_meaning.specs.Documents.{document_at}
+use Rattle.volume_meaning.specs.Slots.{IsEdge, Stores}
+use Rattle.volume_meaning.specs.Volumes.{Holds}
 use Rattle.tamper_rules.specs.Journals.{journal_at}
 use Rattle.tamper_rules.specs.Rules.{LeadsDownWell}
-use Rattle.journal_audit.specs.log_audit.declared.stored.StoredSlot.{StoredSlot}
+use Rattle.log_audit.specs.declared.stored.StoredSlot.{StoredSlot}
 
 -- what rule 12 asks of a cell on account of this node of a level
 abbrev pub AsksChild : Layout → Image → ℕ → ℕ → ℕ → Type 0

@@ -3,11 +3,11 @@ use Rattle.std.specs.Prelude.{◌≡◌, ◌≤◌, ℕ, List}
 use Rattle.sha2.specs.Sha256.{sha256}
 use Rattle.cell_types.specs.Image.{Image}
 use Rattle.cell_types.specs.Layout.{Layout}
-use Rattle.stored_documents.specs.Documents.{Stands}
-use Rattle.stored_documents.specs.Slots.{IsLive}
-use Rattle.stored_documents.specs.declared.limits.TheConstants.{MAX_IDENTIFIER_BYTES}
-use Rattle.journal_audit.specs.document_store.Heads.{id_of}
-use Rattle.journal_audit.specs.document_store.declared.head.Head.{Head}
+use Rattle.volume_meaning.specs.Documents.{Stands}
+use Rattle.volume_meaning.specs.Slots.{IsLive}
+use Rattle.volume_meaning.specs.declared.limits.TheConstants.{MAX_IDENTIFIER_BYTES}
+use Rattle.document_store.specs.Heads.{id_of}
+use Rattle.document_store.specs.declared.head.Head.{Head}
 
 -- slot n is live, and the identifier of its document is that of this head
 pub record HasHead (g : Layout) (image : Image) (n : ℕ) (h : Head) : Type 0 where

@@ -4,8 +4,8 @@ use Rattle.std.specs.List.Sorted.{IsStrictlyIncreasing}
 use Rattle.cell_types.specs.Image.{Image}
 use Rattle.cell_types.specs.Layout.{Layout}
 use Rattle.cell_types.specs.declared.record_cell.RecordCell.TheVariants.{Child}
-use Rattle.index_paths.specs.Nodes.{IsNode}
-use Rattle.journal_audit.specs.log_audit.Leads.{LeadsInto}
+use Rattle.volume_meaning.specs.Nodes.{IsNode}
+use Rattle.log_audit.specs.Leads.{LeadsInto}
 use Rattle.tree_audit.specs.declared.nodes.LevelNode.{LevelNode}
 
 -- the child cell there leads to a node whose cells lie in the pool

@@ -3,10 +3,10 @@ use Rattle.std.specs.Prelude.{◌≡◌, ◌≢◌, ◌⊎◌, ℕ, List}
 use Rattle.sha2.specs.Sha256.{sha256}
 use Rattle.cell_types.specs.Image.{Image}
 use Rattle.cell_types.specs.Layout.{Layout, root_at}
-use Rattle.index_paths.specs.HashPaths.{HashTrail, fingerprint_of, nibble}
-use Rattle.index_paths.specs.Keeping.{sought_in}
-use Rattle.index_paths.specs.Nodes.{IsOnPath}
-use Rattle.stored_documents.specs.Documents.{Stands}
+use Rattle.volume_meaning.specs.HashPaths.{HashTrail, fingerprint_of, nibble}
+use Rattle.volume_meaning.specs.Keeping.{sought_in}
+use Rattle.volume_meaning.specs.Nodes.{IsOnPath}
+use Rattle.volume_meaning.specs.Documents.{Stands}
 use Rattle.tree_audit.specs.declared.looks.HeldBucket.{HeldBucket}
 
 -- the digest's path comes to the node, and goes by its bucket x there

@@ -1,6 +1,6 @@
 //! What stands around a node: other nodes, blocks, and the child cells that lead to it.
 ghost use Rattle.std.specs.Prelude.{◌≡◌, ◌<◌, ◌+◌, ◌^◌, ℕ, [], length, IfOk, OnOk};
-ghost use Rattle.kept_cells.specs.Kept.{image_of};
+ghost use Rattle.log_audit.specs.Kept.{image_of};
 ghost use Rattle.list_audit.specs.Blocks.{AreListBlocks};
 ghost use Rattle.tree_audit.specs.Around.{Adds, AreAll, AreAround, BeginsBlock, BeginsNode, IsLeadAmong, IsLeadOf};
 ghost use Rattle.tree_audit.specs.Nodes.{AreNodes};
@@ -8,11 +8,10 @@ ghost use Rattle.tree_audit.specs.Nodes.{AreNodes};
 use crate::looks::child_at;
 use crate::nodes::LevelNode;
 use cell_types::{Geometry, NoMemory};
-use index_paths::{NODE_BUCKETS, NODE_CELLS};
-use kept_cells::KeptCells;
 use list_audit::ListBlock;
-use log_audit::sort_once;
+use log_audit::{KeptCells, sort_once};
 use std::alloc::Global;
+use volume_meaning::{NODE_BUCKETS, NODE_CELLS};
 
 /// How far the numbers of the child cells that lead to one node lie from those that lead to the next cell.
 pub(crate) const TARGET_STEP: u64 = 4_294_967_296;

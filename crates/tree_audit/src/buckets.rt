@@ -1,13 +1,13 @@
 //! Rule 11: the buckets of nodes.
 ghost use Rattle.std.specs.Prelude.{◌≡◌, ◌<◌, ◌≤◌, ◌+◌, ◌^◌, ◌↔◌, IsTrue};
-ghost use Rattle.index_paths.specs.HashPaths.{fingerprint_of};
-ghost use Rattle.index_paths.specs.Nodes.{IsNode};
-ghost use Rattle.stored_documents.specs.Volumes.{IsVolume};
+ghost use Rattle.volume_meaning.specs.HashPaths.{fingerprint_of};
+ghost use Rattle.volume_meaning.specs.Nodes.{IsNode};
+ghost use Rattle.volume_meaning.specs.Volumes.{IsVolume};
 ghost use Rattle.tamper_rules.specs.Rules.{Buckets, Documents, IsTrueBucket};
-ghost use Rattle.kept_cells.specs.Kept.{image_of, count_of};
-ghost use Rattle.journal_audit.specs.log_audit.Findings.{Finds, IsMetAll};
-ghost use Rattle.journal_audit.specs.log_audit.Least.{FindsPart};
-ghost use Rattle.journal_audit.specs.log_audit.Logs.{IsLog};
+ghost use Rattle.log_audit.specs.Kept.{image_of, count_of};
+ghost use Rattle.log_audit.specs.Findings.{Finds, IsMetAll};
+ghost use Rattle.log_audit.specs.Least.{FindsPart};
+ghost use Rattle.log_audit.specs.Logs.{IsLog};
 ghost use Rattle.tree_audit.specs.Buckets.{AsksBucket};
 ghost use Rattle.tree_audit.specs.Nodes.{AreNodes};
 
@@ -16,10 +16,9 @@ use crate::looks::bucket_at;
 use crate::nodes::LevelNode;
 use crate::paths::goes_by;
 use cell_types::{Evidence, Geometry};
-use index_paths::NODE_BUCKETS;
-use kept_cells::KeptCells;
-use log_audit::{Log, lower_of};
+use log_audit::{KeptCells, Log, lower_of};
 use tamper_rules::FAKE_BUCKET;
+use volume_meaning::NODE_BUCKETS;
 
 /// The least bucket at which rule 11 is broken, among those of all nodes, where rule 4 is kept.
 pub fn first_broken_bucket(

@@ -1,14 +1,14 @@
 //! Rule 12: the child cells of nodes.
 ghost use Rattle.std.specs.Prelude.{◌≡◌, ◌<◌, ◌≤◌, ◌+◌, ◌^◌, ◌↔◌, Some, IsTrue, IfOk};
 ghost use Rattle.cell_types.specs.Layout.{pool_at};
-ghost use Rattle.index_paths.specs.Nodes.{IsNode};
+ghost use Rattle.volume_meaning.specs.Nodes.{IsNode};
 ghost use Rattle.tamper_rules.specs.Rules.{Children, Journals, LeadsDownWell, ReserveCells};
-ghost use Rattle.kept_cells.specs.Kept.{image_of};
-ghost use Rattle.journal_audit.specs.log_audit.Findings.{Finds, IsMetAll};
-ghost use Rattle.journal_audit.specs.log_audit.Least.{FindsPart};
-ghost use Rattle.journal_audit.specs.log_audit.Logs.{IsLog};
-ghost use Rattle.journal_audit.specs.log_audit.Stored.{IsStored};
-ghost use Rattle.journal_audit.specs.Copying.{HasTarget};
+ghost use Rattle.log_audit.specs.Kept.{image_of};
+ghost use Rattle.log_audit.specs.Findings.{Finds, IsMetAll};
+ghost use Rattle.log_audit.specs.Least.{FindsPart};
+ghost use Rattle.log_audit.specs.Logs.{IsLog};
+ghost use Rattle.log_audit.specs.Stored.{IsStored};
+ghost use Rattle.slot_audit.specs.Copying.{HasTarget};
 ghost use Rattle.list_audit.specs.Blocks.{AreListBlocks};
 ghost use Rattle.tree_audit.specs.Around.{AreAround};
 ghost use Rattle.tree_audit.specs.Children.{AsksChild, HasCopyOf, IsClear, IsJournaled, IsWellLed};
@@ -18,13 +18,12 @@ use crate::around::{Around, TARGET_STEP, around_of};
 use crate::looks::child_at;
 use crate::nodes::{LAST_LEVEL, LevelNode};
 use cell_types::{Cell, Evidence, Geometry, NoMemory};
-use index_paths::{BLOCK_CELLS, NODE_BUCKETS, NODE_CELLS};
-use journal_audit::journal_place_of;
-use kept_cells::KeptCells;
 use list_audit::ListBlock;
-use log_audit::{Log, StoredSlot, has_between, lower_of, owner_of, stored_slot};
+use log_audit::{KeptCells, Log, StoredSlot, has_between, lower_of, owner_of, stored_slot};
+use slot_audit::journal_place_of;
 use std::alloc::Global;
 use tamper_rules::LOST_CHILD;
+use volume_meaning::{BLOCK_CELLS, NODE_BUCKETS, NODE_CELLS};
 
 /// The least child cell at which rule 12 is broken, among those of all nodes, where rules 1 and 5 are kept.
 pub fn first_broken_child(

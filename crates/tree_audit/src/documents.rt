@@ -1,19 +1,18 @@
 //! The identifiers of documents.
 ghost use Rattle.std.specs.Prelude.{◌≡◌, ◌≤◌, ◌↔◌, ℕ, List, IsTrue, IfSome, IfNone};
-ghost use Rattle.stored_documents.specs.Documents.{Stands};
-ghost use Rattle.stored_documents.specs.Volumes.{IsVolume};
-ghost use Rattle.stored_documents.specs.declared.limits.TheConstants.{MAX_IDENTIFIER_BYTES};
-ghost use Rattle.journal_audit.specs.document_store.Heads.{id_of};
+ghost use Rattle.volume_meaning.specs.Documents.{Stands};
+ghost use Rattle.volume_meaning.specs.Volumes.{IsVolume};
+ghost use Rattle.volume_meaning.specs.declared.limits.TheConstants.{MAX_IDENTIFIER_BYTES};
+ghost use Rattle.document_store.specs.Heads.{id_of};
 ghost use Rattle.tamper_rules.specs.Rules.{Documents};
-ghost use Rattle.kept_cells.specs.Kept.{image_of, count_of};
-ghost use Rattle.journal_audit.specs.log_audit.Findings.{IsMetAll};
-ghost use Rattle.journal_audit.specs.log_audit.Logs.{IsLog};
+ghost use Rattle.log_audit.specs.Kept.{image_of, count_of};
+ghost use Rattle.log_audit.specs.Findings.{IsMetAll};
+ghost use Rattle.log_audit.specs.Logs.{IsLog};
 ghost use Rattle.tree_audit.specs.Documents.{HasDigest, HasHead};
 
 use cell_types::Geometry;
 use document_store::{Head, Position, read_head};
-use kept_cells::{KeptCells, Shown};
-use log_audit::{Log, stored_slot};
+use log_audit::{KeptCells, Log, Shown, stored_slot};
 use sha2::{Digest, Sha256};
 
 /// What stands before the body of the document of a slot, if the slot is done, where rule 4 is kept.

@@ -1,4 +1,4 @@
-//! Whether the tree of identifiers of a volume keeps its rules.
+//! Whether the tree of identifiers and the pointers of the posting lists keep their rules.
 //!
 //! This is a part of an audit, over kept cells and the log of rules 1 to 3. The tree begins at the root, and each child
 //! cell of a node leads to a node one level below. An identifier goes down by the half bytes of its SHA-256, one a
@@ -28,22 +28,29 @@
 //! of its document, and a bucket costs no reading of a body. Rule 12 needs rules 1 and 5: the targets of a journal rise,
 //! so that the copy of a child cell is found by bisection.
 //!
-//! Stands on `log_audit`, `journal_audit` and `list_audit`, on `document_store` for identifiers, on `hash_tree` for half
-//! bytes, and on `sha2`. Begin with `nodes.rt`, then `buckets.rt`.
+//! Stands on `log_audit`, `slot_audit` and `list_audit`, on `document_store` for identifiers, on `hash_tree` for half
+//! bytes, and on `sha2`. Begin with `nodes.rt`, then `buckets.rt`. Rule 10, of pointers, is in `pointers.rt`: which blocks a
+//! pointer's target meets is asked as it is asked of nodes.
 #![tactic(auto)]
 
 mod around;
 mod buckets;
 mod children;
 mod documents;
+mod leads;
 mod looks;
 mod nodes;
+mod occupied;
 mod paths;
+mod pointers;
+mod spans;
 mod trails;
 mod volume;
 
 pub use buckets::first_broken_bucket;
 pub use children::first_broken_child;
 pub use nodes::{LevelNode, nodes_of};
+pub use occupied::OccupiedCells;
+pub use pointers::first_broken_pointer;
 pub use trails::first_broken_path;
 pub use volume::states_volume;

@@ -1,13 +1,12 @@
 //! Looks at cells of nodes.
 ghost use Rattle.cell_types.specs.declared.record_cell.RecordCell.TheVariants.{Child};
-ghost use Rattle.kept_cells.specs.Kept.{image_of};
-ghost use Rattle.journal_audit.specs.log_audit.Leads.{LeadEnds};
+ghost use Rattle.log_audit.specs.Kept.{image_of};
+ghost use Rattle.log_audit.specs.Leads.{LeadEnds};
 ghost use Rattle.tree_audit.specs.Buckets.{BucketEnds};
 
 use cell_types::{Geometry, RecordCell};
-use index_paths::NODE_CELLS;
-use kept_cells::KeptCells;
-use log_audit::{lies_in_pool, record_at};
+use log_audit::{KeptCells, lies_in_pool, record_at};
+use volume_meaning::NODE_CELLS;
 
 /// What a bucket says: the slot of a document, and the first bytes of its identifier's digest.
 #[derive(Clone, Copy, Debug, PartialEq, Eq)]

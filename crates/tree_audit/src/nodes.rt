@@ -1,14 +1,14 @@
 //! The nodes of the tree.
 ghost use Rattle.std.specs.Prelude.{◌≡◌, ◌<◌, ◌≤◌, ◌+◌, ◌^◌, ℕ, IfOk, OnOk, length, Contains};
 ghost use Rattle.std.specs.List.Sorted.{IsStrictlyIncreasing};
-ghost use Rattle.kept_cells.specs.Kept.{image_of};
+ghost use Rattle.log_audit.specs.Kept.{image_of};
 ghost use Rattle.tree_audit.specs.Nodes.{AreInside, AreNodes, AreOnLevel, AreUnder, AddsLevel, AddsTargets};
 
 use crate::looks::child_at;
 use cell_types::{Geometry, NoMemory};
-use index_paths::{NODE_BUCKETS, NODE_CELLS};
-use kept_cells::KeptCells;
+use log_audit::KeptCells;
 use std::alloc::Global;
+use volume_meaning::{NODE_BUCKETS, NODE_CELLS};
 
 /// A digest has 64 half bytes, so there is no level below this one.
 pub(crate) const LAST_LEVEL: u8 = 63;

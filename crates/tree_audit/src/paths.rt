@@ -1,13 +1,13 @@
 //! The paths of digests.
 ghost use Rattle.std.specs.Prelude.{◌↔◌, IsTrue};
-ghost use Rattle.kept_cells.specs.Kept.{image_of};
+ghost use Rattle.log_audit.specs.Kept.{image_of};
 ghost use Rattle.tree_audit.specs.Paths.{GoesBy};
 
 use crate::looks::child_at;
 use cell_types::Geometry;
 use hash_tree::nibble_of;
-use index_paths::NODE_BUCKETS;
-use kept_cells::KeptCells;
+use log_audit::KeptCells;
+use volume_meaning::NODE_BUCKETS;
 
 /// A digest has so many half bytes, and its path at most one node for each.
 pub(crate) const LEVELS: u8 = 64;

@@ -1,13 +1,13 @@
 //! Rule 14: the hash trails of documents.
 ghost use Rattle.std.specs.Prelude.{◌≡◌, ◌≤◌, ◌↔◌, IsTrue};
 ghost use Rattle.sha2.specs.Sha256.{sha256};
-ghost use Rattle.stored_documents.specs.Volumes.{IsVolume};
-ghost use Rattle.stored_documents.specs.declared.limits.TheConstants.{MAX_IDENTIFIER_BYTES};
+ghost use Rattle.volume_meaning.specs.Volumes.{IsVolume};
+ghost use Rattle.volume_meaning.specs.declared.limits.TheConstants.{MAX_IDENTIFIER_BYTES};
 ghost use Rattle.tamper_rules.specs.Rules.{Documents, Paths};
-ghost use Rattle.journal_audit.specs.document_store.Heads.{id_of};
-ghost use Rattle.kept_cells.specs.Kept.{image_of, count_of};
-ghost use Rattle.journal_audit.specs.log_audit.Findings.{Finds, IsMetAll};
-ghost use Rattle.journal_audit.specs.log_audit.Logs.{IsLog};
+ghost use Rattle.document_store.specs.Heads.{id_of};
+ghost use Rattle.log_audit.specs.Kept.{image_of, count_of};
+ghost use Rattle.log_audit.specs.Findings.{Finds, IsMetAll};
+ghost use Rattle.log_audit.specs.Logs.{IsLog};
 ghost use Rattle.tree_audit.specs.Paths.{HasTrail, IsOther, IsOwn};
 
 use crate::buckets::is_fingerprint;
@@ -17,11 +17,10 @@ use crate::paths::LEVELS;
 use cell_types::{Evidence, Geometry};
 use document_store::Head;
 use hash_tree::nibble_of;
-use index_paths::NODE_BUCKETS;
-use kept_cells::KeptCells;
-use log_audit::Log;
+use log_audit::{KeptCells, Log};
 use sha2::{Digest, Sha256};
 use tamper_rules::MISSING_PATH;
+use volume_meaning::NODE_BUCKETS;
 
 /// The first done cell at which rule 14 is broken, where rule 4 is kept. Only hash trails are looked for: of two
 /// documents with one identifier one alone has such a trail.

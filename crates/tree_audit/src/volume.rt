@@ -1,11 +1,10 @@
 //! The volume cell.
 ghost use Rattle.std.specs.Prelude.{◌↔◌, IsTrue};
-ghost use Rattle.stored_documents.specs.Volumes.{IsVolume};
-ghost use Rattle.kept_cells.specs.Kept.{image_of};
+ghost use Rattle.volume_meaning.specs.Volumes.{IsVolume};
+ghost use Rattle.log_audit.specs.Kept.{image_of};
 
 use cell_types::{Geometry, RecordCell};
-use kept_cells::KeptCells;
-use log_audit::record_at;
+use log_audit::{KeptCells, record_at};
 
 /// Whether cell 0 states this volume. Whoever judges documents has to know: a document stands on the volume that cell 0
 /// states.

@@ -9,26 +9,26 @@ use Rattle.cell_types.specs.declared.refusal.Refusal.{Refusal}
 use Rattle.cell_types.specs.declared.refusal.Refusal.TheVariants as refusals
 use Rattle.cell_types.specs.Records.{IsRecordCell}
 use Rattle.cell_types.specs.declared.geometry.Volume.{Volume}
-use Rattle.stored_documents.specs.Volumes.{IsVolume, volume_record}
-use Rattle.stored_documents.proofs.Extending.{volume_on}
-use Rattle.commit_record.proofs.of_tamper_rules.GivenUp.{one_layout}
-use Rattle.commit_record.specs.tamper_rules.Rules.{IsPlaceOf, ReserveCells}
+use Rattle.volume_meaning.specs.Volumes.{IsVolume, volume_record}
+use Rattle.volume_meaning.proofs.Extending.{volume_on}
+use Rattle.tamper_rules.proofs.GivenUp.{one_layout}
+use Rattle.tamper_rules.specs.Rules.{IsPlaceOf, ReserveCells}
 use Rattle.worm_device.specs.Calls.{Called}
 use Rattle.worm_device.specs.Counts.{IsStill}
 use Rattle.worm_device.specs.State.{DeviceState, IsDevice}
 use Rattle.worm_device.proofs.Counting.{still_first, still_second}
 use Rattle.worm_device.proofs.Elapsing.{called_then}
-use Rattle.tiling_audit.specs.recovery_engine.Settling.{HasSettled, Settles}
-use Rattle.tiling_audit.specs.recovery_engine.declared.settling.Ready.{Ready}
+use Rattle.recovery_engine.specs.Settling.{HasSettled, Settles}
+use Rattle.recovery_engine.specs.declared.settling.Ready.{Ready}
 use Rattle.commit_record.specs.Opening.{StatedBy, refusal_of}
 use Rattle.commit_record.specs.declared.opening.OpenRefusal.{OpenRefusal}
 use Rattle.commit_record.specs.declared.opening.OpenRefusal.TheVariants as opens
-use Rattle.kept_cells.specs.Kept.{KeepEnds, IsKept, image_of, count_of}
-use Rattle.kept_cells.specs.declared.kept.KeptCells.{KeptCells}
-use Rattle.tiling_audit.specs.log_audit.Findings.{IsFirst}
-use Rattle.tiling_audit.specs.log_audit.Logs.{IsUnended}
+use Rattle.log_audit.specs.Kept.{KeepEnds, IsKept, image_of, count_of}
+use Rattle.log_audit.specs.declared.kept.KeptCells.{KeptCells}
+use Rattle.log_audit.specs.Findings.{IsFirst}
+use Rattle.log_audit.specs.Logs.{IsUnended}
 use Rattle.volume_audit.specs.Audits.{AuditEnds, Audits, settled, settling}
-use Rattle.commit_record.specs.tamper_rules.Settling.{IsSettled}
+use Rattle.tamper_rules.specs.Settling.{IsSettled}
 use Rattle.volume_audit.specs.Judging.{Judges}
 use Rattle.volume_audit.specs.Reports.{IsReport}
 use Rattle.volume_audit.specs.declared.report.AuditReport.{AuditReport}

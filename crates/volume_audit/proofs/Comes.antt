@@ -6,7 +6,7 @@ use Rattle.cell_types.specs.declared.refusal.Refusal.{Refusal}
 use Rattle.cell_types.specs.declared.refusal.Refusal.TheVariants.{Tampered}
 use Rattle.worm_device.specs.State.{DeviceState}
 use Rattle.commit_record.specs.Licences.{IsLicensed}
-use Rattle.tiling_audit.specs.recovery_engine.Settling.{SettleEnds, SettlesFirst}
+use Rattle.recovery_engine.specs.Settling.{SettleEnds, SettlesFirst}
 use Rattle.volume_audit.specs.Audits.{AuditEnds, SettlesThenAudits, settled, settling}
 use Rattle.volume_audit.specs.declared.report.AuditReport.{AuditReport}
 

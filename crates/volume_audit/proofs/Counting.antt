@@ -2,10 +2,10 @@
 use Rattle.std.proofs.Common.{◌≡◌, ◌<◌, ◌≤◌, ◌+◌, ◌⊎◌, ⊎_elim, zero, suc, ℕ, List, length, Some, None, refl, sym, ◌∙◌, ap, subst, arith}
 use Rattle.std.specs.Prelude.{slice_get, get_or}
 use Rattle.std.proofs.lemmas.Option.{slice_get_cases, slice_get_within}
-use Rattle.stored_documents.specs.Volumes.{IsWritten}
-use Rattle.kept_cells.specs.Cells.{shown_by}
-use Rattle.kept_cells.specs.Rows.{AreRows}
-use Rattle.kept_cells.specs.declared.written.WrittenCell.{WrittenCell}
+use Rattle.volume_meaning.specs.Volumes.{IsWritten}
+use Rattle.log_audit.specs.Cells.{shown_by}
+use Rattle.log_audit.specs.Rows.{AreRows}
+use Rattle.log_audit.specs.declared.written.WrittenCell.{WrittenCell}
 use Rattle.volume_audit.specs.Counts.{Counts, none, one, other}
 
 -- so many of the first n have it, and no more than n do

@@ -5,22 +5,22 @@ use Rattle.cell_types.specs.Image.{Image}
 use Rattle.cell_types.specs.Layout.{Layout, reserve_at, outcome_at, done_at}
 use Rattle.cell_types.specs.declared.refusal.Evidence.{Evidence}
 use Rattle.cell_types.specs.declared.record_cell.RecordCell.TheVariants as records
-use Rattle.stored_documents.specs.Slots.{Abandons, IsAbandonedSlot, HasEnded}
-use Rattle.stored_documents.specs.Volumes.{IsWritten}
-use Rattle.stored_documents.proofs.Extending.{abandons_on, done_on}
-use Rattle.stored_documents.proofs.Holding.{one_record_holds}
-use Rattle.commit_record.specs.tamper_rules.Rules.{ReserveCells, DoneCells, ReserveRule, DoneRule}
-use Rattle.commit_record.proofs.of_tamper_rules.Images.{look}
-use Rattle.commit_record.proofs.of_tamper_rules.Settled.{ended_reserves}
+use Rattle.volume_meaning.specs.Slots.{Abandons, IsAbandonedSlot, HasEnded}
+use Rattle.volume_meaning.specs.Volumes.{IsWritten}
+use Rattle.volume_meaning.proofs.Extending.{abandons_on, done_on}
+use Rattle.volume_meaning.proofs.Holding.{one_record_holds}
+use Rattle.tamper_rules.specs.Rules.{ReserveCells, DoneCells, ReserveRule, DoneRule}
+use Rattle.tamper_rules.proofs.Images.{look}
+use Rattle.tamper_rules.proofs.Settled.{ended_reserves}
 use Rattle.worm_device.specs.Counts.{IsStill}
 use Rattle.worm_device.specs.State.{DeviceState, IsDevice}
-use Rattle.tiling_audit.specs.recovery_engine.Settling.{IsReady, StepMakes}
-use Rattle.tiling_audit.specs.recovery_engine.declared.settling.Ready.{Ready}
-use Rattle.tiling_audit.specs.recovery_engine.declared.settling.Step.{Step}
-use Rattle.tiling_audit.specs.recovery_engine.declared.settling.Step.TheVariants as steps
-use Rattle.tiling_audit.specs.log_audit.Findings.{AreMetBelow}
-use Rattle.tiling_audit.specs.log_audit.Logs.{IsUnended}
-use Rattle.tiling_audit.proofs.of_log_audit.LogSoFar.{free_from}
+use Rattle.recovery_engine.specs.Settling.{IsReady, StepMakes}
+use Rattle.recovery_engine.specs.declared.settling.Ready.{Ready}
+use Rattle.recovery_engine.specs.declared.settling.Step.{Step}
+use Rattle.recovery_engine.specs.declared.settling.Step.TheVariants as steps
+use Rattle.log_audit.specs.Findings.{AreMetBelow}
+use Rattle.log_audit.specs.Logs.{IsUnended}
+use Rattle.log_audit.proofs.LogSoFar.{free_from}
 
 module _ (g : Layout) (image : Image) (met : AreMetBelow g image 4) where
   -- an abandoned slot has no done cell

@@ -4,16 +4,16 @@ use Rattle.std.specs.Prelude.{slice_get}
 use Rattle.std.proofs.lemmas.Option.{none-some}
 use Rattle.cell_types.specs.Image.{Image}
 use Rattle.cell_types.specs.Layout.{Layout, reserve_at}
-use Rattle.stored_documents.specs.Slots.{HasEnded, IsHorizon}
-use Rattle.stored_documents.specs.Volumes.{IsWritten}
-use Rattle.commit_record.specs.tamper_rules.Settling.{IsSettled}
-use Rattle.tiling_audit.specs.log_audit.Findings.{AreMetBelow}
-use Rattle.tiling_audit.specs.log_audit.Logs.{IsLog}
-use Rattle.tiling_audit.specs.log_audit.declared.ended.EndedSlot.{EndedSlot}
-use Rattle.tiling_audit.specs.log_audit.declared.log.Log.{Log}
-use Rattle.tiling_audit.proofs.of_log_audit.Beginning.{has_ended}
-use Rattle.tiling_audit.proofs.of_log_audit.Logged.{past_end}
-use Rattle.tiling_audit.proofs.of_log_audit.Numbers.{below_16}
+use Rattle.volume_meaning.specs.Slots.{HasEnded, IsHorizon}
+use Rattle.volume_meaning.specs.Volumes.{IsWritten}
+use Rattle.tamper_rules.specs.Settling.{IsSettled}
+use Rattle.log_audit.specs.Findings.{AreMetBelow}
+use Rattle.log_audit.specs.Logs.{IsLog}
+use Rattle.log_audit.specs.declared.ended.EndedSlot.{EndedSlot}
+use Rattle.log_audit.specs.declared.log.Log.{Log}
+use Rattle.log_audit.proofs.Beginning.{has_ended}
+use Rattle.log_audit.proofs.Logged.{past_end}
+use Rattle.log_audit.proofs.Numbers.{below_16}
 
 -- each slot below a horizon is one of the log
 all_ended : (g : Layout) (image : Image) (log : Log) → IsLog g image log → (u m : ℕ) → IsHorizon g image image u → m < u

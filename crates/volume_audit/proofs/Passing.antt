@@ -4,10 +4,10 @@ use Rattle.cell_types.specs.Image.{Image}
 use Rattle.cell_types.specs.Layout.{Layout}
 use Rattle.cell_types.specs.declared.refusal.Evidence.{Evidence}
 use Rattle.cell_types.specs.declared.refusal.Refusal.{Refusal}
-use Rattle.commit_record.specs.tamper_rules.Rules.{Rule, number_of}
-use Rattle.tiling_audit.specs.log_audit.Findings.{AreMetBelow, Finds}
-use Rattle.tiling_audit.proofs.of_log_audit.Numbers.{below_next}
-use Rattle.tiling_audit.proofs.of_log_audit.Stopping.{first_found}
+use Rattle.tamper_rules.specs.Rules.{Rule, number_of}
+use Rattle.log_audit.specs.Findings.{AreMetBelow, Finds}
+use Rattle.log_audit.proofs.Numbers.{below_next}
+use Rattle.log_audit.proofs.Stopping.{first_found}
 use Rattle.volume_audit.specs.Judging.{Passes, Refuses}
 
 pub passes : (g : Layout) (image : Image) (rule : Rule) (found : Option Evidence) (result : Result Unit Refusal)

@@ -5,14 +5,14 @@ use Rattle.cell_types.specs.Layout.{Layout}
 use Rattle.cell_types.specs.declared.refusal.Evidence.{Evidence}
 use Rattle.cell_types.specs.declared.refusal.Refusal.{Refusal}
 use Rattle.cell_types.specs.declared.refusal.Refusal.TheVariants.{Tampered, NoMemory, DeviceFault, NotAVolume, NotFormatted, WrongSize}
-use Rattle.stored_documents.specs.Volumes.{IsVolume}
+use Rattle.volume_meaning.specs.Volumes.{IsVolume}
 use Rattle.worm_device.specs.Calls.{Called}
 use Rattle.worm_device.specs.Counts.{Rose, IsStill}
 use Rattle.worm_device.specs.State.{DeviceState}
 use Rattle.commit_record.specs.Licences.{IsLicensed}
-use Rattle.tiling_audit.specs.recovery_engine.Settling.{HasSettled, Settles}
-use Rattle.tiling_audit.specs.recovery_engine.declared.settling.Ready.{Ready}
-use Rattle.tiling_audit.specs.log_audit.Findings.{IsFirst}
+use Rattle.recovery_engine.specs.Settling.{HasSettled, Settles}
+use Rattle.recovery_engine.specs.declared.settling.Ready.{Ready}
+use Rattle.log_audit.specs.Findings.{IsFirst}
 use Rattle.volume_audit.specs.Reports.{IsSound}
 use Rattle.volume_audit.specs.declared.report.AuditReport.{AuditReport}
 

@@ -5,9 +5,9 @@ use Rattle.cell_types.specs.Layout.{Layout}
 use Rattle.cell_types.specs.declared.refusal.Evidence.{Evidence}
 use Rattle.cell_types.specs.declared.refusal.Refusal.{Refusal}
 use Rattle.cell_types.specs.declared.refusal.Refusal.TheVariants.{Tampered, NoMemory}
-use Rattle.commit_record.specs.tamper_rules.Settling.{IsSettled}
-use Rattle.tiling_audit.specs.log_audit.Findings.{AreMetBelow, IsFirst, Stops}
-use Rattle.tiling_audit.specs.log_audit.Logs.{IsUnended}
+use Rattle.tamper_rules.specs.Settling.{IsSettled}
+use Rattle.log_audit.specs.Findings.{AreMetBelow, IsFirst, Stops}
+use Rattle.log_audit.specs.Logs.{IsUnended}
 use Rattle.volume_audit.specs.Reports.{IsReport}
 use Rattle.volume_audit.specs.declared.report.AuditReport.{AuditReport}
 

@@ -2,9 +2,9 @@
 use Rattle.std.specs.Prelude.{ℕ}
 use Rattle.cell_types.specs.Image.{Image}
 use Rattle.cell_types.specs.Layout.{Layout}
-use Rattle.stored_documents.specs.Slots.{IsDoneSlot, IsAbandonedSlot}
-use Rattle.stored_documents.specs.Volumes.{IsVolume, IsWritten}
-use Rattle.commit_record.specs.tamper_rules.Settling.{IsSettled}
+use Rattle.volume_meaning.specs.Slots.{IsDoneSlot, IsAbandonedSlot}
+use Rattle.volume_meaning.specs.Volumes.{IsVolume, IsWritten}
+use Rattle.tamper_rules.specs.Settling.{IsSettled}
 use Rattle.volume_audit.specs.Counts.{Counts}
 use Rattle.volume_audit.specs.declared.report.AuditReport.{AuditReport}
 

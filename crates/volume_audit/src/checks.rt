@@ -1,25 +1,25 @@
 //! The checks of one rule each: a rule that is broken is a refusal.
 ghost use Rattle.std.specs.Prelude.{◌≡◌};
-ghost use Rattle.stored_documents.specs.Volumes.{IsVolume};
-ghost use Rattle.kept_cells.specs.Kept.{image_of, count_of};
-ghost use Rattle.posting_audit.specs.list_audit.Blocks.{AreListBlocks};
-ghost use Rattle.tiling_audit.specs.log_audit.Findings.{AreMetBelow};
-ghost use Rattle.tiling_audit.specs.log_audit.Logs.{IsLog};
-ghost use Rattle.pointer_audit.specs.tree_audit.Nodes.{AreNodes};
+ghost use Rattle.volume_meaning.specs.Volumes.{IsVolume};
+ghost use Rattle.log_audit.specs.Kept.{image_of, count_of};
+ghost use Rattle.list_audit.specs.Blocks.{AreListBlocks};
+ghost use Rattle.log_audit.specs.Findings.{AreMetBelow};
+ghost use Rattle.log_audit.specs.Logs.{IsLog};
+ghost use Rattle.tree_audit.specs.Nodes.{AreNodes};
 ghost use Rattle.volume_audit.specs.Judging.{Passes, Refuses};
 
 use cell_types::{Evidence, Geometry, Refusal};
-use journal_audit::{first_broken_document, first_broken_journal, first_broken_target};
-use kept_cells::KeptCells;
-use list_audit::{ListBlock, first_broken_entry};
-use log_audit::Log;
-use pointer_audit::first_broken_pointer;
-use posting_audit::{first_broken_posting, first_broken_trail};
-use progress::Meter;
+use host_ports::Meter;
+use list_audit::{ListBlock, first_broken_entry, first_broken_posting, first_broken_trail};
+use log_audit::{KeptCells, Log};
+use slot_audit::{
+    first_broken_document, first_broken_journal, first_broken_target, first_broken_tiling,
+    first_stray,
+};
 use std::alloc::Global;
-use stray_audit::first_stray;
-use tiling_audit::first_broken_tiling;
-use tree_audit::{LevelNode, first_broken_bucket, first_broken_child, first_broken_path};
+use tree_audit::{
+    LevelNode, first_broken_bucket, first_broken_child, first_broken_path, first_broken_pointer,
+};
 
 /// Ends the audit with what was found, if something was.
 fn refuse(found: Option<Evidence>) -> Result<(), Refusal>

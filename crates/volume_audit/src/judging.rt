@@ -1,11 +1,11 @@
 //! The rules, one after another.
 ghost use Rattle.std.specs.Prelude.{◌≡◌};
-ghost use Rattle.stored_documents.specs.Volumes.{IsVolume};
-ghost use Rattle.kept_cells.specs.Kept.{image_of, count_of};
-ghost use Rattle.posting_audit.specs.list_audit.Blocks.{AreListBlocks};
-ghost use Rattle.tiling_audit.specs.log_audit.Findings.{AreMetBelow};
-ghost use Rattle.tiling_audit.specs.log_audit.Logs.{IsLog};
-ghost use Rattle.pointer_audit.specs.tree_audit.Nodes.{AreNodes};
+ghost use Rattle.volume_meaning.specs.Volumes.{IsVolume};
+ghost use Rattle.log_audit.specs.Kept.{image_of, count_of};
+ghost use Rattle.list_audit.specs.Blocks.{AreListBlocks};
+ghost use Rattle.log_audit.specs.Findings.{AreMetBelow};
+ghost use Rattle.log_audit.specs.Logs.{IsLog};
+ghost use Rattle.tree_audit.specs.Nodes.{AreNodes};
 ghost use Rattle.volume_audit.specs.Judging.{Judges, Passes};
 
 use crate::checks::{
@@ -14,10 +14,9 @@ use crate::checks::{
 };
 use crate::report::{AuditReport, report_of};
 use cell_types::{Geometry, Refusal};
-use kept_cells::KeptCells;
+use host_ports::Meter;
 use list_audit::{ListBlock, blocks_of};
-use log_audit::{Log, check_log};
-use progress::Meter;
+use log_audit::{KeptCells, Log, check_log};
 use std::alloc::Global;
 use tree_audit::{LevelNode, nodes_of};
 

@@ -6,15 +6,15 @@
 //! done and abandoned, and how many cells of the device are written:
 //!
 //!     1 to 3        the log                    log_audit
-//!     4, 5, 6       documents and journals     journal_audit
-//!     7             cells astray               stray_audit
+//!     4, 5, 6       documents and journals     slot_audit
+//!     7             cells astray               slot_audit
 //!     8             what stands in blocks      list_audit
-//!     9             whose postings they are    posting_audit
-//!     10            pointers                   pointer_audit
+//!     9             whose postings they are    list_audit
+//!     10            pointers                   tree_audit
 //!     11, 12        buckets and child cells    tree_audit
-//!     13            trails of postings         posting_audit
+//!     13            trails of postings         list_audit
 //!     14            paths of documents         tree_audit
-//!     15            blocks of slots            tiling_audit
+//!     15            blocks of slots            slot_audit
 //!
 //! Of the volume of 8 slots and 2 lists on 1,000 cells that holds the document `a` it answers 1 done, 0 abandoned and 11
 //! written; where somebody else has written an abandon cell into cell 9, rule 2 is broken there, and this is named.

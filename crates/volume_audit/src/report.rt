@@ -1,14 +1,13 @@
 //! How many slots and cells there are.
 ghost use Rattle.std.specs.Prelude.{◌≡◌, ◌<◌, ◌↔◌, IsTrue};
-ghost use Rattle.stored_documents.specs.Slots.{IsDoneSlot, IsAbandonedSlot};
-ghost use Rattle.kept_cells.specs.Kept.{image_of, count_of};
-ghost use Rattle.tiling_audit.specs.log_audit.Logs.{IsLog};
+ghost use Rattle.volume_meaning.specs.Slots.{IsDoneSlot, IsAbandonedSlot};
+ghost use Rattle.log_audit.specs.Kept.{image_of, count_of};
+ghost use Rattle.log_audit.specs.Logs.{IsLog};
 ghost use Rattle.volume_audit.specs.Counts.{Counts};
 ghost use Rattle.volume_audit.specs.Reports.{IsReport};
 
 use cell_types::Geometry;
-use kept_cells::KeptCells;
-use log_audit::{EndedSlot, Log};
+use log_audit::{EndedSlot, KeptCells, Log};
 
 /// What an audit found of a sound volume.
 #[derive(Clone, Copy, Debug, PartialEq, Eq)]

@@ -5,9 +5,9 @@ use Rattle.cell_types.specs.declared.refusal.Refusal.{Refusal}
 use Rattle.cell_types.specs.declared.refusal.Refusal.TheVariants as refusals
 use Rattle.worm_device.specs.State.{IsDevice}
 use Rattle.worm_device.proofs.Counting.{rose_or_still}
-use Rattle.command_laws.specs.volume_audit.Audits.{Audits, SettlesThenAudits}
-use Rattle.command_laws.specs.volume_audit.declared.report.AuditReport.{AuditReport}
-use Rattle.command_laws.proofs.of_volume_audit.Comes.{refuses}
+use Rattle.volume_audit.specs.Audits.{Audits, SettlesThenAudits}
+use Rattle.volume_audit.specs.declared.report.AuditReport.{AuditReport}
+use Rattle.volume_audit.proofs.Comes.{refuses}
 use Rattle.volume_commands.specs.Auditing.{DoesAudit, IsReadyToAudit, report_text}
 use Rattle.volume_commands.specs.Ports.{Ports, IsOkOrNoMemory, TellsFromMemory}
 use Rattle.command_laws.proofs.Completing.{audits_whole}

@@ -5,15 +5,15 @@ use Rattle.cell_types.specs.Layout.{Layout}
 use Rattle.cell_types.specs.declared.refusal.Refusal.{Refusal}
 use Rattle.cell_types.specs.declared.refusal.Refusal.TheVariants as refusals
 use Rattle.host_ports.specs.Sources.{Gives, IsAtEnd}
-use Rattle.stored_documents.specs.declared.limits.TheConstants.{MAX_BODY_BYTES}
+use Rattle.volume_meaning.specs.declared.limits.TheConstants.{MAX_BODY_BYTES}
 use Rattle.worm_device.specs.Calls.{Called}
 use Rattle.worm_device.specs.Counts.{IsStill}
 use Rattle.worm_device.specs.State.{IsDevice}
 use Rattle.worm_device.proofs.Counting.{rose_or_still}
 use Rattle.recovery_engine.specs.Settling.{Settles}
 use Rattle.recovery_engine.specs.declared.settling.Ready.{Ready}
-use Rattle.command_laws.specs.ingest_engine.Formats.{FormatEnds}
-use Rattle.command_laws.specs.ingest_engine.Ingesting.{IngestEnds}
+use Rattle.ingest_engine.specs.Formats.{FormatEnds}
+use Rattle.ingest_engine.specs.Ingesting.{IngestEnds}
 use Rattle.volume_commands.specs.Formatting.{DoesFormat, IsReadyToFormat}
 use Rattle.volume_commands.specs.Ingesting.{DoesIngest, IsReadyToIngest, acknowledgement, misnamed, untaken, taken}
 use Rattle.volume_commands.specs.Ports.{Ports, IsOkAlone, IsOkOrNoMemory, Tells}

@@ -7,7 +7,7 @@ use Rattle.worm_device.specs.State.{DeviceState}
 use Rattle.worm_device.proofs.Elapsing.{called_self}
 use Rattle.recovery_engine.specs.Settling.{SettleEnds, Settles}
 use Rattle.recovery_engine.specs.declared.settling.Ready.{Ready}
-use Rattle.command_laws.specs.ingest_engine.Ingesting.{IngestEnds}
+use Rattle.ingest_engine.specs.Ingesting.{IngestEnds}
 use Rattle.volume_commands.specs.Ingesting.{DoesIngest, acknowledgement, misnamed, untaken, taken}
 use Rattle.volume_commands.specs.Ports.{Ports, Tells}
 use Rattle.volume_commands.specs.Recovering.{recovered}

@@ -8,19 +8,19 @@ use Rattle.std.specs.Prelude.{Contains, IsTrue}
 use Rattle.cell_types.specs.Layout.{Layout}
 use Rattle.cell_types.specs.declared.refusal.Refusal.{Refusal}
 use Rattle.cell_types.specs.declared.refusal.Refusal.TheVariants as refusals
-use Rattle.stored_documents.specs.Words.{rule_of}
-use Rattle.stored_documents.specs.declared.word_rules.WordRule.{WordRule}
-use Rattle.stored_documents.proofs.Extending.{volume_on}
-use Rattle.index_paths.proofs.KeepingLaws.{kept_on}
-use Rattle.index_paths.specs.Keeping.{Kept}
-use Rattle.stored_documents.specs.Volumes.{IsVolume}
-use Rattle.commit_record.proofs.of_tamper_rules.GivenUp.{one_layout}
+use Rattle.volume_meaning.specs.Words.{rule_of}
+use Rattle.volume_meaning.specs.declared.word_rules.WordRule.{WordRule}
+use Rattle.volume_meaning.proofs.Extending.{volume_on}
+use Rattle.volume_meaning.proofs.KeepingLaws.{kept_on}
+use Rattle.volume_meaning.specs.Keeping.{Kept}
+use Rattle.volume_meaning.specs.Volumes.{IsVolume}
+use Rattle.tamper_rules.proofs.GivenUp.{one_layout}
 use Rattle.worm_device.specs.Calls.{Called}
 use Rattle.worm_device.specs.State.{DeviceState, IsDevice}
 use Rattle.worm_device.proofs.Counting.{rose_or_still}
 use Rattle.worm_device.proofs.Elapsing.{called_then}
-use Rattle.time_index.specs.record_query.Finding.{FindEnds, Searches}
-use Rattle.time_index.specs.record_query.declared.found.Match.{Match}
+use Rattle.record_query.specs.Finding.{FindEnds, Searches}
+use Rattle.record_query.specs.declared.found.Match.{Match}
 use Rattle.volume_commands.specs.Finding.{AreTermsOf, DoesFind, FindsKept, HasOneTerm, IsFirstBadWord, IsReadyToFind, TermsEnd, found_text, misworded, searched, unread, unruled}
 use Rattle.volume_commands.specs.Ruling.{AsksRule, RuleEnds}
 use Rattle.volume_commands.specs.Ports.{Ports, IsOkOrNoMemory, TellsFromMemory}

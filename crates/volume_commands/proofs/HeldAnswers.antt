@@ -3,15 +3,15 @@ use Rattle.std.proofs.Common.{◌≡◌, ℕ, List, Result, Ok, Err, refl, ap, s
 use Rattle.std.specs.Global.{Vec}
 use Rattle.cell_types.specs.declared.refusal.Refusal.{Refusal}
 use Rattle.cell_types.specs.declared.refusal.Refusal.TheVariants as refusals
-use Rattle.stored_documents.specs.Volumes.{IsVolume}
-use Rattle.stored_documents.specs.declared.word_rules.WordRule.{WordRule}
-use Rattle.stored_documents.proofs.Extending.{volume_on}
+use Rattle.volume_meaning.specs.Volumes.{IsVolume}
+use Rattle.volume_meaning.specs.declared.word_rules.WordRule.{WordRule}
+use Rattle.volume_meaning.proofs.Extending.{volume_on}
 use Rattle.worm_device.specs.Calls.{Called}
 use Rattle.worm_device.specs.State.{DeviceState, IsDevice}
-use Rattle.time_index.specs.record_query.Finding.{Searches}
-use Rattle.time_index.specs.record_query.LookingUp.{LookUpEnds, LooksUp}
-use Rattle.time_index.specs.record_query.declared.found.Found.{Found}
-use Rattle.time_index.specs.record_query.declared.found.Match.{Match}
+use Rattle.record_query.specs.Finding.{Searches}
+use Rattle.record_query.specs.LookingUp.{LookUpEnds, LooksUp}
+use Rattle.record_query.specs.declared.found.Found.{Found}
+use Rattle.record_query.specs.declared.found.Match.{Match}
 use Rattle.command_laws.specs.Begins.{BeginsSteady}
 use Rattle.volume_commands.specs.Finding.{AreTermsOf, DoesFind, found_text, misworded, searched, unread, unruled}
 use Rattle.volume_commands.specs.Ruling.{AsksRule, HasRule}

@@ -8,8 +8,8 @@ use Rattle.worm_device.specs.Calls.{Called}
 use Rattle.worm_device.specs.State.{IsDevice}
 use Rattle.worm_device.proofs.Counting.{rose_or_still}
 use Rattle.worm_device.proofs.Elapsing.{called_self}
-use Rattle.time_index.specs.record_query.LookingUp.{LookUpEnds, LooksUp}
-use Rattle.time_index.specs.record_query.declared.found.Found.{Found}
+use Rattle.record_query.specs.LookingUp.{LookUpEnds, LooksUp}
+use Rattle.record_query.specs.declared.found.Found.{Found}
 use Rattle.volume_commands.specs.LookingUp.{Answers, DoesLookUp, IsReadyToLookUp, looked, misnamed}
 use Rattle.volume_commands.specs.Ports.{Ports, IsOkOrAbsent}
 use Rattle.command_laws.proofs.Results.{no_answer, one_refusal, other_refusal}

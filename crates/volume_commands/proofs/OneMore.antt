@@ -6,22 +6,22 @@ use Rattle.cell_types.specs.declared.refusal.Evidence.{Evidence}
 use Rattle.cell_types.specs.declared.refusal.Refusal.{Refusal}
 use Rattle.cell_types.specs.declared.refusal.Refusal.TheVariants as refusals
 use Rattle.host_ports.specs.Sources.{Gives}
-use Rattle.stored_documents.specs.Documents.{Document}
-use Rattle.stored_documents.specs.Slots.{IsEdge, IsHorizon}
-use Rattle.stored_documents.specs.Volumes.{IsVolume}
-use Rattle.commit_record.specs.tamper_rules.Settling.{Held}
-use Rattle.time_index.specs.ingest_laws.Needs.{IsNeed}
+use Rattle.volume_meaning.specs.Documents.{Document}
+use Rattle.volume_meaning.specs.Slots.{IsEdge, IsHorizon}
+use Rattle.volume_meaning.specs.Volumes.{IsVolume}
+use Rattle.tamper_rules.specs.Settling.{Held}
+use Rattle.ingest_laws.specs.Needs.{IsNeed}
 use Rattle.worm_device.specs.State.{DeviceState, IsDevice}
-use Rattle.command_laws.proofs.of_plan_writer.PutFrom.{volume_2}
-use Rattle.command_laws.specs.ingest_engine.Ingesting.{HasNoRoom, IngestEnds, Ingests}
-use Rattle.command_laws.proofs.of_settling_laws.LeftWhole.{held_unmoved}
-use Rattle.command_laws.specs.crash_laws.Steadiness.{HasOneMore}
-use Rattle.command_laws.proofs.of_crash_laws.AddsOne.{comes_more}
-use Rattle.command_laws.proofs.of_crash_laws.Alarms.{none_named}
-use Rattle.command_laws.proofs.of_crash_laws.Kept.{refused_keeps}
-use Rattle.command_laws.proofs.of_crash_laws.LeftByIngest.{nothing_done}
-use Rattle.command_laws.proofs.of_crash_laws.Steady.{comes_steady}
-use Rattle.command_laws.proofs.of_crash_laws.WellPlanned as planned
+use Rattle.plan_writer.proofs.PutFrom.{volume_2}
+use Rattle.ingest_engine.specs.Ingesting.{HasNoRoom, IngestEnds, Ingests}
+use Rattle.crash_laws.proofs.LeftWhole.{held_unmoved}
+use Rattle.crash_laws.specs.Steadiness.{HasOneMore}
+use Rattle.crash_laws.proofs.AddsOne.{comes_more}
+use Rattle.crash_laws.proofs.Alarms.{none_named}
+use Rattle.crash_laws.proofs.Kept.{refused_keeps}
+use Rattle.crash_laws.proofs.LeftByIngest.{nothing_done}
+use Rattle.crash_laws.proofs.Steady.{comes_steady}
+use Rattle.crash_laws.proofs.WellPlanned as planned
 use Rattle.command_laws.specs.Begins.{BeginsSteady}
 use Rattle.volume_commands.specs.Ingesting.{DoesIngest, HasRefused, HasStored, acknowledgement, misnamed, untaken, taken}
 use Rattle.volume_commands.specs.Ports.{Ports, Tells}

@@ -7,7 +7,7 @@ use Rattle.worm_device.proofs.Images.{extends_then}
 use Rattle.receipt_text.specs.Form.{IsReceiptOn, text_of_receipt}
 use Rattle.receipt_text.specs.declared.receipt.Receipt.{Receipt}
 use Rattle.receipt_check.specs.Checks.{ShowsDocument}
-use Rattle.receipt_maker.specs.Making.{MakesReceipt}
+use Rattle.receipt_check.specs.Making.{MakesReceipt}
 use Rattle.command_laws.proofs.Results.{no_answer}
 use Rattle.volume_commands.specs.Checking.{IsReadyToCheck}
 use Rattle.volume_commands.specs.Laws.{IsGivenLater, ReceiptsAreReady}

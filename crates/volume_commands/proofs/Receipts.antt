@@ -12,7 +12,7 @@ use Rattle.worm_device.proofs.Elapsing.{called_self}
 use Rattle.recovery_engine.specs.Settling.{IsSettlingRule, SettlesFirst}
 use Rattle.receipt_text.specs.Form.{text_of_receipt}
 use Rattle.receipt_text.specs.declared.receipt.Receipt.{Receipt}
-use Rattle.receipt_maker.specs.Making.{MakeEnds, MakesReceipt}
+use Rattle.receipt_check.specs.Making.{MakeEnds, MakesReceipt}
 use Rattle.command_laws.specs.Begins.{BeginsSteady}
 use Rattle.command_laws.specs.WholeLogs.{HasWholeLog}
 use Rattle.command_laws.proofs.Alarms.{query_alarms}

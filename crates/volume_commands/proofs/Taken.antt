@@ -1,8 +1,8 @@
 -- What a source has given when a body was not taken, and when one was.
 use Rattle.std.proofs.Common.{◌≡◌, ◌≤◌, ◌+◌, ◌++◌, ℕ, List, length, Option, Err, sym, ap, subst, arith, length-append}
 use Rattle.host_ports.specs.Sources.{SourceState, Gives}
-use Rattle.stored_documents.specs.Documents.{IsBody}
-use Rattle.stored_documents.specs.declared.limits.TheConstants.{MAX_BODY_BYTES}
+use Rattle.volume_meaning.specs.Documents.{IsBody}
+use Rattle.volume_meaning.specs.declared.limits.TheConstants.{MAX_BODY_BYTES}
 use Rattle.worm_device.specs.Counts.{Rose}
 use Rattle.volume_commands.specs.declared.body.BodyFault.{BodyFault}
 use Rattle.volume_commands.specs.declared.body.BodyFault.TheVariants.{TooLong, SourceFailed, NoMemory}

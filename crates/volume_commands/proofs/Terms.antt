@@ -7,7 +7,7 @@ use Rattle.std.specs.Global.{Global}
 use Rattle.std.specs.Option.{option_map}
 use Rattle.std.specs.Prelude.{Contains, get_or, slice_get}
 use Rattle.std.specs.String.{string_bytes}
-use Rattle.stored_documents.specs.declared.word_rules.WordRule.{WordRule}
+use Rattle.volume_meaning.specs.declared.word_rules.WordRule.{WordRule}
 use Rattle.volume_commands.specs.Finding.{AreTermsOf, IsFirstBadWord, IsOneTerm}
 
 -- the terms are those of the first n words

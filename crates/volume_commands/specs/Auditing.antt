@@ -4,8 +4,8 @@ use Rattle.std.specs.Fmt.{decimal}
 use Rattle.cell_types.specs.Layout.{Layout}
 use Rattle.cell_types.specs.declared.refusal.Refusal.{Refusal}
 use Rattle.worm_device.specs.Counts.{IsStill}
-use Rattle.command_laws.specs.volume_audit.Audits.{Audits}
-use Rattle.command_laws.specs.volume_audit.declared.report.AuditReport.{AuditReport}
+use Rattle.volume_audit.specs.Audits.{Audits}
+use Rattle.volume_audit.specs.declared.report.AuditReport.{AuditReport}
 use Rattle.volume_commands.specs.Ports.{Ports, TellsFromMemory}
 use Rattle.command_laws.specs.WholeLogs.{HasSteadyVolume}
 

@@ -4,14 +4,14 @@ use Rattle.std.specs.Global.{Vec}
 use Rattle.cell_types.specs.Layout.{Layout}
 use Rattle.cell_types.specs.declared.refusal.Refusal.{Refusal}
 use Rattle.cell_types.specs.declared.refusal.Refusal.TheVariants.{BadWord, NoMemory}
-use Rattle.stored_documents.specs.Words.{AreWords, rule_of}
-use Rattle.stored_documents.specs.declared.word_rules.WordRule.{WordRule}
-use Rattle.stored_documents.specs.Documents.{Document}
-use Rattle.index_paths.specs.Keeping.{Kept}
+use Rattle.volume_meaning.specs.Words.{AreWords, rule_of}
+use Rattle.volume_meaning.specs.declared.word_rules.WordRule.{WordRule}
+use Rattle.volume_meaning.specs.Documents.{Document}
+use Rattle.volume_meaning.specs.Keeping.{Kept}
 use Rattle.worm_device.specs.Counts.{IsStill}
 use Rattle.worm_device.specs.State.{DeviceState}
-use Rattle.time_index.specs.record_query.Finding.{FindsAllOf, Searches}
-use Rattle.time_index.specs.record_query.declared.found.Match.{Match}
+use Rattle.record_query.specs.Finding.{FindsAllOf, Searches}
+use Rattle.record_query.specs.declared.found.Match.{Match}
 use Rattle.command_line.specs.Lines.{document_line, found_lines}
 use Rattle.volume_commands.specs.Ports.{Ports, TellsFromMemory}
 use Rattle.command_laws.specs.WholeLogs.{HasSteadyVolume}

@@ -4,7 +4,7 @@ use Rattle.cell_types.specs.Image.{ChangesOnly}
 use Rattle.cell_types.specs.Layout.{IsLayout, Layout}
 use Rattle.cell_types.specs.declared.refusal.Refusal.{Refusal}
 use Rattle.cell_types.specs.declared.refusal.Refusal.TheVariants.{SinkFault}
-use Rattle.command_laws.specs.ingest_engine.Formats.{FormatEnds, volume_cell}
+use Rattle.ingest_engine.specs.Formats.{FormatEnds, volume_cell}
 use Rattle.worm_device.specs.Calls.{Called}
 use Rattle.worm_device.specs.Counts.{IsStill}
 use Rattle.volume_commands.specs.Ports.{Ports, KeepsSink, PutsOut, PutsOutPart}

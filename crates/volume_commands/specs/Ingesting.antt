@@ -5,10 +5,10 @@ use Rattle.cell_types.specs.Layout.{Layout}
 use Rattle.cell_types.specs.declared.refusal.Refusal.{Refusal}
 use Rattle.cell_types.specs.declared.refusal.Refusal.TheVariants.{BadIdentifier, DeviceFault, SinkFault}
 use Rattle.host_ports.specs.Sources.{Gives, IsAtEnd}
-use Rattle.stored_documents.specs.Documents.{IsBody, IsIdentifier}
-use Rattle.stored_documents.specs.declared.limits.TheConstants.{MAX_BODY_BYTES}
+use Rattle.volume_meaning.specs.Documents.{IsBody, IsIdentifier}
+use Rattle.volume_meaning.specs.declared.limits.TheConstants.{MAX_BODY_BYTES}
 use Rattle.worm_device.specs.Counts.{IsStill}
-use Rattle.command_laws.specs.ingest_engine.Ingesting.{Ingests}
+use Rattle.ingest_engine.specs.Ingesting.{Ingests}
 use Rattle.command_laws.specs.Begins.{BeginsSteady}
 use Rattle.command_laws.specs.Completing.{HasPlaceFor}
 use Rattle.command_line.specs.Lines.{slot_line}

@@ -3,10 +3,10 @@ use Rattle.std.specs.Prelude.{◌≡◌, ℕ, List, Result, Ok, Err}
 use Rattle.cell_types.specs.Layout.{Layout}
 use Rattle.cell_types.specs.declared.refusal.Refusal.{Refusal}
 use Rattle.cell_types.specs.declared.refusal.Refusal.TheVariants.{BadIdentifier}
-use Rattle.stored_documents.specs.Documents.{IsIdentifier}
+use Rattle.volume_meaning.specs.Documents.{IsIdentifier}
 use Rattle.worm_device.specs.Counts.{IsStill}
-use Rattle.time_index.specs.record_query.LookingUp.{LooksUp}
-use Rattle.time_index.specs.record_query.declared.found.Found.{Found}
+use Rattle.record_query.specs.LookingUp.{LooksUp}
+use Rattle.record_query.specs.declared.found.Found.{Found}
 use Rattle.volume_commands.specs.Ports.{Ports}
 use Rattle.command_laws.specs.WholeLogs.{HasSteadyVolume}
 

@@ -3,12 +3,12 @@ use Rattle.std.specs.Prelude.{◌≡◌, ℕ, List, Result, Ok, Err, ⊤}
 use Rattle.cell_types.specs.Layout.{Layout}
 use Rattle.cell_types.specs.declared.refusal.Refusal.{Refusal}
 use Rattle.cell_types.specs.declared.refusal.Refusal.TheVariants.{Absent, BadIdentifier, NoMemory, ReceiptTooLong}
-use Rattle.stored_documents.specs.Documents.{IsIdentifier}
+use Rattle.volume_meaning.specs.Documents.{IsIdentifier}
 use Rattle.worm_device.specs.Counts.{IsStill}
 use Rattle.command_laws.specs.WholeLogs.{HasSteadyVolume}
 use Rattle.receipt_text.specs.Form.{text_of_receipt}
 use Rattle.receipt_text.specs.declared.receipt.Receipt.{Receipt}
-use Rattle.receipt_maker.specs.Making.{MakesReceipt}
+use Rattle.receipt_check.specs.Making.{MakesReceipt}
 use Rattle.volume_commands.specs.Ports.{Ports, TellsFromMemory}
 
 -- What the command does, by how far it comes.

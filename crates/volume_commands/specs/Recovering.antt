@@ -2,13 +2,13 @@
 use Rattle.std.specs.Prelude.{◌≡◌, ℕ, List, codes, Result, Ok, Err, IsTrue, ⊤}
 use Rattle.cell_types.specs.Layout.{Layout}
 use Rattle.cell_types.specs.declared.refusal.Refusal.{Refusal}
-use Rattle.commit_record.specs.tamper_rules.Settling.{Sound}
+use Rattle.tamper_rules.specs.Settling.{Sound}
 use Rattle.worm_device.specs.Counts.{IsStill}
 use Rattle.worm_device.specs.State.{DeviceState}
 use Rattle.recovery_engine.specs.Settling.{IsSettlingRule, Settles}
 use Rattle.recovery_engine.specs.declared.settling.Ready.{Ready}
 use Rattle.recovery_engine.specs.declared.settling.Step.{Step}
-use Rattle.command_laws.specs.settling_laws.Steadiness.{EndsAs}
+use Rattle.crash_laws.specs.SettlingSteadiness.{EndsAs}
 use Rattle.recovery_engine.specs.declared.settling.Step.TheVariants.{Nothing, Abandoned, Completed}
 use Rattle.command_line.specs.Lines.{slot_line}
 use Rattle.volume_commands.specs.Ports.{Ports, Tells}

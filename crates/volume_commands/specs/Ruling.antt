@@ -4,9 +4,9 @@ use Rattle.cell_types.specs.Image.{Image, IsUnchanged}
 use Rattle.cell_types.specs.Layout.{Layout}
 use Rattle.cell_types.specs.declared.refusal.Refusal.{Refusal}
 use Rattle.cell_types.specs.declared.refusal.Refusal.TheVariants.{DeviceFault, NotAVolume, NotFormatted, WrongSize}
-use Rattle.stored_documents.specs.Volumes.{IsVolume}
-use Rattle.stored_documents.specs.Words.{rule_of}
-use Rattle.stored_documents.specs.declared.word_rules.WordRule.{WordRule}
+use Rattle.volume_meaning.specs.Volumes.{IsVolume}
+use Rattle.volume_meaning.specs.Words.{rule_of}
+use Rattle.volume_meaning.specs.declared.word_rules.WordRule.{WordRule}
 use Rattle.worm_device.specs.Calls.{Called}
 use Rattle.worm_device.specs.Counts.{IsStill}
 use Rattle.worm_device.specs.State.{DeviceState, IsDevice}

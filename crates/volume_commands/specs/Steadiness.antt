@@ -6,16 +6,16 @@ use Rattle.cell_types.specs.declared.refusal.Evidence.{Evidence}
 use Rattle.cell_types.specs.declared.refusal.Refusal.{Refusal}
 use Rattle.cell_types.specs.declared.refusal.Refusal.TheVariants.{Absent, Full, SinkFault, Tampered}
 use Rattle.host_ports.specs.Sources.{Gives}
-use Rattle.stored_documents.specs.Documents.{Document}
-use Rattle.stored_documents.specs.Slots.{IsEdge, IsHorizon}
-use Rattle.stored_documents.specs.Volumes.{IsVolume}
-use Rattle.stored_documents.specs.declared.word_rules.WordRule.{WordRule}
-use Rattle.commit_record.specs.tamper_rules.Settling.{Held, Sound}
-use Rattle.time_index.specs.ingest_laws.Needs.{IsNeed}
+use Rattle.volume_meaning.specs.Documents.{Document}
+use Rattle.volume_meaning.specs.Slots.{IsEdge, IsHorizon}
+use Rattle.volume_meaning.specs.Volumes.{IsVolume}
+use Rattle.volume_meaning.specs.declared.word_rules.WordRule.{WordRule}
+use Rattle.tamper_rules.specs.Settling.{Held, Sound}
+use Rattle.ingest_laws.specs.Needs.{IsNeed}
 use Rattle.worm_device.specs.State.{DeviceState}
-use Rattle.command_laws.specs.settling_laws.Steadiness.{StaysSteady}
-use Rattle.command_laws.specs.crash_laws.Steadiness.{HasOneMore, StaysSteadyBy}
-use Rattle.time_index.specs.record_query.declared.found.Match.{Match}
+use Rattle.crash_laws.specs.SettlingSteadiness.{StaysSteady}
+use Rattle.crash_laws.specs.Steadiness.{HasOneMore, StaysSteadyBy}
+use Rattle.record_query.specs.declared.found.Match.{Match}
 use Rattle.receipt_text.specs.Form.{text_of_receipt}
 use Rattle.receipt_text.specs.declared.receipt.Receipt.{Receipt}
 use Rattle.receipt_check.specs.Checks.{ShowsDocument}

@@ -5,9 +5,8 @@ ghost use Rattle.volume_commands.specs.Ports.{ports_of};
 
 use crate::outcome::Outcome;
 use command_line::put_text;
-use host_ports::{Sink, Source};
+use host_ports::{Meter, Sink, Source};
 use itoa::Buffer;
-use progress::Meter;
 use std::alloc::{AllocError, Global};
 use volume_audit::{AuditReport, audit_metered};
 use worm_device::Device;

@@ -13,7 +13,7 @@ use commit_record::volume_of;
 use host_ports::{Sink, Source};
 use record_query::{Match, find};
 use std::alloc::{AllocError, Global};
-use stored_documents::{WordRule, rule_of};
+use volume_meaning::{WordRule, rule_of};
 use word_reader::{Term, WordFault, single_term};
 use worm_device::Device;
 

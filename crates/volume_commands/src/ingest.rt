@@ -9,7 +9,7 @@ use command_line::put_slot_line;
 use document_store::is_identifier;
 use host_ports::{Sink, Source};
 use std::alloc::Global;
-use stored_documents::MAX_BODY_BYTES;
+use volume_meaning::MAX_BODY_BYTES;
 use worm_device::Device;
 
 /// Stores the body that the source gives, in the first free slot, and acknowledges it. On a volume of stamped documents

@@ -25,7 +25,7 @@
 //! leaves of each, and which documents stand behind it: the words for that are here, in specs/Steadiness.antt.
 //!
 //! Stands on `ingest_engine` and `recovery_engine`, which write, on `record_query` and `time_index`, which search and look
-//! up, on `volume_audit`, on `receipt_text`, `receipt_maker` and `receipt_check`, on `command_laws`, on `command_line`,
+//! up, on `volume_audit`, on `receipt_text` and `receipt_check`, on `command_laws`, on `command_line`,
 //! which puts out lines and texts, and on `host_ports`. Begin with `find.rt` and specs/Finding.antt.
 #![tactic(auto)]
 

@@ -7,7 +7,7 @@ use cell_types::Refusal;
 use command_line::put_text;
 use document_store::is_identifier;
 use host_ports::{Sink, Source};
-use receipt_maker::make_receipt;
+use receipt_check::make_receipt;
 use receipt_text::text_of_receipt;
 use std::alloc::Global;
 use worm_device::Device;

@@ -8,12 +8,12 @@ use Rattle.cell_types.specs.declared.refusal.CopyRefusal.{CopyRefusal}
 use Rattle.cell_types.specs.declared.refusal.CopyRefusal.TheVariants as copies
 use Rattle.cell_types.specs.declared.refusal.Refusal.{Refusal}
 use Rattle.cell_types.specs.declared.refusal.Refusal.TheVariants as refusals
-use Rattle.stored_documents.specs.Documents.{AreDocuments, Document, Stands}
-use Rattle.stored_documents.specs.Slots.{IsStampOf}
-use Rattle.stored_documents.specs.Volumes.{IsVolume}
-use Rattle.stored_documents.proofs.Extending.{done_slot_on, volume_on}
-use Rattle.stored_documents.proofs.OneDocument.{one_document}
-use Rattle.stored_documents.proofs.Stamps.{stamp_on}
+use Rattle.volume_meaning.specs.Documents.{AreDocuments, Document, Stands}
+use Rattle.volume_meaning.specs.Slots.{IsStampOf}
+use Rattle.volume_meaning.specs.Volumes.{IsVolume}
+use Rattle.volume_meaning.proofs.Extending.{done_slot_on, volume_on}
+use Rattle.volume_meaning.proofs.OneDocument.{one_document}
+use Rattle.volume_meaning.proofs.Stamps.{stamp_on}
 use Rattle.tamper_rules.specs.Settling.{Held, IsBlankOrSound, Settled, Sound, nothing, of_after}
 use Rattle.tamper_rules.proofs.Between.{volume_of}
 use Rattle.tamper_rules.proofs.GivenUp.{one_layout}
@@ -26,12 +26,12 @@ use Rattle.worm_device.proofs.Elapsing.{called_self, called_then, elapses_of}
 use Rattle.worm_device.proofs.Images.{extends_self, unchanged_then}
 use Rattle.document_store.specs.Standing.{HoldsDocument}
 use Rattle.document_store.proofs.Holding.{held_stands}
-use Rattle.command_laws.specs.ingest_engine.Ingesting.{IngestEnds, Ingests, document_in}
-use Rattle.command_laws.specs.settling_laws.Steadiness.{HoldsOneOf, IsSteady}
-use Rattle.command_laws.proofs.of_settling_laws.LeftWhole.{sure_steady}
-use Rattle.command_laws.specs.crash_laws.Steadiness.{HasOneMore, HoldsOneMore, IsLeftByIngest}
-use Rattle.command_laws.proofs.of_crash_laws.AddsOne.{comes_more}
-use Rattle.command_laws.proofs.of_crash_laws.Steady.{comes_steady}
+use Rattle.ingest_engine.specs.Ingesting.{IngestEnds, Ingests, document_in}
+use Rattle.crash_laws.specs.SettlingSteadiness.{HoldsOneOf, IsSteady}
+use Rattle.crash_laws.proofs.LeftWhole.{sure_steady}
+use Rattle.crash_laws.specs.Steadiness.{HasOneMore, HoldsOneMore, IsLeftByIngest}
+use Rattle.crash_laws.proofs.AddsOne.{comes_more}
+use Rattle.crash_laws.proofs.Steady.{comes_steady}
 use Rattle.volume_copy.specs.Adding.{AddEnds, AddFails, AddsNext, CanBeRead, Completes, CopiedSoFar, GoesOn, IngestsOf, RestFails, WhereCopied}
 use Rattle.volume_copy.specs.Auditing.{IsWhole}
 use Rattle.volume_copy.specs.Alone.{AreAlone}

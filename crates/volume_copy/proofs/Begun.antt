@@ -10,9 +10,9 @@ use Rattle.cell_types.specs.declared.refusal.CopyRefusal.{CopyRefusal}
 use Rattle.cell_types.specs.declared.refusal.CopyRefusal.TheVariants as copies
 use Rattle.cell_types.specs.declared.refusal.Refusal.{Refusal}
 use Rattle.cell_types.specs.declared.refusal.Refusal.TheVariants as refusals
-use Rattle.stored_documents.specs.Volumes.{IsVolume, volume_record}
-use Rattle.stored_documents.proofs.Extending.{volume_on}
-use Rattle.stored_documents.proofs.Holding.{some_is}
+use Rattle.volume_meaning.specs.Volumes.{IsVolume, volume_record}
+use Rattle.volume_meaning.proofs.Extending.{volume_on}
+use Rattle.volume_meaning.proofs.Holding.{some_is}
 use Rattle.tamper_rules.proofs.DocumentLists.{documents_exist}
 use Rattle.tamper_rules.proofs.GivenUp.{one_layout}
 use Rattle.tamper_rules.specs.Settling.{Settled}
@@ -24,8 +24,8 @@ use Rattle.worm_device.specs.State.{DeviceState, IsDevice}
 use Rattle.worm_device.proofs.Counting.{rose_or_still, still_first, still_second}
 use Rattle.worm_device.proofs.Elapsing.{called_self, called_then}
 use Rattle.worm_device.proofs.Images.{extends_self}
-use Rattle.command_laws.specs.ingest_engine.Formats.{FormatEnds, Formats, volume_cell}
-use Rattle.command_laws.specs.settling_laws.Steadiness.{IsSteady}
+use Rattle.ingest_engine.specs.Formats.{FormatEnds, Formats, volume_cell}
+use Rattle.crash_laws.specs.SettlingSteadiness.{IsSteady}
 use Rattle.command_laws.specs.Begins.{BeginsSteady}
 use Rattle.command_laws.specs.Telling.{IsFormatted, LeavesHeld}
 use Rattle.command_laws.proofs.Formatting.{format_makes}

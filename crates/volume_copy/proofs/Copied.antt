@@ -9,11 +9,11 @@ use Rattle.cell_types.specs.declared.refusal.CopyRefusal.{CopyRefusal}
 use Rattle.cell_types.specs.declared.refusal.CopyRefusal.TheVariants as copies
 use Rattle.cell_types.specs.declared.refusal.Refusal.{Refusal}
 use Rattle.cell_types.specs.declared.refusal.Refusal.TheVariants as refusals
-use Rattle.stored_documents.specs.Documents.{AreDocuments, Document, Stands}
-use Rattle.stored_documents.specs.Volumes.{IsVolume}
-use Rattle.stored_documents.proofs.Extending.{stands_on, volume_on}
-use Rattle.index_paths.specs.Keeping.{IsKept, Kept}
-use Rattle.index_paths.proofs.KeepingLaws.{documents}
+use Rattle.volume_meaning.specs.Documents.{AreDocuments, Document, Stands}
+use Rattle.volume_meaning.specs.Volumes.{IsVolume}
+use Rattle.volume_meaning.proofs.Extending.{stands_on, volume_on}
+use Rattle.volume_meaning.specs.Keeping.{IsKept, Kept}
+use Rattle.volume_meaning.proofs.KeepingLaws.{documents}
 use Rattle.tamper_rules.specs.Settling.{Settled}
 use Rattle.tamper_rules.proofs.Between.{volume_of}
 use Rattle.tamper_rules.proofs.DocumentLists.{documents_exist, only_one}
@@ -25,8 +25,8 @@ use Rattle.worm_device.specs.Counts.{IsStill}
 use Rattle.worm_device.specs.State.{DeviceState, IsDevice}
 use Rattle.worm_device.proofs.Counting.{still_first, still_second}
 use Rattle.worm_device.proofs.Elapsing.{called_self, called_then}
-use Rattle.command_laws.specs.ingest_engine.Ingesting.{document_in}
-use Rattle.command_laws.specs.settling_laws.Steadiness.{IsSteady}
+use Rattle.ingest_engine.specs.Ingesting.{document_in}
+use Rattle.crash_laws.specs.SettlingSteadiness.{IsSteady}
 use Rattle.volume_copy.specs.Adding.{AddsRest, CopiedSoFar, RestFails}
 use Rattle.volume_copy.specs.Auditing.{AuditsSteady, HasAudited, IsWhole, Refuses, by_reading}
 use Rattle.volume_copy.specs.Beginning.{BeginEnds, Begins}

@@ -4,11 +4,11 @@ use Rattle.std.specs.Prelude.{Contains}
 use Rattle.cell_types.specs.Image.{Between, Extends, Image}
 use Rattle.cell_types.specs.Layout.{Layout}
 use Rattle.cell_types.specs.declared.geometry.TheConstants.{STAMPED_VERSION}
-use Rattle.stored_documents.specs.Documents.{AreDocuments, Document, IsDocument}
-use Rattle.stored_documents.specs.Slots.{HasStamp, IsStampOf, IsStamped}
-use Rattle.stored_documents.specs.Volumes.{IsVolume}
-use Rattle.stored_documents.proofs.Extending.{blank_before, holds_on, volume_on}
-use Rattle.stored_documents.proofs.Stamps.{one_stamp}
+use Rattle.volume_meaning.specs.Documents.{AreDocuments, Document, IsDocument}
+use Rattle.volume_meaning.specs.Slots.{HasStamp, IsStampOf, IsStamped}
+use Rattle.volume_meaning.specs.Volumes.{IsVolume}
+use Rattle.volume_meaning.proofs.Extending.{blank_before, holds_on, volume_on}
+use Rattle.volume_meaning.proofs.Stamps.{one_stamp}
 use Rattle.tamper_rules.specs.Settling.{After, Held, IsBlankOrSound, Sound, none, of_after}
 use Rattle.tamper_rules.proofs.Between.{after_keeps, volume_of}
 use Rattle.tamper_rules.proofs.DocumentLists.{documents_exist}
@@ -19,8 +19,8 @@ use Rattle.worm_device.specs.Calls.{Called}
 use Rattle.worm_device.specs.State.{DeviceState, IsDevice, LeftSince}
 use Rattle.worm_device.proofs.Elapsing.{elapses_of}
 use Rattle.worm_device.proofs.Images.{extends_self}
-use Rattle.command_laws.specs.settling_laws.Steadiness.{HoldsOneOf, IsLeftWhole, IsSteady}
-use Rattle.command_laws.proofs.of_settling_laws.LeftWhole.{left_between}
+use Rattle.crash_laws.specs.SettlingSteadiness.{HoldsOneOf, IsLeftWhole, IsSteady}
+use Rattle.crash_laws.proofs.LeftWhole.{left_between}
 use Rattle.command_laws.specs.Telling.{LeavesHeld}
 use Rattle.volume_copy.specs.First as firsts
 use Rattle.volume_copy.specs.First.{HoldsFirst, StaysFirst, first}

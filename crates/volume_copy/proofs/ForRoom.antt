@@ -7,11 +7,11 @@ use Rattle.cell_types.specs.Layout.{Layout, done_at, spare_at}
 use Rattle.cell_types.specs.declared.geometry.TheConstants.{STAMPED_VERSION}
 use Rattle.cell_types.specs.declared.refusal.Refusal.{Refusal}
 use Rattle.cell_types.specs.declared.refusal.Refusal.TheVariants as refusals
-use Rattle.stored_documents.specs.Documents.{AreDocuments, Document, IsDocument, Rise, Stands}
-use Rattle.stored_documents.specs.Slots.{IsDoneSlot, IsStampOf}
-use Rattle.stored_documents.specs.Volumes.{IsVolume}
-use Rattle.stored_documents.proofs.Extending.{volume_on}
-use Rattle.stored_documents.proofs.Stamps as stamps
+use Rattle.volume_meaning.specs.Documents.{AreDocuments, Document, IsDocument, Rise, Stands}
+use Rattle.volume_meaning.specs.Slots.{IsDoneSlot, IsStampOf}
+use Rattle.volume_meaning.specs.Volumes.{IsVolume}
+use Rattle.volume_meaning.proofs.Extending.{volume_on}
+use Rattle.volume_meaning.proofs.Stamps as stamps
 use Rattle.tamper_rules.specs.Rules as rules
 use Rattle.tamper_rules.specs.Rules.{BlankRule, IsTrueStamp, PathRule}
 use Rattle.tamper_rules.specs.Settling.{IsSettled, Settled, Sound, nothing}
@@ -25,13 +25,13 @@ use Rattle.worm_device.proofs.Counting.{rose_or_still}
 use Rattle.document_store.proofs.Holding.{held_stands}
 use Rattle.recovery_engine.specs.Settling.{HasSettled}
 use Rattle.recovery_engine.specs.declared.settling.Ready.{Ready}
-use Rattle.command_laws.proofs.of_plan_writer.PutFrom.{volume_2}
-use Rattle.command_laws.specs.ingest_engine.Ingesting.{HasLaterStamp, IngestEnds, IsTaken, StampEnds, TakesNoSuchStamp}
-use Rattle.command_laws.specs.ingest_engine.Stamps.{IsStampBelow}
-use Rattle.command_laws.proofs.of_ingest_engine.CrashedIngests.{ready_layout}
-use Rattle.command_laws.specs.settling_laws.Steadiness.{IsSteady}
-use Rattle.command_laws.proofs.of_settling_laws.LookedAt.{looked_ends}
-use Rattle.command_laws.proofs.of_crash_laws.Alarms.{none_named}
+use Rattle.plan_writer.proofs.PutFrom.{volume_2}
+use Rattle.ingest_engine.specs.Ingesting.{HasLaterStamp, IngestEnds, IsTaken, StampEnds, TakesNoSuchStamp}
+use Rattle.ingest_engine.specs.Stamps.{IsStampBelow}
+use Rattle.ingest_engine.proofs.CrashedIngests.{ready_layout}
+use Rattle.crash_laws.specs.SettlingSteadiness.{IsSteady}
+use Rattle.crash_laws.proofs.LookedAt.{looked_ends}
+use Rattle.crash_laws.proofs.Alarms.{none_named}
 use Rattle.command_laws.proofs.WholeLogs.{no_blank_cell, no_other_cell, no_other_size}
 use Rattle.volume_copy.specs.Completing.{IsForRoom}
 use Rattle.volume_copy.specs.Pairs.{ArePairs, SaysSame}

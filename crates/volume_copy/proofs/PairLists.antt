@@ -4,8 +4,8 @@ use Rattle.std.specs.Prelude.{Contains, slice_get, slice_index}
 use Rattle.std.proofs.lemmas.Option.{get_or_from_slice_get, slice_get-get_or, slice_get_within}
 use Rattle.cell_types.specs.Image.{Extends, Image}
 use Rattle.cell_types.specs.Layout.{Layout}
-use Rattle.stored_documents.specs.Documents.{Document}
-use Rattle.stored_documents.proofs.Stamps.{stamp_on}
+use Rattle.volume_meaning.specs.Documents.{Document}
+use Rattle.volume_meaning.proofs.Stamps.{stamp_on}
 use Rattle.volume_copy.specs.Pairs.{ArePairs, SaysSame, slots_of}
 use Rattle.volume_copy.specs.declared.moved.Moved.{Moved}
 

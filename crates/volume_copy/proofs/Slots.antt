@@ -10,10 +10,10 @@ use Rattle.cell_types.specs.declared.refusal.Fault.{Fault}
 use Rattle.cell_types.specs.declared.refusal.Fault.TheVariants as faults
 use Rattle.cell_types.specs.declared.refusal.Refusal.{Refusal}
 use Rattle.cell_types.specs.declared.refusal.Refusal.TheVariants.{DeviceFault, NoMemory, Tampered}
-use Rattle.stored_documents.specs.Documents.{stored_bytes, Spells, document_at}
-use Rattle.stored_documents.specs.Slots.{IsDone, IsDoneSlot, IsStampOf, Stores}
-use Rattle.stored_documents.specs.Volumes.{IsVolume}
-use Rattle.stored_documents.proofs.Extending.{done_slot_on, holds_on, volume_on}
+use Rattle.volume_meaning.specs.Documents.{stored_bytes, Spells, document_at}
+use Rattle.volume_meaning.specs.Slots.{IsDone, IsDoneSlot, IsStampOf, Stores}
+use Rattle.volume_meaning.specs.Volumes.{IsVolume}
+use Rattle.volume_meaning.proofs.Extending.{done_slot_on, holds_on, volume_on}
 use Rattle.tamper_rules.specs.Rules.{Documents, HasDocument, IsBroken}
 use Rattle.tamper_rules.specs.declared.numbers.TheConstants.{BROKEN_DOCUMENT}
 use Rattle.tamper_rules.proofs.Images.{same_image}

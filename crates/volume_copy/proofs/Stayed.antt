@@ -7,10 +7,10 @@ use Rattle.worm_device.specs.Calls.{Called}
 use Rattle.worm_device.specs.State.{DeviceState, IsDevice, LeftSince}
 use Rattle.worm_device.proofs.Counting.{still_first, still_second}
 use Rattle.worm_device.proofs.Elapsing.{called_self, elapses_of}
-use Rattle.command_laws.specs.ingest_engine.Ingesting.{Ingests}
-use Rattle.command_laws.specs.settling_laws.Steadiness.{IsLeftWhole, IsSteady}
-use Rattle.command_laws.specs.crash_laws.Steadiness.{IsLeftByIngest}
-use Rattle.command_laws.proofs.of_crash_laws.Steady.{comes_steady}
+use Rattle.ingest_engine.specs.Ingesting.{Ingests}
+use Rattle.crash_laws.specs.SettlingSteadiness.{IsLeftWhole, IsSteady}
+use Rattle.crash_laws.specs.Steadiness.{IsLeftByIngest}
+use Rattle.crash_laws.proofs.Steady.{comes_steady}
 use Rattle.command_laws.specs.Begins.{BeginsSteady}
 use Rattle.command_laws.specs.Telling.{LeavesHeld}
 use Rattle.command_laws.proofs.LeavesThen.{leaves_then}
@@ -18,10 +18,10 @@ use Rattle.command_laws.proofs.LookedFirst.{looked_leaves}
 use Rattle.cell_types.specs.Layout.{Layout}
 use Rattle.recovery_engine.specs.Settling.{Settles}
 use Rattle.recovery_engine.specs.declared.settling.Ready.{Ready}
-use Rattle.command_laws.specs.ingest_engine.Formats.{Formats}
-use Rattle.command_laws.specs.volume_audit.Audits.{Audits}
-use Rattle.command_laws.specs.volume_audit.declared.report.AuditReport.{AuditReport}
-use Rattle.command_laws.proofs.of_volume_audit.Comes.{settles_first}
+use Rattle.ingest_engine.specs.Formats.{Formats}
+use Rattle.volume_audit.specs.Audits.{Audits}
+use Rattle.volume_audit.specs.declared.report.AuditReport.{AuditReport}
+use Rattle.volume_audit.proofs.Comes.{settles_first}
 use Rattle.command_laws.proofs.Formatting.{format_leaves}
 use Rattle.command_laws.proofs.Queries.{query_leaves, settling_leaves}
 use Rattle.volume_copy.specs.Reading.{IsOnlyRead}

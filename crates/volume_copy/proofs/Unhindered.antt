@@ -7,10 +7,10 @@ use Rattle.cell_types.specs.Image.{Image}
 use Rattle.cell_types.specs.Layout.{Layout}
 use Rattle.cell_types.specs.declared.refusal.Refusal.{Refusal}
 use Rattle.cell_types.specs.declared.refusal.Refusal.TheVariants.{DeviceFault, NoMemory, Tampered}
-use Rattle.stored_documents.specs.Documents.{Document}
-use Rattle.stored_documents.specs.Volumes.{IsVolume}
-use Rattle.stored_documents.proofs.Extending.{volume_on}
-use Rattle.stored_documents.proofs.Lists.{lists_one}
+use Rattle.volume_meaning.specs.Documents.{Document}
+use Rattle.volume_meaning.specs.Volumes.{IsVolume}
+use Rattle.volume_meaning.proofs.Extending.{volume_on}
+use Rattle.volume_meaning.proofs.Lists.{lists_one}
 use Rattle.tamper_rules.specs.Settling.{Settled, nothing}
 use Rattle.tamper_rules.proofs.GivenUp.{one_layout}
 use Rattle.tamper_rules.proofs.SettledLaws.{unbroken}
@@ -19,9 +19,9 @@ use Rattle.worm_device.specs.Counts.{IsStill}
 use Rattle.worm_device.specs.State.{DeviceState, IsDevice}
 use Rattle.worm_device.proofs.Counting.{rose_or_still, still_first, still_second}
 use Rattle.recovery_engine.specs.Settling.{Settles}
-use Rattle.command_laws.proofs.of_settling_laws.LeftWhole.{documents_after}
-use Rattle.command_laws.specs.volume_audit.Audits.{Audits}
-use Rattle.command_laws.specs.volume_audit.declared.report.AuditReport.{AuditReport}
+use Rattle.crash_laws.proofs.LeftWhole.{documents_after}
+use Rattle.volume_audit.specs.Audits.{Audits}
+use Rattle.volume_audit.specs.declared.report.AuditReport.{AuditReport}
 use Rattle.command_laws.specs.Begins.{BeginsSteady}
 use Rattle.command_laws.specs.WholeLogs.{HasSteadyVolume}
 use Rattle.command_laws.proofs.Completing.{audits_whole, steady_settles}

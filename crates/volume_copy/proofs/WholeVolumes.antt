@@ -9,11 +9,11 @@ use Rattle.cell_types.specs.Image.{Extends, Image}
 use Rattle.cell_types.specs.Layout.{Layout, reserve_at}
 use Rattle.cell_types.specs.declared.refusal.Refusal.{Refusal}
 use Rattle.cell_types.specs.declared.refusal.Refusal.TheVariants.{DeviceFault, NoMemory, Tampered}
-use Rattle.stored_documents.specs.Documents.{AreDocuments, Document, IsDocument, Rise, Stands}
-use Rattle.stored_documents.specs.Slots.{IsDoneSlot, IsHorizon}
-use Rattle.stored_documents.specs.Volumes.{IsVolume, IsWritten}
-use Rattle.stored_documents.proofs.Extending.{volume_on}
-use Rattle.stored_documents.proofs.Lists.{Rising, one_list}
+use Rattle.volume_meaning.specs.Documents.{AreDocuments, Document, IsDocument, Rise, Stands}
+use Rattle.volume_meaning.specs.Slots.{IsDoneSlot, IsHorizon}
+use Rattle.volume_meaning.specs.Volumes.{IsVolume, IsWritten}
+use Rattle.volume_meaning.proofs.Extending.{volume_on}
+use Rattle.volume_meaning.proofs.Lists.{Rising, one_list}
 use Rattle.tamper_rules.specs.Settling.{After, Settled, Sound, nothing}
 use Rattle.tamper_rules.proofs.DocumentLists.{done_stands}
 use Rattle.tamper_rules.proofs.GivenUp.{one_layout}
@@ -26,11 +26,11 @@ use Rattle.worm_device.proofs.Counting.{still_first, still_second}
 use Rattle.worm_device.proofs.Elapsing.{called_then}
 use Rattle.recovery_engine.specs.Settling.{Settles}
 use Rattle.recovery_engine.specs.declared.settling.Ready.{Ready}
-use Rattle.command_laws.specs.settling_laws.Steadiness.{EndsAs}
-use Rattle.command_laws.proofs.of_settling_laws.EndedAs.{settling_ends}
-use Rattle.command_laws.specs.volume_audit.Audits.{AuditEnds, Audits, settled, settling}
-use Rattle.command_laws.specs.volume_audit.Reports.{IsSound}
-use Rattle.command_laws.specs.volume_audit.declared.report.AuditReport.{AuditReport}
+use Rattle.crash_laws.specs.SettlingSteadiness.{EndsAs}
+use Rattle.crash_laws.proofs.EndedAs.{settling_ends}
+use Rattle.volume_audit.specs.Audits.{AuditEnds, Audits, settled, settling}
+use Rattle.volume_audit.specs.Reports.{IsSound}
+use Rattle.volume_audit.specs.declared.report.AuditReport.{AuditReport}
 use Rattle.volume_copy.specs.Auditing.{HasAudited, IsWhole, Refuses, by_audit, by_reading, by_settling}
 use Rattle.volume_copy.specs.Pairs.{slots_of}
 use Rattle.volume_copy.specs.Reading.{IsOnlyRead, ReadingFails, RiseFrom}
@@ -142,7 +142,7 @@ audit_sound : {old new : DeviceState} {report : AuditReport} → Audits old new 
     → IsStill old.foreign_writes new.foreign_writes → IsSound new.cells new.image report
 audit_sound {old} {new} {report} audits tells still = by_case audits.comes
   where
-    by_case : Rattle.command_laws.specs.volume_audit.Audits.SettlesThenAudits old new (Ok report)
+    by_case : Rattle.volume_audit.specs.Audits.SettlesThenAudits old new (Ok report)
         → IsSound new.cells new.image report
     by_case (settling refusal is settles) = absurd (no_error refusal is)
       where

@@ -4,17 +4,17 @@ use Rattle.cell_types.specs.Image.{IsUnchanged}
 use Rattle.cell_types.specs.Layout.{IsLayout, Layout}
 use Rattle.cell_types.specs.declared.refusal.Refusal.{Refusal}
 use Rattle.cell_types.specs.declared.refusal.Refusal.TheVariants.{NoMemory}
-use Rattle.stored_documents.specs.Documents.{AreDocuments, Document}
-use Rattle.stored_documents.specs.Slots.{IsDoneSlot}
-use Rattle.stored_documents.specs.Volumes.{IsVolume}
+use Rattle.volume_meaning.specs.Documents.{AreDocuments, Document}
+use Rattle.volume_meaning.specs.Slots.{IsDoneSlot}
+use Rattle.volume_meaning.specs.Volumes.{IsVolume}
 use Rattle.tamper_rules.specs.Settling.{Settled}
 use Rattle.worm_device.specs.Calls.{Called}
 use Rattle.worm_device.specs.Counts.{IsStill}
 use Rattle.worm_device.specs.State.{DeviceState}
 use Rattle.recovery_engine.specs.Settling.{Settles}
 use Rattle.command_laws.specs.WholeLogs.{HasSteadyVolume}
-use Rattle.command_laws.specs.volume_audit.Audits.{Audits}
-use Rattle.command_laws.specs.volume_audit.declared.report.AuditReport.{AuditReport}
+use Rattle.volume_audit.specs.Audits.{Audits}
+use Rattle.volume_audit.specs.declared.report.AuditReport.{AuditReport}
 use Rattle.volume_copy.specs.Pairs.{slots_of}
 use Rattle.volume_copy.specs.Reading.{ReadingFails}
 use Rattle.volume_copy.specs.declared.audited.AuditedVolume.{AuditedVolume}

@@ -4,10 +4,10 @@ use Rattle.cell_types.specs.Layout.{Layout}
 use Rattle.cell_types.specs.declared.refusal.CopyRefusal.{CopyRefusal}
 use Rattle.cell_types.specs.declared.refusal.CopyRefusal.TheVariants.{NoMemory, OtherVolume, To}
 use Rattle.cell_types.specs.declared.refusal.Refusal.TheVariants.{Full, PathFull, SlotsFull, TooManyTerms, TooSmall}
-use Rattle.stored_documents.specs.Volumes.{IsVolume}
+use Rattle.volume_meaning.specs.Volumes.{IsVolume}
 use Rattle.tamper_rules.specs.Settling.{Sound}
 use Rattle.worm_device.specs.State.{DeviceState}
-use Rattle.command_laws.specs.settling_laws.Steadiness.{IsSteady}
+use Rattle.crash_laws.specs.SettlingSteadiness.{IsSteady}
 use Rattle.volume_copy.specs.Alone.{AreAlone, AreUnfailed}
 use Rattle.volume_copy.specs.First.{HoldsFirst}
 

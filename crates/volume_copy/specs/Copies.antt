@@ -9,18 +9,18 @@ use Rattle.cell_types.specs.declared.refusal.CopyRefusal.{CopyRefusal}
 use Rattle.cell_types.specs.declared.refusal.CopyRefusal.TheVariants.{Differs, From, Longer, NoMemory, OtherVolume, To}
 use Rattle.cell_types.specs.declared.refusal.Refusal.{Refusal}
 use Rattle.cell_types.specs.declared.refusal.Refusal.TheVariants as refusals
-use Rattle.stored_documents.specs.Documents.{AreDocuments, Document, Stands}
-use Rattle.stored_documents.specs.Slots.{IsStampOf}
-use Rattle.stored_documents.specs.Volumes.{IsVolume, volume_record}
-use Rattle.index_paths.specs.Keeping.{Kept}
+use Rattle.volume_meaning.specs.Documents.{AreDocuments, Document, Stands}
+use Rattle.volume_meaning.specs.Slots.{IsStampOf}
+use Rattle.volume_meaning.specs.Volumes.{IsVolume, volume_record}
+use Rattle.volume_meaning.specs.Keeping.{Kept}
 use Rattle.tamper_rules.specs.Settling.{Settled}
 use Rattle.worm_device.specs.Calls.{Called}
 use Rattle.worm_device.specs.Counts.{Rose}
 use Rattle.worm_device.specs.State.{DeviceState, LeftSince}
 use Rattle.document_store.specs.Standing.{HoldsDocument}
-use Rattle.command_laws.specs.ingest_engine.Formats.{Formats}
-use Rattle.command_laws.specs.ingest_engine.Ingesting.{Ingests, document_in}
-use Rattle.command_laws.specs.settling_laws.Steadiness.{IsSteady}
+use Rattle.ingest_engine.specs.Formats.{Formats}
+use Rattle.ingest_engine.specs.Ingesting.{Ingests, document_in}
+use Rattle.crash_laws.specs.SettlingSteadiness.{IsSteady}
 use Rattle.volume_copy.specs.Auditing.{Refuses}
 use Rattle.volume_copy.specs.Alone.{AreAlone}
 use Rattle.volume_copy.specs.Completing.{EndsUnhindered, IsUnhindered}

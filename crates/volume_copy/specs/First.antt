@@ -2,8 +2,8 @@
 use Rattle.std.specs.Prelude.{◌≡◌, ◌≤◌, ◌⊎◌, ℕ, List, None}
 use Rattle.cell_types.specs.Image.{Image}
 use Rattle.cell_types.specs.Layout.{Layout}
-use Rattle.stored_documents.specs.Documents.{AreDocuments, Document}
-use Rattle.stored_documents.specs.Volumes.{IsVolume}
+use Rattle.volume_meaning.specs.Documents.{AreDocuments, Document}
+use Rattle.volume_meaning.specs.Volumes.{IsVolume}
 use Rattle.tamper_rules.specs.Settling.{Held}
 use Rattle.worm_device.specs.State.{DeviceState, LeftSince}
 use Rattle.volume_copy.specs.Pairs.{ArePairs}

@@ -2,7 +2,7 @@
 use Rattle.std.specs.Prelude.{◌≡◌, List}
 use Rattle.cell_types.specs.Image.{Image}
 use Rattle.cell_types.specs.Layout.{Layout}
-use Rattle.stored_documents.specs.Documents.{Document}
+use Rattle.volume_meaning.specs.Documents.{Document}
 use Rattle.volume_copy.specs.Pairs.{ArePairs}
 use Rattle.volume_copy.specs.declared.moved.Moved.{Moved}
 

@@ -2,9 +2,9 @@
 use Rattle.std.specs.Prelude.{◌≡◌, ◌≤◌, ℕ, List, [], ◌∷◌, length, take, Option}
 use Rattle.cell_types.specs.Image.{Image}
 use Rattle.cell_types.specs.Layout.{Layout}
-use Rattle.stored_documents.specs.Documents.{AreDocuments, Document}
-use Rattle.stored_documents.specs.Slots.{IsStampOf}
-use Rattle.stored_documents.specs.Volumes.{IsVolume}
+use Rattle.volume_meaning.specs.Documents.{AreDocuments, Document}
+use Rattle.volume_meaning.specs.Slots.{IsStampOf}
+use Rattle.volume_meaning.specs.Volumes.{IsVolume}
 use Rattle.worm_device.specs.State.{DeviceState}
 use Rattle.volume_copy.specs.declared.moved.Moved.{Moved}
 

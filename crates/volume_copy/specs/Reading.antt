@@ -4,9 +4,9 @@ use Rattle.cell_types.specs.Image.{Image, IsUnchanged}
 use Rattle.cell_types.specs.Layout.{Layout}
 use Rattle.cell_types.specs.declared.refusal.Refusal.{Refusal}
 use Rattle.cell_types.specs.declared.refusal.Refusal.TheVariants.{DeviceFault, NoMemory, Tampered}
-use Rattle.stored_documents.specs.Documents.{IsBody, IsIdentifier}
-use Rattle.stored_documents.specs.Slots.{IsStampOf}
-use Rattle.stored_documents.specs.Volumes.{IsVolume}
+use Rattle.volume_meaning.specs.Documents.{IsBody, IsIdentifier}
+use Rattle.volume_meaning.specs.Slots.{IsStampOf}
+use Rattle.volume_meaning.specs.Volumes.{IsVolume}
 use Rattle.worm_device.specs.Calls.{Called}
 use Rattle.worm_device.specs.Counts.{Rose, IsStill}
 use Rattle.worm_device.specs.State.{DeviceState}

@@ -3,7 +3,7 @@ use Rattle.std.specs.Prelude.{◌≤◌, ◌⊎◌, ℕ}
 use Rattle.cell_types.specs.Image.{Image}
 use Rattle.tamper_rules.specs.Settling.{IsBlankOrSound}
 use Rattle.worm_device.specs.State.{DeviceState, LeftSince}
-use Rattle.command_laws.specs.settling_laws.Steadiness.{IsSteady}
+use Rattle.crash_laws.specs.SettlingSteadiness.{IsSteady}
 use Rattle.command_laws.specs.Begins.{BeginsSteady}
 use Rattle.command_laws.specs.Telling.{LeavesHeld}
 

@@ -4,8 +4,8 @@ use Rattle.std.specs.Global.{Vec}
 use Rattle.cell_types.specs.Image.{Image}
 use Rattle.cell_types.specs.Layout.{Layout}
 use Rattle.cell_types.specs.declared.refusal.Refusal.{Refusal}
-use Rattle.stored_documents.specs.Slots.{IsDoneSlot}
-use Rattle.stored_documents.specs.Volumes.{IsVolume}
+use Rattle.volume_meaning.specs.Slots.{IsDoneSlot}
+use Rattle.volume_meaning.specs.Volumes.{IsVolume}
 use Rattle.worm_device.specs.State.{DeviceState}
 use Rattle.worm_device.specs.Views.{ViewState}
 use Rattle.volume_copy.specs.Reading.{ReadingFails, RiseFrom, SlotFails}

@@ -7,8 +7,8 @@ use crate::moved::Moved;
 use crate::refused::{from_source, to_target};
 use crate::stored::read_stored;
 use cell_types::CopyRefusal;
+use host_ports::{Meter, Work};
 use ingest_engine::ingest;
-use progress::{Meter, Work};
 use std::alloc::Global;
 use worm_device::Device;
 

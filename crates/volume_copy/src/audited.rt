@@ -4,7 +4,7 @@ ghost use Rattle.volume_copy.specs.Staying.{IsHeldThroughout};
 
 use crate::walking::done_slots;
 use cell_types::{Refusal, Volume};
-use progress::Meter;
+use host_ports::Meter;
 use recovery_engine::settle;
 use std::alloc::Global;
 use volume_audit::audit_metered;

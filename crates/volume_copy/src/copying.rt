@@ -7,7 +7,7 @@ use crate::moved::Moved;
 use crate::refused::from_source;
 use crate::target::begin;
 use cell_types::CopyRefusal;
-use progress::{Meter, Silent};
+use host_ports::{Meter, Silent};
 use std::alloc::Global;
 use worm_device::Device;
 

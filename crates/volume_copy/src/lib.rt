@@ -24,7 +24,7 @@
 //! done, or refused because the target is another volume, or lacks the room, or for want of memory (`IsUnhindered`). **Not
 //! claimed**: that a target with fewer lists or cells has room.
 //!
-//! Stands on `volume_audit`, `document_store` (reading) and `ingest_engine` (writing), and on `progress`: `copy_metered`
+//! Stands on `volume_audit`, `document_store` (reading) and `ingest_engine` (writing), and on `host_ports`: `copy_metered`
 //! shows how many documents are copied. Begin with `copying.rt`; `specs/Copies.antt` says how a copy may end, and why.
 #![tactic(auto)]
 

@@ -1,7 +1,7 @@
 //! A document of a slot, read into memory.
 ghost use Rattle.std.specs.Prelude.{◌<◌, ◌≤◌, ◌↔◌, IsTrue};
-ghost use Rattle.stored_documents.specs.Documents.{IsBody};
-ghost use Rattle.stored_documents.specs.Slots.{IsDoneSlot};
+ghost use Rattle.volume_meaning.specs.Documents.{IsBody};
+ghost use Rattle.volume_meaning.specs.Slots.{IsDoneSlot};
 ghost use Rattle.worm_device.specs.Views.{Viewed};
 ghost use Rattle.volume_copy.specs.Reading.{BodyReadEnds, CopyReadEnds, NamesCell, ReadsStored, StampReadEnds};
 
@@ -10,8 +10,8 @@ use commit_record::stamp_of;
 use document_store::{BodyFault, body_into, identifier_of, is_identifier};
 use host_ports::MemorySink;
 use std::alloc::Global;
-use stored_documents::MAX_BODY_BYTES;
 use tamper_rules::BROKEN_DOCUMENT;
+use volume_meaning::MAX_BODY_BYTES;
 use worm_device::{Device, Direct, View};
 
 /// A document that was read.

@@ -9,8 +9,8 @@ use crate::moved::Moved;
 use crate::refused::{is_other, to_target};
 use cell_types::{Cell, CopyRefusal, Refusal};
 use commit_record::volume_of;
+use host_ports::Meter;
 use ingest_engine::format_volume;
-use progress::Meter;
 use std::alloc::Global;
 use worm_device::Device;
 

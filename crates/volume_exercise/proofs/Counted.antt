@@ -1,7 +1,7 @@
 -- The lines that are counted from the parts of the replies.
 use Rattle.std.proofs.Common.{◌≡◌, ◌+◌, ◌-◌, ℕ, List, drop, ap, take, ◌∙◌, arith}
 use Rattle.std.specs.List.{count_by, sum_by}
-use Rattle.replayed_worlds.specs.script_replies.declared.reply.Reply.{Reply}
+use Rattle.script_replies.specs.declared.reply.Reply.{Reply}
 use Rattle.volume_exercise.specs.Tallies.{counted_text, is_acknowledged, lines_of, matches_in, of_ingests, of_look_ups, of_pairs, of_singles, returned_from, sound_line}
 
 pub same_lines : (n a b m l p o q r : ℕ) (s t : List ℕ) → a ≡ b → m ≡ l → p ≡ o → q ≡ r → s ≡ t

@@ -6,13 +6,13 @@ use Rattle.std.specs.Str.{bytes_eq}
 use Rattle.std.proofs.lemmas.Bool.{and_from, and_parts, cases_Bool, cond-false, cond-true, cond_both, false≢true, or_cases, or_left, or_right}
 use Rattle.std.proofs.lemmas.List.Sums.{sum_by-cons}
 use Rattle.std.proofs.lemmas.Slice.Eq.{bytes_eq-Decides}
-use Rattle.stored_documents.specs.Documents.{Document, Rise}
-use Rattle.stored_documents.specs.Words.{HasWord, words_of}
-use Rattle.stored_documents.specs.declared.word_rules.WordRule.TheVariants.{Ascii}
-use Rattle.stored_documents.proofs.Lists.{Rising, one_list}
-use Rattle.stored_documents.proofs.Words.{words_are_one}
-use Rattle.replayed_worlds.specs.record_query.Finding.{Rises}
-use Rattle.replayed_worlds.specs.record_query.declared.found.Match.{Match}
+use Rattle.volume_meaning.specs.Documents.{Document, Rise}
+use Rattle.volume_meaning.specs.Words.{HasWord, words_of}
+use Rattle.volume_meaning.specs.declared.word_rules.WordRule.TheVariants.{Ascii}
+use Rattle.volume_meaning.proofs.Lists.{Rising, one_list}
+use Rattle.volume_meaning.proofs.Words.{words_are_one}
+use Rattle.record_query.specs.Finding.{Rises}
+use Rattle.record_query.specs.declared.found.Match.{Match}
 use Rattle.volume_exercise.specs.Telling.{TermsAreWords}
 
 -- a member is the first, or one of the rest

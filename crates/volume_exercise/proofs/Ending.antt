@@ -8,32 +8,32 @@ use Rattle.std.specs.List.{All, range_with_len}
 use Rattle.cell_types.specs.Layout.{IsLayout, Layout, pool_at, reserve_at}
 use Rattle.cell_types.specs.declared.refusal.Refusal.{Refusal}
 use Rattle.cell_types.specs.declared.refusal.Refusal.TheVariants as refusals
-use Rattle.stored_documents.specs.Documents.{Document}
-use Rattle.stored_documents.specs.Volumes.{IsVolume}
-use Rattle.stored_documents.proofs.Extending.{volume_on}
-use Rattle.document_store.specs.tamper_rules.Settling.{Held, Settled}
-use Rattle.replayed_worlds.specs.settling_laws.Steadiness.{IsSteady}
+use Rattle.volume_meaning.specs.Documents.{Document}
+use Rattle.volume_meaning.specs.Volumes.{IsVolume}
+use Rattle.volume_meaning.proofs.Extending.{volume_on}
+use Rattle.tamper_rules.specs.Settling.{Held, Settled}
+use Rattle.crash_laws.specs.SettlingSteadiness.{IsSteady}
 use Rattle.worm_device.specs.Counts.{IsStill}
 use Rattle.worm_device.specs.State.{IsDevice}
 use Rattle.worm_device.proofs.Images.{extends_then}
 use Rattle.worm_memory.specs.Memory.{Memory, device_of}
 use Rattle.worm_memory.specs.Worlds.{foreign_writes_in, world}
 use Rattle.worm_memory.specs.declared.change.Change.{Change}
-use Rattle.replayed_worlds.proofs.of_crash_laws.Alarms.{none_named}
-use Rattle.replayed_worlds.specs.command_laws.Begins.{BeginsSteady}
+use Rattle.crash_laws.proofs.Alarms.{none_named}
+use Rattle.command_laws.specs.Begins.{BeginsSteady}
 use Rattle.script_events.specs.declared.event.Event.{Event}
 use Rattle.script_events.specs.declared.event.Event.TheVariants as event
-use Rattle.replayed_worlds.specs.script_replies.declared.reply.Reply.{Reply}
-use Rattle.replayed_worlds.specs.script_replies.declared.reply.Reply.TheVariants as reply
-use Rattle.replayed_worlds.specs.begun_commands.Beginnings.{begun_with}
-use Rattle.replayed_worlds.specs.Completeness.{IsDoneWherePossible, IsFormattedReply, IsFoundReply, IsLookedUpReply, IsSoundReply}
-use Rattle.replayed_worlds.specs.Headline.{AcknowledgedAreReturned, IsNew, Returns}
-use Rattle.replayed_worlds.specs.Steadily.{IsWholeTurn, begun_by}
-use Rattle.replayed_worlds.specs.Turns.{Turns, layout_on}
-use Rattle.replayed_worlds.specs.Undisturbed.{IsDoneReply, IsLeftPlain, IsPlain, IsPlainTurn, PlainIsDone, events_of}
-use Rattle.replayed_worlds.specs.Worlds.{AreInTurn, IsWorld, Turn, acknowledged, acknowledged_by}
-use Rattle.replayed_worlds.proofs.Along.{along, split}
-use Rattle.replayed_worlds.proofs.Undisturbed.{all_at, all_left, turn_unfailed, turn_unshared}
+use Rattle.script_replies.specs.declared.reply.Reply.{Reply}
+use Rattle.script_replies.specs.declared.reply.Reply.TheVariants as reply
+use Rattle.script_replies.specs.Beginnings.{begun_with}
+use Rattle.hostile_replay.specs.Completeness.{IsDoneWherePossible, IsFormattedReply, IsFoundReply, IsLookedUpReply, IsSoundReply}
+use Rattle.hostile_replay.specs.Headline.{AcknowledgedAreReturned, IsNew, Returns}
+use Rattle.hostile_replay.specs.Steadily.{IsWholeTurn, begun_by}
+use Rattle.hostile_replay.specs.Turns.{Turns, layout_on}
+use Rattle.hostile_replay.specs.Undisturbed.{IsDoneReply, IsLeftPlain, IsPlain, IsPlainTurn, PlainIsDone, events_of}
+use Rattle.hostile_replay.specs.Worlds.{AreInTurn, IsWorld, Turn, acknowledged, acknowledged_by}
+use Rattle.hostile_replay.proofs.Along.{along, split}
+use Rattle.hostile_replay.proofs.Undisturbed.{all_at, all_left, turn_unfailed, turn_unshared}
 use Rattle.volume_exercise.specs.Documents.{body_of, identifier_of}
 use Rattle.volume_exercise.specs.Events as events
 use Rattle.volume_exercise.specs.Events.{audit_event, exercise_events, format_event, ingest_event, look_up_event, no_schedule, pair_event, single_event}

@@ -7,9 +7,9 @@ use Rattle.std.proofs.lemmas.List.FromFn.{get_or-map-range_with_len, length-map-
 use Rattle.std.specs.Prelude.{decimal, slice_index}
 use Rattle.std.specs.List.{All, flat_map, range_with_len}
 use Rattle.script_events.specs.Events.{AreEventsOn, IsEventOn, IsPlanOn, IsTermOfWord}
-use Rattle.stored_documents.specs.Documents.{IsBody, IsIdentifier}
-use Rattle.stored_documents.specs.declared.word_rules.WordRule.TheVariants.{Ascii}
-use Rattle.replayed_worlds.specs.Undisturbed.{IsPlain, PlansNothing}
+use Rattle.volume_meaning.specs.Documents.{IsBody, IsIdentifier}
+use Rattle.volume_meaning.specs.declared.word_rules.WordRule.TheVariants.{Ascii}
+use Rattle.hostile_replay.specs.Undisturbed.{IsPlain, PlansNothing}
 use Rattle.volume_exercise.specs.Documents.{body_of, identifier_of, word_at, word_of}
 use Rattle.volume_exercise.specs.Events.{audit_event, exercise_events, format_event, ingest_event, ingests, look_up_event, look_ups, no_schedule, pair_event, pairs, single_event, singles}
 use Rattle.volume_exercise.proofs.Words.{AreDigits, decimal_digits, word_is_one}

@@ -3,8 +3,8 @@ use Rattle.std.proofs.Common.{◌≡◌, ◌+◌, ◌*◌, ℕ, suc, List, [], �
 use Rattle.std.proofs.lemmas.List.{length-append}
 use Rattle.std.proofs.lemmas.List.FromFn.{length-map-range_with_len}
 use Rattle.worm_memory.specs.Memory.{Memory}
-use Rattle.replayed_worlds.specs.script_replies.declared.reply.Reply.{Reply}
-use Rattle.replayed_worlds.specs.Worlds.{IsWorld, Turn}
+use Rattle.script_replies.specs.declared.reply.Reply.{Reply}
+use Rattle.hostile_replay.specs.Worlds.{IsWorld, Turn}
 use Rattle.volume_exercise.specs.Events.{audit_event, exercise_events, ingest_event, ingests, look_up_event, look_ups, pair_event, pairs, single_event, singles}
 
 pub as_many : {A B : Type 0} (f : A → B) (xs : List A) → length (map f xs) ≡ length xs

@@ -6,14 +6,14 @@ use Rattle.std.proofs.lemmas.List.FromFn.{length-map-range_with_len}
 use Rattle.std.proofs.lemmas.Option.{none-some}
 use Rattle.byteorder.specs.Endian.{big_number}
 use Rattle.cell_types.specs.Layout.{Layout}
-use Rattle.stored_documents.specs.Documents.{stored_bytes}
-use Rattle.stored_documents.specs.Slots.{cells_for}
-use Rattle.stored_documents.specs.Words.{HasWord, rule_of}
-use Rattle.stored_documents.specs.declared.word_rules.WordRule.{WordRule}
-use Rattle.stored_documents.specs.declared.word_rules.WordRule.TheVariants.{Ascii}
-use Rattle.stored_documents.proofs.Words.{words_are_one}
-use Rattle.index_paths.proofs.Tags.{tags_one}
-use Rattle.index_paths.specs.Postings.{ArePostings, AreTags, IsWordPosting, ListedPosting, list_of, tag_of}
+use Rattle.volume_meaning.specs.Documents.{stored_bytes}
+use Rattle.volume_meaning.specs.Slots.{cells_for}
+use Rattle.volume_meaning.specs.Words.{HasWord, rule_of}
+use Rattle.volume_meaning.specs.declared.word_rules.WordRule.{WordRule}
+use Rattle.volume_meaning.specs.declared.word_rules.WordRule.TheVariants.{Ascii}
+use Rattle.volume_meaning.proofs.Words.{words_are_one}
+use Rattle.volume_meaning.proofs.Tags.{tags_one}
+use Rattle.volume_meaning.specs.Postings.{ArePostings, AreTags, IsWordPosting, ListedPosting, list_of, tag_of}
 use Rattle.volume_exercise.specs.Documents.{body_of, digit_of, document_words, identifier_of, word_at, word_of}
 use Rattle.volume_exercise.proofs.EventsOn.{body_short}
 use Rattle.volume_exercise.proofs.Words.{document_has_words}

@@ -5,21 +5,21 @@ use Rattle.std.proofs.lemmas.List.FromFn.{length-map-range_with_len}
 use Rattle.std.specs.Prelude.{Contains}
 use Rattle.std.specs.List.{All, count_by, range_with_len, sum_by}
 use Rattle.cell_types.specs.Layout.{Layout}
-use Rattle.stored_documents.specs.Documents.{AreDocuments, Document}
-use Rattle.stored_documents.specs.Volumes.{IsVolume}
-use Rattle.document_store.specs.tamper_rules.Settling.{Held, Settled}
-use Rattle.document_store.proofs.of_tamper_rules.GivenUp.{one_layout}
+use Rattle.volume_meaning.specs.Documents.{AreDocuments, Document}
+use Rattle.volume_meaning.specs.Volumes.{IsVolume}
+use Rattle.tamper_rules.specs.Settling.{Held, Settled}
+use Rattle.tamper_rules.proofs.GivenUp.{one_layout}
 use Rattle.worm_device.specs.State.{IsDevice}
 use Rattle.worm_memory.specs.Memory.{Memory, device_of}
 use Rattle.worm_memory.specs.Worlds.{foreign_writes_in}
 use Rattle.worm_memory.specs.declared.mark.Mark.{Mark}
 use Rattle.script_events.specs.declared.event.Event.{Event}
-use Rattle.replayed_worlds.specs.script_replies.declared.reply.Reply.{Reply}
-use Rattle.replayed_worlds.specs.Headline.{AcknowledgedAreReturned, IsNew}
-use Rattle.replayed_worlds.specs.Turns.{Turns, layout_on}
-use Rattle.replayed_worlds.specs.Undisturbed.{IsLeftPlain, IsPlain, PlainIsDone, TurnsAreMarked, events_of}
-use Rattle.replayed_worlds.specs.Worlds.{AreInTurn, IsWorld, Turn, acknowledged, acknowledged_by}
-use Rattle.replayed_worlds.proofs.Reading.{settled_documents}
+use Rattle.script_replies.specs.declared.reply.Reply.{Reply}
+use Rattle.hostile_replay.specs.Headline.{AcknowledgedAreReturned, IsNew}
+use Rattle.hostile_replay.specs.Turns.{Turns, layout_on}
+use Rattle.hostile_replay.specs.Undisturbed.{IsLeftPlain, IsPlain, PlainIsDone, TurnsAreMarked, events_of}
+use Rattle.hostile_replay.specs.Worlds.{AreInTurn, IsWorld, Turn, acknowledged, acknowledged_by}
+use Rattle.hostile_replay.proofs.Reading.{settled_documents}
 use Rattle.volume_exercise.specs.Events as events
 use Rattle.volume_exercise.specs.Events.{audit_event, exercise_events, ingest_event, look_up_event, pair_event, single_event}
 use Rattle.volume_exercise.specs.Exercising.{LeavesExercise, ReadsRise, exercise_device, exercise_document, exercise_documents}

@@ -12,8 +12,3 @@ mod Rows
 mod Stocked
 mod Told
 mod Words
-pub use Rattle.replayed_worlds.proofs.of_command_laws
-pub use Rattle.replayed_worlds.proofs.of_crash_laws
-pub use Rattle.replayed_worlds.proofs.of_plan_writer
-pub use Rattle.replayed_worlds.proofs.of_settling_laws
-pub use Rattle.replayed_worlds.proofs.of_volume_audit

@@ -5,22 +5,22 @@ use Rattle.std.specs.Prelude.{⊤}
 use Rattle.std.specs.List.{All}
 use Rattle.cell_types.specs.Layout.{Layout}
 use Rattle.cell_types.specs.declared.refusal.Refusal.{Refusal}
-use Rattle.stored_documents.specs.Documents.{Document}
-use Rattle.stored_documents.specs.Volumes.{IsVolume}
-use Rattle.stored_documents.proofs.Extending.{volume_on}
-use Rattle.document_store.specs.tamper_rules.Settling.{Held}
+use Rattle.volume_meaning.specs.Documents.{Document}
+use Rattle.volume_meaning.specs.Volumes.{IsVolume}
+use Rattle.volume_meaning.proofs.Extending.{volume_on}
+use Rattle.tamper_rules.specs.Settling.{Held}
 use Rattle.worm_device.specs.State.{IsDevice}
 use Rattle.worm_device.proofs.Images.{extends_then}
 use Rattle.worm_memory.specs.Memory.{Memory, device_of}
 use Rattle.script_events.specs.declared.event.Event.{Event}
-use Rattle.replayed_worlds.specs.script_replies.declared.reply.Reply.{Reply}
-use Rattle.replayed_worlds.specs.script_replies.declared.reply.Reply.TheVariants as reply
-use Rattle.replayed_worlds.specs.Headline.{AcknowledgedAreReturned, IsNew, Returns}
-use Rattle.replayed_worlds.specs.Turns.{Turns}
-use Rattle.replayed_worlds.specs.Undisturbed.{IsDoneReply, IsLeftPlain, IsPlain, IsPlainTurn, PlainIsDone, events_of}
-use Rattle.replayed_worlds.specs.Worlds.{AreInTurn, Turn, acknowledged, acknowledged_by}
-use Rattle.replayed_worlds.proofs.Along.{Goes, along, split}
-use Rattle.replayed_worlds.proofs.Undisturbed.{all_left}
+use Rattle.script_replies.specs.declared.reply.Reply.{Reply}
+use Rattle.script_replies.specs.declared.reply.Reply.TheVariants as reply
+use Rattle.hostile_replay.specs.Headline.{AcknowledgedAreReturned, IsNew, Returns}
+use Rattle.hostile_replay.specs.Turns.{Turns}
+use Rattle.hostile_replay.specs.Undisturbed.{IsDoneReply, IsLeftPlain, IsPlain, IsPlainTurn, PlainIsDone, events_of}
+use Rattle.hostile_replay.specs.Worlds.{AreInTurn, Turn, acknowledged, acknowledged_by}
+use Rattle.hostile_replay.proofs.Along.{Goes, along, split}
+use Rattle.hostile_replay.proofs.Undisturbed.{all_left}
 use Rattle.volume_exercise.specs.Tallies.{first_refusal}
 
 abbrev pub event_of : Turn → Event

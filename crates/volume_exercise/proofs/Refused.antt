@@ -8,31 +8,31 @@ use Rattle.cell_types.specs.declared.geometry.TheConstants.{STAMPED_VERSION}
 use Rattle.cell_types.specs.declared.refusal.Evidence.{Evidence}
 use Rattle.cell_types.specs.declared.refusal.Refusal.{Refusal}
 use Rattle.cell_types.specs.declared.refusal.Refusal.TheVariants as refusals
-use Rattle.stored_documents.specs.Documents.{AreDocuments, Document, Stands}
-use Rattle.stored_documents.specs.Slots.{IsEdge, IsHorizon}
-use Rattle.stored_documents.specs.Volumes.{IsVolume}
-use Rattle.stored_documents.specs.Words.{rule_of}
-use Rattle.stored_documents.specs.declared.word_rules.WordRule.TheVariants.{Ascii}
-use Rattle.stored_documents.proofs.Extending.{volume_on, written_on}
-use Rattle.document_store.specs.tamper_rules.Settling.{Held, Sound, nothing}
-use Rattle.document_store.proofs.of_tamper_rules.Settled.{one_horizon}
+use Rattle.volume_meaning.specs.Documents.{AreDocuments, Document, Stands}
+use Rattle.volume_meaning.specs.Slots.{IsEdge, IsHorizon}
+use Rattle.volume_meaning.specs.Volumes.{IsVolume}
+use Rattle.volume_meaning.specs.Words.{rule_of}
+use Rattle.volume_meaning.specs.declared.word_rules.WordRule.TheVariants.{Ascii}
+use Rattle.volume_meaning.proofs.Extending.{volume_on, written_on}
+use Rattle.tamper_rules.specs.Settling.{Held, Sound, nothing}
+use Rattle.tamper_rules.proofs.Settled.{one_horizon}
 use Rattle.worm_device.specs.Calls.{Called}
 use Rattle.worm_device.specs.Counts.{IsStill}
 use Rattle.worm_device.specs.State.{DeviceState, IsDevice}
 use Rattle.worm_device.proofs.Counting.{rose_or_still}
 use Rattle.document_store.proofs.Holding.{held_stands}
-use Rattle.index_paths.specs.Postings.{ArePostings, AreTags}
-use Rattle.replayed_worlds.specs.script_replies.recovery_engine.Settling.{HasSettled}
-use Rattle.replayed_worlds.specs.script_replies.recovery_engine.declared.settling.Ready.{Ready}
-use Rattle.replayed_worlds.proofs.of_plan_writer.PutFrom.{volume_2}
-use Rattle.replayed_worlds.proofs.of_settling_laws.LookedAt.{looked_ends}
-use Rattle.replayed_worlds.proofs.of_crash_laws.WellPlanned as planned
-use Rattle.replayed_worlds.specs.ingest_engine.Ingesting.{HasNoRoom, HasNoSlot, IngestEnds, IsTaken, IsTooMany, TakesNoSuchStamp}
-use Rattle.replayed_worlds.proofs.of_ingest_engine.CrashedIngests.{ready_layout}
-use Rattle.replayed_worlds.specs.command_laws.Begins.{BeginsSteady}
-use Rattle.replayed_worlds.proofs.of_command_laws.HeldAnswers.{stands_among}
-use Rattle.replayed_worlds.proofs.of_command_laws.WholeLogs.{no_blank_cell, no_other_cell, no_other_size}
-use Rattle.replayed_worlds.proofs.Reading.{settled_documents}
+use Rattle.volume_meaning.specs.Postings.{ArePostings, AreTags}
+use Rattle.recovery_engine.specs.Settling.{HasSettled}
+use Rattle.recovery_engine.specs.declared.settling.Ready.{Ready}
+use Rattle.plan_writer.proofs.PutFrom.{volume_2}
+use Rattle.crash_laws.proofs.LookedAt.{looked_ends}
+use Rattle.crash_laws.proofs.WellPlanned as planned
+use Rattle.ingest_engine.specs.Ingesting.{HasNoRoom, HasNoSlot, IngestEnds, IsTaken, IsTooMany, TakesNoSuchStamp}
+use Rattle.ingest_engine.proofs.CrashedIngests.{ready_layout}
+use Rattle.command_laws.specs.Begins.{BeginsSteady}
+use Rattle.command_laws.proofs.HeldAnswers.{stands_among}
+use Rattle.command_laws.proofs.WholeLogs.{no_blank_cell, no_other_cell, no_other_size}
+use Rattle.hostile_replay.proofs.Reading.{settled_documents}
 use Rattle.volume_exercise.specs.Documents.{body_of, identifier_of}
 use Rattle.volume_exercise.specs.Refusing.{IsOfExercise}
 use Rattle.volume_exercise.proofs.Few.{few_cells, few_postings, few_tags, same_identifier}

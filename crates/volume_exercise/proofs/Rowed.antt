@@ -5,29 +5,29 @@ use Rattle.std.proofs.lemmas.List.Sums.{sum_by-cons}
 use Rattle.std.specs.Prelude.{Contains, ⊤}
 use Rattle.std.specs.List.{count_by, range_with_len, sum_by}
 use Rattle.cell_types.specs.Layout.{Layout}
-use Rattle.stored_documents.specs.Documents.{Document, Rise}
-use Rattle.stored_documents.specs.Volumes.{IsVolume}
-use Rattle.stored_documents.specs.Words.{Matches, rule_of}
-use Rattle.stored_documents.specs.declared.word_rules.WordRule.{WordRule}
-use Rattle.stored_documents.specs.declared.word_rules.WordRule.TheVariants.{Ascii}
-use Rattle.document_store.specs.tamper_rules.Settling.{Held}
-use Rattle.document_store.proofs.of_tamper_rules.GivenUp.{one_layout}
+use Rattle.volume_meaning.specs.Documents.{Document, Rise}
+use Rattle.volume_meaning.specs.Volumes.{IsVolume}
+use Rattle.volume_meaning.specs.Words.{Matches, rule_of}
+use Rattle.volume_meaning.specs.declared.word_rules.WordRule.{WordRule}
+use Rattle.volume_meaning.specs.declared.word_rules.WordRule.TheVariants.{Ascii}
+use Rattle.tamper_rules.specs.Settling.{Held}
+use Rattle.tamper_rules.proofs.GivenUp.{one_layout}
 use Rattle.worm_device.specs.State.{DeviceState}
 use Rattle.worm_memory.specs.Memory.{Memory, device_of}
-use Rattle.replayed_worlds.specs.ingest_engine.Ingesting.{document_in}
-use Rattle.replayed_worlds.specs.record_query.Finding.{HasTerms}
-use Rattle.replayed_worlds.specs.record_query.declared.found.Match.{Match}
-use Rattle.replayed_worlds.specs.volume_audit.declared.report.AuditReport.{AuditReport}
-use Rattle.replayed_worlds.specs.command_laws.Telling.{AreMatchesOf}
+use Rattle.ingest_engine.specs.Ingesting.{document_in}
+use Rattle.record_query.specs.Finding.{HasTerms}
+use Rattle.record_query.specs.declared.found.Match.{Match}
+use Rattle.volume_audit.specs.declared.report.AuditReport.{AuditReport}
+use Rattle.command_laws.specs.Telling.{AreMatchesOf}
 use Rattle.script_events.specs.declared.event.Event.{Event}
 use Rattle.script_events.specs.declared.event.Event.TheVariants as event
-use Rattle.replayed_worlds.specs.script_replies.declared.reply.Reply.{Reply}
-use Rattle.replayed_worlds.specs.script_replies.declared.reply.Reply.TheVariants as reply
-use Rattle.replayed_worlds.specs.Headline.{Returns}
-use Rattle.replayed_worlds.specs.Steadily.{TellsHeld}
-use Rattle.replayed_worlds.specs.Turns.{Turns}
-use Rattle.replayed_worlds.specs.Undisturbed.{IsDoneReply}
-use Rattle.replayed_worlds.specs.Worlds.{Turn, acknowledged, acknowledged_by}
+use Rattle.script_replies.specs.declared.reply.Reply.{Reply}
+use Rattle.script_replies.specs.declared.reply.Reply.TheVariants as reply
+use Rattle.hostile_replay.specs.Headline.{Returns}
+use Rattle.hostile_replay.specs.Steadily.{TellsHeld}
+use Rattle.hostile_replay.specs.Turns.{Turns}
+use Rattle.hostile_replay.specs.Undisturbed.{IsDoneReply}
+use Rattle.hostile_replay.specs.Worlds.{Turn, acknowledged, acknowledged_by}
 use Rattle.volume_exercise.specs.Documents.{body_of, identifier_of}
 use Rattle.volume_exercise.specs.Events.{audit_event, ingest_event, look_up_event, no_schedule}
 use Rattle.volume_exercise.specs.Tallies.{is_acknowledged, matches_in, returned, returned_from, sound_line}

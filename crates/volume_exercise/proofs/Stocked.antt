@@ -5,40 +5,40 @@ use Rattle.std.specs.Prelude.{IsTrue}
 use Rattle.std.proofs.lemmas.Option.{none-some}
 use Rattle.cell_types.specs.Image.{Image}
 use Rattle.cell_types.specs.Layout.{Layout, pool_at, reserve_at}
-use Rattle.stored_documents.specs.Documents.{Document, Stands, stored_bytes}
-use Rattle.stored_documents.specs.Slots.{IsEdge, IsHorizon, cells_for}
-use Rattle.stored_documents.specs.Volumes.{IsVolume}
-use Rattle.stored_documents.proofs.Extending.{volume_on}
-use Rattle.document_store.specs.tamper_rules.Settling.{Held, IsSettled, Settled, Sound, nothing}
-use Rattle.document_store.proofs.of_tamper_rules.GivenUp.{one_layout}
-use Rattle.document_store.proofs.of_tamper_rules.Settled.{one_horizon}
-use Rattle.index_paths.specs.Postings.{ArePostings, ListedPosting}
+use Rattle.volume_meaning.specs.Documents.{Document, Stands, stored_bytes}
+use Rattle.volume_meaning.specs.Slots.{IsEdge, IsHorizon, cells_for}
+use Rattle.volume_meaning.specs.Volumes.{IsVolume}
+use Rattle.volume_meaning.proofs.Extending.{volume_on}
+use Rattle.tamper_rules.specs.Settling.{Held, IsSettled, Settled, Sound, nothing}
+use Rattle.tamper_rules.proofs.GivenUp.{one_layout}
+use Rattle.tamper_rules.proofs.Settled.{one_horizon}
+use Rattle.volume_meaning.specs.Postings.{ArePostings, ListedPosting}
 use Rattle.worm_device.specs.Counts.{IsStill}
 use Rattle.worm_device.specs.State.{DeviceState, IsDevice}
-use Rattle.replayed_worlds.specs.plan_writer.phase_writer.Putting.{IsInFirst, IsPut}
-use Rattle.replayed_worlds.specs.script_replies.recovery_engine.Settling.{HasSettled}
-use Rattle.replayed_worlds.specs.script_replies.recovery_engine.declared.settling.Ready.{Ready}
-use Rattle.replayed_worlds.specs.plan_writer.Planned.{INGEST_PHASES, ingest_phases, reserved_by}
-use Rattle.replayed_worlds.specs.plan_writer.PuttingPlans.{PutsPlan}
-use Rattle.replayed_worlds.specs.plan_writer.declared.plan.Plan.{Plan}
-use Rattle.replayed_worlds.proofs.of_plan_writer.PutFrom as from
-use Rattle.replayed_worlds.specs.ingest_laws.Filling.{IsFilled, IsWellPlanned}
-use Rattle.replayed_worlds.proofs.of_ingest_laws.Filled.{edge_is, old_edge}
-use Rattle.replayed_worlds.proofs.of_ingest_laws.Ingests.{next_horizon}
-use Rattle.replayed_worlds.proofs.of_ingest_laws.PlanSettled.{plan_is_settled}
-use Rattle.replayed_worlds.specs.ingest_engine.Ingesting as ingesting
-use Rattle.replayed_worlds.specs.ingest_engine.Ingesting.{ComesTo, IsIngested, IsPlanFor}
-use Rattle.replayed_worlds.proofs.of_ingest_engine.CrashedIngests.{ready_layout}
-use Rattle.replayed_worlds.specs.settling_laws.Steadiness.{IsSteady}
-use Rattle.replayed_worlds.proofs.of_settling_laws.LeftWhole.{held_unmoved, settling_keeps}
-use Rattle.replayed_worlds.proofs.of_settling_laws.LookedAt.{looked_ends, looking_keeps}
-use Rattle.replayed_worlds.specs.crash_laws.Steadiness.{HasOneMore}
-use Rattle.replayed_worlds.proofs.of_crash_laws.AddsOne.{put_whole}
-use Rattle.replayed_worlds.proofs.of_crash_laws.PutPlans.{still_looked, still_put, sure, tells_looked, well_made}
-use Rattle.replayed_worlds.proofs.of_crash_laws.ReserveCells.{one_slot}
-use Rattle.replayed_worlds.proofs.of_crash_laws.WellPlanned.{plan_of}
-use Rattle.replayed_worlds.specs.command_laws.Begins.{BeginsSteady}
-use Rattle.replayed_worlds.proofs.Reading.{not_held}
+use Rattle.recovery_engine.specs.Putting.{IsInFirst, IsPut}
+use Rattle.recovery_engine.specs.Settling.{HasSettled}
+use Rattle.recovery_engine.specs.declared.settling.Ready.{Ready}
+use Rattle.plan_writer.specs.Planned.{INGEST_PHASES, ingest_phases, reserved_by}
+use Rattle.plan_writer.specs.PuttingPlans.{PutsPlan}
+use Rattle.plan_writer.specs.declared.plan.Plan.{Plan}
+use Rattle.plan_writer.proofs.PutFrom as from
+use Rattle.ingest_laws.specs.Filling.{IsFilled, IsWellPlanned}
+use Rattle.ingest_laws.proofs.Filled.{edge_is, old_edge}
+use Rattle.ingest_laws.proofs.Ingests.{next_horizon}
+use Rattle.ingest_laws.proofs.PlanSettled.{plan_is_settled}
+use Rattle.ingest_engine.specs.Ingesting as ingesting
+use Rattle.ingest_engine.specs.Ingesting.{ComesTo, IsIngested, IsPlanFor}
+use Rattle.ingest_engine.proofs.CrashedIngests.{ready_layout}
+use Rattle.crash_laws.specs.SettlingSteadiness.{IsSteady}
+use Rattle.crash_laws.proofs.LeftWhole.{held_unmoved, settling_keeps}
+use Rattle.crash_laws.proofs.LookedAt.{looked_ends, looking_keeps}
+use Rattle.crash_laws.specs.Steadiness.{HasOneMore}
+use Rattle.crash_laws.proofs.AddsOne.{put_whole}
+use Rattle.crash_laws.proofs.PutPlans.{still_looked, still_put, sure, tells_looked, well_made}
+use Rattle.crash_laws.proofs.ReserveCells.{one_slot}
+use Rattle.crash_laws.proofs.WellPlanned.{plan_of}
+use Rattle.command_laws.specs.Begins.{BeginsSteady}
+use Rattle.hostile_replay.proofs.Reading.{not_held}
 
 -- The horizon is one slot further, and the edge by so many cells: those of the document, and at most 258 for each of its
 -- postings and 34 for its bucket.

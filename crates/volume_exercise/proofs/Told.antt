@@ -5,20 +5,20 @@ use Rattle.std.proofs.lemmas.List.Sums.{sum_by-cons}
 use Rattle.std.proofs.lemmas.Option.{none-some}
 use Rattle.std.specs.Prelude.{Contains, ⊤}
 use Rattle.std.specs.List.{count_by, range_with_len, sum_by}
-use Rattle.stored_documents.specs.Documents.{Document, Rise}
-use Rattle.stored_documents.specs.Volumes.{IsVolume}
+use Rattle.volume_meaning.specs.Documents.{Document, Rise}
+use Rattle.volume_meaning.specs.Volumes.{IsVolume}
 use Rattle.worm_device.specs.Counts.{Rose}
 use Rattle.worm_device.specs.State.{IsDevice}
 use Rattle.worm_memory.specs.Memory.{Memory, device_of, mark_of}
 use Rattle.worm_memory.specs.declared.mark.Mark.{Mark}
-use Rattle.replayed_worlds.specs.ingest_engine.Formats.{volume_cell}
+use Rattle.ingest_engine.specs.Formats.{volume_cell}
 use Rattle.script_events.specs.declared.event.Event.{Event}
 use Rattle.script_events.specs.declared.event.Event.TheVariants as event
-use Rattle.replayed_worlds.specs.script_replies.declared.reply.Reply.{Reply}
-use Rattle.replayed_worlds.specs.script_replies.declared.reply.Reply.TheVariants as reply
-use Rattle.replayed_worlds.specs.Turns.{Turns, layout_on}
-use Rattle.replayed_worlds.specs.Undisturbed.{IsDoneReply}
-use Rattle.replayed_worlds.specs.Worlds.{AreInTurn, Turn, acknowledged_by}
+use Rattle.script_replies.specs.declared.reply.Reply.{Reply}
+use Rattle.script_replies.specs.declared.reply.Reply.TheVariants as reply
+use Rattle.hostile_replay.specs.Turns.{Turns, layout_on}
+use Rattle.hostile_replay.specs.Undisturbed.{IsDoneReply}
+use Rattle.hostile_replay.specs.Worlds.{AreInTurn, Turn, acknowledged_by}
 use Rattle.volume_exercise.specs.Documents.{body_of, identifier_of}
 use Rattle.volume_exercise.specs.Events as events
 use Rattle.volume_exercise.specs.Events.{audit_event, exercise_events, format_event, ingest_event, look_up_event, no_schedule, pair_event, single_event}

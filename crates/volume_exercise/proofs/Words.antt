@@ -1,12 +1,11 @@
 -- The words of a body of the exercise, and of a word of it.
-use Rattle.std.proofs.Common.{◌≡◌, ◌+◌, ◌^◌, ◌%◌, ◌<◌, ◌≤◌, ℕ, suc, zero, true, List, [], ◌∷◌, ◌++◌, map, refl, sym, ap, subst, ◌∙◌, arith, rules}
-use Rattle.std.proofs.Common.{append-nil, get_or}
+use Rattle.std.proofs.Common.{◌≡◌, ◌+◌, ◌^◌, ◌%◌, ◌<◌, ◌≤◌, ℕ, suc, zero, true, List, [], ◌∷◌, ◌++◌, map, refl, sym, ap, subst, ◌∙◌, arith, rules, append-nil, get_or}
 use Rattle.std.proofs.lemmas.Fmt.{decimal_by_steps}
 use Rattle.std.specs.Prelude.{decimal}
 use Rattle.std.specs.List.{flat_map, range_with_len}
-use Rattle.stored_documents.specs.Words.{AreOfWords, AreRuns, AreWords, BeginsApart, is_word_byte, lowered, spelled}
-use Rattle.stored_documents.specs.declared.word_rules.WordRule.TheVariants.{Ascii}
-use Rattle.stored_documents.proofs.Words.{words_are_one}
+use Rattle.volume_meaning.specs.Words.{AreOfWords, AreRuns, AreWords, BeginsApart, is_word_byte, lowered, spelled}
+use Rattle.volume_meaning.specs.declared.word_rules.WordRule.TheVariants.{Ascii}
+use Rattle.volume_meaning.proofs.Words.{words_are_one}
 use Rattle.volume_exercise.specs.Documents.{body_of, document_words, word_at, word_of}
 
 -- each is an ASCII digit

@@ -2,16 +2,16 @@
 use Rattle.std.specs.Prelude.{◌≡◌, ◌+◌, ◌*◌, ℕ, List, [], ◌∷◌, length, map, false, Some, None, Result, Ok, Err, ⊤}
 use Rattle.cell_types.specs.declared.refusal.Refusal.{Refusal}
 use Rattle.cell_types.specs.declared.refusal.Refusal.TheVariants.{NoMemory, SinkFault}
-use Rattle.stored_documents.specs.Documents.{AreDocuments, Document}
-use Rattle.document_store.specs.tamper_rules.Settling.{Settled}
+use Rattle.volume_meaning.specs.Documents.{AreDocuments, Document}
+use Rattle.tamper_rules.specs.Settling.{Settled}
 use Rattle.worm_device.specs.Counts.{Rose}
 use Rattle.host_ports.specs.Sinks.{Gets, PutsPart, SinkState}
 use Rattle.worm_memory.specs.Memory.{Memory, device_of}
 use Rattle.worm_memory.specs.Plans.{no_plan}
 use Rattle.worm_memory.specs.Worlds.{foreign_writes_in}
 use Rattle.worm_memory.specs.declared.mark.Mark.{Mark}
-use Rattle.replayed_worlds.specs.script_replies.declared.reply.Reply.{Reply}
-use Rattle.replayed_worlds.specs.Worlds.{IsWorld}
+use Rattle.script_replies.specs.declared.reply.Reply.{Reply}
+use Rattle.hostile_replay.specs.Worlds.{IsWorld}
 use Rattle.volume_exercise.specs.Events.{exercise_events}
 use Rattle.volume_exercise.specs.Documents.{body_of, identifier_of, up_to}
 use Rattle.volume_exercise.specs.Refusing.{IsOfExercise}

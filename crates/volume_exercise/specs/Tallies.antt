@@ -2,8 +2,8 @@
 use Rattle.std.specs.Prelude.{◌+◌, ◌-◌, ◌==◌, if◌then◌else◌, ℕ, Bool, true, false, List, [], ◌∷◌, ◌++◌, codes, decimal, drop, length, take, Option, Some, None}
 use Rattle.std.specs.List.{count_by, sum_by}
 use Rattle.cell_types.specs.declared.refusal.Refusal.{Refusal}
-use Rattle.replayed_worlds.specs.script_replies.declared.reply.Reply.{Reply}
-use Rattle.replayed_worlds.specs.script_replies.declared.reply.Reply.TheVariants as reply
+use Rattle.script_replies.specs.declared.reply.Reply.{Reply}
+use Rattle.script_replies.specs.declared.reply.Reply.TheVariants as reply
 use Rattle.volume_exercise.specs.Documents.{body_of}
 use Rattle.volume_exercise.specs.declared.limits.TheConstants.{DISTINCT_WORDS}
 

@@ -6,8 +6,8 @@
 use Rattle.std.specs.Prelude.{◌≡◌, ◌+◌, ◌-◌, ◌↔◌, ℕ, Bool, true, List, [], ◌∷◌, codes}
 use Rattle.std.specs.List.{count_by, list_all, list_any, sum_by}
 use Rattle.std.specs.Str.{bytes_eq}
-use Rattle.stored_documents.specs.Words.{Matches, words_of}
-use Rattle.stored_documents.specs.declared.word_rules.WordRule.TheVariants.{Ascii}
+use Rattle.volume_meaning.specs.Words.{Matches, words_of}
+use Rattle.volume_meaning.specs.declared.word_rules.WordRule.TheVariants.{Ascii}
 use Rattle.volume_exercise.specs.Documents.{body_of, up_to, word_of}
 use Rattle.volume_exercise.specs.Tallies.{lines_of}
 use Rattle.volume_exercise.specs.declared.limits.TheConstants.{DISTINCT_WORDS}

@@ -11,7 +11,7 @@ use cell_types::FIRST_VERSION;
 use document_store::Text;
 use script_events::{Event, Schedule, Sequence};
 use std::alloc::{AllocError, Global};
-use stored_documents::WordRule;
+use volume_meaning::WordRule;
 use word_reader::{Term, WordFault, single_term};
 
 /// The events of the exercise with so many documents, in order.

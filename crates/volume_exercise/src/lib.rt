@@ -16,10 +16,9 @@
 //! that the documents and their words ask for, and the device holds just the documents: nothing befalls the exercise, and
 //! nobody else writes. Nothing is replayed here: `record_top` does that, with the command.
 //!
-//! Stands on `replayed_worlds`, which says what a world promises. It passes on the specifications and lemmas of that, and of
-//! the laws below it.
-//! Begin with `events.rt`; `specs/Documents.antt` has the documents, `specs/Events.antt` the events, `specs/Telling.antt`
-//! the lines, and `specs/Exercising.antt` says how an exercise ends and what it leaves.
+//! Stands on `hostile_replay`, which says what a world promises. Begin with `events.rt`; `specs/Documents.antt` has
+//! the documents, `specs/Events.antt` the events, `specs/Telling.antt` the lines, and `specs/Exercising.antt` says how
+//! an exercise ends and what it leaves.
 #![tactic(auto)]
 
 mod documents;

@@ -2,9 +2,9 @@
 use Rattle.std.proofs.Common.{◌≡◌, ◌<◌, ◌+◌, ℕ, zero, suc, List, ◌∷◌, length, drop, get_or, refl, sym, ◌∙◌, subst, arith}
 use Rattle.std.specs.Prelude.{Contains}
 use Rattle.std.proofs.lemmas.List.{drop_more}
-use Rattle.stored_documents.specs.Words.{AreWords, Matches}
-use Rattle.stored_documents.specs.declared.word_rules.WordRule.{WordRule}
-use Rattle.stored_documents.proofs.Words.{words_are_one}
+use Rattle.volume_meaning.specs.Words.{AreWords, Matches}
+use Rattle.volume_meaning.specs.declared.word_rules.WordRule.{WordRule}
+use Rattle.volume_meaning.proofs.Words.{words_are_one}
 use Rattle.word_reader.specs.Matching.{AreAmong}
 
 -- what is left, with its first item

@@ -8,9 +8,9 @@ use Rattle.bstr.proofs.lemmas.SoundLemmas.{SpellsChar-decoded}
 use Rattle.caseless.specs.Caseless.{default_case_fold}
 use Rattle.caseless.proofs.CaselessLemmas.{default_case_fold-nil, default_case_fold-cons}
 use Rattle.ucd_case.specs.CaseFolding.{full_folding, or_itself}
-use Rattle.stored_documents.specs.Words.{stray, is_word_character, characters_after, words_from, spelled_one, ended}
-use Rattle.stored_documents.specs.declared.word_rules.WordRule.TheVariants.{Folded}
-use Rattle.stored_documents.proofs.Words.{read_on, read_end, ended_some, some_of, reads, strays, has_a_byte}
+use Rattle.volume_meaning.specs.Words.{stray, is_word_character, characters_after, words_from, spelled_one, ended}
+use Rattle.volume_meaning.specs.declared.word_rules.WordRule.TheVariants.{Folded}
+use Rattle.volume_meaning.proofs.Words.{read_on, read_end, ended_some, some_of, reads, strays, has_a_byte}
 
 module _ (terms ws : List (List ℕ)) (run rest next : List ℕ) (u : ℕ) (read : characters_after 0 rest ≡ u ∷ characters_after 0 next)
     (so_far : terms ++ words_from Folded run (characters_after 0 rest) ≡ ws) where

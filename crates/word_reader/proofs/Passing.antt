@@ -2,7 +2,7 @@
 use Rattle.std.proofs.Common.{◌≡◌, suc, ◌<◌, ◌+◌, ◌&&◌, ◌||◌, ℕ, Bool, true, false, List, [], ◌∷◌, ◌++◌, refl, sym, ap, ◌∙◌, inl, inr, subst, if◌then◌else◌, length, map, take, arith}
 use Rattle.std.specs.Prelude.{slice_index}
 use Rattle.std.proofs.lemmas.List.{append_assoc, append-nil, length-map}
-use Rattle.stored_documents.specs.Words.{is_word_byte, lowered}
+use Rattle.volume_meaning.specs.Words.{is_word_byte, lowered}
 use Rattle.word_reader.specs.Matching.{BeginsWith, IsTableOf, byte_before, NoneAgrees, NoneBegins, Seeks, SeekAll, Tracks, cleared, has_ended, is_found, known, pushed, quiet}
 use Rattle.word_reader.specs.declared.byte_matcher.Sought.{Sought}
 use Rattle.word_reader.proofs.Reading.{bool_cases, run_gone}

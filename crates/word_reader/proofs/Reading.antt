@@ -2,10 +2,10 @@
 use Rattle.std.proofs.Common.{◌≡◌, ◌⊎◌, ◌↔◌, ℕ, Bool, true, false, List, [], ◌∷◌, ◌++◌, refl, sym, ap, ◌∙◌, inl, inr, subst, if◌then◌else◌, length, get_or, arith}
 use Rattle.std.specs.Prelude.{Contains}
 use Rattle.std.proofs.lemmas.List.{append_assoc, append-nil}
-use Rattle.stored_documents.specs.Words.{is_word_byte, lowered, ended, words_from, words_of, AreWords, HasWord}
-use Rattle.stored_documents.specs.declared.word_rules.WordRule.{WordRule}
-use Rattle.stored_documents.specs.declared.word_rules.WordRule.TheVariants.{Ascii}
-use Rattle.stored_documents.proofs.Words.{words_are_one}
+use Rattle.volume_meaning.specs.Words.{is_word_byte, lowered, ended, words_from, words_of, AreWords, HasWord}
+use Rattle.volume_meaning.specs.declared.word_rules.WordRule.{WordRule}
+use Rattle.volume_meaning.specs.declared.word_rules.WordRule.TheVariants.{Ascii}
+use Rattle.volume_meaning.proofs.Words.{words_are_one}
 use Rattle.word_reader.specs.Matching.{run_after, ended_after}
 
 pub bool_cases : (c : Bool) → (c ≡ true) ⊎ (c ≡ false)

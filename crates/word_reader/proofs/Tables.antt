@@ -9,7 +9,7 @@ use Rattle.word_reader.specs.declared.byte_matcher.ByteMatcher.{ByteMatcher}
 use Rattle.word_reader.specs.declared.byte_matcher.Sought.{Sought}
 use Rattle.word_reader.proofs.Passing.{all_stays, quiet_keeps}
 use Rattle.word_reader.proofs.Seeking.{found_stays, true_false}
-use Rattle.stored_documents.specs.Words.{is_word_byte}
+use Rattle.volume_meaning.specs.Words.{is_word_byte}
 
 -- one term more that does not begin with the byte
 none_last : (b : ℕ) (ss : List Sought) (s : Sought) → NoneBegins b ss → (s.found ≡ false → BeginsWith b s.bytes.items → ⊥)

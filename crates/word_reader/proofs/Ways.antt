@@ -2,9 +2,9 @@
 use Rattle.std.proofs.Common.{◌≡◌, ◌↔◌, Bool, ℕ, List, refl, sym, subst}
 use Rattle.std.specs.Prelude.{IfOk, IsTrue, Result, Ok, Err}
 use Rattle.cell_types.specs.declared.refusal.NoMemory.{NoMemory}
-use Rattle.stored_documents.specs.Words.{Matches}
-use Rattle.stored_documents.specs.declared.word_rules.WordRule.{WordRule}
-use Rattle.stored_documents.specs.declared.word_rules.WordRule.TheVariants.{Ascii, Folded}
+use Rattle.volume_meaning.specs.Words.{Matches}
+use Rattle.volume_meaning.specs.declared.word_rules.WordRule.{WordRule}
+use Rattle.volume_meaning.specs.declared.word_rules.WordRule.TheVariants.{Ascii, Folded}
 use Rattle.word_reader.specs.Matching.{FinishEnds, KeepsBytes, Serves}
 use Rattle.word_reader.specs.declared.matcher.Matcher.{Matcher}
 use Rattle.word_reader.specs.declared.matcher.Way.{Way}

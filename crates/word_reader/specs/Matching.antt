@@ -5,9 +5,9 @@
 use Rattle.std.specs.Prelude.{◌≡◌, ◌≤◌, ◌<◌, ◌+◌, ◌&&◌, ◌||◌, ◌⊎◌, ◌↔◌, nat_lt, nat_eq, if◌then◌else◌, ℕ, zero, suc, Bool, true, false, List, [], ◌∷◌, ◌++◌, length, map, take, slice_index, Contains, IsTrue, Result, Ok, Err, ⊤}
 use Rattle.std.specs.List.{list_all}
 use Rattle.cell_types.specs.declared.refusal.NoMemory.{NoMemory}
-use Rattle.stored_documents.specs.Words.{is_word_byte, lowered, ended, Matches}
-use Rattle.stored_documents.specs.declared.word_rules.WordRule.{WordRule}
-use Rattle.stored_documents.specs.declared.word_rules.WordRule.TheVariants.{Ascii, Folded}
+use Rattle.volume_meaning.specs.Words.{is_word_byte, lowered, ended, Matches}
+use Rattle.volume_meaning.specs.declared.word_rules.WordRule.{WordRule}
+use Rattle.volume_meaning.specs.declared.word_rules.WordRule.TheVariants.{Ascii, Folded}
 use Rattle.word_reader.specs.declared.byte_matcher.Sought.{Sought}
 use Rattle.word_reader.specs.declared.byte_matcher.ByteMatcher.{ByteMatcher}
 use Rattle.word_reader.specs.declared.matcher.Matcher.{Matcher}

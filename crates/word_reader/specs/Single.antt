@@ -1,7 +1,7 @@
 -- How asking for the one term of a word ends.
 use Rattle.std.specs.Prelude.{ℕ, List, [], ◌∷◌, Result, Ok, Err, ⊤}
-use Rattle.stored_documents.specs.Words.{AreWords}
-use Rattle.stored_documents.specs.declared.word_rules.WordRule.{WordRule}
+use Rattle.volume_meaning.specs.Words.{AreWords}
+use Rattle.volume_meaning.specs.declared.word_rules.WordRule.{WordRule}
 use Rattle.word_reader.specs.declared.reader.WordFault.{WordFault}
 use Rattle.word_reader.specs.declared.reader.WordFault.TheVariants.{BadWord, NoMemory}
 

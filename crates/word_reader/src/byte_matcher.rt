@@ -1,8 +1,8 @@
 //! Whether terms are among the words of bytes, by the rule that reads bytes. It keeps none of them.
 ghost use Rattle.std.specs.Prelude.{◌≡◌, ◌<◌, ◌≤◌, ◌↔◌, [], ◌∷◌, ◌++◌, ℕ, List, IsTrue, IfOk, false, true, length, map, slice_index, take};
 ghost use Rattle.std.specs.List.{list_all};
-ghost use Rattle.stored_documents.specs.Words.{Matches, is_word_byte};
-ghost use Rattle.stored_documents.specs.declared.word_rules.WordRule.TheVariants.{Ascii};
+ghost use Rattle.volume_meaning.specs.Words.{Matches, is_word_byte};
+ghost use Rattle.volume_meaning.specs.declared.word_rules.WordRule.TheVariants.{Ascii};
 ghost use Rattle.word_reader.specs.Matching.{KnowsBytes, IsTableOf, Marks, NoneAgrees, NoneBegins, SeekAll, byte_before, cleared, goes_on, has_ended, is_found, is_whole, known, pushed, quiet};
 
 use crate::Term;

@@ -1,9 +1,9 @@
 //! The words of bytes that are read as characters.
 ghost use Rattle.std.specs.Prelude.{◌≡◌, ◌≤◌, ◌∷◌, ◌++◌, [], drop, encode_utf8_all, length, string_bytes, IfOk, IsOk};
 ghost use Rattle.caseless.specs.Caseless.{default_case_fold};
-ghost use Rattle.stored_documents.specs.Words as words;
-ghost use Rattle.stored_documents.specs.Words.{characters_after, words_of};
-ghost use Rattle.stored_documents.specs.declared.word_rules.WordRule.TheVariants.{Folded};
+ghost use Rattle.volume_meaning.specs.Words as words;
+ghost use Rattle.volume_meaning.specs.Words.{characters_after, words_of};
+ghost use Rattle.volume_meaning.specs.declared.word_rules.WordRule.TheVariants.{Folded};
 
 use crate::Term;
 use bstr::decode_utf8;
@@ -16,7 +16,7 @@ use ucd_derived::is_alphabetic;
 const STRAY: char = '\u{FFFD}';
 
 /// The words, read from the first byte on.
-#[tactic(auto, unfolding(stored_documents::specs::Words::words_of))]
+#[tactic(auto, unfolding(volume_meaning::specs::Words::words_of))]
 pub(crate) fn read_folded(alloc: Global, bytes: &[u8]) -> Result<Vec<Term>, AllocError>
     ensures { IfOk result (λ terms. terms.items ≡ words_of Folded bytes.now) }
 {

@@ -23,7 +23,7 @@
 //! `clear` makes it ready for the next body. Its contract is a relation between the matcher, its rule, its terms and the
 //! bytes that were pushed, which no call loses.
 //!
-//! Stands on `stored_documents`, whose `specs/Words.antt` says what the words of a body are, on `cell_types` for
+//! Stands on `volume_meaning`, whose `specs/Words.antt` says what the words of a body are, on `cell_types` for
 //! `NoMemory`, and for characters on `bstr` and the tables of Unicode. Begin with `reader.rt`, then `matcher.rt`;
 //! `specs/Matching.antt` says what a matcher knows.
 #![tactic(auto)]

@@ -1,6 +1,6 @@
 //! Whether terms are among the words of bytes that come one by one, by either rule of words.
 ghost use Rattle.std.specs.Prelude.{◌≡◌, [], ◌∷◌, ℕ, List, IfOk};
-ghost use Rattle.stored_documents.specs.declared.word_rules.WordRule.{WordRule};
+ghost use Rattle.volume_meaning.specs.declared.word_rules.WordRule.{WordRule};
 ghost use Rattle.word_reader.specs.Matching.{FinishEnds, HasPushed, PushEnds, Serves};
 
 use crate::Term;
@@ -8,7 +8,7 @@ use crate::byte_matcher::ByteMatcher;
 use crate::text_matcher::TextMatcher;
 use cell_types::NoMemory;
 use std::alloc::{AllocError, Global};
-use stored_documents::WordRule;
+use volume_meaning::WordRule;
 
 /// How a matcher goes about it, by the rule of words.
 #[derive(Debug, Drop)]

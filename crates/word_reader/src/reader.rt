@@ -1,14 +1,14 @@
 //! The words of bytes.
 ghost use Rattle.std.specs.Prelude.{◌≡◌, IfOk};
-ghost use Rattle.stored_documents.specs.Words.{is_word_byte, lowered, AreWords, words_of};
-ghost use Rattle.stored_documents.specs.declared.word_rules.WordRule.TheVariants.{Ascii};
+ghost use Rattle.volume_meaning.specs.Words.{is_word_byte, lowered, AreWords, words_of};
+ghost use Rattle.volume_meaning.specs.declared.word_rules.WordRule.TheVariants.{Ascii};
 ghost use Rattle.word_reader.specs.Single.{SingleEnds};
 
 use crate::Term;
 use crate::folded::read_folded;
 use cell_types::NoMemory;
 use std::alloc::{AllocError, Global};
-use stored_documents::WordRule;
+use volume_meaning::WordRule;
 
 /// The words of these bytes, in order and with repeats.
 pub fn words(alloc: Global, bytes: &[u8], rule: WordRule) -> Result<Vec<Term>, NoMemory>
@@ -51,7 +51,7 @@ fn read_words(alloc: Global, bytes: &[u8], rule: WordRule) -> Result<Vec<Term>, 
 }
 
 /// The words of bytes as bytes.
-#[tactic(auto, unfolding(stored_documents::specs::Words::words_of))]
+#[tactic(auto, unfolding(volume_meaning::specs::Words::words_of))]
 fn read_bytes(alloc: Global, bytes: &[u8]) -> Result<Vec<Term>, AllocError>
     ensures { IfOk result (λ terms. terms.items ≡ words_of Ascii bytes.now) }
 {

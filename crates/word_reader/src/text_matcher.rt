@@ -1,15 +1,15 @@
 //! Whether terms are among the words of bytes, by the rule that reads characters. It keeps the bytes: a character may
 //! come in parts, and how it folds is known only where it is whole.
 ghost use Rattle.std.specs.Prelude.{◌≡◌, ◌↔◌, ◌++◌, [], ℕ, List, Contains, IfErr, IfOk, IsTrue};
-ghost use Rattle.stored_documents.specs.Words.{Matches};
-ghost use Rattle.stored_documents.specs.declared.word_rules.WordRule.TheVariants.{Folded};
+ghost use Rattle.volume_meaning.specs.Words.{Matches};
+ghost use Rattle.volume_meaning.specs.declared.word_rules.WordRule.TheVariants.{Folded};
 ghost use Rattle.word_reader.specs.Matching.{AreAmong, KeepsBytes};
 
 use crate::Term;
 use crate::reader::words;
 use cell_types::NoMemory;
 use std::alloc::{AllocError, Global};
-use stored_documents::WordRule;
+use volume_meaning::WordRule;
 
 /// Whether all of some terms are among the words of bytes that come one by one.
 #[derive(Debug, Drop)]

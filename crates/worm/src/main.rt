@@ -36,12 +36,9 @@
 mod terminal;
 
 use cell_types::{CopyRefusal, Refusal};
-use copy_top::run_two_over_files;
-use file_top::run_over_file;
-use host_files::{FileDevice, Hold, OsFile, Pages};
+use host_files::{FileDevice, Hold, MeteredFile, OsFile, Pages};
 use host_ports::{StdSink, StdSource};
-use progress::MeteredFile;
-use record_top::run;
+use record_top::{run, run_over_file, run_two_over_files};
 use std::alloc::Global;
 use std::io::Stderr;
 use std::os::unix::fs::{FileExt, MetadataExt};

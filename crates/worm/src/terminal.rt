@@ -1,5 +1,5 @@
 //! How far a command is, as a line on standard error.
-use progress::{Meter, Work};
+use host_ports::{Meter, Work};
 use std::io::{IsTerminal, Stderr};
 
 /// A meter whose line, as `worm: 1048576 of 33554432 bytes read`, is written over in place. It is gone once all is done,

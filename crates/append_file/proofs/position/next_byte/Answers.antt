@@ -1,6 +1,6 @@
 -- A byte that is held, the first of the next cell, and a cell that is broken.
 use Rattle.std.proofs.Common.{◌≡◌, ◌<◌, ◌≤◌, ◌*◌, ℕ, refl, arith}
-use Rattle.stored_documents.specs.Slots.{cells_for}
+use Rattle.volume_meaning.specs.Slots.{cells_for}
 use Rattle.append_file.proofs.GoingOn.{byte_fails, give_on, first_on}
 use Rattle.append_file.proofs.position.next_byte.Goals as goal
 

@@ -2,7 +2,7 @@
 use Rattle.std.proofs.Common.{refl, subst}
 use Rattle.cell_types.specs.Records.{IsRecordCell}
 use Rattle.cell_types.specs.declared.record_cell.RecordCell.{RecordCell}
-use Rattle.stored_documents.specs.Volumes.{volume_record}
+use Rattle.volume_meaning.specs.Volumes.{volume_record}
 use Rattle.commit_record.proofs.opening.volume_of.Goals as goal
 
 pub returns-in_default-decode : goal.returns-in_default-decode

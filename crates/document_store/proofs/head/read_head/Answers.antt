@@ -3,7 +3,7 @@ use Rattle.std.proofs.Common.{◌≡◌, ◌<◌, ◌≤◌, ◌+◌, ◌⊎◌,
 use Rattle.std.proofs.lemmas.List.{length-take-le}
 use Rattle.std.specs.Prelude.{IsTrue}
 use Rattle.cell_types.proofs.Passed.{handed}
-use Rattle.stored_documents.specs.declared.limits.TheConstants.{MAX_IDENTIFIER_BYTES}
+use Rattle.volume_meaning.specs.declared.limits.TheConstants.{MAX_IDENTIFIER_BYTES}
 use Rattle.document_store.proofs.Parsing.{none_first, none_long, none_byte}
 use Rattle.document_store.proofs.SoFar.{HeadSoFar, fault_first, fault_on, head_none, head_more, head_whole}
 use Rattle.document_store.proofs.head.read_head.Goals as goal

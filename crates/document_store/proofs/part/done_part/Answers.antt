@@ -1,6 +1,6 @@
 -- A slot that was done is not seen undone, where the device below tells its image.
 use Rattle.std.proofs.Common.{Option, Ok, refl, subst}
-use Rattle.commit_record.specs.tamper_rules.declared.numbers.TheConstants.{BROKEN_DOCUMENT}
+use Rattle.tamper_rules.specs.declared.numbers.TheConstants.{BROKEN_DOCUMENT}
 use Rattle.document_store.specs.Looks.{PartEnds}
 use Rattle.document_store.specs.declared.part.Part.{Part}
 use Rattle.document_store.proofs.Naming.{not_undone}

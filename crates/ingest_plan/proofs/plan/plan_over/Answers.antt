@@ -1,7 +1,7 @@
 -- The journal of what was planned.
 use Rattle.std.proofs.Common.{◌-◌, arith}
 use Rattle.cell_types.proofs.Passed.{handed}
-use Rattle.planned_cells.specs.Faults.{refusal_of_growth}
+use Rattle.cell_pool.specs.Faults.{refusal_of_growth}
 use Rattle.worm_device.specs.Overlaying.{overlay_shows}
 use Rattle.worm_device.specs.Overlays.{of_overlay}
 use Rattle.ingest_plan.proofs.Deriving.{plan_refused, planned_over}

@@ -2,7 +2,7 @@
 use Rattle.std.proofs.Common.{◌≡◌, ◌<◌, ◌∙◌, ℕ, List, Some, ap, sym, subst, arith}
 use Rattle.std.specs.Prelude.{IsTrue, length, slice_get, slice_index_or}
 use Rattle.std.proofs.lemmas.Option.{slice_get-get_or}
-use Rattle.index_paths.specs.Postings.{ListedPosting}
+use Rattle.volume_meaning.specs.Postings.{ListedPosting}
 use Rattle.cell_types.proofs.Passed.{handed}
 use Rattle.worm_device.specs.Overlaying.{overlay_shows}
 use Rattle.worm_device.specs.Overlays.{of_overlay}

@@ -3,7 +3,7 @@ use Rattle.std.proofs.Common.{inl, inr, arith, sym, subst}
 use Rattle.std.specs.Prelude.{IsTrue}
 use Rattle.cell_types.proofs.Passed.{handed}
 use Rattle.cell_types.specs.Image.{Image}
-use Rattle.stored_documents.proofs.Extending.{holds_on, blank_before}
+use Rattle.volume_meaning.proofs.Extending.{holds_on, blank_before}
 use Rattle.worm_device.specs.Overlays.{of_overlay}
 use Rattle.worm_device.proofs.Resting.{viewed_then}
 use Rattle.jump_block.proofs.Knowing.{key_on}

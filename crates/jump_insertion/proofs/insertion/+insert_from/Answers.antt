@@ -2,10 +2,10 @@
 use Rattle.std.proofs.Common.{◌≡◌, ◌+◌, inr, arith, sym, ap, ◌∙◌, subst, Some, None, Ok, Err}
 use Rattle.std.specs.Prelude.{IsTrue}
 use Rattle.cell_types.proofs.Passed.{handed}
-use Rattle.planned_cells.specs.declared.fault.GrowthFault.TheVariants as growth
+use Rattle.cell_pool.specs.declared.fault.GrowthFault.TheVariants as growth
 use Rattle.cell_types.specs.Image.{Image}
-use Rattle.index_paths.specs.Blocks.{posting_record}
-use Rattle.stored_documents.proofs.Extending.{holds_on}
+use Rattle.volume_meaning.specs.Blocks.{posting_record}
+use Rattle.volume_meaning.proofs.Extending.{holds_on}
 use Rattle.worm_device.specs.Overlays.{of_overlay}
 use Rattle.worm_device.proofs.Resting.{viewed_then}
 use Rattle.jump_block.proofs.Knowing.{key_on}

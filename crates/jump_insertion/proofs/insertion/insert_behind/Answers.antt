@@ -2,9 +2,9 @@
 use Rattle.std.proofs.Common.{◌+◌, arith, inl, inr, refl, sym, ap, ◌∙◌, subst}
 use Rattle.std.specs.Prelude.{IsTrue}
 use Rattle.cell_types.proofs.Passed.{handed}
-use Rattle.planned_cells.specs.declared.fault.GrowthFault.TheVariants as growth
+use Rattle.cell_pool.specs.declared.fault.GrowthFault.TheVariants as growth
 use Rattle.cell_types.specs.Image.{Image}
-use Rattle.stored_documents.proofs.Extending.{blank_before}
+use Rattle.volume_meaning.proofs.Extending.{blank_before}
 use Rattle.worm_device.specs.Overlays.{of_overlay}
 use Rattle.jump_insertion.specs.Hopping.{IsSpot}
 use Rattle.jump_insertion.specs.Inserting.{fields_of}

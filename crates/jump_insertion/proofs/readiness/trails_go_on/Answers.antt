@@ -1,6 +1,6 @@
 -- The law, for all images.
 use Rattle.std.proofs.Common.{arith}
-use Rattle.index_paths.proofs.Trails.{trail_on, trail_wider}
+use Rattle.volume_meaning.proofs.Trails.{trail_on, trail_wider}
 use Rattle.jump_insertion.proofs.readiness.trails_go_on.Goals as goal
 
 pub returns : goal.returns

@@ -2,7 +2,7 @@
 use Rattle.std.proofs.Common.{arith, ℕ, sym, subst}
 use Rattle.std.specs.Prelude.{IsTrue}
 use Rattle.cell_types.proofs.Passed.{handed}
-use Rattle.stored_documents.proofs.Extending.{blank_before}
+use Rattle.volume_meaning.proofs.Extending.{blank_before}
 use Rattle.worm_device.proofs.Resting.{viewed_then}
 use Rattle.jump_insertion.specs.Hopping.{BlankFrom}
 use Rattle.jump_insertion.proofs.Searching.{blank_down, blank_below, first_low, greatest_unread}

@@ -1,6 +1,6 @@
 -- The postings don't exist; or they do, and each was asked.
 use Rattle.std.proofs.Common.{ap, ◌∙◌}
-use Rattle.stored_documents.specs.Words.{rule_of}
+use Rattle.volume_meaning.specs.Words.{rule_of}
 use Rattle.kept_documents.proofs.Indexing.{all_listed, are_listed, given, not_listed}
 use Rattle.kept_documents.proofs.indexed.has_postings.Goals as goal
 

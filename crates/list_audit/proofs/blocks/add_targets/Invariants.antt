@@ -1,5 +1,5 @@
 -- The pointer places before this turn's were followed.
-use Rattle.kept_cells.specs.Kept.{image_of}
+use Rattle.log_audit.specs.Kept.{image_of}
 use Rattle.list_audit.specs.Blocks.{AreNumbered}
 use Rattle.list_audit.proofs.Closing.{IsFollowed}
 use Rattle.list_audit.proofs.blocks.add_targets.Given as goal

@@ -1,5 +1,5 @@
 -- The pointers of the blocks before this turn's were followed.
-use Rattle.kept_cells.specs.Kept.{image_of}
+use Rattle.log_audit.specs.Kept.{image_of}
 use Rattle.list_audit.specs.Blocks.{AreNumbered, AreClosedBelow}
 use Rattle.list_audit.proofs.blocks.blocks_of.Given as goal
 

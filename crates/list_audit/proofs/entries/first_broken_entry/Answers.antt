@@ -1,8 +1,8 @@
 -- One block more, and all of them.
 use Rattle.std.proofs.Common.{ℕ, arith}
 use Rattle.std.proofs.lemmas.Option.{slice_get-get_or}
-use Rattle.kept_cells.specs.Kept.{image_of}
-use Rattle.log_audit.specs.tamper_rules.Rules.{Entries}
+use Rattle.log_audit.specs.Kept.{image_of}
+use Rattle.tamper_rules.specs.Rules.{Entries}
 use Rattle.list_audit.specs.Entries.{BlockAsks}
 use Rattle.list_audit.proofs.EachBlock.{one_block, every_block}
 use Rattle.list_audit.proofs.Ordered.{rule_asks, block_asks}

@@ -1,7 +1,7 @@
 -- The least of what the blocks before this turn's break.
 use Rattle.std.proofs.Common.{ℕ}
-use Rattle.kept_cells.specs.Kept.{image_of}
-use Rattle.log_audit.specs.tamper_rules.Rules.{Entries}
+use Rattle.log_audit.specs.Kept.{image_of}
+use Rattle.tamper_rules.specs.Rules.{Entries}
 use Rattle.log_audit.specs.Least.{FindsPart}
 use Rattle.log_audit.proofs.Parts.{AskedBelow}
 use Rattle.list_audit.specs.Entries.{BlockAsks}

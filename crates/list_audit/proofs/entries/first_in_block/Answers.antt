@@ -1,7 +1,7 @@
 -- The block lies on the device; its first place that breaks the rule; and none does.
 use Rattle.std.proofs.Common.{◌≤◌, ◌<◌, ◌+◌, ℕ, refl, sym, ◌∙◌, arith}
-use Rattle.kept_cells.specs.Kept.{image_of}
-use Rattle.log_audit.specs.tamper_rules.Rules.{Entries}
+use Rattle.log_audit.specs.Kept.{image_of}
+use Rattle.tamper_rules.specs.Rules.{Entries}
 use Rattle.log_audit.proofs.Deciding.{decided_no}
 use Rattle.log_audit.proofs.Parts.{first_of_part}
 use Rattle.list_audit.specs.Entries.{KeepsEntryRule, BlockAsks}

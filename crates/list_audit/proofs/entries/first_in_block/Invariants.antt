@@ -1,6 +1,6 @@
 -- The places before this turn's keep the rule.
 use Rattle.std.proofs.Common.{◌+◌, ℕ}
-use Rattle.kept_cells.specs.Kept.{image_of}
+use Rattle.log_audit.specs.Kept.{image_of}
 use Rattle.log_audit.proofs.Families.{AreFine}
 use Rattle.list_audit.specs.Entries.{KeepsEntryRule}
 use Rattle.list_audit.proofs.entries.first_in_block.Given as goal

@@ -1,6 +1,6 @@
 -- No posting stands there; it is the first; none stands before it; and one does.
 use Rattle.std.proofs.Common.{inl, arith}
-use Rattle.kept_cells.specs.Kept.{image_of}
+use Rattle.log_audit.specs.Kept.{image_of}
 use Rattle.log_audit.proofs.Deciding.{no, yes}
 use Rattle.list_audit.proofs.Ordered.{ordered_behind, none_before}
 use Rattle.list_audit.proofs.entries.is_in_order.Goals as goal

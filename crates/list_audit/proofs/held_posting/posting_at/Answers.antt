@@ -1,10 +1,10 @@
 -- No record stands there, another one does, or a posting does.
 use Rattle.std.proofs.Common.{refl, subst, ap, Some}
 use Rattle.cell_types.specs.declared.record_cell.RecordCell.{RecordCell}
-use Rattle.index_paths.specs.Blocks.{PostingFields, posting_record}
-use Rattle.index_paths.proofs.Fronts.{one_posting}
-use Rattle.stored_documents.specs.Volumes.{Holds}
-use Rattle.kept_cells.specs.Kept.{image_of}
+use Rattle.volume_meaning.specs.Blocks.{PostingFields, posting_record}
+use Rattle.volume_meaning.proofs.Fronts.{one_posting}
+use Rattle.volume_meaning.specs.Volumes.{Holds}
+use Rattle.log_audit.specs.Kept.{image_of}
 use Rattle.log_audit.proofs.Deciding.{none_held}
 use Rattle.list_audit.proofs.held_posting.posting_at.Goals as goal
 

@@ -1,6 +1,6 @@
 -- A blank cell, the first that is broken, one that is kept, and all of them.
 use Rattle.std.proofs.Common.{◌<◌, sym, ◌∙◌, arith}
-use Rattle.commit_record.specs.tamper_rules.Rules.{DoneCells}
+use Rattle.tamper_rules.specs.Rules.{DoneCells}
 use Rattle.log_audit.proofs.Deciding.{decided_no, decided_yes}
 use Rattle.log_audit.proofs.Families.{fine_more, not_written, met_all, first_rising}
 use Rattle.log_audit.proofs.broken.first_broken_done.Goals as goal

@@ -1,7 +1,7 @@
 -- The slots below this turn's keep the rule.
 use Rattle.cell_types.specs.Layout.{outcome_at}
-use Rattle.kept_cells.specs.Kept.{image_of}
-use Rattle.commit_record.specs.tamper_rules.Rules.{OutcomeRule}
+use Rattle.log_audit.specs.Kept.{image_of}
+use Rattle.tamper_rules.specs.Rules.{OutcomeRule}
 use Rattle.log_audit.proofs.Families.{AreFine}
 use Rattle.log_audit.proofs.broken.first_broken_outcome.Given as goal
 

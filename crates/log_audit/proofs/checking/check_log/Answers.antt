@@ -1,7 +1,7 @@
 -- Each rule in turn, and the log.
 use Rattle.std.proofs.Common.{inl}
-use Rattle.kept_cells.specs.Kept.{image_of}
-use Rattle.commit_record.specs.tamper_rules.Rules.{ReserveCells, OutcomeCells, DoneCells}
+use Rattle.log_audit.specs.Kept.{image_of}
+use Rattle.tamper_rules.specs.Rules.{ReserveCells, OutcomeCells, DoneCells}
 use Rattle.log_audit.specs.Findings.{AreMetBelow}
 use Rattle.log_audit.proofs.Numbers.{below_1, below_next}
 use Rattle.log_audit.proofs.Stopping.{first_found, found_none, log_checks}

@@ -3,9 +3,9 @@ use Rattle.std.proofs.Common.{⊎_elim, subst}
 use Rattle.cell_types.specs.Layout.{outcome_at}
 use Rattle.cell_types.specs.declared.record_cell.RecordCell.{RecordCell}
 use Rattle.cell_types.specs.declared.record_cell.RecordCell.TheVariants.{Commit}
-use Rattle.stored_documents.specs.Volumes.{Holds}
-use Rattle.kept_cells.specs.Kept.{image_of}
-use Rattle.stored_documents.specs.Slots.{IsAbandonedSlot}
+use Rattle.volume_meaning.specs.Volumes.{Holds}
+use Rattle.log_audit.specs.Kept.{image_of}
+use Rattle.volume_meaning.specs.Slots.{IsAbandonedSlot}
 use Rattle.log_audit.proofs.Deciding.{none_held, is_held, decided_no, decided_yes}
 use Rattle.log_audit.proofs.Outcomes.{ended_with, done_with}
 use Rattle.log_audit.proofs.ended.ended_slot.Goals as goal

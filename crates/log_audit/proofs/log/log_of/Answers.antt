@@ -1,8 +1,7 @@
 -- The first free slot, a slot more, and no slot left.
-use Rattle.std.proofs.Common.{◌≡◌, refl, sym, ◌∙◌, ap, arith}
-use Rattle.std.proofs.Common.{None}
+use Rattle.std.proofs.Common.{◌≡◌, refl, sym, ◌∙◌, ap, arith, None}
 use Rattle.cell_types.specs.Layout.{reserve_at}
-use Rattle.kept_cells.specs.Kept.{image_of}
+use Rattle.log_audit.specs.Kept.{image_of}
 use Rattle.log_audit.proofs.LogSoFar.{one_more, is_log, free_from}
 use Rattle.log_audit.proofs.log.log_of.Goals as goal
 

@@ -1,5 +1,5 @@
 -- The slots below this turn's have ended.
-use Rattle.kept_cells.specs.Kept.{image_of}
+use Rattle.log_audit.specs.Kept.{image_of}
 use Rattle.log_audit.proofs.LogSoFar.{LogSoFar}
 use Rattle.log_audit.proofs.log.log_of.Given as goal
 

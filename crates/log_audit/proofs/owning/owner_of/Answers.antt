@@ -1,5 +1,5 @@
 -- No slot reserves the cell; the slot that does holds no document, or the cell lies before it, or does not.
-use Rattle.kept_cells.specs.Kept.{image_of}
+use Rattle.log_audit.specs.Kept.{image_of}
 use Rattle.log_audit.proofs.Holders.{log_in_row, owner_holds, not_owned, owned, not_before}
 use Rattle.std.proofs.Common.{arith}
 use Rattle.log_audit.proofs.owning.owner_of.Goals as goal

@@ -1,10 +1,10 @@
 -- The outcome cell holds no record; the slot is given up; its document does not fit, or does.
 use Rattle.std.proofs.Common.{⊎_elim, inl, subst}
-use Rattle.stored_documents.specs.Volumes.{Holds}
+use Rattle.volume_meaning.specs.Volumes.{Holds}
 use Rattle.cell_types.specs.Layout.{outcome_at}
 use Rattle.cell_types.specs.declared.record_cell.RecordCell.{RecordCell}
 use Rattle.cell_types.specs.declared.record_cell.RecordCell.TheVariants.{Abandon, Commit}
-use Rattle.kept_cells.specs.Kept.{image_of}
+use Rattle.log_audit.specs.Kept.{image_of}
 use Rattle.log_audit.proofs.Deciding.{no, yes, none_held, is_held, written_by, decided_no, decided_yes}
 use Rattle.log_audit.proofs.Outcomes.{outcome_fits, outcome_of_commit}
 use Rattle.log_audit.proofs.slot_rules.keeps_outcome_rule.Goals as goal

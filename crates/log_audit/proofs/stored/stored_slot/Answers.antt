@@ -1,6 +1,6 @@
 -- What the log says.
 use Rattle.std.proofs.Common.{Some, sym, ◌∙◌, ap}
-use Rattle.kept_cells.specs.Kept.{image_of}
+use Rattle.log_audit.specs.Kept.{image_of}
 use Rattle.log_audit.proofs.Logged.{stores_of}
 use Rattle.log_audit.proofs.Storing.{stored_there}
 use Rattle.log_audit.proofs.stored.stored_slot.Goals as goal

@@ -2,7 +2,7 @@
 use Rattle.std.proofs.Common.{inl}
 use Rattle.cell_types.proofs.Passed.{handed}
 use Rattle.cell_types.specs.declared.refusal.Fault.TheVariants as faults
-use Rattle.phase_writer.proofs.Phasing.{phase_ended, phase_synced, phase_unsynced, puts_ended_wider}
+use Rattle.recovery_engine.proofs.Phasing.{phase_ended, phase_synced, phase_unsynced, puts_ended_wider}
 use Rattle.plan_writer.proofs.StoredCells.{document_ended, journal_ended, stored}
 use Rattle.plan_writer.proofs.steps.store.Goals as goal
 

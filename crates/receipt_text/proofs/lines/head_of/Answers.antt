@@ -1,7 +1,7 @@
 -- The line of a document is cut behind its slot.
 use Rattle.std.proofs.Common.{◌≡◌, ◌∙◌, ◌∷◌, ◌++◌, ap, decimal, drop, sym, subst, arith, true≢false}
 use Rattle.receipt_text.proofs.Spelling.{head_cut, slot_is}
-use Rattle.stored_documents.specs.Documents.{IsIdentifier}
+use Rattle.volume_meaning.specs.Documents.{IsIdentifier}
 use Rattle.receipt_text.proofs.lines.head_of.Goals as goal
 
 pub returns-in_default-number_of-clause-none : goal.returns-in_default-number_of-clause-none

@@ -1,9 +1,9 @@
 -- A slot that is done, and one that is not.
 use Rattle.std.proofs.Common.{ℕ, Ok, Option, subst}
-use Rattle.identifier_lookup.specs.document_store.Looks.{PartEnds}
-use Rattle.identifier_lookup.specs.document_store.declared.part.Part.{Part}
+use Rattle.document_store.specs.Looks.{PartEnds}
+use Rattle.document_store.specs.declared.part.Part.{Part}
 use Rattle.record_query.specs.Matching.{SlotEnds}
-use Rattle.identifier_lookup.proofs.of_document_store.Checking.{reads_once}
+use Rattle.document_store.proofs.Checking.{reads_once}
 use Rattle.record_query.proofs.Matched.{ends_from}
 use Rattle.record_query.proofs.matching.match_in.Goals as goal
 

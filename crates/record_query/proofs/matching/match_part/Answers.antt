@@ -3,10 +3,10 @@ use Rattle.std.proofs.Common.{Option, Ok, arith, refl, subst}
 use Rattle.std.proofs.lemmas.List.{length-take}
 use Rattle.cell_types.proofs.Passed.{handed}
 use Rattle.cell_types.specs.declared.refusal.Refusal.TheVariants.{NoMemory}
-use Rattle.identifier_lookup.specs.document_store.Looks.{commit_breach}
-use Rattle.identifier_lookup.specs.document_store.declared.head.Head.{Head}
+use Rattle.document_store.specs.Looks.{commit_breach}
+use Rattle.document_store.specs.declared.head.Head.{Head}
 use Rattle.record_query.specs.Matching.{SeekEnds, SeekFails}
-use Rattle.identifier_lookup.proofs.of_document_store.Naming.{names_commit_before}
+use Rattle.document_store.proofs.Naming.{names_commit_before}
 use Rattle.record_query.proofs.Matched.{found_match, no_match, refused}
 use Rattle.record_query.proofs.matching.match_part.Goals as goal
 

@@ -1,7 +1,7 @@
 -- The head, and then the body.
 use Rattle.std.proofs.Common.{◌≡◌, false, true, [], sym, ◌∙◌}
 use Rattle.worm_device.proofs.Resting.{viewed_then}
-use Rattle.identifier_lookup.specs.document_store.Heads.{id_of}
+use Rattle.document_store.specs.Heads.{id_of}
 use Rattle.cell_types.proofs.Passed.{handed}
 use Rattle.record_query.proofs.Bodies.{seek_later}
 use Rattle.record_query.proofs.matching.seek.Goals as goal

@@ -6,7 +6,7 @@ use Rattle.script_events.specs.declared.event.Event.{Event}
 use Rattle.script_replies.specs.declared.reply.Reply.{Reply}
 use Rattle.worm_memory.specs.Device.{memory_of}
 use Rattle.worm_memory.specs.Memory.{Memory}
-use Rattle.replayed_worlds.specs.Worlds.{IsWorld}
+use Rattle.hostile_replay.specs.Worlds.{IsWorld}
 use Rattle.volume_exercise.specs.Exercising.{refused, told, unmade, untold}
 use Rattle.volume_exercise.specs.Tallies.{counted_text, first_refusal}
 use Rattle.volume_exercise.proofs.EventsOn.{exercise_events_on}

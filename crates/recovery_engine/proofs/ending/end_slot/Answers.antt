@@ -1,7 +1,7 @@
 -- One phase, or two.
 use Rattle.std.proofs.Common.{subst, Ok, Err}
 use Rattle.cell_types.specs.declared.record_cell.RecordCell.TheVariants.{Abandon}
-use Rattle.phase_writer.specs.Putting.{PutsPhase}
+use Rattle.recovery_engine.specs.Putting.{PutsPhase}
 use Rattle.cell_types.proofs.Passed.{handed}
 use Rattle.recovery_engine.specs.Journal.{IsEntryPut}
 use Rattle.recovery_engine.specs.declared.journal.Journal.{Journal}

@@ -1,8 +1,8 @@
 -- One journal cell after another.
 use Rattle.std.proofs.Common.{◌≡◌, ℕ, refl, subst, arith, Ok}
-use Rattle.phase_writer.specs.Putting.{Puts}
+use Rattle.recovery_engine.specs.Putting.{Puts}
 use Rattle.cell_types.proofs.Passed.{handed}
-use Rattle.phase_writer.proofs.Phasing.{phase_synced}
+use Rattle.recovery_engine.proofs.Phasing.{phase_synced}
 use Rattle.recovery_engine.specs.Journal.{IsEntryPut}
 use Rattle.recovery_engine.proofs.Entries.{entry_refused, entry_put, entry_held, entry_checked}
 use Rattle.recovery_engine.proofs.journal.apply_journal.Goals as goal

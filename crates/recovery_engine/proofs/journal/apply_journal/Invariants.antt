@@ -1,7 +1,7 @@
 -- The journal cells before this turn's are written.
 use Rattle.std.proofs.Common.{Ok}
 use Rattle.std.specs.Prelude.{IsTrue}
-use Rattle.phase_writer.specs.Putting.{Puts}
+use Rattle.recovery_engine.specs.Putting.{Puts}
 use Rattle.recovery_engine.specs.Journal.{IsEntryPut}
 use Rattle.recovery_engine.proofs.Entries.{CheckedTo}
 use Rattle.recovery_engine.proofs.journal.apply_journal.Given as goal

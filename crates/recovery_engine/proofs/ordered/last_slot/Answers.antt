@@ -2,7 +2,7 @@
 use Rattle.std.proofs.Common.{refl, ◌≡◌, ◌+◌, ◌-◌, sym, ◌∙◌, arith}
 use Rattle.worm_device.proofs.Resting.{viewed_then}
 use Rattle.recovery_engine.proofs.InOrder.{elsewhere, follows_on, first_elsewhere}
-use Rattle.phase_writer.proofs.Phasing.{false_true}
+use Rattle.recovery_engine.proofs.Phasing.{false_true}
 use Rattle.recovery_engine.proofs.ordered.last_slot.Goals as goal
 
 -- the first slot does not begin where the pool does

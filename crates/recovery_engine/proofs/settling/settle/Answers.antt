@@ -13,11 +13,11 @@ use Rattle.commit_record.specs.Opening.{refusal_of}
 use Rattle.cell_types.specs.declared.geometry.TheConstants.{MAX_SLOTS}
 use Rattle.worm_device.proofs.Elapsing.{called_then}
 use Rattle.worm_device.proofs.Images.{extends_then, unchanged_then}
-use Rattle.phase_writer.proofs.Phasing.{false_true}
+use Rattle.recovery_engine.proofs.Phasing.{false_true}
 use Rattle.recovery_engine.proofs.Looked.{none_ended, none_is, some_used, looked_sync, looked_more, settled_looked, settled_ended, ending_of, none_to_end, sync_failed}
 use Rattle.recovery_engine.proofs.Settled.{ready, unused_bounds, unused_ready, open_names, open_refused, last_names, last_refused}
 use Rattle.recovery_engine.proofs.Licensed.{check_names, check_refused, end_names, end_refused, last_on, volume_later}
-use Rattle.commit_record.specs.tamper_rules.Settling.{Settled}
+use Rattle.tamper_rules.specs.Settling.{Settled}
 use Rattle.recovery_engine.specs.Ending.{HasJournal, end_phases}
 use Rattle.recovery_engine.specs.LastSlot.{IsLast}
 use Rattle.cell_types.specs.Image.{IsUnchanged}

@@ -1,6 +1,6 @@
 use Rattle.std.proofs.Common.{ℕ, List, subst}
 use Rattle.serde_json.specs.View.{view}
-use Rattle.stored_documents.specs.declared.word_rules.WordRule.{WordRule}
+use Rattle.volume_meaning.specs.declared.word_rules.WordRule.{WordRule}
 use Rattle.script_events.specs.Grammar.{SaysFind}
 use Rattle.script_events.specs.declared.event.Schedule.{Schedule}
 use Rattle.script_events.proofs.OneKind.{none_of, none_find}

@@ -3,11 +3,11 @@ use Rattle.std.proofs.Common.{◌≡◌, ◌≤◌, ◌+◌, ℕ, List, [], Some
 use Rattle.cell_types.specs.Image.{Image}
 use Rattle.cell_types.specs.Records.{IsRecordCell}
 use Rattle.cell_types.specs.declared.record_cell.RecordCell.TheVariants.{Reserve, Commit, Done, Jump}
-use Rattle.stored_documents.specs.Volumes.{Holds}
-use Rattle.stored_documents.specs.Slots.{Reserves, IsDone}
-use Rattle.stored_documents.specs.Documents.{Spells, IsIdentifier, content_at, stored_bytes}
-use Rattle.stored_documents.proofs.Extending.{volume_on}
-use Rattle.stored_documents.proofs.Holding.{one_record_holds}
+use Rattle.volume_meaning.specs.Volumes.{Holds}
+use Rattle.volume_meaning.specs.Slots.{Reserves, IsDone}
+use Rattle.volume_meaning.specs.Documents.{Spells, IsIdentifier, content_at, stored_bytes}
+use Rattle.volume_meaning.proofs.Extending.{volume_on}
+use Rattle.volume_meaning.proofs.Holding.{one_record_holds}
 use Rattle.tamper_rules.specs.Rules.{Pointers}
 use Rattle.tamper_rules.proofs.GivenUp.{jumps}
 use Rattle.small_volume.specs.Images.{with_cells}

@@ -1,6 +1,6 @@
 -- The law of formatted volumes, at the cell that is written out.
 use Rattle.std.proofs.Common.{◌≡◌, ◌≤◌, ℕ, None, refl}
-use Rattle.stored_documents.specs.Volumes.{IsVolume}
+use Rattle.volume_meaning.specs.Volumes.{IsVolume}
 use Rattle.tamper_rules.proofs.SettledLaws.{formatted}
 use Rattle.small_volume.specs.SmallVolume.{formatted_image, small_layout, volume_cell}
 use Rattle.small_volume.proofs.Small.{layout, volume_is}

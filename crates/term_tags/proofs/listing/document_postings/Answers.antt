@@ -1,6 +1,6 @@
 -- The postings of the words, and behind them that of the stamp.
 use Rattle.std.proofs.Common.{◌++◌, ◌∙◌, ℕ, List, map, ap, sym, subst}
-use Rattle.index_paths.specs.Postings.{ArePostings}
+use Rattle.volume_meaning.specs.Postings.{ArePostings}
 use Rattle.term_tags.specs.Listing.{listed, time_entries}
 use Rattle.term_tags.specs.declared.rows.Posting.{Posting}
 use Rattle.term_tags.proofs.Stamps.{with_stamp}

@@ -1,6 +1,6 @@
 -- The rows of the distinct keys are the postings, where each list's count fits.
 use Rattle.std.proofs.Common.{◌∙◌, ℕ, List, None, map, sym, ap, subst, arith}
-use Rattle.index_paths.specs.Postings.{ArePostings}
+use Rattle.volume_meaning.specs.Postings.{ArePostings}
 use Rattle.term_tags.specs.Keys.{AreInLists, AreKeys}
 use Rattle.term_tags.specs.Listing.{AllFit, AreCounts, IsFirstOver, listed, rows_of}
 use Rattle.term_tags.specs.declared.rows.Posting.{Posting}

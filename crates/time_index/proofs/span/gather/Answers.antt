@@ -2,7 +2,7 @@
 use Rattle.std.proofs.Common.{refl}
 use Rattle.cell_types.proofs.Passed.{handed}
 use Rattle.cell_types.specs.Refusals.{refusal_of_fault}
-use Rattle.record_query.proofs.of_posting_list.Landing.{keeps_on}
+use Rattle.posting_list.proofs.Landing.{keeps_on}
 use Rattle.time_index.proofs.SoFar.{match_fails, none_left, not_kept, one_more, search_fails}
 use Rattle.time_index.proofs.span.gather.Goals as goal
 

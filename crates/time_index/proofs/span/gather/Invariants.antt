@@ -1,6 +1,6 @@
 -- The stamps before the next one are answered for.
 use Rattle.std.proofs.Common.{◌+◌, ◌-◌}
-use Rattle.record_query.specs.posting_list.Keeping.{KeepsFronts}
+use Rattle.posting_list.specs.Keeping.{KeepsFronts}
 use Rattle.time_index.specs.Gathering.{SpanSoFar, unanswered}
 use Rattle.time_index.proofs.span.gather.Given as goal
 

@@ -1,6 +1,6 @@
 -- The numbers of those before this turn's were gathered.
 use Rattle.std.proofs.Common.{[]}
-use Rattle.kept_cells.specs.Kept.{image_of}
+use Rattle.log_audit.specs.Kept.{image_of}
 use Rattle.tree_audit.specs.Around.{Adds, IsLeadAmong}
 use Rattle.tree_audit.proofs.around.leads_of.Given as goal
 

@@ -1,6 +1,6 @@
 -- A child cell that leads nowhere, one that leads to a node, and all of them.
 use Rattle.std.proofs.Common.{◌≡◌, ℕ, subst, arith}
-use Rattle.kept_cells.specs.Kept.{image_of}
+use Rattle.log_audit.specs.Kept.{image_of}
 use Rattle.tree_audit.specs.Around.{Adds, IsLeadOf}
 use Rattle.tree_audit.proofs.Numbering.{leads_nowhere, leads_on}
 use Rattle.tree_audit.proofs.around.push_leads.Goals as goal

@@ -1,5 +1,5 @@
 -- The numbers of the child cells before this turn's were added.
-use Rattle.kept_cells.specs.Kept.{image_of}
+use Rattle.log_audit.specs.Kept.{image_of}
 use Rattle.tree_audit.specs.Around.{Adds, IsLeadOf}
 use Rattle.tree_audit.proofs.around.push_leads.Given as goal
 

@@ -1,10 +1,10 @@
 -- Blank cells, true buckets, one that is none, and all of them.
 use Rattle.std.proofs.Common.{◌+◌, ℕ, refl, sym, ◌∙◌, arith}
-use Rattle.kept_cells.specs.Kept.{image_of}
+use Rattle.log_audit.specs.Kept.{image_of}
 use Rattle.tamper_rules.specs.Rules.{Buckets, IsTrueBucket}
-use Rattle.journal_audit.proofs.of_log_audit.Deciding.{decided_no, decided_yes}
-use Rattle.journal_audit.proofs.of_log_audit.Families.{fine_more, not_written}
-use Rattle.journal_audit.proofs.of_log_audit.Parts.{first_of_part, part_met}
+use Rattle.log_audit.proofs.Deciding.{decided_no, decided_yes}
+use Rattle.log_audit.proofs.Families.{fine_more, not_written}
+use Rattle.log_audit.proofs.Parts.{first_of_part, part_met}
 use Rattle.tree_audit.specs.Buckets.{AsksBucket}
 use Rattle.tree_audit.proofs.Closing.{node_inside}
 use Rattle.tree_audit.proofs.Judging.{bucket_place}

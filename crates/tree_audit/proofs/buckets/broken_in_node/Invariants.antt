@@ -1,8 +1,8 @@
 -- The buckets before this turn's are true ones.
 use Rattle.std.proofs.Common.{◌+◌, ℕ}
-use Rattle.kept_cells.specs.Kept.{image_of}
+use Rattle.log_audit.specs.Kept.{image_of}
 use Rattle.tamper_rules.specs.Rules.{IsTrueBucket}
-use Rattle.journal_audit.proofs.of_log_audit.Families.{AreFine}
+use Rattle.log_audit.proofs.Families.{AreFine}
 use Rattle.tree_audit.proofs.buckets.broken_in_node.Given as goal
 
 abbrev pub invariant-loop-x : goal.invariant-loop-x

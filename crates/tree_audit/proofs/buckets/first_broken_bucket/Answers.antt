@@ -2,10 +2,10 @@
 use Rattle.std.proofs.Common.{◌≡◌, ◌+◌, get_or, Some, sym, subst, arith}
 use Rattle.std.specs.Prelude.{slice_get}
 use Rattle.std.proofs.lemmas.Option.{slice_get-get_or}
-use Rattle.kept_cells.specs.Kept.{image_of}
+use Rattle.log_audit.specs.Kept.{image_of}
 use Rattle.tamper_rules.specs.Rules.{Buckets}
-use Rattle.journal_audit.specs.log_audit.Least.{FindsPart}
-use Rattle.journal_audit.proofs.of_log_audit.Parts.{AskedBelow, as_asked, one_part, finds_all}
+use Rattle.log_audit.specs.Least.{FindsPart}
+use Rattle.log_audit.proofs.Parts.{AskedBelow, as_asked, one_part, finds_all}
 use Rattle.tree_audit.specs.Buckets.{AsksBucket}
 use Rattle.tree_audit.specs.declared.nodes.LevelNode.{LevelNode}
 use Rattle.tree_audit.proofs.Judging.{AsksAt, same_node, asks_all, all_ask}

@@ -1,8 +1,8 @@
 -- The least finding of the nodes before this turn's.
-use Rattle.kept_cells.specs.Kept.{image_of}
+use Rattle.log_audit.specs.Kept.{image_of}
 use Rattle.tamper_rules.specs.Rules.{Buckets}
-use Rattle.journal_audit.specs.log_audit.Least.{FindsPart}
-use Rattle.journal_audit.proofs.of_log_audit.Parts.{AskedBelow}
+use Rattle.log_audit.specs.Least.{FindsPart}
+use Rattle.log_audit.proofs.Parts.{AskedBelow}
 use Rattle.tree_audit.proofs.Judging.{AsksAt}
 use Rattle.tree_audit.proofs.buckets.first_broken_bucket.Given as goal
 

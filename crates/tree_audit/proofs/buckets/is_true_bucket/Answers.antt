@@ -1,8 +1,8 @@
 -- No bucket; one of a slot that does not stand; one with another fingerprint; one on the path, or not.
 use Rattle.std.proofs.Common.{ℕ, subst}
-use Rattle.stored_documents.specs.Documents.{Stands}
-use Rattle.kept_cells.specs.Kept.{image_of}
-use Rattle.journal_audit.proofs.of_log_audit.Deciding.{no, decided_no, decided_yes}
+use Rattle.volume_meaning.specs.Documents.{Stands}
+use Rattle.log_audit.specs.Kept.{image_of}
+use Rattle.log_audit.proofs.Deciding.{no, decided_no, decided_yes}
 use Rattle.tree_audit.proofs.Judging.{same_slot, is_true, true_fingerprint, true_path}
 use Rattle.tree_audit.proofs.buckets.is_true_bucket.Goals as goal
 

@@ -1,10 +1,10 @@
 -- Blank cells, child cells that lead down well, one that does not, and all of them.
 use Rattle.std.proofs.Common.{◌+◌, ℕ, refl, sym, ◌∙◌, arith}
-use Rattle.kept_cells.specs.Kept.{image_of}
+use Rattle.log_audit.specs.Kept.{image_of}
 use Rattle.tamper_rules.specs.Rules.{Children, LeadsDownWell}
-use Rattle.journal_audit.proofs.of_log_audit.Deciding.{decided_no, decided_yes}
-use Rattle.journal_audit.proofs.of_log_audit.Families.{fine_more, not_written}
-use Rattle.journal_audit.proofs.of_log_audit.Parts.{first_of_part, part_met}
+use Rattle.log_audit.proofs.Deciding.{decided_no, decided_yes}
+use Rattle.log_audit.proofs.Families.{fine_more, not_written}
+use Rattle.log_audit.proofs.Parts.{first_of_part, part_met}
 use Rattle.tree_audit.specs.Children.{AsksChild}
 use Rattle.tree_audit.proofs.Closing.{node_inside}
 use Rattle.tree_audit.proofs.Leading.{child_place}

@@ -1,8 +1,8 @@
 -- The child cells before this turn's lead down well.
 use Rattle.std.proofs.Common.{◌+◌, ℕ}
-use Rattle.kept_cells.specs.Kept.{image_of}
+use Rattle.log_audit.specs.Kept.{image_of}
 use Rattle.tamper_rules.specs.Rules.{LeadsDownWell}
-use Rattle.journal_audit.proofs.of_log_audit.Families.{AreFine}
+use Rattle.log_audit.proofs.Families.{AreFine}
 use Rattle.tree_audit.proofs.children.broken_under.Given as goal
 
 abbrev pub invariant-loop-x : goal.invariant-loop-x

@@ -1,8 +1,8 @@
 -- The least finding of the nodes before this turn's.
-use Rattle.kept_cells.specs.Kept.{image_of}
+use Rattle.log_audit.specs.Kept.{image_of}
 use Rattle.tamper_rules.specs.Rules.{Children}
-use Rattle.journal_audit.specs.log_audit.Least.{FindsPart}
-use Rattle.journal_audit.proofs.of_log_audit.Parts.{AskedBelow}
+use Rattle.log_audit.specs.Least.{FindsPart}
+use Rattle.log_audit.proofs.Parts.{AskedBelow}
 use Rattle.tree_audit.proofs.Leading.{ChildrenAskAt}
 use Rattle.tree_audit.proofs.children.first_broken_child.Given as goal
 

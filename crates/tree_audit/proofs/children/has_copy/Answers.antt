@@ -1,7 +1,7 @@
 -- No journal cell names the cell; and the one that does holds the same, or not.
 use Rattle.std.proofs.Common.{◌+◌, ℕ, sym, ◌∙◌, ap}
-use Rattle.kept_cells.specs.Kept.{image_of}
-use Rattle.journal_audit.proofs.of_log_audit.Deciding.{no}
+use Rattle.log_audit.specs.Kept.{image_of}
+use Rattle.log_audit.proofs.Deciding.{no}
 use Rattle.tree_audit.proofs.Leading.{same_copies}
 use Rattle.tree_audit.proofs.children.has_copy.Goals as goal
 

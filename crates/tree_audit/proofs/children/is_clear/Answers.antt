@@ -1,6 +1,6 @@
 -- A block that begins near; a node before the target; one behind its first cell; and none.
 use Rattle.std.proofs.Common.{◌≤◌, ◌+◌, ◌-◌, inl, inr, refl, sym, arith}
-use Rattle.journal_audit.proofs.of_log_audit.Deciding.{no, yes, decided_no, decided_yes}
+use Rattle.log_audit.proofs.Deciding.{no, yes, decided_no, decided_yes}
 use Rattle.tree_audit.proofs.Leading.{moved, block_near, no_block_near, node_near, no_node_near}
 use Rattle.tree_audit.proofs.children.is_clear.Goals as goal
 

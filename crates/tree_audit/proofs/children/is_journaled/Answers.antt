@@ -1,7 +1,7 @@
 -- The target lies in no slot's blocks; or in those of one, whose journal has a copy or none.
 use Rattle.std.proofs.Common.{sym, ◌∙◌, arith}
 use Rattle.std.proofs.lemmas.Option.{none-some}
-use Rattle.journal_audit.proofs.of_log_audit.Deciding.{no}
+use Rattle.log_audit.proofs.Deciding.{no}
 use Rattle.tree_audit.proofs.Leading.{copies_itself, journaled, lies_in, has_its_copy}
 use Rattle.tree_audit.proofs.children.is_journaled.Goals as goal
 

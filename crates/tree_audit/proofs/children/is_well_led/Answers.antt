@@ -1,7 +1,7 @@
 -- The target lies past the edge; is not journaled; is led to by a lower cell; and all is well but what is near.
 use Rattle.std.proofs.Common.{◌+◌, refl, sym, arith}
 use Rattle.tree_audit.specs.Around.{lead_number}
-use Rattle.journal_audit.proofs.of_log_audit.Deciding.{no, decided_no, decided_yes}
+use Rattle.log_audit.proofs.Deciding.{no, decided_no, decided_yes}
 use Rattle.tree_audit.proofs.Leading.{edge_is, edge_is_one, moved, no_lead_before, lead_before}
 use Rattle.tree_audit.proofs.children.is_well_led.Goals as goal
 

@@ -1,6 +1,6 @@
 -- No child cell leads to a node; no level is below; the bucket is blank; and the target decides.
 use Rattle.std.proofs.Common.{refl, arith}
-use Rattle.journal_audit.proofs.of_log_audit.Deciding.{no, written_by}
+use Rattle.log_audit.proofs.Deciding.{no, written_by}
 use Rattle.tree_audit.proofs.Leading.{leads_well, well_led}
 use Rattle.tree_audit.proofs.children.leads_down_well.Goals as goal
 

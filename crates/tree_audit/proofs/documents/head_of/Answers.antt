@@ -1,14 +1,14 @@
 -- The slot is not done; its document is always read; and what was read.
 use Rattle.std.proofs.Common.{ℕ, length, inr, sym, subst}
-use Rattle.stored_documents.specs.Documents.{stored_bytes}
-use Rattle.stored_documents.specs.Volumes.{IsVolume}
-use Rattle.journal_audit.proofs.of_document_store.Holding.{stands_held}
-use Rattle.kept_cells.specs.Kept.{image_of, view_of}
-use Rattle.kept_cells.specs.declared.kept.KeptCells.{KeptCells}
+use Rattle.volume_meaning.specs.Documents.{stored_bytes}
+use Rattle.volume_meaning.specs.Volumes.{IsVolume}
+use Rattle.document_store.proofs.Holding.{stands_held}
+use Rattle.log_audit.specs.Kept.{image_of, view_of}
+use Rattle.log_audit.specs.declared.kept.KeptCells.{KeptCells}
 use Rattle.tamper_rules.specs.Rules.{Documents}
-use Rattle.journal_audit.specs.log_audit.Findings.{IsMetAll}
-use Rattle.journal_audit.specs.log_audit.Logs.{IsLog}
-use Rattle.journal_audit.specs.log_audit.Stored.{IsStored}
+use Rattle.log_audit.specs.Findings.{IsMetAll}
+use Rattle.log_audit.specs.Logs.{IsLog}
+use Rattle.log_audit.specs.Stored.{IsStored}
 use Rattle.tree_audit.specs.Documents.{HasHead}
 use Rattle.tree_audit.proofs.Reading.{head_is_read, head_was_read}
 use Rattle.tree_audit.proofs.documents.head_of.Goals as goal

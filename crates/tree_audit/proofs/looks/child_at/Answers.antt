@@ -1,6 +1,6 @@
 -- No record stands there.
 use Rattle.std.proofs.Common.{refl}
-use Rattle.journal_audit.proofs.of_log_audit.Deciding.{none_held}
+use Rattle.log_audit.proofs.Deciding.{none_held}
 use Rattle.tree_audit.proofs.looks.child_at.Goals as goal
 
 pub returns-in_default : goal.returns-in_default

@@ -1,6 +1,6 @@
 -- The nodes of a level lie on the device; one level more; and all of them.
 use Rattle.std.proofs.Common.{◌≡◌, ℕ, List, length, sym, subst, arith}
-use Rattle.kept_cells.specs.Kept.{image_of}
+use Rattle.log_audit.specs.Kept.{image_of}
 use Rattle.tree_audit.specs.Nodes.{AreInside, AreUnder, AddsLevel, AreOnLevel}
 use Rattle.tree_audit.proofs.Closing.{AreNodesBelow, level_inside, one_level, next_level, all_levels}
 use Rattle.tree_audit.proofs.nodes.nodes_of.Goals as goal

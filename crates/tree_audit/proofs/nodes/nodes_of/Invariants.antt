@@ -1,5 +1,5 @@
 -- The nodes of the levels above this turn's were found, and those of its own.
-use Rattle.kept_cells.specs.Kept.{image_of}
+use Rattle.log_audit.specs.Kept.{image_of}
 use Rattle.tree_audit.specs.Nodes.{AreOnLevel}
 use Rattle.tree_audit.proofs.Closing.{AreNodesBelow}
 use Rattle.tree_audit.proofs.nodes.nodes_of.Given as goal

@@ -1,7 +1,7 @@
 -- A child cell that leads nowhere, one that leads to a node, and all of them.
 use Rattle.std.proofs.Common.{◌≡◌, ℕ, subst, arith}
 use Rattle.tree_audit.specs.Nodes.{AddsTargets}
-use Rattle.kept_cells.specs.Kept.{image_of}
+use Rattle.log_audit.specs.Kept.{image_of}
 use Rattle.tree_audit.proofs.Closing.{no_targets, no_child, one_child}
 use Rattle.tree_audit.proofs.nodes.push_targets.Goals as goal
 

@@ -1,5 +1,5 @@
 -- The targets of the child cells before this turn's were added.
-use Rattle.kept_cells.specs.Kept.{image_of}
+use Rattle.log_audit.specs.Kept.{image_of}
 use Rattle.tree_audit.specs.Nodes.{AddsTargets}
 use Rattle.tree_audit.proofs.nodes.push_targets.Given as goal
 

@@ -1,6 +1,6 @@
 -- No node yet, one more, and all of them.
 use Rattle.std.proofs.Common.{refl, arith}
-use Rattle.kept_cells.specs.Kept.{image_of}
+use Rattle.log_audit.specs.Kept.{image_of}
 use Rattle.tree_audit.proofs.Closing.{none_under, one_node, all_under}
 use Rattle.tree_audit.proofs.nodes.row_under.Goals as goal
 

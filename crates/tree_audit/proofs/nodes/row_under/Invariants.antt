@@ -1,5 +1,5 @@
 -- The targets of the nodes before this turn's were found.
-use Rattle.kept_cells.specs.Kept.{image_of}
+use Rattle.log_audit.specs.Kept.{image_of}
 use Rattle.tree_audit.proofs.Closing.{AreTargets}
 use Rattle.tree_audit.proofs.nodes.row_under.Given as goal
 

@@ -1,8 +1,8 @@
 -- The root; the path goes by the bucket, ends, goes on, and was followed to its last level.
 use Rattle.std.proofs.Common.{◌≡◌, ◌+◌, ℕ, sym, ◌∙◌, subst, arith}
-use Rattle.index_paths.specs.HashPaths.{nibble}
-use Rattle.kept_cells.specs.Kept.{image_of}
-use Rattle.journal_audit.proofs.of_log_audit.Deciding.{no}
+use Rattle.volume_meaning.specs.HashPaths.{nibble}
+use Rattle.log_audit.specs.Kept.{image_of}
+use Rattle.log_audit.proofs.Deciding.{no}
 use Rattle.tree_audit.specs.Nodes.{HasChild}
 use Rattle.tree_audit.proofs.Pathing.{begins, one_step, ends_here}
 use Rattle.tree_audit.proofs.paths.goes_by.Goals.{else-at-node-via-then-at-node+else-nibble-x, else-at-node-via-else-at-node}

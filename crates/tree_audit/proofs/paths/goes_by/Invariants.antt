@@ -1,5 +1,5 @@
 -- The path was followed down to this turn's level.
-use Rattle.kept_cells.specs.Kept.{image_of}
+use Rattle.log_audit.specs.Kept.{image_of}
 use Rattle.tree_audit.proofs.Pathing.{IsFollowed}
 use Rattle.tree_audit.proofs.paths.goes_by.Given as goal
 

@@ -2,11 +2,11 @@
 use Rattle.std.proofs.Common.{◌<◌, ℕ, List, sym, ◌∙◌, subst, arith}
 use Rattle.cell_types.specs.Layout.{done_at}
 use Rattle.tamper_rules.specs.Rules.{Paths}
-use Rattle.journal_audit.specs.document_store.Heads.{id_of}
-use Rattle.stored_documents.proofs.OneDocument.{one_document}
-use Rattle.kept_cells.specs.Kept.{image_of}
-use Rattle.journal_audit.proofs.of_log_audit.Deciding.{decided_no, decided_yes}
-use Rattle.journal_audit.proofs.of_log_audit.Families.{met_all, first_rising}
+use Rattle.document_store.specs.Heads.{id_of}
+use Rattle.volume_meaning.proofs.OneDocument.{one_document}
+use Rattle.log_audit.specs.Kept.{image_of}
+use Rattle.log_audit.proofs.Deciding.{decided_no, decided_yes}
+use Rattle.log_audit.proofs.Families.{met_all, first_rising}
 use Rattle.tree_audit.specs.Paths.{HasTrail}
 use Rattle.tree_audit.proofs.Trailing.{IsFound, one_trail, are_found, stands_slot}
 use Rattle.tree_audit.proofs.trails.first_broken_path.Goals as goal

@@ -1,5 +1,5 @@
 -- The slots below this turn's have hash trails.
-use Rattle.kept_cells.specs.Kept.{image_of}
+use Rattle.log_audit.specs.Kept.{image_of}
 use Rattle.tree_audit.proofs.Trailing.{HaveTrails}
 use Rattle.tree_audit.proofs.trails.first_broken_path.Given as goal
 

@@ -2,11 +2,11 @@
 use Rattle.std.proofs.Common.{◌≡◌, ◌+◌, ℕ, List, sym, ◌∙◌, subst, ap}
 use Rattle.sha2.specs.Sha256.{sha256}
 use Rattle.cell_types.specs.declared.record_cell.RecordCell.TheVariants as records
-use Rattle.index_paths.specs.HashPaths.{nibble}
-use Rattle.stored_documents.specs.Volumes.{Holds}
-use Rattle.journal_audit.specs.document_store.Heads.{id_of}
-use Rattle.kept_cells.specs.Kept.{image_of}
-use Rattle.journal_audit.proofs.of_log_audit.Deciding.{no, yes, decided_no, decided_yes}
+use Rattle.volume_meaning.specs.HashPaths.{nibble}
+use Rattle.volume_meaning.specs.Volumes.{Holds}
+use Rattle.document_store.specs.Heads.{id_of}
+use Rattle.log_audit.specs.Kept.{image_of}
+use Rattle.log_audit.proofs.Deciding.{no, yes, decided_no, decided_yes}
 use Rattle.tree_audit.specs.Nodes.{HasChild}
 use Rattle.tree_audit.specs.Paths.{IsOwn}
 use Rattle.tree_audit.proofs.Trailing.{no_bucket, own_bucket, not_passed, no_child, onward}

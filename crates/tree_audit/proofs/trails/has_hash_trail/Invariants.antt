@@ -1,6 +1,6 @@
 -- The trail was followed down to this turn's level.
-use Rattle.journal_audit.specs.document_store.Heads.{id_of}
-use Rattle.kept_cells.specs.Kept.{image_of}
+use Rattle.document_store.specs.Heads.{id_of}
+use Rattle.log_audit.specs.Kept.{image_of}
 use Rattle.tree_audit.proofs.Trailing.{IsReached}
 use Rattle.tree_audit.proofs.trails.has_hash_trail.Given as goal
 

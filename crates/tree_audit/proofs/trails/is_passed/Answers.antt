@@ -1,9 +1,9 @@
 -- Another fingerprint; a slot that does not stand; the identifier; and another one.
 use Rattle.std.proofs.Common.{inl, inr, sym, ◌∙◌, ap}
-use Rattle.index_paths.specs.HashPaths.{fingerprint_of}
-use Rattle.journal_audit.specs.document_store.Heads.{id_of}
-use Rattle.kept_cells.specs.Kept.{image_of}
-use Rattle.journal_audit.proofs.of_log_audit.Deciding.{no, yes, decided_no, decided_yes}
+use Rattle.volume_meaning.specs.HashPaths.{fingerprint_of}
+use Rattle.document_store.specs.Heads.{id_of}
+use Rattle.log_audit.specs.Kept.{image_of}
+use Rattle.log_audit.proofs.Deciding.{no, yes, decided_no, decided_yes}
 use Rattle.tree_audit.proofs.Trailing.{unread_not_passed, same_not_passed}
 use Rattle.tree_audit.proofs.trails.is_passed.Goals as goal
 

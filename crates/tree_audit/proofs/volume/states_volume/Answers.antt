@@ -1,6 +1,6 @@
 -- No record stands in cell 0.
 use Rattle.std.proofs.Common.{refl}
-use Rattle.journal_audit.proofs.of_log_audit.Deciding.{no, none_held}
+use Rattle.log_audit.proofs.Deciding.{no, none_held}
 use Rattle.tree_audit.proofs.volume.states_volume.Goals as goal
 
 pub returns-in_default : goal.returns-in_default

@@ -2,7 +2,7 @@
 use Rattle.std.proofs.Common.{Err, Ok, Option, List, ℕ, subst}
 use Rattle.cell_types.proofs.Passed.{handed}
 use Rattle.commit_record.specs.Opening.{StatedBy, refusal_of}
-use Rattle.kept_cells.specs.Kept.{count_of}
+use Rattle.log_audit.specs.Kept.{count_of}
 use Rattle.volume_audit.proofs.Audited.{audits, no_volume, stated_volume, unkept, unsettled}
 use Rattle.volume_audit.proofs.auditing.audit_metered.Goals as goal
 

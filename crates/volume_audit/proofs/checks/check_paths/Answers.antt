@@ -1,7 +1,7 @@
 -- What was found.
 use Rattle.std.proofs.Common.{arith}
-use Rattle.kept_cells.specs.Kept.{image_of}
-use Rattle.commit_record.specs.tamper_rules.Rules.{Documents, Paths}
+use Rattle.log_audit.specs.Kept.{image_of}
+use Rattle.tamper_rules.specs.Rules.{Documents, Paths}
 use Rattle.volume_audit.proofs.Passing.{passes}
 use Rattle.volume_audit.proofs.checks.check_paths.Goals as goal
 

@@ -1,6 +1,6 @@
 -- What was found.
-use Rattle.kept_cells.specs.Kept.{image_of}
-use Rattle.commit_record.specs.tamper_rules.Rules.{Targets}
+use Rattle.log_audit.specs.Kept.{image_of}
+use Rattle.tamper_rules.specs.Rules.{Targets}
 use Rattle.volume_audit.proofs.Passing.{passes}
 use Rattle.volume_audit.proofs.checks.check_targets.Goals as goal
 

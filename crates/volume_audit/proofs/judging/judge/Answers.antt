@@ -1,5 +1,5 @@
 -- Each rule is kept, and each slot below the horizon has ended.
-use Rattle.kept_cells.specs.Kept.{image_of}
+use Rattle.log_audit.specs.Kept.{image_of}
 use Rattle.volume_audit.proofs.Judged.{is_settled}
 use Rattle.volume_audit.proofs.judging.judge.Goals as goal
 

@@ -1,8 +1,8 @@
 -- Nothing so far, one more, and no more.
 use Rattle.std.proofs.Common.{◌+◌, sym, subst}
-use Rattle.kept_cells.specs.Kept.{image_of}
-use Rattle.stored_documents.specs.Slots.{IsAbandonedSlot}
-use Rattle.tiling_audit.proofs.of_log_audit.Deciding.{decided_no, decided_yes}
+use Rattle.log_audit.specs.Kept.{image_of}
+use Rattle.volume_meaning.specs.Slots.{IsAbandonedSlot}
+use Rattle.log_audit.proofs.Deciding.{decided_no, decided_yes}
 use Rattle.volume_audit.proofs.Counting.{CountsTo, none_yet, one_more, no_more}
 use Rattle.volume_audit.proofs.report.count_abandoned.Goals.{then-is_abandoned, else-is_abandoned}
 use Rattle.volume_audit.proofs.report.count_abandoned.Goals as goal

@@ -1,6 +1,6 @@
 -- So many so far.
-use Rattle.kept_cells.specs.Kept.{image_of}
-use Rattle.stored_documents.specs.Slots.{IsAbandonedSlot}
+use Rattle.log_audit.specs.Kept.{image_of}
+use Rattle.volume_meaning.specs.Slots.{IsAbandonedSlot}
 use Rattle.volume_audit.proofs.Counting.{CountsTo}
 use Rattle.volume_audit.proofs.report.count_abandoned.Given as goal
 

@@ -1,8 +1,8 @@
 -- Nothing so far, one more, and no more.
 use Rattle.std.proofs.Common.{◌+◌, sym, subst}
-use Rattle.kept_cells.specs.Kept.{image_of}
-use Rattle.stored_documents.specs.Slots.{IsDoneSlot}
-use Rattle.tiling_audit.proofs.of_log_audit.Deciding.{decided_no, decided_yes}
+use Rattle.log_audit.specs.Kept.{image_of}
+use Rattle.volume_meaning.specs.Slots.{IsDoneSlot}
+use Rattle.log_audit.proofs.Deciding.{decided_no, decided_yes}
 use Rattle.volume_audit.proofs.Counting.{CountsTo, none_yet, one_more, no_more}
 use Rattle.volume_audit.proofs.report.count_done.Goals.{then-is_done, else-is_done}
 use Rattle.volume_audit.proofs.report.count_done.Goals as goal

@@ -1,6 +1,6 @@
 -- So many so far.
-use Rattle.kept_cells.specs.Kept.{image_of}
-use Rattle.stored_documents.specs.Slots.{IsDoneSlot}
+use Rattle.log_audit.specs.Kept.{image_of}
+use Rattle.volume_meaning.specs.Slots.{IsDoneSlot}
 use Rattle.volume_audit.proofs.Counting.{CountsTo}
 use Rattle.volume_audit.proofs.report.count_done.Given as goal
 

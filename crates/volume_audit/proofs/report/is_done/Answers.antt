@@ -1,9 +1,9 @@
 -- What the log says.
 use Rattle.std.proofs.Common.{sym, ◌∙◌, ap, Some}
 use Rattle.std.proofs.lemmas.Option.{none-some}
-use Rattle.kept_cells.specs.Kept.{image_of}
-use Rattle.tiling_audit.proofs.of_log_audit.Deciding.{no, yes}
-use Rattle.tiling_audit.proofs.of_log_audit.Logged.{done_slot, not_done}
+use Rattle.log_audit.specs.Kept.{image_of}
+use Rattle.log_audit.proofs.Deciding.{no, yes}
+use Rattle.log_audit.proofs.Logged.{done_slot, not_done}
 use Rattle.volume_audit.proofs.report.is_done.Goals as goal
 
 pub returns-in_default : goal.returns-in_default

@@ -1,7 +1,7 @@
 -- The three numbers.
 use Rattle.std.proofs.Common.{sym, subst, ℕ}
-use Rattle.kept_cells.specs.Kept.{image_of, count_of}
-use Rattle.stored_documents.specs.Volumes.{IsWritten}
+use Rattle.log_audit.specs.Kept.{image_of, count_of}
+use Rattle.volume_meaning.specs.Volumes.{IsWritten}
 use Rattle.volume_audit.specs.Counts.{Counts}
 use Rattle.volume_audit.proofs.Counting.{counted}
 use Rattle.volume_audit.proofs.report.report_of.Goals as goal

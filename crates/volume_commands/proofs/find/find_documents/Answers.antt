@@ -4,7 +4,7 @@ use Rattle.std.specs.String.{string_bytes}
 use Rattle.cell_types.specs.declared.refusal.Refusal.TheVariants.{NoMemory, SinkFault}
 use Rattle.cell_types.proofs.Passed.{handed}
 use Rattle.host_ports.specs.Sinks.{Gets, PutsPart}
-use Rattle.time_index.specs.record_query.Finding.{Searches}
+use Rattle.record_query.specs.Finding.{Searches}
 use Rattle.volume_commands.specs.Finding.{find_text, searched, unruled}
 use Rattle.volume_commands.specs.Ports.{ports_of}
 use Rattle.std.proofs.lemmas.List.{length-map}

@@ -2,7 +2,7 @@
 use Rattle.std.proofs.Common.{ℕ, List, Ok, Err, refl, subst, rules}
 use Rattle.cell_types.specs.declared.refusal.Refusal.TheVariants.{SinkFault}
 use Rattle.cell_types.proofs.Passed.{handed}
-use Rattle.command_laws.specs.ingest_engine.Ingesting.{Ingests}
+use Rattle.ingest_engine.specs.Ingesting.{Ingests}
 use Rattle.volume_commands.specs.Ingesting.{taken, untaken}
 use Rattle.volume_commands.specs.Taking.{refusal_of_body_fault}
 use Rattle.volume_commands.proofs.Taken.{is_body}

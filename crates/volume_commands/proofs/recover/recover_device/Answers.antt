@@ -2,7 +2,7 @@
 use Rattle.std.proofs.Common.{Ok, refl}
 use Rattle.cell_types.proofs.Passed.{handed}
 use Rattle.cell_types.specs.declared.refusal.Refusal.TheVariants.{SinkFault}
-use Rattle.command_laws.proofs.of_settling_laws.EndedAs.{settling_ends}
+use Rattle.crash_laws.proofs.EndedAs.{settling_ends}
 use Rattle.volume_commands.proofs.recover.recover_device.Goals as goal
 
 -- the sink failed

@@ -1,6 +1,6 @@
 -- A word has one term, itself.
 use Rattle.std.proofs.Common.{Err, subst, ◌∙◌}
-use Rattle.stored_documents.specs.declared.word_rules.WordRule.TheVariants.{Ascii}
+use Rattle.volume_meaning.specs.declared.word_rules.WordRule.TheVariants.{Ascii}
 use Rattle.word_reader.specs.Single.{SingleEnds}
 use Rattle.word_reader.specs.declared.reader.WordFault.{WordFault}
 use Rattle.volume_exercise.proofs.Words.{one_term, only_term}

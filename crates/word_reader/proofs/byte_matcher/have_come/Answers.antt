@@ -1,7 +1,7 @@
 -- Where no run is kept, those are found that have ended.
 use Rattle.std.proofs.Common.{◌∙◌, sym, ap}
 use Rattle.std.specs.List.{list_all}
-use Rattle.stored_documents.specs.Words.{is_word_byte}
+use Rattle.volume_meaning.specs.Words.{is_word_byte}
 use Rattle.word_reader.specs.Matching.{is_found, known}
 use Rattle.word_reader.proofs.Passing.{all_ended}
 use Rattle.word_reader.proofs.byte_matcher.have_come.Goals as goal

@@ -1,6 +1,6 @@
 -- A character is found at the front, or the first byte is stray.
 use Rattle.std.proofs.Common.{◌∷◌, ◌∙◌, drop, ℕ, sym, ap, arith}
-use Rattle.stored_documents.specs.Words.{characters_after}
+use Rattle.volume_meaning.specs.Words.{characters_after}
 use Rattle.word_reader.proofs.Folding.{found_unit}
 use Rattle.word_reader.proofs.folded.next_unit.Goals as goal
 

@@ -1,7 +1,7 @@
 -- What one character more adds, and what is left at the end.
 use Rattle.std.proofs.Common.{rules, ◌≡◌, ◌<◌, ◌++◌, ◌∷◌, [], ◌∙◌, length, sym, string_bytes}
-use Rattle.stored_documents.specs.Words.{spelled_one, words_of}
-use Rattle.stored_documents.specs.declared.word_rules.WordRule.TheVariants.{Folded}
+use Rattle.volume_meaning.specs.Words.{spelled_one, words_of}
+use Rattle.volume_meaning.specs.declared.word_rules.WordRule.TheVariants.{Folded}
 use Rattle.word_reader.proofs.Folding.{word_more, word_ends, gap_more, behind, inside, is_none}
 use Rattle.word_reader.proofs.folded.read_folded.Goals as goal
 

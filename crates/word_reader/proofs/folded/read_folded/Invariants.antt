@@ -1,7 +1,7 @@
 -- The terms so far, and those of the run and of what is left, are all.
 use Rattle.std.proofs.Common.{◌≡◌, ◌≤◌, ◌-◌, ◌++◌, drop, length, string_bytes}
-use Rattle.stored_documents.specs.Words.{characters_after, words_from, words_of}
-use Rattle.stored_documents.specs.declared.word_rules.WordRule.TheVariants.{Folded}
+use Rattle.volume_meaning.specs.Words.{characters_after, words_from, words_of}
+use Rattle.volume_meaning.specs.declared.word_rules.WordRule.TheVariants.{Folded}
 use Rattle.word_reader.proofs.folded.read_folded.Given as goal
 
 abbrev pub invariant-loop-at : goal.invariant-loop-at

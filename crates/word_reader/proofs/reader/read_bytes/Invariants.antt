@@ -1,7 +1,7 @@
 -- The terms so far, and those of the run and of what is left, are all.
 use Rattle.std.proofs.Common.{◌≡◌, ◌++◌, drop}
-use Rattle.stored_documents.specs.Words.{words_from, words_of}
-use Rattle.stored_documents.specs.declared.word_rules.WordRule.TheVariants.{Ascii}
+use Rattle.volume_meaning.specs.Words.{words_from, words_of}
+use Rattle.volume_meaning.specs.declared.word_rules.WordRule.TheVariants.{Ascii}
 use Rattle.word_reader.proofs.reader.read_bytes.Given as goal
 
 abbrev pub invariant-loop-byte : goal.invariant-loop-byte

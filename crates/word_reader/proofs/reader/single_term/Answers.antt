@@ -1,6 +1,6 @@
 -- The words that were read are all of them.
 use Rattle.std.proofs.Common.{rules, ◌≡◌, ◌∙◌, [], ◌∷◌, length, ap, sym}
-use Rattle.stored_documents.proofs.Words.{words_are_one}
+use Rattle.volume_meaning.proofs.Words.{words_are_one}
 use Rattle.word_reader.proofs.Reading.{are_words, one_item}
 use Rattle.word_reader.proofs.reader.single_term.Goals as goal
 

@@ -1,7 +1,7 @@
 -- One byte more is passed.
 use Rattle.std.proofs.Common.{◌≡◌, ◌++◌, ℕ, ◌∙◌, Bool, false, refl, sym, ap, subst, map, take, length, arith}
 use Rattle.std.specs.Prelude.{slice_index}
-use Rattle.stored_documents.specs.Words.{is_word_byte}
+use Rattle.volume_meaning.specs.Words.{is_word_byte}
 use Rattle.word_reader.specs.Matching.{IsTableOf, NoneBegins, SeekAll, byte_before, known, quiet}
 use Rattle.word_reader.specs.declared.byte_matcher.ByteMatcher.{ByteMatcher}
 use Rattle.word_reader.proofs.Passing.{pass_more, pass_none}

@@ -1,6 +1,6 @@
 -- The bytes before this one were passed.
 use Rattle.std.proofs.Common.{◌≡◌, ◌++◌, ℕ, List, map, take}
-use Rattle.stored_documents.specs.Words.{is_word_byte}
+use Rattle.volume_meaning.specs.Words.{is_word_byte}
 use Rattle.word_reader.specs.Matching.{KnowsBytes, byte_before, SeekAll, quiet}
 use Rattle.word_reader.proofs.byte_matcher.ByteMatcher.pass.Given as goal
 

@@ -1,7 +1,7 @@
 -- The words of the bytes are all of them.
 use Rattle.std.proofs.Common.{◌∙◌, List, ℕ, sym, subst}
-use Rattle.stored_documents.specs.Words.{AreWords}
-use Rattle.stored_documents.specs.declared.word_rules.WordRule.TheVariants.{Folded}
+use Rattle.volume_meaning.specs.Words.{AreWords}
+use Rattle.volume_meaning.specs.declared.word_rules.WordRule.TheVariants.{Folded}
 use Rattle.word_reader.specs.Matching.{AreAmong}
 use Rattle.word_reader.proofs.Among.{among, matches}
 use Rattle.word_reader.proofs.text_matcher.TextMatcher.finish.Goals as goal

@@ -1,6 +1,0 @@
-pub mod Inserting
-pub mod Laws
-pub mod Naming
-pub mod Readiness
-pub mod Rooting
-pub use Rattle.hash_tree.specs as hash_tree

@@ -1,9 +1,0 @@
-pub mod Digests
-pub mod Fronts
-pub mod HashTrails
-pub mod KeepingLaws
-pub mod OnePostings
-pub mod Spans
-pub mod StampedPostings
-pub mod Tags
-pub mod Trails

@@ -1,6 +1,0 @@
--- The law, for all trails.
-use Rattle.index_paths.proofs.Trails.{one_trail}
-use Rattle.index_paths.proofs.laws.trails_are_one.Goals as goal
-
-pub returns : goal.returns
-returns c = λ image from to at at' block p q t u same. one_trail t at' q u same

@@ -1,9 +1,0 @@
-pub mod BlockLaws
-pub mod Blocks
-pub mod HashLaws
-pub mod HashPaths
-pub mod Keeping
-pub mod Nearness
-pub mod Nodes
-pub mod OnePostings
-pub mod Postings

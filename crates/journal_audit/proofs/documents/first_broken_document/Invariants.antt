@@ -1,9 +1,0 @@
--- The slots below this turn's keep the rule.
-use Rattle.cell_types.specs.Layout.{outcome_at}
-use Rattle.kept_cells.specs.Kept.{image_of}
-use Rattle.document_store.specs.tamper_rules.Rules.{DocumentRule}
-use Rattle.log_audit.proofs.Families.{AreFine}
-use Rattle.journal_audit.proofs.documents.first_broken_document.Given as goal
-
-abbrev pub invariant-loop-slot : goal.invariant-loop-slot
-invariant-loop-slot l = AreFine (image_of l.kept) outcome_at (DocumentRule l.geometry (image_of l.kept)) l.slot

@@ -1,6 +1,0 @@
--- The row that is kept.
-use Rattle.kept_cells.proofs.Rowed.{are_rows}
-use Rattle.kept_cells.proofs.kept.KeptCells.written.Goals as goal
-
-pub returns-clause-rows : goal.returns-clause-rows
-returns-clause-rows c = are_rows c.args.self.now.kept

@@ -1,0 +1,62 @@
+//! The postings of documents.
+ghost use Rattle.std.specs.Prelude.{IfOk, IfNone, IfSome};
+ghost use Rattle.volume_meaning.specs.Slots.{IsStampOf};
+ghost use Rattle.tamper_rules.specs.Rules.{Documents};
+ghost use Rattle.log_audit.specs.Kept.{image_of};
+ghost use Rattle.log_audit.specs.Findings.{IsMetAll};
+ghost use Rattle.log_audit.specs.Stored.{IsStored};
+ghost use Rattle.list_audit.specs.Bodies.{AreRowsOf, HasNoRows};
+
+use crate::bodies::words_of;
+use cell_types::{Geometry, NoMemory, RecordCell, Refusal, STAMPED_VERSION};
+use log_audit::{KeptCells, StoredSlot, record_at};
+use std::alloc::Global;
+use term_tags::{ListedPosting, document_postings};
+
+/// The postings of the document of a stored slot, where rule 4 is kept; none where a list would get more than 256 of its
+/// tags.
+pub(crate) fn postings_of(
+    alloc: Global,
+    kept: &KeptCells,
+    geometry: &Geometry,
+    slot: &StoredSlot,
+) -> Result<Option<Vec<ListedPosting>>, NoMemory>
+    requires stored { IsStored geometry.now (image_of kept.now) slot.now }
+    requires documents { IsMetAll geometry.now (image_of kept.now) Documents }
+    ensures some { IfOk result (λ found. IfSome found (λ rows.
+        AreRowsOf geometry.now (image_of kept.now) slot.now.slot rows.items)) }
+    ensures none { IfOk result (λ found. IfNone found (HasNoRows geometry.now (image_of kept.now) slot.now.slot)) }
+{
+    let _few = geometry.slots();
+    let terms = words_of(alloc, kept, geometry, slot)?;
+    let stamp = stamp_of(kept, geometry, slot);
+    match document_postings(alloc, &terms, geometry.lists(), slot.slot, stamp) {
+        Ok(rows) => Ok(Some(rows)),
+        Err(
+            Refusal::TooManyTerms {
+                list: _list,
+                count: _count,
+            },
+        ) => Ok(None),
+        // Nothing else is refused but for want of memory.
+        Err(_) => Err(NoMemory),
+    }
+}
+
+/// The stamp of a stored slot, on a volume of stamped documents.
+fn stamp_of(kept: &KeptCells, geometry: &Geometry, slot: &StoredSlot) -> Option<u32>
+    requires { IsStored geometry.now (image_of kept.now) slot.now }
+    ensures { IsStampOf geometry.now (image_of kept.now) slot.now.slot result }
+{
+    let _few = geometry.slots();
+    if geometry.version() != STAMPED_VERSION {
+        return None;
+    }
+    let Some(held) = record_at(kept, geometry.spare_at(slot.slot)) else {
+        unreachable!();
+    };
+    let RecordCell::Stamp { seconds } = held else {
+        unreachable!();
+    };
+    Some(seconds)
+}

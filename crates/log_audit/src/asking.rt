@@ -1,0 +1,87 @@
+//! What stands in kept cells.
+ghost use Rattle.std.specs.Prelude.{◌≡◌, ◌<◌, ◌≤◌, ◌+◌, ◌*◌, ◌^◌, ℕ, Some, length, slice_get};
+ghost use Rattle.log_audit.specs.Cells.{shown_by, AreRising, AreOnlyBetween};
+ghost use Rattle.log_audit.specs.AllRows.{all_rows};
+ghost use Rattle.log_audit.specs.Kept.{image_of, count_of};
+ghost use Rattle.log_audit.specs.declared.written.WrittenCell.{WrittenCell};
+
+use crate::KeptCells;
+use crate::chunked::ChunkedRows;
+use crate::written::{PAGE_CELLS, WrittenCell};
+use cell_types::Cell;
+
+impl KeptCells {
+    /// What was found in a cell, `None` where it was blank or is none of the kept ones.
+    pub fn at(&self, number: u32) -> Option<Cell>
+        ensures { result ≡ image_of self.now number }
+    {
+        let page = (number / PAGE_CELLS) as usize;
+        let from = self.first_of(page);
+        let to = self.last_of(page);
+        held_between(&self.rows, from, to, number)
+    }
+
+    /// How many cells are kept, blank ones too.
+    pub fn count(&self) -> u32
+        ensures { result ≡ count_of self.now }
+    {
+        self.count
+    }
+
+    /// No written cell of the page stands before this place.
+    fn first_of(&self, page: usize) -> usize
+        ensures { (k : ℕ) (row : WrittenCell) → slice_get (all_rows self.now.rows) k ≡ Some row
+            → page * PAGE_CELLS ≤ row.number → result ≤ k }
+    {
+        match self.starts.get(page) {
+            Some(start) => *start as usize,
+            None => 0,
+        }
+    }
+
+    /// Each written cell of the page stands before this place.
+    fn last_of(&self, page: usize) -> usize
+        requires { page < 2 ^ 32 }
+        ensures within { result ≤ length (all_rows self.now.rows) }
+        ensures before { (k : ℕ) (row : WrittenCell) → slice_get (all_rows self.now.rows) k ≡ Some row
+            → row.number < page * PAGE_CELLS + PAGE_CELLS → k < result }
+    {
+        match self.starts.get(page + 1) {
+            Some(start) => *start as usize,
+            None => self.rows.count(),
+        }
+    }
+}
+
+/// What the written cell of a number holds, where it can stand at these places alone: found by bisection.
+fn held_between(rows: &ChunkedRows, from: usize, to: usize, number: u32) -> Option<Cell>
+    requires rising { AreRising (all_rows rows.now) }
+    requires places { AreOnlyBetween (all_rows rows.now) from to number }
+    requires within { to ≤ length (all_rows rows.now) }
+    ensures { result ≡ shown_by (all_rows rows.now) number }
+{
+    let mut low = from;
+    let mut high = to;
+    while low < high {
+        let middle = low + (high - low) / 2;
+        let Some(row) = rows.row_at(middle) else {
+            unreachable!();
+        };
+        if row.number == number {
+            return Some(cell_of(&row));
+        }
+        if row.number < number {
+            low = middle + 1;
+        } else {
+            high = middle;
+        }
+    }
+    None
+}
+
+/// What it holds.
+fn cell_of(row: &WrittenCell) -> Cell
+    ensures { result ≡ row.now.cell }
+{
+    row.cell
+}

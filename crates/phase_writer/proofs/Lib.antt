@@ -1,2 +1,0 @@
-pub mod Phasing
-pub mod Rows

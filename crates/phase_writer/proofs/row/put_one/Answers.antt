@@ -1,6 +1,0 @@
--- The sync behind the cell.
-use Rattle.phase_writer.proofs.Phasing.{phase_synced}
-use Rattle.phase_writer.proofs.row.put_one.Goals as goal
-
-pub returns : goal.returns
-returns g c = phase_synced tt tt tt c.in_ok-put_cell.ensures c.in_ok-sync.ensures

@@ -1,7 +1,0 @@
--- The cells before this turn's were read.
-use Rattle.kept_cells.specs.Kept.{image_of}
-use Rattle.posting_audit.proofs.Spelling.{AreFrontOf}
-use Rattle.posting_audit.proofs.bodies.stored_of.Given as goal
-
-abbrev pub invariant-loop-place : goal.invariant-loop-place
-invariant-loop-place l = AreFrontOf (image_of l.kept) l.start l.bytes l.place l.stored.items

@@ -1,7 +1,0 @@
--- The trail leads from the first block to this turn's.
-use Rattle.kept_cells.specs.Kept.{image_of}
-use Rattle.posting_audit.proofs.Walking.{IsOnWay}
-use Rattle.posting_audit.proofs.trails.has_trail.Given as goal
-
-abbrev pub invariant-loop-turn : goal.invariant-loop-turn
-invariant-loop-turn l = IsOnWay l.geometry (image_of l.kept) l.list l.posting l._turn l.block

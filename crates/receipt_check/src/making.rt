@@ -1,0 +1,110 @@
+//! Makes a receipt: the cells that a document's being kept rests on, so that whoever has the device can check it.
+//!
+//! The document is the one that a look-up of the identifier gives. Of `a`, `hello world` on the volume of 8 slots and 2
+//! lists the receipt lists
+//!
+//!     0, 4, 5, 6      the volume cell, and the slot's reserve, commit and done cell
+//!     36, 37, 560     its two postings, and its bucket
+//!     580             its stored bytes
+//!
+//! **How.** The document is looked up, which settles the volume, goes along the identifier's path and reads the document
+//! whole. Then `is_kept` is asked through a view that lists each written cell that is read; and the list alone is judged,
+//! as whoever checks the receipt will judge it. So what goes out shows the document, whatever was listed.
+//!
+//! **Which cells.** On a yes `is_kept` reads just what being kept rests on: cell 0; the slot's log cells and the document;
+//! for each posting its list's blocks from their first place up to it, or whole with the one jump cell taken; the buckets
+//! and child cells of the path down to the slot's bucket; and of a bucket that is passed with the same fingerprint that
+//! slot's log cells and document. That no other cell is listed is a matter of these reads: tests show it, and no clause
+//! does.
+//!
+//! **A document that is not kept** has no receipt. It was found by its path, so its postings do not exist or one of them
+//! has no trail: evidence, by the rule of trails at the slot's done cell. A look-up names none there.
+//!
+//! `specs/Making.antt` says how the making may end, and `receipts_are_accepted` what a receipt is worth.
+ghost use Rattle.std.specs.Prelude.{◌<◌, ◌^◌, length};
+ghost use Rattle.volume_meaning.specs.Documents.{IsIdentifier};
+ghost use Rattle.receipt_check.specs.Making.{MakesReceipt};
+ghost use Rattle.receipt_check.specs.Judging.{GivesReceipt, LimitEnds};
+
+use crate::listing::{list_kept, shows_document};
+use crate::looking::look_up;
+use crate::naming::name_unkept;
+use cell_types::Refusal;
+use document_store::Text;
+use kept_documents::AskFault;
+use receipt_text::{ListedCells, MAX_RECEIPT_CELLS, Receipt};
+use std::alloc::Global;
+use worm_device::Device;
+
+/// Looks the document with this identifier up, and makes the receipt of it: the written cells that its being kept rests
+/// on. A look-up settles the volume first.
+///
+/// # Errors
+///
+/// `NotFormatted`, `NotAVolume` and `WrongSize` by cell 0; `Tampered` where a look-up names a cell, and where the document
+/// is there but not each of its postings has a trail (13, at the done cell of its slot); `Absent` where no document on the
+/// identifier's path has it; `ReceiptTooLong` where more than 1,000,000 cells would be listed; `DeviceFault`; `NoMemory`.
+pub fn make_receipt<D: Device>(alloc: Global, device: &mut D, id: &[u8]) -> Result<Receipt, Refusal>
+    requires { IsIdentifier id.now }
+    ensures { MakesReceipt id.now (D.state device.old) (D.state device.new) result }
+{
+    let found = match look_up(device, id) {
+        Ok(found) => found,
+        Err(refusal) => return Err(refusal),
+    };
+    match receipt_of_slot(alloc, device, found.slot, id) {
+        Ok(Some(receipt)) => within_limit(receipt),
+        Ok(None) => Err(name_unkept(device, found.slot)),
+        Err(AskFault::NoMemory) => Err(Refusal::NoMemory),
+        Err(AskFault::ReadFault) => Err(Refusal::DeviceFault),
+    }
+}
+
+/// The receipt of the document with this identifier in this slot, `None` where it is not kept.
+fn receipt_of_slot<D: Device>(
+    alloc: Global,
+    device: &mut D,
+    slot: u32,
+    id: &[u8],
+) -> Result<Option<Receipt>, AskFault>
+    ensures { GivesReceipt slot id.now (D.state device.old) (D.state device.new) result }
+{
+    let cells = device.cells();
+    let Ok(identifier) = Vec::from_slice(alloc, id) else {
+        return Err(AskFault::NoMemory);
+    };
+    let mut listed = ListedCells::new(alloc);
+    let kept = match list_kept(alloc, device, slot, id, &mut listed) {
+        Ok(kept) => kept,
+        Err(why) => return Err(why),
+    };
+    let Some(_bytes) = kept else {
+        return Ok(None);
+    };
+    // Known of listed cells once they are counted: their addresses rise.
+    let _count = listed.len();
+    let receipt = Receipt {
+        slot,
+        identifier: Text::new(identifier),
+        cells: listed,
+    };
+    match shows_document(alloc, &receipt, cells) {
+        Ok(true) => Ok(Some(receipt)),
+        // All that was read for a yes is listed, so the list says yes too. That a second asking goes as the first one went
+        // no contract says.
+        Ok(false) => Err(AskFault::NoMemory),
+        Err(_) => Err(AskFault::NoMemory),
+    }
+}
+
+/// The receipt, unless it has more cells than it may have.
+fn within_limit(receipt: Receipt) -> Result<Receipt, Refusal>
+    requires { length receipt.cells < 2 ^ 32 }
+    ensures { LimitEnds receipt result }
+{
+    let count = receipt.cells.len();
+    if count > MAX_RECEIPT_CELLS as usize {
+        return Err(Refusal::ReceiptTooLong(count as u32));
+    }
+    Ok(receipt)
+}

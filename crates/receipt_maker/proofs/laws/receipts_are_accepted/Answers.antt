@@ -1,7 +1,0 @@
--- What was made stands still.
-use Rattle.receipt_check.proofs.Accepting.{hold_on}
-use Rattle.receipt_maker.proofs.Accepting.{accepted}
-use Rattle.receipt_maker.proofs.laws.receipts_are_accepted.Goals as goal
-
-pub returns : goal.returns
-returns c = accepted hold_on

@@ -1,6 +1,0 @@
-pub mod Judging
-pub mod Laws
-pub mod Making
-pub mod Naming
-pub mod Recording
-pub mod Unheard

@@ -1,7 +1,0 @@
--- The law is a lemma.
-use Rattle.settling_laws.proofs.LookedAt.{looked_ends}
-use Rattle.settling_laws.proofs.laws.looking_ends_as.Goals as goal
-
-pub returns : goal.returns
-returns c = λ old new r device tells settled still sound.
-    looked_ends old new r tells settled still device.sure sound

@@ -1,7 +1,0 @@
--- The law is a lemma.
-use Rattle.settling_laws.proofs.LookedAt.{looking_steady}
-use Rattle.settling_laws.proofs.laws.looking_stays_steady.Goals as goal
-
-pub returns : goal.returns
-returns c = λ old new r device device_new tells settled still steady.
-    looking_steady old new r tells settled still device device_new steady

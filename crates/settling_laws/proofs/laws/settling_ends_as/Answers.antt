@@ -1,7 +1,0 @@
--- The law is a lemma.
-use Rattle.settling_laws.proofs.EndedAs.{settling_ends}
-use Rattle.settling_laws.proofs.laws.settling_ends_as.Goals as goal
-
-pub returns : goal.returns
-returns c = λ old new r device tells settles still sound.
-    settling_ends old new r sound.after device.sure tells settles still sound.is sound.settled

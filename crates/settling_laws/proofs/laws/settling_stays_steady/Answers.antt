@@ -1,7 +1,0 @@
--- The law is a lemma.
-use Rattle.settling_laws.proofs.LeftWhole.{settling_left, stays_steady}
-use Rattle.settling_laws.proofs.laws.settling_stays_steady.Goals as goal
-
-pub returns : goal.returns
-returns c = λ old new result device tells settles still steady. stays_steady old new device steady settles.called.cells
-    (settling_left old new result device tells settles still steady)

@@ -1,0 +1,10 @@
+pub mod Checking
+pub mod Copied
+pub mod Copying
+pub mod Journals
+pub mod Places
+pub mod Strays
+pub mod Tables
+pub mod Targets
+pub mod Tiles
+pub mod Walks

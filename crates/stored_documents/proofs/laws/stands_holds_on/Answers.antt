@@ -1,6 +1,0 @@
--- The law, for all documents.
-use Rattle.stored_documents.proofs.Extending.{stands_on}
-use Rattle.stored_documents.proofs.laws.stands_holds_on.Goals as goal
-
-pub returns : goal.returns
-returns c = λ cells old new n id body e s. stands_on e s

@@ -1,7 +1,0 @@
--- What the slots so far name is there.
-use Rattle.kept_cells.specs.Kept.{image_of}
-use Rattle.stray_audit.proofs.Naming.{NamedBelow}
-use Rattle.stray_audit.proofs.named.named_cells.Given as goal
-
-abbrev pub invariant-loop-slot : goal.invariant-loop-slot
-invariant-loop-slot l = NamedBelow l.geometry (image_of l.kept) l.slot l.cells.items

@@ -1,0 +1,97 @@
+-- Which blocks and nodes meet the cells of a block.
+use Rattle.std.proofs.Common.{rules, ◌≡◌, ◌<◌, ◌≤◌, ◌+◌, ◌-◌, ◌*◌, ◌⊎◌, ⊎_elim, inl, inr, ℕ, List, Bool, true, false, subst, arith}
+use Rattle.std.specs.Prelude.{◌↔◌, IsTrue, not}
+use Rattle.cell_types.specs.Image.{Image}
+use Rattle.cell_types.specs.Layout.{Layout}
+use Rattle.log_audit.specs.Between.{HasBetween}
+use Rattle.log_audit.proofs.Deciding.{no, yes}
+use Rattle.tree_audit.specs.Occupied.{AreOccupied, IsAlone, IsOffNodes, number_of}
+use Rattle.tree_audit.specs.declared.occupied.OccupiedCells.{OccupiedCells}
+
+order : (a b : ℕ) → (a < b) ⊎ (b ≤ a)
+order a b = grind arith
+
+-- one of the same numbers
+pub between_same : {xs ys : List ℕ} {low high : ℕ} → xs ≡ ys → HasBetween xs low high → HasBetween ys low high
+between_same {xs} {ys} {low} {high} same h = subst (λ (zs : List ℕ). HasBetween zs low high) same h
+
+pub tells_same : {xs ys : List ℕ} {low high : ℕ} {b : Bool} → xs ≡ ys → (IsTrue b ↔ HasBetween xs low high) → (IsTrue b ↔ HasBetween ys low high)
+tells_same {xs} {ys} {low} {high} {b} same h = subst (λ (zs : List ℕ). IsTrue b ↔ HasBetween zs low high) same h
+
+-- a flag turned round
+pub turned : {P Q : Type 0} (b : Bool) → (IsTrue b ↔ P) → (Q → P → ⊥) → ((P → ⊥) → Q) → (IsTrue (not b) ↔ Q)
+turned true is one other = no (λ q. one q (is.0 (yes_is)))
+  where
+    yes_is : IsTrue true
+    yes_is = search rules
+turned false is one other = yes (other (λ p. no_is (is.1 p)))
+  where
+    no_is : IsTrue false → ⊥
+    no_is h = search rules
+
+module _ (g : Layout) (image : Image) (occupied : OccupiedCells) (are : AreOccupied g image occupied) (target : ℕ) (room : 256 ≤ target) where
+  module _ (l : ℕ) (small : l < 65536) where
+    -- a block that begins before, or a lower list's
+    pub not_alone_before : {from to : ℕ} → from ≡ (target - 255) * 65536 → to ≡ target * 65536 + l
+        → HasBetween occupied.blocks.items from to → IsAlone g image l target → ⊥
+    not_alone_before first own has alone =
+        let b = are.block_is has.number has.there in
+        ⊎_elim
+        (λ same. omega (arith, same.0, same.1, b.number_is, has.below, own))
+        (λ apart. ⊎_elim
+        (λ (behind : target + 256 ≤ b.block). omega (arith, behind, b.number_is, has.below, own, small))
+        (λ (before : b.block + 256 ≤ target). omega (arith, before, b.number_is, b.small, has.from, first, room))
+        apart)
+        (alone b.list b.block b.is)
+
+    -- one that begins behind, or a higher list's
+    pub not_alone_behind : {from to : ℕ} → from ≡ target * 65536 + l + 1 → to ≡ (target + 256) * 65536
+        → HasBetween occupied.blocks.items from to → IsAlone g image l target → ⊥
+    not_alone_behind own behind has alone =
+        let b = are.block_is has.number has.there in
+        ⊎_elim
+        (λ same. omega (arith, same.0, same.1, b.number_is, has.from, own))
+        (λ apart. ⊎_elim
+        (λ (after : target + 256 ≤ b.block). omega (arith, after, b.number_is, has.below, behind))
+        (λ (before : b.block + 256 ≤ target). omega (arith, before, b.number_is, b.small, has.from, own))
+        apart)
+        (alone b.list b.block b.is)
+
+    -- and where there is neither
+    pub alone : {first own next behind : ℕ} → first ≡ (target - 255) * 65536 → own ≡ target * 65536 + l → next ≡ own + 1
+        → behind ≡ (target + 256) * 65536
+        → (HasBetween occupied.blocks.items first own → ⊥) → (HasBetween occupied.blocks.items next behind → ⊥)
+        → IsAlone g image l target
+    alone {first} {own} {next} {behind} f o n e lower upper k other is =
+        let there = are.all_blocks k other is in
+        let under : k < 65536 = are.few_lists k other is in
+        ⊎_elim
+        (λ (low : number_of k other < first). inr (inr (omega (arith, low, f, under, room))))
+        (λ (from : first ≤ number_of k other). ⊎_elim
+        (λ (below : number_of k other < own). absurd (lower (record { number = number_of k other; there = there; from = from; below = below })))
+        (λ (at : own ≤ number_of k other). ⊎_elim
+        (λ (same : number_of k other < next). inl (omega (arith, same, at, n, o, under, small), omega (arith, same, at, n, o, under, small)))
+        (λ (after : next ≤ number_of k other). ⊎_elim
+        (λ (within : number_of k other < behind). absurd (upper (record { number = number_of k other; there = there; from = after; below = within })))
+        (λ (far : behind ≤ number_of k other). inr (inl (omega (arith, far, e, under))))
+        (order (number_of k other) behind))
+        (order (number_of k other) next))
+        (order (number_of k other) own))
+        (order (number_of k other) first)
+
+  -- a node in reach
+  pub nodes_tell : {from to : ℕ} → from ≡ target - 31 → to ≡ target + 256 → (b : Bool)
+      → (IsTrue b ↔ HasBetween occupied.nodes.items from to) → (IsTrue (not b) ↔ IsOffNodes g image target)
+  nodes_tell {from} {to} first behind b is = turned b is
+      (λ off has. let n = are.node_is has.number has.there in
+      ⊎_elim
+      (λ (after : target + 256 ≤ has.number). omega (arith, after, has.below, behind))
+      (λ (before : has.number + 32 ≤ target). omega (arith, before, has.from, first, room))
+      (off n.level has.number n.is))
+      (λ none level node is_node. ⊎_elim
+      (λ (low : node < from). inr (omega (arith, low, first, room)))
+      (λ (above : from ≤ node). ⊎_elim
+      (λ (within : node < to). absurd (none (record { number = node; there = are.all_nodes level node is_node; from = above; below = within })))
+      (λ (far : to ≤ node). inl (omega (arith, far, behind)))
+      (order node to))
+      (order node from))

@@ -1,0 +1,44 @@
+-- The cells of blocks and of nodes.
+use Rattle.std.specs.Prelude.{◌≡◌, ◌<◌, ◌+◌, ◌*◌, ◌⊎◌, ℕ, Contains}
+use Rattle.std.specs.List.Sorted.{IsStrictlyIncreasing}
+use Rattle.cell_types.specs.Image.{Image}
+use Rattle.cell_types.specs.Layout.{Layout}
+use Rattle.volume_meaning.specs.Nodes.{IsBlockOf, IsNode, AreApart}
+use Rattle.tree_audit.specs.declared.occupied.OccupiedCells.{OccupiedCells}
+use Rattle.tree_audit.specs.declared.occupied.TheConstants.{BLOCK_STEP}
+
+-- the number of a block of list l
+abbrev pub number_of : ℕ → ℕ → ℕ
+number_of l block = block * BLOCK_STEP + l
+
+-- a block of some list has this number
+pub record IsBlockNumber (g : Layout) (image : Image) (number : ℕ) : Type 0 where
+  pub list : ℕ
+  pub block : ℕ
+  pub is : IsBlockOf g image list block
+  pub small : list < BLOCK_STEP
+  pub number_is : number ≡ number_of list block
+
+-- a node begins at this cell
+pub record IsNodeCell (g : Layout) (image : Image) (cell : ℕ) : Type 0 where
+  pub level : ℕ
+  pub is : IsNode g image level cell
+
+-- these are the numbers of all blocks, and the first cells of all nodes, each in order
+pub record AreOccupied (g : Layout) (image : Image) (occupied : OccupiedCells) : Type 0 where
+  pub blocks_ordered : IsStrictlyIncreasing occupied.blocks.items
+  pub nodes_ordered : IsStrictlyIncreasing occupied.nodes.items
+  pub block_is : (number : ℕ) → Contains occupied.blocks.items number → IsBlockNumber g image number
+  pub all_blocks : (l block : ℕ) → IsBlockOf g image l block → Contains occupied.blocks.items (number_of l block)
+  pub few_lists : (l block : ℕ) → IsBlockOf g image l block → l < BLOCK_STEP
+  pub node_is : (cell : ℕ) → Contains occupied.nodes.items cell → IsNodeCell g image cell
+  pub all_nodes : (level cell : ℕ) → IsNode g image level cell → Contains occupied.nodes.items cell
+
+-- the block's cells meet no block that begins elsewhere, and none of another list
+abbrev pub IsAlone : Layout → Image → ℕ → ℕ → Type 0
+IsAlone g image l target = (k other : ℕ) → IsBlockOf g image k other
+    → ((other ≡ target) × (k ≡ l)) ⊎ AreApart target 256 other 256
+
+-- they meet no node
+abbrev pub IsOffNodes : Layout → Image → ℕ → Type 0
+IsOffNodes g image target = (level node : ℕ) → IsNode g image level node → AreApart target 256 node 32

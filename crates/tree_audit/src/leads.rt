@@ -1,0 +1,101 @@
+//! Rule 10 at one pointer place.
+ghost use Rattle.std.specs.Prelude.{◌≡◌, ◌<◌, ◌≤◌, ◌+◌, ◌^◌, ◌↔◌, ℕ, IsTrue, IfSome, IfNone};
+ghost use Rattle.cell_types.specs.declared.record_cell.RecordCell.TheVariants.{Jump};
+ghost use Rattle.volume_meaning.specs.Nodes.{IsBlockOf};
+ghost use Rattle.volume_meaning.specs.Volumes.{Holds};
+ghost use Rattle.tamper_rules.specs.Rules.{LeadsWell};
+ghost use Rattle.log_audit.specs.Kept.{image_of};
+ghost use Rattle.log_audit.specs.Findings.{AreMetBelow};
+ghost use Rattle.log_audit.specs.Logs.{IsLog};
+ghost use Rattle.tree_audit.specs.Leading.{IsBeforeEdge, IsOwned};
+ghost use Rattle.tree_audit.specs.Occupied.{AreOccupied};
+
+use crate::occupied::OccupiedCells;
+use crate::spans::is_in_span;
+use cell_types::{Geometry, RecordCell};
+use list_audit::ListBlock;
+use log_audit::{KeptCells, Log, owner_of, record_at};
+use volume_meaning::BLOCK_CELLS;
+
+/// Whether the pointer of this level and digit leads well from a block.
+pub(crate) fn leads_well(
+    kept: &KeptCells,
+    geometry: &Geometry,
+    log: &Log,
+    occupied: &OccupiedCells,
+    listed: &ListBlock,
+    level: u32,
+    digit: u32,
+) -> bool
+    requires log { IsLog geometry.now (image_of kept.now) log.now }
+    requires met { AreMetBelow geometry.now (image_of kept.now) 10 }
+    requires occupied { AreOccupied geometry.now (image_of kept.now) occupied.now }
+    requires block { IsBlockOf geometry.now (image_of kept.now) listed.now.list listed.now.block }
+    requires room { listed.now.block + 256 ≤ 2 ^ 31 }
+    requires level { level < 8 }
+    requires some { 1 ≤ digit }
+    requires digit { digit ≤ 15 }
+    ensures { IsTrue result ↔ LeadsWell geometry.now (image_of kept.now) listed.now.list listed.now.block level digit }
+{
+    let _cells = geometry.cells();
+    let Some(target) = jump_at(kept, listed.block + (127 + 15 * level + digit)) else {
+        return false;
+    };
+    if !is_inside(geometry, log, target) {
+        return false;
+    }
+    if !is_owned(kept, geometry, log, target) {
+        return false;
+    }
+    if !is_in_span(kept, geometry, listed, level, digit, target) {
+        return false;
+    }
+    if !occupied.is_alone(kept, geometry, listed.list, target) {
+        return false;
+    }
+    occupied.is_off_nodes(kept, geometry, target)
+}
+
+/// The target of the jump cell that stands there, if one does.
+fn jump_at(kept: &KeptCells, at: u32) -> Option<u32>
+    ensures some { IfSome result (λ target. Holds (image_of kept.now) at (Jump target)) }
+    ensures none { IfNone result ((target : ℕ) → Holds (image_of kept.now) at (Jump target) → ⊥) }
+{
+    let Some(held) = record_at(kept, at) else {
+        return None;
+    };
+    match held {
+        RecordCell::Jump { target } => Some(target),
+        _ => None,
+    }
+}
+
+/// Whether the 256 cells from the target on lie in the pool, and before the edge.
+fn is_inside(geometry: &Geometry, log: &Log, target: u32) -> bool
+    ensures { IsTrue result ↔ IsBeforeEdge geometry.now log.now.edge target }
+{
+    if target < geometry.pool_at() {
+        return false;
+    }
+    let behind = u64::from(target) + u64::from(BLOCK_CELLS);
+    if behind > u64::from(geometry.cells()) {
+        return false;
+    }
+    behind <= u64::from(log.edge)
+}
+
+/// Whether they lie in the block part of one slot.
+fn is_owned(kept: &KeptCells, geometry: &Geometry, log: &Log, target: u32) -> bool
+    requires log { IsLog geometry.now (image_of kept.now) log.now }
+    requires met { AreMetBelow geometry.now (image_of kept.now) 10 }
+    requires room { target + 256 ≤ 2 ^ 31 }
+    ensures { IsTrue result ↔ IsOwned geometry.now (image_of kept.now) target }
+{
+    let Some(first) = owner_of(kept, geometry, log, target) else {
+        return false;
+    };
+    let Some(last) = owner_of(kept, geometry, log, target + (BLOCK_CELLS - 1)) else {
+        return false;
+    };
+    first == last
+}

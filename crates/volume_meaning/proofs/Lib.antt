@@ -1,0 +1,16 @@
+pub mod Digests
+pub mod Extending
+pub mod Fronts
+pub mod HashTrails
+pub mod Holding
+pub mod KeepingLaws
+pub mod Lists
+pub mod OneDocument
+pub mod OnePostings
+pub mod Spans
+pub mod StampedPostings
+pub mod Stamps
+pub mod Tags
+pub mod Trails
+pub mod WordValues
+pub mod Words

@@ -1,0 +1,15 @@
+pub mod BlockLaws
+pub mod Blocks
+pub mod Documents
+pub mod HashLaws
+pub mod HashPaths
+pub mod Keeping
+pub mod Laws
+pub mod Nearness
+pub mod Nodes
+pub mod OnePostings
+pub mod Postings
+pub mod Slots
+pub mod Volumes
+pub mod WordValues
+pub mod Words
